@@ -1,10 +1,10 @@
 -- Equality of values: of one kind, and then of what they hold. Lists are equal where they are so element by element.
-use Rattle.std.specs.Prelude.{ℕ, Bool, true, false, ◌&&◌, nat_eq}
+use Rattle.std.specs.Prelude.{◌≡◌, ◌↔◌, IsTrue, ℕ, List, Bool, true, false, ◌&&◌, nat_eq}
 use Rattle.std.specs.Ordering.{int_eq}
 use Rattle.std.specs.Str.{bytes_eq}
 use Rattle.gil_values.specs.declared.kinds.Kind.{Kind}
 use Rattle.gil_values.specs.declared.kinds.Kind.TheVariants.{Int, Bool as Boolean, Str, Sym, Kind as OfKinds, Proc, List as OfLists, Undef, Null}
-use Rattle.gil_values.specs.Pure.{PureValue, integer, boolean, text, symbol, kind, procedure, list, PureValues, no_values, value_and}
+use Rattle.gil_values.specs.Pure.{PureValue, integer, boolean, text, symbol, kind, procedure, list, PureValues, no_values, value_and, from_list}
 
 -- the kinds in their order
 abbrev pub kind_number : Kind → ℕ
@@ -41,3 +41,11 @@ abbrev mutual
   same_values no_values no_values = true
   same_values (value_and v vs) (value_and w ws) = same_value v w && same_values vs ws
   same_values _ _ = false
+
+-- two lists are the same where they are so element by element
+abbrev pub same_elements : List PureValue → List PureValue → Bool
+same_elements vs ws = same_values (from_list vs) (from_list ws)
+
+-- Values are equal exactly where they are the same pure data.
+abbrev pub EqualityIsIdentity : Type 0
+EqualityIsIdentity = (v w : PureValue) → IsTrue (same_value v w) ↔ (v ≡ w)

@@ -1,5 +1,10 @@
+pub mod Answers
 pub mod Characters
 pub mod Equality
+pub mod EqualityLaws
+pub mod Laws
 pub mod Operators
+pub mod Printed
 pub mod Pure
+pub mod Symbols
 pub mod View

@@ -1,5 +1,6 @@
 -- What a value is: pure data, without addresses and capacities.
-use Rattle.std.specs.Prelude.{ℕ, ℤ, List, [], ◌∷◌, Bool}
+use Rattle.std.specs.Prelude.{◌≡◌, ℕ, suc, ◌+◌, ℤ, List, [], ◌∷◌, Bool, refl}
+use Rattle.std.proofs.Common.{ap}
 use Rattle.gil_values.specs.declared.kinds.Kind.{Kind}
 use Rattle.gil_values.specs.declared.kinds.Kind.TheVariants.{Int, Bool as Boolean, Str, Sym, Kind as OfKinds, Proc, List as OfLists}
 
@@ -27,6 +28,14 @@ abbrev pub to_list : PureValues → List PureValue
 to_list no_values = []
 to_list (value_and v vs) = v ∷ to_list vs
 
+pub to_list-from_list : (vs : List PureValue) → to_list (from_list vs) ≡ vs
+to_list-from_list [] = refl
+to_list-from_list (v ∷ vs) = ap (λ rest. v ∷ rest) (to_list-from_list vs)
+
+pub from_list-to_list : (vs : PureValues) → from_list (to_list vs) ≡ vs
+from_list-to_list no_values = refl
+from_list-to_list (value_and v vs) = ap (value_and v) (from_list-to_list vs)
+
 -- the kind of a value
 abbrev pub kind_of : PureValue → Kind
 kind_of (integer n) = Int
@@ -36,3 +45,13 @@ kind_of (symbol n) = Sym
 kind_of (kind k) = OfKinds
 kind_of (procedure name) = Proc
 kind_of (list vs) = OfLists
+
+-- how many values a value holds, itself included
+abbrev mutual
+  pub value_size : PureValue → ℕ
+  value_size (list vs) = suc (values_size vs)
+  value_size _ = 1
+
+  pub values_size : PureValues → ℕ
+  values_size no_values = 0
+  values_size (value_and v vs) = value_size v + values_size vs

@@ -1,14 +1,27 @@
 //! The values of GIL: kinds, texts, places, values and lists of values.
 #![tactic(auto)]
 
+mod apply;
+mod equality;
 mod kinds;
+mod laws;
 mod operators;
 mod places;
 mod texts;
 mod tree;
 
+pub use apply::{OpFault, apply1, apply2};
+pub use equality::equality_is_identity;
 pub use kinds::Kind;
+pub use laws::{
+    answers_are_exact, append_joins, code_numbers, division_truncates, equal_tells,
+    kinds_come_first, less_orders, nth_counts, numerals_tell, printing_tells_numbers,
+    zero_divides_nothing,
+};
 pub use operators::{BinOp, UnOp};
 pub use places::Place;
 pub use texts::Text;
 pub use tree::{Value, Values};
+
+#[cfg(test)]
+mod tests;

@@ -1,7 +1,10 @@
 //! Texts: the characters 0x20 to 0x7E and LF, and no other.
-ghost use Rattle.std.specs.Prelude.{◌≡◌, ◌↔◌, IfOk, IfSome, IsNone, IsTrue};
+ghost use Rattle.std.specs.Prelude.{◌≡◌, ◌↔◌, ◌++◌, IfOk, OnOk, OnErr, IfSome, IsNone, IsTrue};
 ghost use Rattle.gil_values.specs.Characters.{IsTextCharacter};
 ghost use Rattle.gil_values.specs.Characters.{IsText};
+ghost use Rattle.std.specs.Cmp.{partial_equiv_from_equiv};
+ghost use Rattle.std.specs.Cmp.Lexicographic.{nat_list_eq_equiv};
+ghost use Rattle.std.specs.Str.{bytes_eq};
 
 use std::alloc::{AllocError, Global};
 use std::marker::Model;
@@ -44,6 +47,14 @@ impl Text {
         self.characters.as_str()
     }
 
+    /// Adds a text at the end.
+    pub fn push_text(&mut self, text: &Text) -> Result<(), AllocError>
+        ensures ok { OnOk result (self.new ≡ self.old ++ text.now) }
+        ensures err { OnErr result (self.new ≡ self.old) }
+    {
+        self.characters.push_str(text.as_str())
+    }
+
     /// An equal text.
     pub fn copy(&self, alloc: Global) -> Result<Text, AllocError>
         ensures { IfOk result (λ t. t ≡ self.now) }
@@ -51,6 +62,21 @@ impl Text {
         let characters = String::from_str(alloc, self.characters.as_str())?;
         Ok(Text { characters })
     }
+}
+
+/// Texts are equal where their characters are, one by one.
+impl PartialEq for Text {
+    ghost eq = { bytes_eq };
+
+    ghost laws = { partial_equiv_from_equiv nat_list_eq_equiv };
+
+    fn eq(&self, other: &Text) -> bool {
+        self.as_str() == other.as_str()
+    }
+}
+
+impl Eq for Text {
+    ghost laws = { nat_list_eq_equiv };
 }
 
 /// Whether each character may stand in a text.

@@ -27,7 +27,7 @@ pub enum Value {
 #[cycle(value)]
 #[derive(Debug, Drop)]
 pub struct Values {
-    items: Vec<Value>,
+    pub(crate) items: Vec<Value>,
 }
 
 impl Value {
@@ -92,6 +92,13 @@ impl Values {
         ensures { map value_view (iter_rest result) ≡ values_view self.now }
     {
         self.items.iter()
+    }
+
+    /// The values as a slice.
+    pub fn as_slice(&self) -> &[Value]
+        ensures { map value_view result.now ≡ values_view self.now }
+    {
+        self.items.as_slice()
     }
 
     /// An equal list.

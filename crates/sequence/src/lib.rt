@@ -1,0 +1,86 @@
+//! A list type for every plural of the project: a `Vec` that contracts see as the list of its items.
+#![tactic(auto)]
+
+ghost use Rattle.std.specs.Prelude.{◌≡◌, [], ◌∷◌, ◌++◌, length, slice_get, OnOk, OnErr};
+ghost use Rattle.std.specs.Option.{option_map};
+ghost use Rattle.std.specs.Slice.Iter.{iter_rest};
+
+use std::alloc::{AllocError, Global};
+use std::marker::Model;
+use std::slice::Iter;
+
+/// A sequence of items, which contracts see as the list of them.
+#[derive(Debug, Drop)]
+pub struct Sequence<T> {
+    items: Vec<T>,
+}
+
+impl<T> Model for Sequence<T> {
+    ghost use Rattle.std.specs.Prelude.{List};
+
+    ghost Value = { List T };
+
+    ghost view = { λ s. s.items.items };
+}
+
+impl<T> Sequence<T> {
+    /// The empty sequence, which takes no memory.
+    pub fn new(alloc: Global) -> Sequence<T>
+        ensures { result ≡ [] }
+    {
+        Sequence {
+            items: Vec::new(alloc),
+        }
+    }
+
+    /// How many items there are.
+    pub fn len(&self) -> usize
+        ensures { result ≡ length self.now }
+    {
+        self.items.len()
+    }
+
+    /// The item at a place, counted from 0.
+    pub fn get(&self, index: usize) -> Option<&T>
+        ensures { option_map (λ item. item.now) result ≡ slice_get self.now index }
+    {
+        self.items.get(index)
+    }
+
+    /// Goes over the items in order.
+    pub fn iter(&self) -> Iter<'_, T>
+        ensures { iter_rest result ≡ self.now }
+    {
+        self.items.iter()
+    }
+}
+
+impl<T: Drop> Sequence<T> {
+    /// Adds an item at the end.
+    pub fn push(&mut self, item: T) -> Result<(), AllocError>
+        ensures ok { OnOk result (self.new ≡ self.old ++ item ∷ []) }
+        ensures err { OnErr result (self.new ≡ self.old) }
+    {
+        self.items.push(item)?;
+        Ok(())
+    }
+}
+
+#[cfg(test)]
+mod tests {
+    use super::*;
+    use std::test::Fail;
+
+    #[test]
+    fn items_stand_in_order(rt: HostRuntime) -> Result<(), Fail> {
+        let mut numbers: Sequence<u32> = Sequence::new(rt.alloc());
+        assert_eq!(rt; numbers.len(), 0);
+        numbers.push(5)?;
+        numbers.push(7)?;
+        assert_eq!(rt; numbers.len(), 2);
+        assert_eq!(rt; numbers.get(1).copied(), Some(7));
+        assert_eq!(rt; numbers.get(2).copied(), None);
+        assert_eq!(rt; numbers.iter().copied().last(), Some(7));
+        Ok(())
+    }
+}
