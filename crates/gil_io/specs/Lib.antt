@@ -1,0 +1,10 @@
+pub mod Calls
+pub mod Faults
+pub mod MemSink
+pub mod MemSource
+pub mod Reading
+pub mod Reserved
+pub mod StdSink
+pub mod StdSource
+pub mod SureSink
+pub mod Writing

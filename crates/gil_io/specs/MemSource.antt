@@ -1,0 +1,11 @@
+-- A source whose calls fail as they are told.
+use Rattle.std.specs.Prelude.{ℕ, List}
+
+-- the bytes that are left, the most bytes of a call, the numbers of the calls that fail, the number of the last call, and
+-- the count of faults
+pub record MemSourceState : Type 0 where
+  pub left : List ℕ
+  pub most : ℕ
+  pub fail : List ℕ
+  pub calls : ℕ
+  pub faults : ℕ
