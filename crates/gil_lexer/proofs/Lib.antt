@@ -1,0 +1,16 @@
+pub mod BlankLaws
+pub mod BlankLemmas
+pub mod ByteLemmas
+pub mod FaultReads
+pub mod Finding
+pub mod LiteralLaws
+pub mod LiteralLemmas
+pub mod NumberLemmas
+pub mod Rows
+pub mod RunLemmas
+pub mod SignLemmas
+pub mod TextLaws
+pub mod TokenLaws
+pub mod TokenReads
+pub mod WithinLemmas
+pub mod WordLemmas

@@ -1,0 +1,26 @@
+//! The tokens of a text: what its bytes spell, and where each token lies.
+#![tactic(auto)]
+
+mod blanks;
+mod bytes;
+mod faults;
+mod forms;
+mod laws;
+mod lexing;
+mod literals;
+mod numbers;
+mod signs;
+#[cfg(test)]
+mod tests;
+mod token_list;
+mod words;
+
+pub use faults::{LexFault, LexKind};
+pub use forms::{Form, Token};
+pub use laws::{fault_or_reading, fault_or_token, one_fault, one_literal, one_number, one_reading};
+pub use lexing::lex;
+pub use literals::text_of;
+pub use numbers::number_of;
+pub use signs::Sign;
+pub use token_list::Tokens;
+pub use words::Word;
