@@ -1,0 +1,10 @@
+pub mod Evaluation
+pub mod Examples
+pub mod Laws
+pub mod Programs
+pub mod Pure
+pub mod Simple
+pub mod Subexpressions
+pub mod Valid
+pub mod View
+pub mod WellMade

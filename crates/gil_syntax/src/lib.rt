@@ -1,0 +1,22 @@
+//! The syntax of GIL programs: expressions, commands, assertions, procedures, specifications and predicates.
+#![tactic(auto)]
+
+mod assertions;
+mod commands;
+mod examples;
+mod expressions;
+mod laws;
+mod parts;
+mod validity;
+
+pub use assertions::{Assertion, Assertions, Item, Param, Params, PredUse, SpecSort};
+pub use commands::{Body, Command, NumberedCommand, Texts};
+pub use examples::{
+    bodies_end, faults_are_at_items, names_stand_for_something, names_stand_once, parameters_fit,
+    programs_have_limits, some_programs_are_simple, some_values_are_narrow, some_values_are_simple,
+    the_first_fault_counts, the_newest_value_counts,
+};
+pub use expressions::{Expr, Exprs};
+pub use laws::{evaluation_invents_no_symbol, names_decide, one_fault_is_named, valid_or_named};
+pub use parts::{Parts, PredDef, PredDefs, Proc, Procs, Spec, Specs};
+pub use validity::InvalidKind;
