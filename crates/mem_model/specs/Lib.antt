@@ -1,0 +1,9 @@
+pub mod Actions
+pub mod Heaps
+pub mod Keys
+pub mod Laws
+pub mod Names
+pub mod NoMemory
+pub mod Pure
+pub mod Rows
+pub mod View
