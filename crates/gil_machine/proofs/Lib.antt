@@ -1,0 +1,5 @@
+pub mod Placed
+pub mod Proper
+pub mod Runs
+pub mod Steps
+pub mod Tests

@@ -1,0 +1,5 @@
+use Rattle.gil_machine.proofs.Tests.{bugs_stay}
+use Rattle.gil_machine.proofs.laws.bugs_stay.Goals as goal
+
+pub returns : goal.returns
+returns c = bugs_stay

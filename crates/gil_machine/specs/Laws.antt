@@ -1,0 +1,107 @@
+-- What holds of every run, whatever the program and its memory.
+use Rattle.std.specs.Prelude.{◌≡◌, ◌↔◌, ℕ, ◌<◌, ◌≤◌, List, [], Bool, true, false, Option, Some, None, Ok, slice_get, IsSome, IsTrue}
+use Rattle.std.specs.List.{list_all}
+use Rattle.std.specs.FinMap.{empty}
+use Rattle.gil_values.specs.declared.places.Place.{Place}
+use Rattle.gil_values.specs.Pure.{PureValue}
+use Rattle.gil_values.specs.Symbols.{OccursIn}
+use Rattle.gil_syntax.specs.Pure.{PureExpr, PureProc, PureParts}
+use Rattle.gil_syntax.specs.Evaluation.{value_of, evaluate_all}
+use Rattle.gil_syntax.specs.Programs.{find_proc}
+use Rattle.gil_syntax.specs.Valid.{IsValid}
+use Rattle.gil_syntax.specs.WellMade.{is_well_made, is_well_made_expr}
+use Rattle.mem_model.specs.declared.keys.MemoryName.{MemoryName}
+use Rattle.mem_model.specs.Heaps.{Heap, OccursInHeap}
+use Rattle.mem_model.specs.Actions.{Actions, MayAct, IsMemory}
+use Rattle.gil_machine.specs.State.{State, cut, IsOver}
+use Rattle.gil_machine.specs.Step.{step}
+use Rattle.gil_machine.specs.Run.{run, reached, start, IsProperStart, IsBug, IsClean}
+use Rattle.gil_machine.specs.Placed.{IsPlaced, IsPlacedStep}
+use Rattle.gil_machine.specs.Proper.{IsProperState, IsProperEnd, IsProperStep}
+
+-- a run that is over is over with any larger bound, with the same end
+abbrev pub StaysOver : Type 0
+StaysOver =
+    (p : PureParts) (m : Actions) (inputs : List PureValue) (n k : ℕ) (s : State)
+    → n ≤ k → IsOver (run p m inputs n s).ending → run p m inputs k s ≡ run p m inputs n s
+
+-- a run is cut exactly where as many steps as its bound were done without an end
+abbrev pub IsCutAtItsBound : Type 0
+IsCutAtItsBound =
+    (p : PureParts) (m : Actions) (inputs : List PureValue) (n : ℕ) (s : State)
+    → ((run p m inputs n s).ending ≡ cut) ↔ IsSome (reached p m inputs n s)
+
+-- an end depends only on the inputs that were drawn: where another list has the same ones there, it is the same
+abbrev pub DependsOnDrawnInputs : Type 0
+DependsOnDrawnInputs =
+    (p : PureParts) (m : Actions) (inputs others : List PureValue) (n : ℕ) (s : State)
+    → ((i : ℕ) → i < (run p m inputs n s).draws → slice_get others i ≡ slice_get inputs i)
+    → run p m others n s ≡ run p m inputs n s
+
+-- A proper state goes on to a proper state or ends in a proper end, and a proper start is one.
+abbrev pub StaysProper : Type 0
+StaysProper =
+    (p : PureParts) (memory : MemoryName) (m : Actions) (inputs : List PureValue) (s : State)
+    → IsTrue (is_well_made p) → IsMemory memory m → IsProperState memory s → IsProperStep memory (step p m inputs s)
+
+abbrev pub StartsProper : Type 0
+StartsProper =
+    (p : PureParts) (memory : MemoryName) (f : List ℕ) (args : List PureValue) (h : Heap) (counter : ℕ)
+    → IsProperStart p memory f args h counter → IsProperState memory (start p f args h counter)
+
+abbrev pub EndsProper : Type 0
+EndsProper =
+    (p : PureParts) (memory : MemoryName) (m : Actions) (inputs : List PureValue) (n : ℕ) (s : State)
+    → IsTrue (is_well_made p) → IsMemory memory m → IsProperState memory s → IsProperEnd memory (run p m inputs n s)
+
+-- In a proper state the counter's symbol is new: it occurs neither in the heap nor in the store of the current frame.
+abbrev pub CounterIsNew : Type 0
+CounterIsNew =
+    (memory : MemoryName) (s : State) → IsProperState memory s
+    → ¬ OccursInHeap s.counter s.heap
+    × ((x : List ℕ) (v : PureValue) → value_of s.current.store x ≡ Some v → ¬ OccursIn s.counter v)
+
+-- the symbol that an action is handed: the counter's, where it takes one
+abbrev pub handed : Bool → State → Option ℕ
+handed true s = Some s.counter
+handed false s = None
+
+-- So an action may be asked with it wherever it is reached, on the values of its arguments.
+abbrev pub MayActWhereReached : Type 0
+MayActWhereReached =
+    (memory : MemoryName) (m : Actions) (s : State) (action : List ℕ) (es : List PureExpr) (args : List PureValue)
+    → IsProperState memory s → IsTrue (list_all is_well_made_expr es) → evaluate_all es s.current.store ≡ Ok args
+    → MayAct m action (handed (m.takes_symbol action) s) args s.heap
+
+-- a test of a procedure without parameters begins in a proper start, whatever the memory
+abbrev pub TestsStartProper : Type 0
+TestsStartProper =
+    (p : PureParts) (memory : MemoryName) (f : List ℕ) (q : PureProc)
+    → find_proc p.procs f ≡ Some q → q.params ≡ [] → IsProperStart p memory f [] empty 0
+
+-- a bug within a bound is one within any larger bound
+abbrev pub BugsStay : Type 0
+BugsStay =
+    (p : PureParts) (m : Actions) (f : List ℕ) (n k : ℕ) (inputs : List PureValue) (v : PureValue) (place : Place)
+    → n ≤ k → IsBug p m f n inputs v place → IsBug p m f k inputs v place
+
+-- what is clean within a bound is clean within any smaller one
+abbrev pub CleanIsCleanBelow : Type 0
+CleanIsCleanBelow = (p : PureParts) (m : Actions) (f : List ℕ) (n k : ℕ) → n ≤ k → IsClean p m f k → IsClean p m f n
+
+-- what is clean has no bug
+abbrev pub CleanHasNoBug : Type 0
+CleanHasNoBug =
+    (p : PureParts) (m : Actions) (f : List ℕ) (n : ℕ) (inputs : List PureValue) (v : PureValue) (place : Place)
+    → IsClean p m f n → ¬ IsBug p m f n inputs v place
+
+-- In a valid program a run stands at a command until it ends: it begins at one, and no step leaves them.
+abbrev pub StaysPlaced : Type 0
+StaysPlaced =
+    (p : PureParts) (m : Actions) (inputs : List PureValue) (s : State)
+    → IsValid p → IsPlaced p s → IsPlacedStep p (step p m inputs s)
+
+abbrev pub StartsPlaced : Type 0
+StartsPlaced =
+    (p : PureParts) (f : List ℕ) (q : PureProc) (args : List PureValue) (h : Heap) (counter : ℕ)
+    → IsValid p → find_proc p.procs f ≡ Some q → IsPlaced p (start p f args h counter)

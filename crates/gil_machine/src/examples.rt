@@ -1,0 +1,117 @@
+//! Rows that show what a run is: each is a small program, its inputs, a bound and the end that it comes to.
+ghost use Rattle.std.specs.Prelude.{◌≡◌, pos, negsuc, [], ◌∷◌, codes, true};
+ghost use Rattle.gil_values.specs.Pure.{integer, boolean, text, symbol, list, from_list};
+ghost use Rattle.gil_syntax.specs.Examples.{number, words, x, one_by_zero};
+ghost use Rattle.mem_model.specs.Actions.{no_memory};
+ghost use Rattle.gil_machine.specs.State.{returned, failed, vanished, no_input, bad_input, cut};
+ghost use Rattle.gil_machine.specs.Run.{test_run};
+ghost use Rattle.gil_machine.specs.Examples.{
+  ending_of,
+  in_main,
+  half,
+  ten_fails,
+  never_fails,
+  fails_at_once,
+  divides,
+  divides_by_zero,
+  reads_unset,
+  guard_is_a_number,
+  runs_for_ever,
+  calls,
+  looks_up,
+  missing_memory,
+  symbol_memory,
+  takes_two_symbols,
+  vanishes,
+  runs_past_its_end,
+  draws_two,
+  fails_at_forty,
+  third,
+};
+
+/// Of a program that fails on one number alone.
+pub fn one_input_fails()
+    ensures nine { ending_of ten_fails (integer (pos 9) ∷ []) 1000 ≡ returned (integer (pos 0)) }
+    ensures ten { ending_of ten_fails (integer (pos 10) ∷ []) 1000 ≡ failed (text (codes "ten")) (in_main 4) }
+    ensures eleven { ending_of ten_fails (integer (pos 11) ∷ []) 1000 ≡ returned (integer (pos 0)) }
+{}
+
+/// Of a program whose failing command no input reaches.
+pub fn some_inputs_return()
+    ensures below { ending_of never_fails (integer (negsuc 0) ∷ []) 1000 ≡ returned (integer (pos 0)) }
+    ensures between { ending_of never_fails (integer (pos 6) ∷ []) 1000 ≡ returned (integer (pos 0)) }
+    ensures above { ending_of never_fails (integer (pos 10) ∷ []) 1000 ≡ returned (integer (pos 0)) }
+{}
+
+/// A run of more steps than its bound is cut, also where the next step would be its end.
+pub fn a_bound_cuts()
+    ensures no_step { ending_of fails_at_once [] 0 ≡ cut }
+    ensures one_step { ending_of fails_at_once [] 1 ≡ failed (text (codes "no")) (in_main 0) }
+    ensures for_ever { ending_of runs_for_ever [] 1000 ≡ cut }
+{}
+
+/// A draw without an input ends the run, and so does one whose input is of another kind. What is not drawn is ignored.
+pub fn a_draw_needs_its_input()
+    ensures none { ending_of ten_fails [] 1000 ≡ no_input 1 }
+    ensures other_kind { ending_of ten_fails (boolean true ∷ []) 1000 ≡ bad_input 1 }
+    ensures second { ending_of draws_two (integer (pos 1) ∷ []) 1000 ≡ no_input 2 }
+    ensures second_kind { ending_of draws_two (integer (pos 1) ∷ boolean true ∷ []) 1000 ≡ bad_input 2 }
+    ensures in_order { ending_of draws_two (integer (pos 1) ∷ integer (pos 2) ∷ []) 1000
+        ≡ returned (list (from_list (integer (pos 1) ∷ integer (pos 2) ∷ []))) }
+    ensures not_drawn { ending_of ten_fails (integer (pos 10) ∷ boolean true ∷ []) 1000 ≡ failed (text (codes "ten")) (in_main 4) }
+{}
+
+/// Division truncates towards zero, and the remainder has the dividend's sign.
+pub fn division_truncates()
+    ensures { ending_of divides [] 1000
+        ≡ returned (list (from_list (integer (pos 7) ∷ integer (negsuc 2) ∷ integer (negsuc 0) ∷ []))) }
+{}
+
+/// An expression without a value fails at its command, and so does a guard that is no boolean.
+pub fn a_fault_fails()
+    ensures zero { ending_of divides_by_zero [] 1000 ≡ failed (text (codes "zero")) (in_main 0) }
+    ensures unset { ending_of reads_unset [] 1000 ≡ failed (text (codes "unset")) (in_main 0) }
+    ensures guard { ending_of guard_is_a_number [] 1000 ≡ failed (text (codes "type")) (in_main 0) }
+{}
+
+/// A call of a procedure gives its value to the variable that waits.
+pub fn a_call_returns()
+    ensures value { ending_of (calls half (number 9 ∷ [])) [] 1000 ≡ returned (integer (pos 4)) }
+    ensures arity { ending_of (calls half []) [] 1000 ≡ failed (text (codes "arity")) (in_main 0) }
+    ensures unknown { ending_of (calls third (number 9 ∷ [])) [] 1000 ≡ failed (text (codes "proc")) (in_main 0) }
+    ensures callee_first { ending_of (calls x (one_by_zero ∷ [])) [] 1000 ≡ failed (text (codes "unset")) (in_main 0) }
+    ensures arguments_first { ending_of (calls third (one_by_zero ∷ [])) [] 1000 ≡ failed (text (codes "zero")) (in_main 0) }
+    ensures no_procedure { ending_of (calls (words (codes "half")) (number 9 ∷ [])) [] 1000 ≡ failed (text (codes "proc")) (in_main 0) }
+{}
+
+/// An action that misses a key fails, and so does every action where there is no memory.
+pub fn an_action_may_miss()
+    ensures missing { (test_run looks_up missing_memory (codes "main") [] 1000).ending ≡ failed (text (codes "missing")) (in_main 0) }
+    ensures no_memory { ending_of looks_up [] 1000 ≡ failed (text (codes "action")) (in_main 0) }
+{}
+
+/// A failure has the place of its own command, which is that command's number and not its index, also in a procedure
+/// that was called.
+pub fn failures_have_their_places()
+    ensures in_the_callee { ending_of (calls half (words (codes "a") ∷ [])) [] 1000
+        ≡ failed (text (codes "type")) (record { proc = codes "half"; at = 0 }) }
+    ensures by_its_number { ending_of fails_at_forty [] 1000 ≡ failed (text (codes "no")) (in_main 40) }
+{}
+
+/// Each command is a step: a call, the return that ends it, and a logic command too.
+pub fn each_command_is_a_step()
+    ensures two_of_three { ending_of (calls half (number 9 ∷ [])) [] 2 ≡ cut }
+    ensures three { ending_of (calls half (number 9 ∷ [])) [] 3 ≡ returned (integer (pos 4)) }
+    ensures logic_command { ending_of vanishes [] 1 ≡ cut }
+    ensures vanishing { ending_of vanishes [] 2 ≡ vanished }
+    ensures past_the_end { ending_of runs_past_its_end [] 1000 ≡ cut }
+{}
+
+/// The counter's symbol is a new one each time, for a command and for an action, whatever the action comes to.
+pub fn symbols_are_new()
+    ensures counter { (test_run takes_two_symbols symbol_memory (codes "main") [] 1000).counter ≡ 2 }
+    ensures missing { (test_run looks_up missing_memory (codes "main") [] 1000).counter ≡ 1 }
+    ensures not_taken { (test_run looks_up no_memory (codes "main") [] 1000).counter ≡ 0 }
+    ensures symbols { (test_run takes_two_symbols symbol_memory (codes "main") [] 1000).ending
+        ≡ returned (list (from_list (symbol 0 ∷ symbol 1 ∷ []))) }
+{}

@@ -1,0 +1,83 @@
+//! What holds of every run: laws of the definitions, which no code is needed for.
+ghost use Rattle.gil_machine.specs.Laws.{
+  StaysOver,
+  IsCutAtItsBound,
+  DependsOnDrawnInputs,
+  StaysProper,
+  StartsProper,
+  EndsProper,
+  CounterIsNew,
+  MayActWhereReached,
+  TestsStartProper,
+  BugsStay,
+  CleanIsCleanBelow,
+  CleanHasNoBug,
+  StaysPlaced,
+  StartsPlaced,
+};
+
+/// A run that is over is over with any larger bound, with the same end.
+pub fn runs_stay_over()
+    ensures { StaysOver }
+{}
+
+/// A run is cut exactly where as many steps as its bound were done without an end.
+pub fn bounds_cut()
+    ensures { IsCutAtItsBound }
+{}
+
+/// The end of a run depends only on the inputs that it drew.
+pub fn drawn_inputs_decide()
+    ensures { DependsOnDrawnInputs }
+{}
+
+/// A proper state goes on to a proper state, or ends in a proper end.
+pub fn states_stay_proper()
+    ensures { StaysProper }
+{}
+
+/// A proper start begins in a proper state.
+pub fn starts_are_proper()
+    ensures { StartsProper }
+{}
+
+/// The run from a proper state has a proper end.
+pub fn ends_are_proper()
+    ensures { EndsProper }
+{}
+
+/// A test of a procedure without parameters begins in a proper start.
+pub fn tests_start_properly()
+    ensures { TestsStartProper }
+{}
+
+/// A bug within a bound is one within any larger bound.
+pub fn bugs_stay()
+    ensures { BugsStay }
+{}
+
+/// What is clean within a bound is clean within any smaller one.
+pub fn clean_is_clean_below()
+    ensures { CleanIsCleanBelow }
+{}
+
+/// What is clean has no bug.
+pub fn clean_has_no_bug()
+    ensures { CleanHasNoBug }
+{}
+
+/// In a valid program no step leaves the commands of a body but by an end or a return.
+pub fn states_stay_placed()
+    ensures { StaysPlaced }
+{}
+
+/// A procedure of a valid program begins at a command.
+pub fn starts_are_placed()
+    ensures { StartsPlaced }
+{}
+
+/// The counter's symbol is new in a proper state, so that an action may be asked with it.
+pub fn the_counter_is_new()
+    ensures state { CounterIsNew }
+    ensures action { MayActWhereReached }
+{}
