@@ -1,0 +1,10 @@
+pub mod Cases
+pub mod Ending
+pub mod Joined
+pub mod Names
+pub mod Numbers
+pub mod Paths
+pub mod Runs
+pub mod Spelled
+pub mod Standing
+pub mod WholeRuns

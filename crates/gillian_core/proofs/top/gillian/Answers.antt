@@ -1,0 +1,5 @@
+use Rattle.gillian_core.proofs.Ending.{right_if_reported}
+use Rattle.gillian_core.proofs.top.gillian.Goals as goal
+
+pub returns-clause-right : goal.returns-clause-right
+returns-clause-right g c = right_if_reported _ _ c.respond.ensures.ends

@@ -1,0 +1,14 @@
+pub mod Accepted
+pub mod Answers
+pub mod Codes
+pub mod Control
+pub mod Finishing
+pub mod Grammar
+pub mod Intervals
+pub mod Lexemes
+pub mod Literals
+pub mod Outcomes
+pub mod Programs
+pub mod Reports
+pub mod Right
+pub mod Words

@@ -1,0 +1,49 @@
+-- The texts of reports: a head line, and a line for the answer.
+use Rattle.std.specs.Prelude.{ℕ, zero, suc, List, [], ◌∷◌, ◌++◌, codes}
+use Rattle.gil_values.specs.Pure.{PureValue, list, from_list}
+use Rattle.gil_values.specs.Printed.{numeral, printed_value}
+use Rattle.gil_values.specs.declared.places.Place.{Place}
+
+-- `main:4`
+abbrev pub printed_place : Place → List ℕ
+printed_place p = p.proc ++ codes ":" ++ numeral p.at
+
+-- values in brackets, as a list value is printed
+abbrev pub printed_list : List PureValue → List ℕ
+printed_list vs = printed_value (list (from_list vs))
+
+-- what stands before an element of a printed list, by its number
+abbrev pub separator_before : ℕ → List ℕ
+separator_before zero = []
+separator_before (suc index) = codes ", "
+
+-- what a report of one procedure is about
+pub record Head : Type 0 where
+  pub mode : List ℕ
+  pub language : List ℕ
+  pub entry : List ℕ
+  pub bound : ℕ
+
+-- the verdict of `test`
+pub data Answer : Type 0 where
+  clean : Answer
+  bug : Place → PureValue → List PureValue → Answer
+
+pub record Report : Type 0 where
+  pub head : Head
+  pub answer : Answer
+
+-- each line ends with LF
+abbrev pub line : List ℕ → List ℕ
+line characters = characters ++ 10 ∷ []
+
+abbrev pub head_line : Head → List ℕ
+head_line h = line (codes "gillian " ++ h.mode ++ codes " " ++ h.language ++ codes " entry " ++ h.entry ++ codes " bound " ++ numeral h.bound)
+
+abbrev pub answer_line : Answer → List ℕ
+answer_line clean = line (codes "clean")
+answer_line (bug place value inputs) =
+    line (codes "bug " ++ printed_place place ++ codes " " ++ printed_value value ++ codes " inputs " ++ printed_list inputs)
+
+abbrev pub report_text : Report → List ℕ
+report_text r = head_line r.head ++ answer_line r.answer

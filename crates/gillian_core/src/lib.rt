@@ -1,0 +1,21 @@
+//! The top call: from words and source bytes to a status and the bytes of a report.
+#![tactic(auto)]
+
+mod decision;
+mod forward;
+mod intervals;
+mod laws;
+mod lexemes;
+mod printing;
+mod programs;
+mod reading;
+mod status;
+#[cfg(test)]
+mod tests;
+mod top;
+mod verdicts;
+mod words;
+
+pub use laws::one_program;
+pub use status::Status;
+pub use top::gillian;
