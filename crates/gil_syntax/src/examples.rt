@@ -2,7 +2,8 @@
 ghost use Rattle.std.specs.Prelude.{◌≡◌, negsuc, ◌-◌, ◌^◌, [], ◌∷◌, codes, true, false, pos, Ok, Err};
 ghost use Rattle.gil_values.specs.declared.operators.BinOp.TheVariants.{Add, Subtract, Multiply, Divide, And, Nth, Equal, Less};
 ghost use Rattle.gil_values.specs.declared.operators.UnOp.TheVariants.{Not};
-ghost use Rattle.gil_values.specs.Pure.{integer, boolean, procedure};
+ghost use Rattle.gil_values.specs.declared.kinds.Kind.TheVariants.{Sym};
+ghost use Rattle.gil_values.specs.Pure.{integer, boolean, symbol, procedure, list, no_values};
 ghost use Rattle.gil_values.specs.Operators.{wrong_kind, zero_divisor, unset_variable};
 ghost use Rattle.gil_syntax.specs.declared.validity.InvalidKind.TheVariants.{
   Duplicate,
@@ -12,10 +13,11 @@ ghost use Rattle.gil_syntax.specs.declared.validity.InvalidKind.TheVariants.{
   Arity,
   TooMany,
 };
-ghost use Rattle.gil_syntax.specs.Pure.{literal, logical, unary_of, binary_of, assign, ifgoto, fail, assert_that, loop_invariant};
+ghost use Rattle.gil_syntax.specs.Pure.{pure, literal, name, logical, isym, unary_of, binary_of, assign, ifgoto, fail, assert_that, loop_invariant};
 ghost use Rattle.gil_syntax.specs.Evaluation.{evaluate, bind};
 ghost use Rattle.gil_syntax.specs.Simple.{is_simple, is_narrow};
-ghost use Rattle.gil_syntax.specs.Valid.{fault_at};
+ghost use Rattle.gil_syntax.specs.Valid.{fault_at, IsValid};
+ghost use Rattle.gil_syntax.specs.WellMade.{is_well_made};
 ghost use Rattle.gil_syntax.specs.Examples.{
   number,
   words,
@@ -132,6 +134,26 @@ pub fn programs_have_limits()
     ensures one_variable_too_many { items_at_fault (with_post (many_params 65) []) TooMany ≡ 1 ∷ [] }
     ensures least_literal { items_at_fault (returns_value (literal (integer (negsuc (2 ^ 63 - 1))))) TooMany ≡ [] }
     ensures below_the_least { items_at_fault (returns_value (literal (integer (negsuc (2 ^ 63))))) TooMany ≡ 0 ∷ [] }
+{}
+
+/// A program without faults.
+pub fn a_program_is_valid()
+    ensures { IsValid compares_input }
+{}
+
+/// What a well-made program has no literal, draw or name of.
+pub fn some_programs_are_well_made()
+    ensures comparing { is_well_made compares_input ≡ true }
+    ensures declared { is_well_made (with_post (any_d ∷ []) (shape_of_undeclared ∷ [])) ≡ true }
+    ensures literal_symbol { is_well_made (returns_value (literal (symbol 0))) ≡ false }
+    ensures literal_list { is_well_made (returns_value (literal (list no_values))) ≡ false }
+    ensures literal_within { is_well_made (returns_value (list_of_two x (literal (symbol 0)))) ≡ false }
+    ensures drawn_symbol { is_well_made (main_does (isym (codes "x") Sym)) ≡ false }
+    ensures assigned_logical { is_well_made (main_does (assign (codes "#x") (number 0))) ≡ false }
+    ensures program_name { is_well_made (returns_value (name (codes "#x"))) ≡ false }
+    ensures logical_name { is_well_made (main_does (assert_that (pure (logical (codes "d")) ∷ []))) ≡ false }
+    ensures parameter { is_well_made (with_spec (codes "main") (any_d ∷ []) []) ≡ false }
+    ensures logical_variable { is_well_made (with_post (any_x ∷ []) []) ≡ false }
 {}
 
 /// Values, guards and arguments that are of simple form or not.
