@@ -67,19 +67,22 @@ pub record IsRight (words : List (List ℕ)) (bytes : List ℕ) (r : Report) : T
   pub text : Spell bytes commands
   pub answer : IsRightAnswer (program_of commands) r.head.bound r.answer
 
--- The text is that of a report about the words whose answer has this status. Where the source tells its bytes, the report
--- is right for them.
+-- P holds of some bytes, which are those of the source where it tells them.
+abbrev pub OfBytes : Call → (List ℕ → Type 0) → Type 0
+OfBytes c P = (bytes : List ℕ) × IfSome c.left (λ left. bytes ≡ left) × P bytes
+
+-- The text is that of a report about the words whose answer has this status, and which is right for the bytes.
 pub record Reports (c : Call) (status : Status) (text : List ℕ) : Type 0 where
   pub report : Report
   pub written : text ≡ report_text report
   pub ends : status ≡ status_of report.answer
-  pub right : IfSome c.left (λ bytes. IsRight c.words bytes report)
+  pub right : OfBytes c (λ bytes. IsRight c.words bytes report)
 
 -- The text that a call may write with a status.
 abbrev pub MayWrite : Call → Status → List ℕ → Type 0
 MayWrite c Words text = (WordsFit c.words → ⊥) × (text ≡ usage_line)
 MayWrite c TooLarge text = WordsFit c.words × Takes c.left c.left_after (λ gave. most_bytes < length gave) × (text ≡ refused_size)
-MayWrite c Text text = IsRead c × IfSome c.left IsRefused × (text ≡ refused_form)
+MayWrite c Text text = IsRead c × OfBytes c IsRefused × (text ≡ refused_form)
 MayWrite c Good text = IsRead c × Reports c Good text
 MayWrite c Found text = IsRead c × Reports c Found text
 MayWrite c ReadFault text = ⊥

@@ -6,5 +6,4 @@ ghost use Rattle.gillian_core.specs.declared.programs.Command.{Command};
 /// One text spells one program.
 pub fn one_program()
     ensures { (bytes : List ℕ) (commands others : List Command) → Spell bytes commands → Spell bytes others → commands ≡ others }
-{
-}
+{}

@@ -16,7 +16,7 @@ const USAGE: &str =
     "usage: gillian MODE LANG [--bound N] [--entry NAME] [--inputs LIST] [--json]\n";
 
 // The number of a call that is not made.
-const NEVER: usize = 1000;
+const NEVER: usize = 1_000_000;
 
 /// How a call ended and what it wrote.
 #[derive(Debug, Drop, PartialEq)]
@@ -163,6 +163,17 @@ fn other_forms_are_refused(rt: HostRuntime) -> Result<(), Fail> {
         "proc main() { fail \"open; }",
         "proc main() { return 0; } }",
         "proc main() { return 0 }",
+        // no byte of a token, a tab in a text, and an escape that isn't one
+        "proc main() { return 0; } ?",
+        "proc main() { fail \"a\tb\"; }",
+        "proc main() { fail \"a\\tb\"; }",
+        // tokens of other forms
+        "proc main() { return #x; }",
+        "proc main() { return @main; }",
+        // a reserved word is no variable, and behind a `)` a `-` is a sign
+        "proc main() { list := isym int; return 0; }",
+        "proc main() { x := isym int; ifgoto (x <= 5) -2; return 0; }",
+        "proc main() { return - 1; }",
     ];
     for text in &texts {
         let answer = test(rt.alloc(), text)?;
@@ -189,6 +200,48 @@ fn other_words_get_the_usage_line(rt: HostRuntime) -> Result<(), Fail> {
         assert_eq!(rt; answer.written.as_str(), USAGE);
         assert_eq!(rt; answer.status, Status::Words);
     }
+    Ok(())
+}
+
+// Blanks, comments and numbers as they may be written.
+#[test]
+fn blanks_and_zeros_are_free(rt: HostRuntime) -> Result<(), Fail> {
+    let alloc = rt.alloc();
+    let texts = [
+        b"\tproc\rmain(){x:=isym int;ifgoto(x<=-05)003;return-0;return 00;}".as_slice(),
+        b"proc main() { // \xc3\xa9 \x00 \" { return\n return 0; } // the end".as_slice(),
+    ];
+    for text in &texts {
+        let answer = call(alloc, &["test", "gil-record"], text, NEVER, NEVER)?;
+        assert_eq!(rt; answer.written.as_str(), CLEAN_REPORT);
+        assert_eq!(rt; answer.status, Status::Good);
+    }
+    Ok(())
+}
+
+/// A program of so many commands, whose run executes each of them and fails at the last.
+fn with_commands(alloc: Global, count: usize) -> Result<String, Fail> {
+    let mut body = String::from_str(alloc, "x := isym int;")?;
+    for next in 2..count {
+        let branch = format!(in alloc; " ifgoto (x <= 0) {next};")?;
+        body.push_str(branch.as_str())?;
+    }
+    body.push_str(" fail \"last\";")?;
+    main_with(alloc, body.as_str())
+}
+
+#[test]
+fn a_program_may_have_a_thousand_commands(rt: HostRuntime) -> Result<(), Fail> {
+    let alloc = rt.alloc();
+    let answer = test(alloc, with_commands(alloc, 1000)?.as_str())?;
+    assert_eq!(rt;
+        answer.written.as_str(),
+        "gillian test gil-record entry main bound 1000\nbug main:999 \"last\" inputs [0]\n"
+    );
+    assert_eq!(rt; answer.status, Status::Found);
+    let answer = test(alloc, with_commands(alloc, 1001)?.as_str())?;
+    assert_eq!(rt; answer.written.as_str(), "refused form at 0\n");
+    assert_eq!(rt; answer.status, Status::Text);
     Ok(())
 }
 

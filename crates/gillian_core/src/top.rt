@@ -44,6 +44,8 @@ struct Output {
 
 /// Does what the words ask with the text that the source gives. The words are read first, then the source to its end,
 /// then the text; then the work is done and the whole output is built, and only then is the first byte written.
+///
+/// What the clauses say of bytes, they say of a source or a sink that tells them.
 pub fn gillian<S: Source, K: Sink>(
     alloc: Global,
     words: &Vec<String>,

@@ -1,5 +1,8 @@
-use Rattle.gillian_core.proofs.Ending.{right_if_reported}
+use Rattle.gillian_core.proofs.Ending.{right_if_reported, refused_if_text}
 use Rattle.gillian_core.proofs.top.gillian.Goals as goal
 
 pub returns-clause-right : goal.returns-clause-right
 returns-clause-right g c = right_if_reported _ _ c.respond.ensures.ends
+
+pub returns-clause-text : goal.returns-clause-text
+returns-clause-text g c = refused_if_text _ _ c.respond.ensures.ends
