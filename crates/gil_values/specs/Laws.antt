@@ -1,15 +1,15 @@
 -- Laws of the operator table, in the words of the subject.
-use Rattle.std.specs.Prelude.{◌≡◌, ◌↔◌, ◌⊎◌, ◌<◌, ◌^◌, ℕ, ℤ, pos, neg_ℤ, ◌+ℤ◌, ◌*ℤ◌, ◌≤ℤ◌, ◌<ℤ◌, unsigned_abs, FitsSigned, List, ◌∷◌, ◌++◌, length, Bool, true, false, ◌&&◌, ◌||◌, Ok, Err}
+use Rattle.std.specs.Prelude.{◌≡◌, ◌↔◌, ◌⊎◌, ◌<◌, ◌^◌, ℕ, ℤ, pos, neg_ℤ, ◌+ℤ◌, ◌-ℤ◌, ◌*ℤ◌, ◌≤ℤ◌, ◌<ℤ◌, unsigned_abs, FitsSigned, List, ◌∷◌, ◌++◌, length, Bool, true, false, ◌&&◌, ◌||◌, Ok, Err}
 use Rattle.std.specs.Int.{w128}
 use Rattle.gil_values.specs.declared.kinds.Kind.{Kind}
 use Rattle.gil_values.specs.declared.kinds.Kind.TheVariants.{Int, Bool as Boolean, Str, List as OfLists}
 use Rattle.gil_values.specs.declared.operators.UnOp.{UnOp}
 use Rattle.gil_values.specs.declared.operators.UnOp.TheVariants.{Not, Neg, Len, Kind as KindOf}
 use Rattle.gil_values.specs.declared.operators.BinOp.{BinOp}
-use Rattle.gil_values.specs.declared.operators.BinOp.TheVariants.{Divide, Remainder, Equal, Less, LessOrEqual, And, Or, Append, Nth}
+use Rattle.gil_values.specs.declared.operators.BinOp.TheVariants.{Add, Subtract, Multiply, Divide, Remainder, Equal, Less, LessOrEqual, And, Or, Append, Nth}
 use Rattle.gil_values.specs.Equality.{same_kind}
 use Rattle.gil_values.specs.Operators.{unary, binary, wrong_kind, zero_divisor, out_of_range}
-use Rattle.gil_values.specs.Pure.{PureValue, integer, boolean, text, list, from_list, kind_of}
+use Rattle.gil_values.specs.Pure.{PureValue, integer, boolean, text, kind, list, from_list, kind_of}
 
 -- ---- kinds
 
@@ -102,3 +102,39 @@ RangeIsOfLists = (vs : List PureValue) (i : ℤ) →
 
 abbrev pub OnlyNthHasRange : Type 0
 OnlyNthHasRange = (op : BinOp) (v w : PureValue) → binary op v w ≡ Err out_of_range → op ≡ Nth
+
+-- ---- arithmetic, booleans, sizes and kinds
+
+-- Sums, differences, products and opposites are those of whole numbers.
+abbrev pub AddsNumbers : Type 0
+AddsNumbers = (m n r : ℤ) → (binary Add (integer m) (integer n) ≡ Ok (integer r)) ↔ (r ≡ m +ℤ n)
+
+abbrev pub SubtractsNumbers : Type 0
+SubtractsNumbers = (m n r : ℤ) → (binary Subtract (integer m) (integer n) ≡ Ok (integer r)) ↔ (r ≡ m -ℤ n)
+
+abbrev pub MultipliesNumbers : Type 0
+MultipliesNumbers = (m n r : ℤ) → (binary Multiply (integer m) (integer n) ≡ Ok (integer r)) ↔ (r ≡ m *ℤ n)
+
+abbrev pub NegatesNumbers : Type 0
+NegatesNumbers = (n r : ℤ) → (unary Neg (integer n) ≡ Ok (integer r)) ↔ (r ≡ neg_ℤ n)
+
+-- `not` is true of false alone, `and` of true twice, `or` where one side is true.
+abbrev pub NotTurns : Type 0
+NotTurns = (a : Bool) → (unary Not (boolean a) ≡ Ok (boolean true)) ↔ (a ≡ false)
+
+abbrev pub AndIsBoth : Type 0
+AndIsBoth = (a b : Bool) → (binary And (boolean a) (boolean b) ≡ Ok (boolean true)) ↔ ((a ≡ true) × (b ≡ true))
+
+abbrev pub OrIsEither : Type 0
+OrIsEither = (a b : Bool) → (binary Or (boolean a) (boolean b) ≡ Ok (boolean true)) ↔ ((a ≡ true) ⊎ (b ≡ true))
+
+-- `len` counts characters and elements.
+abbrev pub LenCountsCharacters : Type 0
+LenCountsCharacters = (s : List ℕ) (n : ℤ) → (unary Len (text s) ≡ Ok (integer n)) ↔ (n ≡ pos (length s))
+
+abbrev pub LenCountsElements : Type 0
+LenCountsElements = (vs : List PureValue) (n : ℤ) → (unary Len (list (from_list vs)) ≡ Ok (integer n)) ↔ (n ≡ pos (length vs))
+
+-- `kind` has a kind at every value.
+abbrev pub KindTells : Type 0
+KindTells = (v : PureValue) (k : Kind) → (unary KindOf v ≡ Ok (kind k)) ↔ (k ≡ kind_of v)

@@ -1,6 +1,6 @@
 //! Laws of the operator table: each is the contract of a function that does nothing.
 ghost use Rattle.gil_values.specs.Answers.{AnswersAreExact};
-ghost use Rattle.gil_values.specs.Laws.{AppendJoinsLists, AppendJoinsTexts, CodeNumbers, DivisionTruncates, EqualTells, KindsFirst, KindsOfBothFirst, LessOrders, LessOrEqualOrders, NthCounts, OnlyNthHasRange, RangeIsOfLists, ZeroDivides};
+ghost use Rattle.gil_values.specs.Laws.{AddsNumbers, AndIsBoth, KindTells, LenCountsCharacters, LenCountsElements, MultipliesNumbers, NegatesNumbers, NotTurns, OrIsEither, SubtractsNumbers, AppendJoinsLists, AppendJoinsTexts, CodeNumbers, DivisionTruncates, EqualTells, KindsFirst, KindsOfBothFirst, LessOrders, LessOrEqualOrders, NthCounts, OnlyNthHasRange, RangeIsOfLists, ZeroDivides};
 ghost use Rattle.gil_values.specs.Printed.{NumeralsTell, PrintingTellsNumbers};
 
 /// An answer of `apply1` and `apply2` tells the table's outcome, and the outcome tells the answer, but for want of memory.
@@ -33,6 +33,32 @@ pub fn code_numbers()
 pub fn less_orders()
     ensures less { LessOrders }
     ensures less_or_equal { LessOrEqualOrders }
+{}
+
+/// Sums, differences, products and opposites are those of whole numbers, of any size.
+pub fn arithmetic_computes()
+    ensures sum { AddsNumbers }
+    ensures difference { SubtractsNumbers }
+    ensures product { MultipliesNumbers }
+    ensures opposite { NegatesNumbers }
+{}
+
+/// `not`, `and` and `or` are those of booleans.
+pub fn booleans_compute()
+    ensures not { NotTurns }
+    ensures both { AndIsBoth }
+    ensures either { OrIsEither }
+{}
+
+/// `len` is the number of characters of a text, and of elements of a list.
+pub fn len_counts()
+    ensures characters { LenCountsCharacters }
+    ensures elements { LenCountsElements }
+{}
+
+/// `kind` has a kind at every value.
+pub fn kind_tells()
+    ensures { KindTells }
 {}
 
 /// `=` tells exactly the same values.

@@ -14,9 +14,9 @@ pub use apply::{OpFault, apply1, apply2};
 pub use equality::equality_is_identity;
 pub use kinds::Kind;
 pub use laws::{
-    answers_are_exact, append_joins, code_numbers, division_truncates, equal_tells,
-    kinds_come_first, less_orders, nth_counts, numerals_tell, printing_tells_numbers,
-    zero_divides_nothing,
+    answers_are_exact, append_joins, arithmetic_computes, booleans_compute, code_numbers,
+    division_truncates, equal_tells, kind_tells, kinds_come_first, len_counts, less_orders,
+    nth_counts, numerals_tell, printing_tells_numbers, zero_divides_nothing,
 };
 pub use operators::{BinOp, UnOp};
 pub use places::Place;
