@@ -10,8 +10,6 @@ mod printing;
 mod programs;
 mod reading;
 mod status;
-#[cfg(test)]
-mod tests;
 mod top;
 mod verdicts;
 mod words;

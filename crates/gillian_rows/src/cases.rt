@@ -1,0 +1,161 @@
+//! What a file of cases holds: calls of the program with what each must answer, as TOML spells them.
+use serde::Deserialize;
+use std::alloc::{AllocError, Global};
+use std::fmt;
+use thiserror::Error;
+
+/// The most bytes that the source of a case may have: a few more than the program takes.
+const MOST_BYTES: usize = 1_048_600;
+
+/// The cases of a file.
+#[derive(Debug, Drop, Deserialize)]
+#[serde(deny_unknown_fields)]
+pub struct Cases {
+    pub case: Vec<Case>,
+}
+
+/// One call of the program.
+#[derive(Debug, Drop, Deserialize)]
+#[serde(deny_unknown_fields)]
+pub struct Case {
+    /// What the case shows.
+    pub name: String,
+    /// The words, the program's name first.
+    pub words: Vec<String>,
+    /// The bytes that the source has.
+    pub source: SourceText,
+    /// The exit code that must come.
+    pub status: u8,
+    /// What must be written.
+    pub output: Output,
+    /// The most bytes of a read, and of a write.
+    pub read_size: Option<usize>,
+    pub write_size: Option<usize>,
+    /// The numbers of the reads, and of the writes, that fail, from 1.
+    #[serde(default)]
+    pub failing_reads: Vec<usize>,
+    #[serde(default)]
+    pub failing_writes: Vec<usize>,
+    /// How many bytes the sink takes in all.
+    pub room: Option<usize>,
+}
+
+/// What must be written: a text, to its last byte, or any text with this beginning, where several are right.
+#[derive(Debug, Drop, Deserialize)]
+#[serde(untagged)]
+pub enum Output {
+    Text(String),
+    Begins(Beginning),
+}
+
+#[derive(Debug, Drop, Deserialize)]
+#[serde(deny_unknown_fields)]
+pub struct Beginning {
+    pub begins: String,
+}
+
+impl fmt::Display for Output {
+    fn fmt<W: fmt::Write>(&self, f: &mut fmt::Formatter<W>) -> fmt::Result {
+        match self {
+            Output::Text(text) => write!(f, "{text:?}"),
+            Output::Begins(beginning) => write!(f, "that begins with {:?}", beginning.begins),
+        }
+    }
+}
+
+/// The bytes of a source: a text, or pieces in order.
+#[derive(Debug, Drop, Deserialize)]
+#[serde(untagged)]
+pub enum SourceText {
+    Text(String),
+    Pieces(Vec<Piece>),
+}
+
+/// A piece of a source.
+#[derive(Debug, Drop, Deserialize)]
+#[serde(rename_all = "lowercase")]
+pub enum Piece {
+    Text(String),
+    /// Bytes that may be no text.
+    Bytes(Vec<u8>),
+    /// A text, so many times.
+    Repeat(Repeat),
+    /// One byte, until the source has so many bytes.
+    Fill(Fill),
+}
+
+#[derive(Debug, Drop, Deserialize)]
+#[serde(deny_unknown_fields)]
+pub struct Repeat {
+    pub text: String,
+    pub times: usize,
+}
+
+#[derive(Debug, Drop, Deserialize)]
+#[serde(deny_unknown_fields)]
+pub struct Fill {
+    pub byte: u8,
+    pub size: usize,
+}
+
+/// Why the pieces make no source.
+#[derive(Debug, Drop, Error)]
+pub enum SourceFault {
+    #[error("a source of more than 1,048,600 bytes")]
+    TooLarge,
+    #[error("out of memory")]
+    Memory,
+}
+
+impl From<AllocError> for SourceFault {
+    fn from(_fault: AllocError) -> SourceFault {
+        SourceFault::Memory
+    }
+}
+
+impl SourceText {
+    /// The bytes.
+    pub fn bytes(&self, alloc: Global) -> Result<Vec<u8>, SourceFault> {
+        let mut bytes = Vec::new(alloc);
+        match self {
+            SourceText::Text(text) => add(&mut bytes, text.as_bytes())?,
+            SourceText::Pieces(pieces) => {
+                for piece in pieces {
+                    piece.add_to(&mut bytes)?;
+                }
+            }
+        }
+        Ok(bytes)
+    }
+}
+
+impl Piece {
+    /// Adds the bytes of the piece.
+    fn add_to(&self, bytes: &mut Vec<u8>) -> Result<(), SourceFault> {
+        match self {
+            Piece::Text(text) => add(bytes, text.as_bytes()),
+            Piece::Bytes(more) => add(bytes, more),
+            Piece::Repeat(repeat) => {
+                for _ in 0..repeat.times {
+                    add(bytes, repeat.text.as_bytes())?;
+                }
+                Ok(())
+            }
+            Piece::Fill(fill) => {
+                for _ in bytes.len()..fill.size {
+                    add(bytes, &[fill.byte])?;
+                }
+                Ok(())
+            }
+        }
+    }
+}
+
+/// Adds bytes, where the source doesn't become too large.
+fn add(bytes: &mut Vec<u8>, more: &[u8]) -> Result<(), SourceFault> {
+    if more.len() > MOST_BYTES.saturating_sub(bytes.len()) {
+        return Err(SourceFault::TooLarge);
+    }
+    bytes.extend_from_slice(more)?;
+    Ok(())
+}
