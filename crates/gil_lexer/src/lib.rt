@@ -8,6 +8,7 @@ mod forms;
 mod laws;
 mod lexing;
 mod literals;
+mod names;
 mod numbers;
 mod signs;
 #[cfg(test)]
@@ -20,6 +21,7 @@ pub use forms::{Form, Token};
 pub use laws::{fault_or_reading, fault_or_token, one_fault, one_literal, one_number, one_reading};
 pub use lexing::lex;
 pub use literals::text_of;
+pub use names::is_name;
 pub use numbers::number_of;
 pub use signs::Sign;
 pub use token_list::Tokens;

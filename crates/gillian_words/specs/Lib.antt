@@ -1,0 +1,5 @@
+pub mod Asked
+pub mod Inputs
+pub mod Line
+pub mod Pieces
+pub mod View

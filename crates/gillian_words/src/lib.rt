@@ -1,0 +1,13 @@
+//! The words of the command line, and what they ask for.
+#![tactic(auto)]
+
+mod asked;
+mod inputs;
+mod line;
+mod options;
+mod scan;
+#[cfg(test)]
+mod tests;
+
+pub use asked::{Words, WordsFault, read_words};
+pub use options::{Language, Mode};
