@@ -4,7 +4,7 @@ use Rattle.std.proofs.lemmas.Bool.{cases_lt}
 use Rattle.std.proofs.lemmas.Option.{slice_get_past}
 use Rattle.std.proofs.Math.Nat.{eq-or-lt_of_le}
 use Rattle.gil_syntax.specs.declared.validity.InvalidKind.{InvalidKind}
-use Rattle.gil_syntax.specs.declared.validity.InvalidKind.TheVariants.{Duplicate, BadLabel, NoEnd, UnknownName, Arity, TooMany}
+use Rattle.gil_syntax.specs.declared.validity.InvalidKind.TheVariants.{Duplicate, BadLabel, NoEnd, UnknownName, Arity, TooMany, Memory}
 use Rattle.gil_syntax.specs.Pure.{PureParts}
 use Rattle.gil_syntax.specs.Valid.{items_of, has_fault_if_there, fault_at, IsAtFault, rank, IsNamedFault, IsValid}
 use Rattle.gil_syntax.specs.Laws.{ValidOrNamed, NamesOneFault}
@@ -16,7 +16,8 @@ kind_with (suc (suc zero)) = BadLabel
 kind_with (suc (suc (suc zero))) = NoEnd
 kind_with (suc (suc (suc (suc zero)))) = UnknownName
 kind_with (suc (suc (suc (suc (suc zero))))) = Arity
-kind_with (suc (suc (suc (suc (suc (suc n)))))) = TooMany
+kind_with (suc (suc (suc (suc (suc (suc zero)))))) = TooMany
+kind_with (suc (suc (suc (suc (suc (suc (suc n))))))) = Memory
 
 kind_with-rank : (k : InvalidKind) → kind_with (rank k) ≡ k
 unfolding kind_with
@@ -26,14 +27,16 @@ kind_with-rank NoEnd = refl
 kind_with-rank UnknownName = refl
 kind_with-rank Arity = refl
 kind_with-rank TooMany = refl
+kind_with-rank Memory = refl
 
-rank_in_range : (k : InvalidKind) → (1 ≤ rank k) × (rank k ≤ 6)
+rank_in_range : (k : InvalidKind) → (1 ≤ rank k) × (rank k ≤ 7)
 rank_in_range Duplicate = (omega arith, omega arith)
 rank_in_range BadLabel = (omega arith, omega arith)
 rank_in_range NoEnd = (omega arith, omega arith)
 rank_in_range UnknownName = (omega arith, omega arith)
 rank_in_range Arity = (omega arith, omega arith)
 rank_in_range TooMany = (omega arith, omega arith)
+rank_in_range Memory = (omega arith, omega arith)
 
 same_rank : (k l : InvalidKind) → rank k ≡ rank l → k ≡ l
 same_rank k l e = sym (kind_with-rank k) ∙ ap kind_with e ∙ kind_with-rank l
@@ -88,7 +91,7 @@ module _ (p : PureParts) where
   abbrev Answer : Type 0
   Answer = IsValid p ⊎ ((kind : InvalidKind) × ((i : ℕ) × IsNamedFault p kind i))
 
-  rank_back : (r : ℕ) → 1 ≤ r → r ≤ 6 → rank (kind_with r) ≡ r
+  rank_back : (r : ℕ) → 1 ≤ r → r ≤ 7 → rank (kind_with r) ≡ r
   unfolding kind_with
   rank_back zero lo hi = absurd (omega (arith, lo))
   rank_back (suc zero) lo hi = refl
@@ -97,10 +100,11 @@ module _ (p : PureParts) where
   rank_back (suc (suc (suc (suc zero)))) lo hi = refl
   rank_back (suc (suc (suc (suc (suc zero))))) lo hi = refl
   rank_back (suc (suc (suc (suc (suc (suc zero)))))) lo hi = refl
-  rank_back (suc (suc (suc (suc (suc (suc (suc r))))))) lo hi = absurd (omega (arith, hi))
+  rank_back (suc (suc (suc (suc (suc (suc (suc zero))))))) lo hi = refl
+  rank_back (suc (suc (suc (suc (suc (suc (suc (suc r)))))))) lo hi = absurd (omega (arith, hi))
 
   -- of the kinds below r no item is at fault, and those from r on are looked at in turn
-  from_kind : (m r : ℕ) → m + r ≡ 7 → 1 ≤ r → ((k : InvalidKind) → rank k < r → HasNone k) → Answer
+  from_kind : (m r : ℕ) → m + r ≡ 8 → 1 ≤ r → ((k : InvalidKind) → rank k < r → HasNone k) → Answer
   from_kind zero r e lo lower = inl (λ k. let hi = (rank_in_range k).1 in lower k (omega (arith, hi, e)))
   from_kind (suc m) r e lo lower =
       let is : rank (kind_with r) ≡ r = rank_back r lo (omega (arith, e)) in
@@ -113,4 +117,4 @@ module _ (p : PureParts) where
       (least (fault_at p (kind_with r)) (length (items_of p)))
 
 pub valid_or_named : ValidOrNamed
-valid_or_named p = from_kind p 6 1 refl (omega arith) (λ k lt. let lo = (rank_in_range k).0 in absurd (omega (arith, lt, lo)))
+valid_or_named p = from_kind p 7 1 refl (omega arith) (λ k lt. let lo = (rank_in_range k).0 in absurd (omega (arith, lt, lo)))

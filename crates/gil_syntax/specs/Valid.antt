@@ -7,7 +7,7 @@ use Rattle.std.specs.Cmp.Lexicographic.{pointwise}
 use Rattle.gil_values.specs.Pure.{PureValue, integer}
 use Rattle.gil_syntax.specs.declared.assertions.Param.{Param}
 use Rattle.gil_syntax.specs.declared.validity.InvalidKind.{InvalidKind}
-use Rattle.gil_syntax.specs.declared.validity.InvalidKind.TheVariants.{Duplicate, BadLabel, NoEnd, UnknownName, Arity, TooMany}
+use Rattle.gil_syntax.specs.declared.validity.InvalidKind.TheVariants.{Duplicate, BadLabel, NoEnd, UnknownName, Arity, TooMany, Memory}
 use Rattle.gil_syntax.specs.Pure.{PureExpr, PurePredUse, PureItem, PureCommand, ifgoto, return, fail, vanish, fold_use, unfold_use, assert_that, loop_invariant, PureNumberedCommand, PureProc, PureSpec, PurePredDef, PureParts}
 use Rattle.gil_syntax.specs.Programs.{find_proc, find_spec}
 use Rattle.gil_syntax.specs.Subexpressions.{logicals_of, literals_of, exprs_of_item, uses_of_item, exprs_of, uses_of}
@@ -216,6 +216,7 @@ has_fault NoEnd p before item = has_no_end item
 has_fault UnknownName p before item = has_unknown_name p item
 has_fault Arity p before item = has_wrong_arity p item
 has_fault TooMany p before item = is_too_many p before item
+has_fault Memory p before item = false
 
 abbrev pub has_fault_if_there : InvalidKind → PureParts → List ProgramItem → Option ProgramItem → Bool
 has_fault_if_there kind p before (Some item) = has_fault kind p before item
@@ -235,6 +236,7 @@ rank NoEnd = 3
 rank UnknownName = 4
 rank Arity = 5
 rank TooMany = 6
+rank Memory = 7
 
 -- the fault that is named: of the lowest kind that there is, at the first item that has it
 pub record IsNamedFault (p : PureParts) (kind : InvalidKind) (i : ℕ) : Type 0 where

@@ -64,6 +64,13 @@ impl Exprs {
         Ok(())
     }
 
+    /// The expressions as a slice.
+    pub fn as_slice(&self) -> &[Expr]
+        ensures { map expr_view result.now ≡ exprs_view self.now }
+    {
+        self.items.as_slice()
+    }
+
     /// Goes over the expressions in order.
     pub fn iter(&self) -> Iter<'_, Expr>
         ensures { map expr_view (iter_rest result) ≡ exprs_view self.now }
@@ -88,6 +95,7 @@ mod tests {
         assert!(rt; matches!(list.get(0), Some(Expr::Lit(Value::Int(5)))));
         assert!(rt; list.get(2).is_none());
         assert!(rt; matches!(list.iter().last(), Some(Expr::Lit(Value::Kind(Kind::Null)))));
+        assert_eq!(rt; list.as_slice().len(), 2);
         Ok(())
     }
 }

@@ -17,4 +17,6 @@ pub enum InvalidKind {
     Arity,
     /// A limit is passed.
     TooMany,
+    /// Memory ran out. It is no fault of any item.
+    Memory,
 }

@@ -47,6 +47,21 @@ impl<T> Sequence<T> {
         self.items.get(index)
     }
 
+    /// The items as a slice.
+    pub fn as_slice(&self) -> &[T]
+        ensures { result.now ≡ self.now }
+    {
+        self.items.as_slice()
+    }
+
+    /// The items as a `Vec`, which can be taken apart.
+    pub fn into_vec(self) -> Vec<T>
+        ensures { result.items ≡ self }
+    {
+        let Sequence { items } = self;
+        items
+    }
+
     /// Goes over the items in order.
     pub fn iter(&self) -> Iter<'_, T>
         ensures { iter_rest result ≡ self.now }
@@ -81,6 +96,8 @@ mod tests {
         assert_eq!(rt; numbers.get(1).copied(), Some(7));
         assert_eq!(rt; numbers.get(2).copied(), None);
         assert_eq!(rt; numbers.iter().copied().last(), Some(7));
+        assert_eq!(rt; numbers.as_slice(), [5, 7].as_slice());
+        assert_eq!(rt; numbers.into_vec().pop(), Some(7));
         Ok(())
     }
 }
