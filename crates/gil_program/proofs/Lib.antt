@@ -1,0 +1,11 @@
+pub mod BodyLemmas
+pub mod ByNameLemmas
+pub mod CheckLemmas
+pub mod DuplicateLemmas
+pub mod ExpressionLemmas
+pub mod ItemLemmas
+pub mod LimitLemmas
+pub mod NameLemmas
+pub mod PieceLemmas
+pub mod ProgramLemmas
+pub mod UnknownLemmas

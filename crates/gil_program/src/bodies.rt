@@ -1,0 +1,53 @@
+//! What ends a body, and where its jumps go.
+ghost use Rattle.std.specs.Prelude.{◌≡◌, length};
+ghost use Rattle.std.specs.List.{list_any};
+ghost use Rattle.gil_syntax.specs.Valid as valid;
+ghost use Rattle.gil_syntax.specs.Valid.{a_proc};
+ghost use Rattle.gil_syntax.specs.View.{command_view, proc_view};
+
+use gil_syntax::{Command, NumberedCommand, Proc};
+
+/// Whether a jump goes to none of this many commands.
+fn is_bad_jump(commands: usize, command: &Command) -> bool
+    ensures { result ≡ valid.is_bad_jump commands (command_view command.now) }
+{
+    match command {
+        Command::IfGoto(_, target) => *target < 0 || *target as u64 >= commands as u64,
+        _ => false,
+    }
+}
+
+/// Whether a body may end with the command.
+fn ends_body(command: &Command) -> bool
+    ensures { result ≡ valid.ends_body (command_view command.now) }
+{
+    matches!(
+        command,
+        Command::Return(_) | Command::Fail(_) | Command::Vanish
+    )
+}
+
+/// Whether some command jumps to none of these.
+fn has_bad_jump(body: &[NumberedCommand]) -> bool
+    ensures { result ≡ list_any (λ c. valid.is_bad_jump (length body.now) (command_view c.command)) body.now }
+{
+    body.iter()
+        .any(|numbered| is_bad_jump(body.len(), &numbered.command))
+}
+
+/// Whether some jump goes to none of the commands.
+pub(crate) fn has_bad_label(proc: &Proc) -> bool
+    ensures { result ≡ valid.has_bad_label (a_proc (proc_view proc.now)) }
+{
+    has_bad_jump(proc.body.as_slice())
+}
+
+/// Whether the body is empty or ends with a command that doesn't end it.
+pub(crate) fn has_no_end(proc: &Proc) -> bool
+    ensures { result ≡ valid.has_no_end (a_proc (proc_view proc.now)) }
+{
+    match proc.body.as_slice().last() {
+        Some(last) => !ends_body(&last.command),
+        None => true,
+    }
+}

@@ -1,0 +1,18 @@
+//! Programs: parts that are valid and well made, and the first fault of parts that are not.
+#![tactic(auto)]
+
+mod arities;
+mod bodies;
+mod by_name;
+mod checking;
+mod duplicates;
+mod invalid;
+mod items;
+mod limits;
+mod named;
+mod program;
+mod seeking;
+mod unknown;
+
+pub use invalid::Invalid;
+pub use program::Prog;
