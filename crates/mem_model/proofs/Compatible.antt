@@ -3,7 +3,7 @@ use Rattle.std.proofs.Common.{◌⊎◌, ⊎_elim, inl, inr, subst}
 use Rattle.mem_model.specs.declared.keys.Key.{Key}
 use Rattle.mem_model.specs.Heaps.{Heap, HasKey, IsWellFormed, IsDisjoint, IsPartOf, joined}
 use Rattle.mem_model.specs.Laws.{KeysAreOrdered, CompatibleCommutes, JoinIsHeap, CompatibleAssociates}
-use Rattle.mem_model.proofs.KeyOrder.{key_cmp-total, key_cmp-IsAntisymmetric}
+use Rattle.mem_model.specs.KeyOrder.{key_cmp-total, key_cmp-IsAntisymmetric}
 use Rattle.mem_model.proofs.Joins.{value_at, has_key, join_commutes, join_associates, join_holds_both}
 use Rattle.mem_model.proofs.Parts.{part_has, part_well_formed}
 

@@ -8,7 +8,7 @@ use Rattle.mem_model.specs.declared.keys.Key.{Key}
 use Rattle.mem_model.specs.Keys.{key_cmp}
 use Rattle.mem_model.specs.Heaps.{Heap, Holds, HasKey, joined}
 use Rattle.mem_model.specs.Laws.{JoinCommutes, JoinAssociates, JoinHasUnit, JoinHoldsBoth, rest_of, HeapsSplit}
-use Rattle.mem_model.proofs.KeyOrder.{key_cmp-total, key_cmp-IsAntisymmetric}
+use Rattle.mem_model.specs.KeyOrder.{key_cmp-total, key_cmp-IsAntisymmetric}
 
 -- two heaps that hold the same at each key are the same
 pub same_heap : (g h : Heap) → ((k : Key) → get g k ≡ get h k) → g ≡ h

@@ -1,5 +1,12 @@
+pub mod ArgumentSymbols
+pub mod Cases
+pub mod Changes
 pub mod Compatible
+pub mod Disposing
+pub mod Formed
+pub mod Holding
 pub mod Joins
-pub mod KeyOrder
+pub mod Making
 pub mod Parts
+pub mod StoredHeaps
 pub mod WellFormed

@@ -29,7 +29,7 @@ parts_are_heaps memory g h part is = record {
   well_formed = part_well_formed g h part is.well_formed;
 }
 
-no_key : (k : Key) → ¬ HasKey empty k
+pub no_key : (k : Key) → ¬ HasKey empty k
 no_key k has = true≢false (sym has ∙ ap is_some (get-empty key_cmp k))
 
 not_held : (k : Key) (v : PureValue) → ¬ Holds empty k v

@@ -17,7 +17,7 @@ use Rattle.mem_model.specs.declared.keys.MemoryName.{MemoryName}
 use Rattle.mem_model.specs.Keys.{key, key_cmp, has_subkey}
 use Rattle.mem_model.specs.Names.{is_name_list, lists_name}
 use Rattle.mem_model.specs.Heaps.{Heap, Holds, HasKey, HoldsNames, IsDescriptor, IsWellFormed, IsHeapOf}
-use Rattle.mem_model.proofs.KeyOrder.{key_cmp-total, key_cmp-IsAntisymmetric}
+use Rattle.mem_model.specs.KeyOrder.{key_cmp-total, key_cmp-IsAntisymmetric}
 use Rattle.mem_model.proofs.Joins.{value_at, has_key}
 
 -- what the entries list is what the heap holds

@@ -84,7 +84,7 @@ ChangesOnlyWhenDone m =
     → ¬ IsDone (m.act action fresh args h).outcome
     → (m.act action fresh args h).heap ≡ h
 
--- an action misses a key only where the heap lacks it, and only a key of the memory
+-- An action misses a key only where the heap lacks it, and only a key of the memory. Not every memory keeps it.
 abbrev pub MissesWhatLacks : MemoryName → Actions → Type 0
 MissesWhatLacks memory m =
     (action : List ℕ) (fresh : Option ℕ) (args : List PureValue) (h : Heap) (k : Key)
@@ -98,7 +98,6 @@ pub record IsMemory (memory : MemoryName) (m : Actions) : Type 0 where
   pub no_invention : InventsNothing memory m
   pub keeps_heaps : KeepsHeaps memory m
   pub changes_only_when_done : ChangesOnlyWhenDone m
-  pub misses_what_lacks : MissesWhatLacks memory m
 
 -- Parts: a part of a heap is a heap.
 abbrev pub PartsAreHeaps : Type 0

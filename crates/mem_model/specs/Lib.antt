@@ -1,9 +1,13 @@
 pub mod Actions
+pub mod Arguments
 pub mod Heaps
+pub mod KeyOrder
 pub mod Keys
 pub mod Laws
 pub mod Names
 pub mod NoMemory
 pub mod Pure
 pub mod Rows
+pub mod Stored
+pub mod Tables
 pub mod View

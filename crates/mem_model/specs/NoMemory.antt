@@ -1,18 +1,12 @@
 -- The memory without actions keeps the laws of every memory.
-use Rattle.std.specs.Prelude.{◌≡◌, ℕ, [], codes}
+use Rattle.std.specs.Prelude.{ℕ, []}
 use Rattle.std.specs.List.{Contains}
 use Rattle.std.proofs.Common.{⊎_elim, inr, refl}
 use Rattle.std.proofs.Math.Nat.{not-suc-le-zero}
-use Rattle.gil_values.specs.Pure.{text}
-use Rattle.mem_model.specs.declared.keys.Key.{Key}
-use Rattle.mem_model.specs.Pure.{failed, miss}
 use Rattle.mem_model.specs.Laws.{NoMemoryIsOne}
 
 none_contained : (n : ℕ) → ¬ Contains [] n
 none_contained n is = not-suc-le-zero is.1
-
-fails_not_missing : (k : Key) → ¬ (failed (text (codes "action")) ≡ miss k)
-fails_not_missing k missed = absurd (cc)
 
 pub no_memory_is_one : NoMemoryIsOne
 no_memory_is_one memory = record {
@@ -20,5 +14,4 @@ no_memory_is_one memory = record {
   no_invention = λ action fresh args h in_memory may n occurs. ⊎_elim (λ in_text. absurd (none_contained n in_text)) (λ in_heap. inr (inr in_heap)) occurs;
   keeps_heaps = λ action fresh args h in_memory may. in_memory;
   changes_only_when_done = λ action fresh args h undone. refl;
-  misses_what_lacks = λ action fresh args h k in_memory may missed. absurd (fails_not_missing k missed);
 }

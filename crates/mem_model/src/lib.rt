@@ -2,12 +2,19 @@
 //! stand in `specs/`; the functions of `laws` have no code, and their contracts are what is proved of the definitions.
 #![tactic(auto)]
 
+pub mod arguments;
+mod failures;
 mod keys;
 mod laws;
+mod locations;
 mod memory;
+pub mod names;
 mod no_memory;
+mod order;
 mod rows;
+mod stored;
 
+pub use failures::Failure;
 pub use keys::{Key, MemoryName, Sub};
 pub use laws::{
     compatible_in_any_grouping, compatible_is_symmetric, empty_is_a_heap, heaps_split_at_parts,
@@ -17,3 +24,4 @@ pub use laws::{
 pub use memory::{LocalMemory, Outcome};
 pub use no_memory::NoMemory;
 pub use rows::{memories_have_their_own_subkeys, some_heaps_are_not, some_heaps_are_well_formed};
+pub use stored::StoredHeap;

@@ -16,7 +16,7 @@ use std::alloc::{AllocError, Global};
 pub enum Outcome {
     Done(Value),
     Failed(Value),
-    /// The heap lacks this key, which is one that the memory has: a law of its meaning, `MissesWhatLacks`.
+    /// The action needs this key. Where a memory keeps `MissesWhatLacks`, the heap lacks it.
     Miss(Key),
 }
 
