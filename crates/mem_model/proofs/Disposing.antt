@@ -14,6 +14,7 @@ use Rattle.mem_model.specs.Actions.{ActionResult}
 use Rattle.mem_model.specs.Tables.{is_among, first_missing, missed_or, dispose_whole, disposed, without_location, does, misses, IsWhole, with_all}
 use Rattle.mem_model.proofs.Joins.{value_at, has_key}
 use Rattle.mem_model.proofs.Holding.{same_key, itself, held_disposed, disposed-joined, held_without_location}
+use Rattle.mem_model.proofs.NameKeys.{or_first, or_second, or_of}
 use Rattle.mem_model.proofs.Formed.{well_formed_as}
 use Rattle.mem_model.proofs.Changes.{with_none}
 use Rattle.mem_model.proofs.Making.{created_well_formed}
@@ -28,18 +29,6 @@ not_there false is there = true≢false (sym there)
 is_there : (b : Bool) → not b ≡ false → b ≡ true
 is_there true is = refl
 is_there false is = sym is
-
-or_first : (b c : Bool) → b ≡ true → (b || c) ≡ true
-or_first true c is = refl
-or_first false c is = absurd (true≢false (sym is))
-
-or_second : (b c : Bool) → c ≡ true → (b || c) ≡ true
-or_second true c is = refl
-or_second false c is = is
-
-or_of : (b c : Bool) → (b || c) ≡ true → (b ≡ true) ⊎ (c ≡ true)
-or_of true c is = inl refl
-or_of false c is = inr is
 
 first_cases : (P : Type 0) (h : Heap) (q : Key) (o r : Option Key) (b : Bool) → not (contains_key h q) ≡ b → cond b (Some q) o ≡ r → (¬ HasKey h q → Some q ≡ r → P) → (HasKey h q → o ≡ r → P) → P
 first_cases P h q o r true lacks is missing there = missing (not_there (contains_key h q) lacks) is

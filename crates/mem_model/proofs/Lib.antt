@@ -7,6 +7,7 @@ pub mod Formed
 pub mod Holding
 pub mod Joins
 pub mod Making
+pub mod NameKeys
 pub mod Parts
 pub mod StoredHeaps
 pub mod WellFormed

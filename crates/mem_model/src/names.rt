@@ -4,8 +4,8 @@ ghost use Rattle.std.specs.List.{list_any};
 ghost use Rattle.gil_values.specs.Pure.{text};
 ghost use Rattle.gil_values.specs.Equality.{same_value};
 ghost use Rattle.gil_values.specs.View.{value_view, values_view};
-ghost use Rattle.mem_model.specs.Names.{is_text, are_distinct_texts};
-ghost use Rattle.mem_model.specs.Tables.{texts_of, name_keys};
+ghost use Rattle.mem_model.specs.Names.{is_text, are_distinct_texts, lists_name};
+ghost use Rattle.mem_model.specs.Tables.{texts_of, names_of, name_keys};
 
 use crate::keys::Key;
 use gil_values::{Text, Value, Values};
@@ -46,6 +46,26 @@ pub fn keys_of_names(alloc: Global, location: u64, names: &[Value]) -> Result<Ve
         }
     }
     Ok(keys)
+}
+
+/// Whether the name is one of a list of names.
+pub fn is_listed(names: &Value, name: &Text) -> bool
+    ensures { result ≡ lists_name (value_view names.now) name.now }
+{
+    match names {
+        Value::List(names) => lists(names.as_slice(), name),
+        _ => false,
+    }
+}
+
+/// The keys of the location's properties that have the names of a list, in its order.
+pub fn keys_of_list(alloc: Global, location: u64, names: &Value) -> Result<Vec<Key>, AllocError>
+    ensures { IfOk result (λ ks. ks.items ≡ name_keys location (names_of (value_view names.now))) }
+{
+    match names {
+        Value::List(names) => keys_of_names(alloc, location, names.as_slice()),
+        _ => Ok(Vec::new(alloc)),
+    }
 }
 
 fn is_text_value(value: &Value) -> bool

@@ -1,0 +1,4 @@
+pub mod Names
+pub mod RecordLaws
+pub mod Records
+pub mod Table
