@@ -3,7 +3,7 @@ use Rattle.std.proofs.Common.{◌≡◌, ◌⊎◌, ⊎_elim, inl, inr, ℕ, nat
 use Rattle.std.proofs.lemmas.Map.Views.{tells_apart}
 use Rattle.std.proofs.lemmas.Bool.Decides.{Decides-eqb}
 use Rattle.std.specs.Option.{option_or}
-use Rattle.std.specs.FinMap.{get, insert, empty, get-insert}
+use Rattle.std.specs.FinMap.{get, insert, remove, empty, get-insert, get-remove}
 use Rattle.gil_values.specs.Pure.{PureValue, boolean}
 use Rattle.mem_model.specs.declared.keys.Key.{Key}
 use Rattle.mem_model.specs.declared.keys.Sub.TheVariants.{Gone}
@@ -110,3 +110,37 @@ disposed-joined l h rest away = same_heap _ _ (λ q.
 
 pub held_without_location : (l : ℕ) (h : Heap) (q : Key) (w : PureValue) → Holds (without_location l h) q w → (nat_eq q.loc l ≡ false) × Holds h q w
 held_without_location l h q w is = none_of (nat_eq q.loc l) w (get h q) (sym (get-without_location l h q) ∙ is)
+
+-- ---- one key put or taken away
+
+not_tied : (b : Bool) → ¬ (b ≡ true) → b ≡ false
+not_tied true other = absurd (other refl)
+not_tied false other = refl
+
+pub different_keys : (q k : Key) → ¬ (q ≡ k) → key_eq q k ≡ false
+different_keys q k other = not_tied (key_eq q k) (λ tied. other (same_key q k tied))
+
+put_or_there : {X : Type 0} (b : Bool) (x : X) (o : Option X) → IsSome o → IsSome (cond b (Some x) o)
+put_or_there true x o there = refl
+put_or_there false x o there = there
+
+pub has_inserted : (h : Heap) (k q : Key) (v : PureValue) → HasKey h q → HasKey (insert h k v) q
+has_inserted h k q v there = subst IsSome (sym (get-insert key_cmp-total h k v q)) (put_or_there (key_eq q k) v (get h q) there)
+
+pub has_removed : (h : Heap) (k q : Key) → ¬ (q ≡ k) → HasKey h q → HasKey (remove h k) q
+has_removed h k q other there = subst IsSome (sym (get-remove key_cmp-total h k q ∙ ap (λ b. cond b None (get h q)) (different_keys q k other))) there
+
+pub held_removed : (h : Heap) (k q : Key) (w : PureValue) → Holds (remove h k) q w → (key_eq q k ≡ false) × Holds h q w
+held_removed h k q w is = none_of (key_eq q k) w (get h q) (sym (get-remove key_cmp-total h k q) ∙ is)
+
+taken_beside : {X : Type 0} (b : Bool) (o p : Option X) → (b ≡ true → p ≡ None) → cond b None (option_or o p) ≡ option_or (cond b None o) p
+taken_beside true o p none = sym (none refl)
+taken_beside false o p none = refl
+
+pub remove-joined : (h rest : Heap) (k : Key) → ¬ HasKey rest k → remove (joined h rest) k ≡ joined (remove h k) rest
+remove-joined h rest k away = same_heap _ _ (λ q.
+    get-remove key_cmp-total (joined h rest) k q
+    ∙ ap (cond (key_eq q k) None) (get-joined h rest q)
+    ∙ taken_beside (key_eq q k) (get h q) (get rest q) (λ tied. not_there rest q (λ has. away (subst (HasKey rest) (same_key q k tied) has)))
+    ∙ ap (λ o. option_or o (get rest q)) (sym (get-remove key_cmp-total h k q))
+    ∙ sym (get-joined (remove h k) rest q))

@@ -29,7 +29,7 @@ or_cond : {X : Type 0} (b : Bool) (x : X) (o p : Option X) → cond b (Some x) (
 or_cond true x o p = refl
 or_cond false x o p = refl
 
-find-append : (q : Key) (es fs : List (Key × PureValue)) → find key_cmp q (es ++ fs) ≡ option_or (find key_cmp q es) (find key_cmp q fs)
+pub find-append : (q : Key) (es fs : List (Key × PureValue)) → find key_cmp q (es ++ fs) ≡ option_or (find key_cmp q es) (find key_cmp q fs)
 find-append q [] fs = refl
 find-append q (e ∷ es) fs = ap (cond (eq_by_cmp key_cmp q e.0) (Some e.1)) (find-append q es fs) ∙ or_cond (eq_by_cmp key_cmp q e.0) e.1 _ _
 

@@ -3,6 +3,7 @@ pub mod Cases
 pub mod Changes
 pub mod Compatible
 pub mod Disposing
+pub mod EntryLists
 pub mod Formed
 pub mod Holding
 pub mod Joins

@@ -1,7 +1,8 @@
 -- A part of a heap is a heap, and so is the empty heap.
-use Rattle.std.proofs.Common.{◌≡◌, ℕ, List, None, false, is_some, sym, ap, ◌∙◌, true≢false}
+use Rattle.std.proofs.Common.{◌≡◌, ℕ, List, Some, None, true, false, is_some, refl, sym, ap, subst, ◌∙◌, true≢false}
 use Rattle.std.specs.FinMap.{empty, get-empty}
 use Rattle.gil_values.specs.Pure.{PureValue}
+use Rattle.gil_values.specs.Symbols.{OccursAmong}
 use Rattle.mem_model.specs.declared.keys.Key.{Key}
 use Rattle.mem_model.specs.Heaps.{Heap, Holds, HasKey, IsPartOf, IsWellFormed, IsHeapBelow}
 use Rattle.mem_model.specs.Keys.{key_cmp}
@@ -59,4 +60,12 @@ may_without_symbol m action args h e = record {
   symbol_where_taken = (λ is. absurd (true≢false (sym is)), λ is. absurd (true≢false (sym is ∙ e)));
   new_in_heap = λ n is. absurd (true≢false (sym (ap is_some is)));
   new_in_arguments = λ n is. absurd (true≢false (sym (ap is_some is)));
+}
+
+-- an action that takes a symbol may be asked on the empty heap, where no symbol occurs in the arguments
+pub may_on_empty : (m : Actions) (action : List ℕ) (fresh : ℕ) (args : List PureValue) (h : Heap) → h ≡ empty → m.takes_symbol action ≡ true → ((n : ℕ) → ¬ OccursAmong n args) → MayAct m action (Some fresh) args h
+may_on_empty m action fresh args h bare taken none = record {
+  symbol_where_taken = (λ is. taken, λ is. refl);
+  new_in_heap = λ n is occurs. not_held occurs.0 occurs.1.0 (subst (λ g. Holds g occurs.0 occurs.1.0) bare occurs.1.1.0);
+  new_in_arguments = λ n is. none n;
 }

@@ -1,13 +1,19 @@
 -- The entries of heaps, for the rows that show which heaps are well formed. Each has the location 3, or 3 and 4.
 use Rattle.std.specs.Prelude.{ℤ, pos, negsuc, List, [], ◌∷◌, true, false, codes}
+use Rattle.std.specs.FinMap.{from_entries}
 use Rattle.gil_values.specs.Pure.{PureValue, integer, boolean, text, symbol, list, from_list}
 use Rattle.mem_model.specs.declared.keys.Key.{Key}
 use Rattle.mem_model.specs.declared.keys.Sub.{Sub}
 use Rattle.mem_model.specs.declared.keys.Sub.TheVariants.{Name, At, Shape, Bound, Dom, Proto, Gone}
 use Rattle.mem_model.specs.Keys.{key}
+use Rattle.mem_model.specs.Heaps.{Heap}
 
 abbrev pub Entries : Type 0
 Entries = List (Key × PureValue)
+
+-- the heap of these entries
+abbrev pub heap_of : Entries → Heap
+heap_of es = from_entries es
 
 -- an entry at the location 3
 abbrev pub at_three : Sub → PureValue → Key × PureValue

@@ -77,7 +77,8 @@ fn is_text_value(value: &Value) -> bool
     }
 }
 
-fn is_name(value: &Value, name: &Text) -> bool
+/// Whether the value is the name.
+pub fn is_name(value: &Value, name: &Text) -> bool
     ensures { result ≡ same_value (text name.now) (value_view value.now) }
 {
     match value {

@@ -1,4 +1,5 @@
 pub mod Names
 pub mod RecordLaws
 pub mod Records
+pub mod Rows
 pub mod Table

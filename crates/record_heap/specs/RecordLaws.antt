@@ -62,17 +62,17 @@ module _ (fresh : Option ℕ) (args : List PureValue) (h : Heap) (is : IsHeapOf 
       by_symbol (Some l) some =
           let argument = names_argument args d read in
           keeps_creates l Shape d (name_keys l (names_of d)) (kind Null) argument.0 (names_fit l d) Record fresh args h (symbol l) refl (names_own l d)
-              (new_location fresh l h some is_new) is (inl some)
-              (λ n occurs. among_arguments n (argument.1 n occurs))
-              (λ n occurs. absurd (none_contained n occurs))
-              (λ n occurs. inl (some ∙ ap Some (symbol_alone l n occurs)))
+          (new_location fresh l h some is_new) is (inl some)
+          (λ n occurs. among_arguments n (argument.1 n occurs))
+          (λ n occurs. absurd (none_contained n occurs))
+          (λ n occurs. inl (some ∙ ap Some (symbol_alone l n occurs)))
 
   keeps_no_property : (l : ℕ) (p : List ℕ) → OccursAmong l args → ¬ HasKey h (key l (Name p)) → Kept (no_property l p h)
   keeps_no_property l p occurs lacks = at_cases Kept h (key l Gone) (λ _. fails Failure.Gone h) (unlisted_at h (key l Shape) p (λ _. fails Failure.Absent h) (misses (key l (Name p)) h))
       (λ v gone. keeps_fails Record fresh args h Failure.Gone is)
       (λ there. unlisted_cases Kept h (key l Shape) p (λ _. fails Failure.Absent h) (misses (key l (Name p)) h)
-          (λ d shape unlisted. keeps_fails Record fresh args h Failure.Absent is)
-          (keeps_misses Record fresh args h (key l (Name p)) is (among_arguments l occurs) lacks refl))
+      (λ d shape unlisted. keeps_fails Record fresh args h Failure.Absent is)
+      (keeps_misses Record fresh args h (key l (Name p)) is (among_arguments l occurs) lacks refl))
 
   keeps_lookup : (l : ℕ) (p : List ℕ) → OccursAmong l args → Kept (lookup l p h)
   keeps_lookup l p occurs = at_cases Kept h (key l (Name p)) (λ v. does v h) (no_property l p h)
@@ -82,20 +82,20 @@ module _ (fresh : Option ℕ) (args : List PureValue) (h : Heap) (is : IsHeapOf 
   keeps_mutate : (l : ℕ) (p : List ℕ) (v : PureValue) → OccursAmong l args → ((n : ℕ) → OccursIn n v → OccursAmong n args) → Kept (mutate l p v h)
   keeps_mutate l p v occurs of_value = at_cases Kept h (key l (Name p)) (λ _. does v (insert h (key l (Name p)) v)) (no_property l p h)
       (λ w held. keeps_does Record fresh args h v (insert h (key l (Name p)) v)
-          (overwritten_heap Record h (key l (Name p)) v tt (has_key h (key l (Name p)) w held) is)
-          (λ n in_value. among_arguments n (of_value n in_value))
-          (allowed_in Record fresh args h (insert h (key l (Name p)) v) (λ q u at_q. ⊎_elim
-              (λ put. inr (subst (λ (k : Key). IsAllowed fresh args h k.loc) (sym put.0) (among_arguments l occurs), λ n in_value. among_arguments n (of_value n (subst (OccursIn n) put.1 in_value))))
-              (λ kept. inl kept.1)
-              (held_inserted h (key l (Name p)) q v u at_q))))
+      (overwritten_heap Record h (key l (Name p)) v tt (has_key h (key l (Name p)) w held) is)
+      (λ n in_value. among_arguments n (of_value n in_value))
+      (allowed_in Record fresh args h (insert h (key l (Name p)) v) (λ q u at_q. ⊎_elim
+      (λ put. inr (subst (λ (k : Key). IsAllowed fresh args h k.loc) (sym put.0) (among_arguments l occurs), λ n in_value. among_arguments n (of_value n (subst (OccursIn n) put.1 in_value))))
+      (λ kept. inl kept.1)
+      (held_inserted h (key l (Name p)) q v u at_q))))
       (keeps_no_property l p occurs)
 
   keeps_dispose : (l : ℕ) → OccursAmong l args → Kept (dispose l h)
   keeps_dispose l occurs = at_cases Kept h (key l Gone) (λ _. fails Failure.Gone h) (at h (key l Shape) (λ d. dispose_whole l (name_keys l (names_of d)) h) (misses (key l Shape) h))
       (λ v gone. keeps_fails Record fresh args h Failure.Gone is)
       (λ there. at_cases Kept h (key l Shape) (λ d. dispose_whole l (name_keys l (names_of d)) h) (misses (key l Shape) h)
-          (λ d shape. keeps_disposes l (key l Shape) (name_keys l (names_of d)) Record fresh args h d refl (names_own l d) is (among_arguments l occurs) (record_whole h l d is shape))
-          (λ lacks. keeps_misses Record fresh args h (key l Shape) is (among_arguments l occurs) lacks refl))
+      (λ d shape. keeps_disposes l (key l Shape) (name_keys l (names_of d)) Record fresh args h d refl (names_own l d) is (among_arguments l occurs) (record_whole h l d is shape))
+      (λ lacks. keeps_misses Record fresh args h (key l Shape) is (among_arguments l occurs) lacks refl))
 
   pub keeps_act : (a : Option RecordAction) → IsNew fresh h → Kept (act_of a fresh args h)
   keeps_act None is_new = keeps_fails Record fresh args h Failure.Action is
@@ -117,8 +117,8 @@ module _ (fresh : Option ℕ) (args : List PureValue) (h : Heap) where
   changes_dispose l = at_cases (ChangesWhenDone h) h (key l Gone) (λ _. fails Failure.Gone h) (at h (key l Shape) (λ d. dispose_whole l (name_keys l (names_of d)) h) (misses (key l Shape) h))
       (λ v gone undone. refl)
       (λ there. at_cases (ChangesWhenDone h) h (key l Shape) (λ d. dispose_whole l (name_keys l (names_of d)) h) (misses (key l Shape) h)
-          (λ d shape. changes_disposes l (key l Shape) (name_keys l (names_of d)) h)
-          (λ lacks undone. refl))
+      (λ d shape. changes_disposes l (key l Shape) (name_keys l (names_of d)) h)
+      (λ lacks undone. refl))
 
   changes_new : (f : Option ℕ) (d : PureValue) → ChangesWhenDone h (new f d h)
   changes_new (Some l) d undone = absurd (undone tt)
@@ -156,8 +156,8 @@ module _ (h rest : Heap) (compatible : IsCompatible h rest) (is : IsHeapOf Recor
   same_no_property l p = at_both Same h rest (key l Gone) (λ _. fails Failure.Gone h) (unlisted_at h (key l Shape) p (λ _. fails Failure.Absent h) (misses (key l (Name p)) h)) (λ _. fails Failure.Gone whole) (unlisted_at whole (key l Shape) p (λ _. fails Failure.Absent whole) (misses (key l (Name p)) whole))
       (λ v gone. same_fails Failure.Gone h rest compatible)
       (λ no no_there. unlisted_both Same h rest (key l Shape) p (λ _. fails Failure.Absent h) (misses (key l (Name p)) h) (λ _. fails Failure.Absent whole) (misses (key l (Name p)) whole)
-          (λ d shape. same_fails Failure.Absent h rest compatible)
-          (same_misses (key l (Name p)) h rest))
+      (λ d shape. same_fails Failure.Absent h rest compatible)
+      (same_misses (key l (Name p)) h rest))
       (λ v no gone. same_gone_there l v _ (misses (key l (Name p)) h) (fails Failure.Gone whole) gone (same_misses (key l (Name p)) h rest (fails Failure.Gone whole)))
 
   -- the rest has the property, so that the heap misses it
@@ -165,8 +165,8 @@ module _ (h rest : Heap) (compatible : IsCompatible h rest) (is : IsHeapOf Recor
   same_property_there l p v large there = at_cases (λ r. Same r large) h (key l Gone) (λ _. fails Failure.Gone h) (unlisted_at h (key l Shape) p (λ _. fails Failure.Absent h) (misses (key l (Name p)) h))
       (λ w gone. absurd (gone_apart h rest compatible l (Name p) (has_key h (key l Gone) w gone) (has_key rest (key l (Name p)) v there)))
       (λ no. unlisted_cases (λ r. Same r large) h (key l Shape) p (λ _. fails Failure.Absent h) (misses (key l (Name p)) h)
-          (λ d shape unlisted. absurd (true≢false (sym (is.well_formed.names_listed l Shape d tt (held_in_union h rest compatible (key l Shape) d shape) p (rest_in_union h rest compatible (key l (Name p)) (has_key rest (key l (Name p)) v there))) ∙ unlisted)))
-          (same_misses (key l (Name p)) h rest large))
+      (λ d shape unlisted. absurd (true≢false (sym (is.well_formed.names_listed l Shape d tt (held_in_union h rest compatible (key l Shape) d shape) p (rest_in_union h rest compatible (key l (Name p)) (has_key rest (key l (Name p)) v there))) ∙ unlisted)))
+      (same_misses (key l (Name p)) h rest large))
 
   same_lookup : (l : ℕ) (p : List ℕ) → Same (lookup l p h) (lookup l p whole)
   same_lookup l p = at_both Same h rest (key l (Name p)) (λ v. does v h) (no_property l p h) (λ v. does v whole) (no_property l p whole)
@@ -177,11 +177,11 @@ module _ (h rest : Heap) (compatible : IsCompatible h rest) (is : IsHeapOf Recor
   same_mutate : (l : ℕ) (p : List ℕ) (v : PureValue) → Same (mutate l p v h) (mutate l p v whole)
   same_mutate l p v = at_both Same h rest (key l (Name p)) (λ _. does v (insert h (key l (Name p)) v)) (no_property l p h) (λ _. does v (insert whole (key l (Name p)) v)) (no_property l p whole)
       (λ w held.
-          let there : HasKey h (key l (Name p)) = has_key h (key l (Name p)) w held in
-          same_does v (insert h (key l (Name p)) v) rest (insert whole (key l (Name p)) v)
-          (insert-joined h rest (key l (Name p)) v)
-          (λ q has in_rest. compatible.disjoint q (has_overwritten h (key l (Name p)) q v there has) in_rest)
-          (overwritten_well_formed whole (key l (Name p)) v tt (in_union h rest compatible (key l (Name p)) there) is.well_formed))
+      let there : HasKey h (key l (Name p)) = has_key h (key l (Name p)) w held in
+      same_does v (insert h (key l (Name p)) v) rest (insert whole (key l (Name p)) v)
+      (insert-joined h rest (key l (Name p)) v)
+      (λ q has in_rest. compatible.disjoint q (has_overwritten h (key l (Name p)) q v there has) in_rest)
+      (overwritten_well_formed whole (key l (Name p)) v tt (in_union h rest compatible (key l (Name p)) there) is.well_formed))
       (λ no no_there. same_no_property l p)
       (λ w no there. same_property_there l p w (does v (insert whole (key l (Name p)) v)) there)
 
@@ -189,9 +189,9 @@ module _ (h rest : Heap) (compatible : IsCompatible h rest) (is : IsHeapOf Recor
   same_dispose l = at_both Same h rest (key l Gone) (λ _. fails Failure.Gone h) (at h (key l Shape) (λ d. dispose_whole l (name_keys l (names_of d)) h) (misses (key l Shape) h)) (λ _. fails Failure.Gone whole) (at whole (key l Shape) (λ d. dispose_whole l (name_keys l (names_of d)) whole) (misses (key l Shape) whole))
       (λ v gone. same_fails Failure.Gone h rest compatible)
       (λ no no_there. at_both Same h rest (key l Shape) (λ d. dispose_whole l (name_keys l (names_of d)) h) (misses (key l Shape) h) (λ d. dispose_whole l (name_keys l (names_of d)) whole) (misses (key l Shape) whole)
-          (λ d shape. same_disposes l (key l Shape) (name_keys l (names_of d)) h rest compatible (has_key h (key l Shape) d shape) (record_whole whole l d is (held_in_union h rest compatible (key l Shape) d shape)))
-          (λ lacks lacks_there. same_misses (key l Shape) h rest (misses (key l Shape) whole))
-          (λ d lacks there. same_misses (key l Shape) h rest _))
+      (λ d shape. same_disposes l (key l Shape) (name_keys l (names_of d)) h rest compatible (has_key h (key l Shape) d shape) (record_whole whole l d is (held_in_union h rest compatible (key l Shape) d shape)))
+      (λ lacks lacks_there. same_misses (key l Shape) h rest (misses (key l Shape) whole))
+      (λ d lacks there. same_misses (key l Shape) h rest _))
       (λ v no gone. same_gone_there l v _ (misses (key l Shape) h) (fails Failure.Gone whole) gone (same_misses (key l Shape) h rest (fails Failure.Gone whole)))
 
   pub same_act : (a : Option RecordAction) (fresh : Option ℕ) (args : List PureValue) → IsNew fresh whole → Same (act_of a fresh args h) (act_of a fresh args whole)

@@ -4,8 +4,10 @@
 mod actions;
 mod laws;
 mod memory;
+mod rows;
 mod table;
 
 pub use actions::RecordAction;
 pub use laws::records_miss_what_they_lack;
 pub use memory::RecordHeap;
+pub use rows::{rows_of_dispose, rows_of_lookup, rows_of_mutate, rows_of_new, rows_of_wrong_calls};

@@ -55,3 +55,6 @@ impl LocalMemory for RecordHeap {
         }
     }
 }
+
+#[cfg(test)]
+mod tests;

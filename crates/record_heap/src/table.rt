@@ -183,11 +183,7 @@ pub fn act_dispose(
 }
 
 /// Disposes of a record.
-fn dispose_of(
-    heap: &mut StoredHeap,
-    alloc: Global,
-    location: u64,
-) -> Result<Outcome, AllocError>
+fn dispose_of(heap: &mut StoredHeap, alloc: Global, location: u64) -> Result<Outcome, AllocError>
     requires { IsHeapOf Record (stored_heap_view heap.old) }
     ensures { Answers result (stored_heap_view heap.old) (stored_heap_view heap.new) (dispose location (stored_heap_view heap.old)) }
 {
