@@ -1,3 +1,5 @@
 pub mod NameLists
 pub mod Names
+pub mod ObjectLaws
+pub mod Objects
 pub mod Table

@@ -3,7 +3,11 @@
 
 mod actions;
 mod arguments;
+mod laws;
+mod memory;
 mod names;
 mod table;
 
 pub use actions::ObjectAction;
+pub use laws::objects_miss_what_they_lack;
+pub use memory::ObjectHeap;
