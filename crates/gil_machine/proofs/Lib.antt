@@ -1,3 +1,6 @@
+pub mod Beside
+pub mod HeldRuns
+pub mod HeldValues
 pub mod Placed
 pub mod Proper
 pub mod Runs

@@ -113,7 +113,7 @@ abbrev MadeProc : Option PureProc → Type 0
 MadeProc (Some q) = is_well_made_proc q ≡ true
 MadeProc None = Unit {0}
 
-abbrev MadeCommand : Option PureNumberedCommand → Type 0
+abbrev pub MadeCommand : Option PureNumberedCommand → Type 0
 MadeCommand (Some c) = is_well_made_command c.command ≡ true
 MadeCommand None = Unit {0}
 
@@ -121,7 +121,7 @@ made_choice : (b : Bool) (q : PureProc) (o : Option PureProc) → is_well_made_p
 made_choice true q o h k = h
 made_choice false q o h k = k
 
-find_made : (qs : List PureProc) (f : List ℕ) → list_all is_well_made_proc qs ≡ true → MadeProc (find_proc qs f)
+pub find_made : (qs : List PureProc) (f : List ℕ) → list_all is_well_made_proc qs ≡ true → MadeProc (find_proc qs f)
 find_made [] f made = tt
 find_made (q ∷ qs) f made = made_choice (bytes_eq q.name f) q _ (first_so _ _ made) (find_made qs f (second_so (is_well_made_proc q) _ made))
 
@@ -130,7 +130,7 @@ get_made [] i made = tt
 get_made (c ∷ cs) zero made = first_so _ _ made
 get_made (c ∷ cs) (suc i) made = get_made cs i (second_so (is_well_made_command c.command) _ made)
 
-command_made : (q : Option PureProc) (i : ℕ) → MadeProc q → MadeCommand (command_of q i)
+pub command_made : (q : Option PureProc) (i : ℕ) → MadeProc q → MadeCommand (command_of q i)
 command_made None i made = tt
 command_made (Some q) i made = get_made q.body i (second_so (list_all is_program_name q.params) _ made)
 

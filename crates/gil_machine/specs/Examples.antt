@@ -1,8 +1,9 @@
 -- Small programs, for the rows that show what a run is.
-use Rattle.std.specs.Prelude.{ℕ, pos, negsuc, List, [], ◌∷◌, codes, true, Option, Some, None}
+use Rattle.std.specs.FinMap.{empty}
+use Rattle.std.specs.Prelude.{ℕ, ◌^◌, pos, negsuc, List, [], ◌∷◌, codes, true, Option, Some, None}
 use Rattle.gil_values.specs.declared.kinds.Kind.TheVariants.{Int}
 use Rattle.gil_values.specs.declared.operators.UnOp.TheVariants.{Neg}
-use Rattle.gil_values.specs.declared.operators.BinOp.TheVariants.{LessOrEqual, Divide, Remainder}
+use Rattle.gil_values.specs.declared.operators.BinOp.TheVariants.{Add, LessOrEqual, Divide, Remainder}
 use Rattle.gil_values.specs.declared.places.Place.{Place}
 use Rattle.gil_values.specs.Pure.{PureValue, integer, boolean, text, symbol, procedure}
 use Rattle.gil_syntax.specs.Pure.{PureExpr, literal, name, list_of, unary_of, binary_of, from_list, assign, call, act, usym, isym, ifgoto, return, fail, vanish, assert_that, PureParts}
@@ -13,6 +14,7 @@ use Rattle.mem_model.specs.Keys.{key}
 use Rattle.mem_model.specs.Pure.{PureOutcome, done, failed, miss}
 use Rattle.mem_model.specs.Actions.{Actions, no_memory}
 use Rattle.gil_machine.specs.State.{Ending}
+use Rattle.gil_machine.specs.Held.{HeldEnd, held_run_of}
 use Rattle.gil_machine.specs.Run.{test_run}
 
 abbrev pub at_most : PureExpr → ℕ → PureExpr
@@ -129,3 +131,19 @@ vanishes = main_only (assert_that [] ∷ vanish ∷ [])
 -- proc main() { x := 0; }
 abbrev pub runs_past_its_end : PureParts
 runs_past_its_end = main_only (assign (codes "x") (number 0) ∷ [])
+
+-- (E + F)
+abbrev pub sum : PureExpr → PureExpr → PureExpr
+sum e f = binary_of Add e f
+
+-- (N + N), which leaves 128 bits
+abbrev pub too_large : PureExpr
+too_large = sum (number (2 ^ 126)) (number (2 ^ 126))
+
+-- proc main() { x := 0; return E; }
+abbrev pub returns_late : PureExpr → PureParts
+returns_late e = main_only (assign (codes "x") (number 0) ∷ return e ∷ [])
+
+-- the end of such a program in 128 bits
+abbrev pub held_ending_of : PureParts → ℕ → HeldEnd
+held_ending_of p n = held_run_of p no_memory (codes "main") [] empty 0 [] n

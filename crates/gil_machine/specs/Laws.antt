@@ -1,19 +1,24 @@
 -- What holds of every run, whatever the program and its memory.
-use Rattle.std.specs.Prelude.{◌≡◌, ◌↔◌, ℕ, ◌<◌, ◌≤◌, List, [], Bool, true, false, Option, Some, None, Ok, slice_get, IsSome, IsTrue}
+use Rattle.std.specs.Prelude.{◌≡◌, ◌↔◌, ℕ, ◌<◌, ◌≤◌, List, [], Bool, true, false, Option, Some, None, Result, Ok, Err, slice_get, IsSome, IsTrue, codes}
 use Rattle.std.specs.List.{list_all}
 use Rattle.std.specs.FinMap.{empty}
 use Rattle.gil_values.specs.declared.places.Place.{Place}
-use Rattle.gil_values.specs.Pure.{PureValue}
+use Rattle.gil_values.specs.Operators.{Fault, Outcome}
+use Rattle.gil_values.specs.Pure.{PureValue, text}
 use Rattle.gil_values.specs.Symbols.{OccursIn}
 use Rattle.gil_syntax.specs.Pure.{PureExpr, PureProc, PureParts}
-use Rattle.gil_syntax.specs.Evaluation.{value_of, evaluate_all}
+use Rattle.gil_syntax.specs.Evaluation.{Store, value_of, evaluate, evaluate_all}
 use Rattle.gil_syntax.specs.Programs.{find_proc}
 use Rattle.gil_syntax.specs.Valid.{IsValid}
 use Rattle.gil_syntax.specs.WellMade.{is_well_made, is_well_made_expr}
 use Rattle.mem_model.specs.declared.keys.MemoryName.{MemoryName}
-use Rattle.mem_model.specs.Heaps.{Heap, OccursInHeap}
+use Rattle.mem_model.specs.declared.keys.Key.{Key}
+use Rattle.mem_model.specs.Heaps.{Heap, IsCompatible, IsHeapOf, OccursInHeap}
 use Rattle.mem_model.specs.Actions.{Actions, MayAct, IsMemory}
-use Rattle.gil_machine.specs.State.{State, cut, IsOver}
+use Rattle.gil_machine.specs.State.{State, End, failed, cut, IsOver, ends}
+use Rattle.gil_machine.specs.Beside.{beside, IsSameStepBeside}
+use Rattle.gil_machine.specs.Choices.{choice_at, miss_at}
+use Rattle.gil_machine.specs.Held.{HeldFault, of_table, too_wide, evaluate_held, number_at, ended, number, held_run}
 use Rattle.gil_machine.specs.Step.{step}
 use Rattle.gil_machine.specs.Run.{run, reached, start, IsProperStart, IsBug, IsClean}
 use Rattle.gil_machine.specs.Placed.{IsPlaced, IsPlacedStep}
@@ -105,3 +110,49 @@ abbrev pub StartsPlaced : Type 0
 StartsPlaced =
     (p : PureParts) (f : List ℕ) (q : PureProc) (args : List PureValue) (h : Heap) (counter : ℕ)
     → IsValid p → find_proc p.procs f ≡ Some q → IsPlaced p (start p f args h counter)
+
+-- A step is local: where it misses no key, it is the same beside any compatible rest, which it keeps.
+abbrev pub StepsAreLocal : Type 0
+StepsAreLocal =
+    (p : PureParts) (memory : MemoryName) (m : Actions) (inputs : List PureValue) (s : State) (rest : Heap)
+    → IsTrue (is_well_made p) → IsMemory memory m
+    → IsHeapOf memory s.heap → IsHeapOf memory rest → IsCompatible s.heap rest → IsProperState memory (beside rest s)
+    → miss_at p m s ≡ None
+    → IsSameStepBeside rest (step p m inputs s) (step p m inputs (beside rest s))
+
+-- A missed key is what the machine fails with, and what is chosen there.
+abbrev pub MissesFail : Type 0
+MissesFail =
+    (p : PureParts) (m : Actions) (inputs : List PureValue) (s : State) (k : Key)
+    → miss_at p m s ≡ Some k
+    → (choice_at p m s ≡ Some 2) × ((e : End) × ((place : Place) × ((step p m inputs s ≡ ends e) × (e.ending ≡ failed (text (codes "missing")) place))))
+
+-- A run whose numbers can be held is the run that stands.
+abbrev pub HeldRunsAreRuns : Type 0
+HeldRunsAreRuns =
+    (p : PureParts) (m : Actions) (inputs : List PureValue) (n : ℕ) (s : State) (e : End)
+    → held_run p m inputs n s ≡ ended e → run p m inputs n s ≡ e
+
+-- the state is reached within the bound and before the run has ended, and there, for the first time, a result leaves 128 bits
+pub record IsFirstNumber (p : PureParts) (m : Actions) (inputs : List PureValue) (n : ℕ) (s : State) (place : Place) (h : Heap) : Type 0 where
+  pub steps : ℕ
+  pub within : steps < n
+  pub state : State
+  pub reached_there : reached p m inputs steps s ≡ Some state
+  pub at_place : number_at p state ≡ Some place
+  pub heap : state.heap ≡ h
+  pub none_before : (k : ℕ) (t : State) → k < steps → reached p m inputs k s ≡ Some t → number_at p t ≡ None
+
+-- A run comes to a number exactly there.
+pub record NumbersAreFirst : Type 0 where
+  pub only : (p : PureParts) (m : Actions) (inputs : List PureValue) (n : ℕ) (s : State) (place : Place) (h : Heap) → held_run p m inputs n s ≡ number place h → IsFirstNumber p m inputs n s place h
+  pub each : (p : PureParts) (m : Actions) (inputs : List PureValue) (n : ℕ) (s : State) (place : Place) (h : Heap) → IsFirstNumber p m inputs n s place h → held_run p m inputs n s ≡ number place h
+
+-- A result that leaves 128 bits is the only fault that evaluation gains: without it the value or the fault is the table's.
+abbrev pub as_table : {X : Type 0} → Result X HeldFault → Option (Result X Fault)
+as_table (Ok x) = Some (Ok x)
+as_table (Err (of_table fault)) = Some (Err fault)
+as_table (Err too_wide) = None
+
+abbrev pub HeldValuesAreValues : Type 0
+HeldValuesAreValues = (e : PureExpr) (s : Store) (r : Outcome) → as_table (evaluate_held e s) ≡ Some r → evaluate e s ≡ r

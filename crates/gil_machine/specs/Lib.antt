@@ -1,4 +1,7 @@
+pub mod Beside
+pub mod Choices
 pub mod Examples
+pub mod Held
 pub mod Laws
 pub mod Placed
 pub mod Proper

@@ -89,10 +89,19 @@ after_action (miss k) x here s = fails_with (text (codes "missing")) here s
 abbrev pub acted : ActionResult → List ℕ → Place → State → Step
 acted r x here s = after_action r.outcome x here (record s { heap = r.heap })
 
--- where the action takes a new symbol, the counter's is handed to it and the counter rises
+-- What an action makes of the heap of a state. Where it takes a new symbol, the counter's is handed to it.
+abbrev pub action_result : Bool → Actions → List ℕ → List PureValue → State → ActionResult
+action_result true m a args s = m.act a (Some s.counter) args s.heap
+action_result false m a args s = m.act a None args s.heap
+
+-- the state in which the symbol that was taken, if any, is counted
+abbrev pub counted : Bool → State → State
+counted true s = record s { counter = s.counter + 1 }
+counted false s = s
+
+-- the action, and then what its result leads to
 abbrev pub do_action : Bool → Actions → List ℕ → List ℕ → List PureValue → Place → State → Step
-do_action true m x a args here s = acted (m.act a (Some s.counter) args s.heap) x here (record s { counter = s.counter + 1 })
-do_action false m x a args here s = acted (m.act a None args s.heap) x here s
+do_action takes m x a args here s = acted (action_result takes m a args s) x here (counted takes s)
 
 abbrev pub new_symbol : List ℕ → State → Step
 new_symbol x s = assigned x (symbol s.counter) (record s { counter = s.counter + 1 })

@@ -1,10 +1,13 @@
 //! Rows that show what a run is: each is a small program, its inputs, a bound and the end that it comes to.
-ghost use Rattle.std.specs.Prelude.{◌≡◌, pos, negsuc, [], ◌∷◌, codes, true};
+ghost use Rattle.std.specs.FinMap.{empty};
+ghost use Rattle.std.specs.Prelude.{◌≡◌, ◌-◌, ◌^◌, pos, negsuc, [], ◌∷◌, codes, true, false};
 ghost use Rattle.gil_values.specs.Pure.{integer, boolean, text, symbol, list, from_list};
 ghost use Rattle.gil_syntax.specs.Examples.{number, words, x, one_by_zero};
 ghost use Rattle.mem_model.specs.Actions.{no_memory};
 ghost use Rattle.gil_machine.specs.State.{returned, failed, vanished, no_input, bad_input, cut};
-ghost use Rattle.gil_machine.specs.Run.{test_run};
+ghost use Rattle.gil_machine.specs.Choices.{choices};
+ghost use Rattle.gil_machine.specs.Held.{ended, evaluate_held, is_too_wide, number as held_number};
+ghost use Rattle.gil_machine.specs.Run.{start, test_run};
 ghost use Rattle.gil_machine.specs.Examples.{
   ending_of,
   in_main,
@@ -27,6 +30,10 @@ ghost use Rattle.gil_machine.specs.Examples.{
   draws_two,
   fails_at_forty,
   third,
+  sum,
+  too_large,
+  returns_late,
+  held_ending_of,
 };
 
 /// Of a program that fails on one number alone.
@@ -114,4 +121,26 @@ pub fn symbols_are_new()
     ensures not_taken { (test_run looks_up no_memory (codes "main") [] 1000).counter ≡ 0 }
     ensures symbols { (test_run takes_two_symbols symbol_memory (codes "main") [] 1000).ending
         ≡ returned (list (from_list (symbol 0 ∷ symbol 1 ∷ []))) }
+{}
+
+/// A result that leaves 128 bits counts where it is computed before any fault, and within the bound.
+pub fn numbers_have_128_bits()
+    ensures before_a_fault { is_too_wide (evaluate_held (sum too_large one_by_zero) []) ≡ true }
+    ensures behind_a_fault { is_too_wide (evaluate_held (sum one_by_zero too_large) []) ≡ false }
+    ensures greatest { is_too_wide (evaluate_held (sum (number (2 ^ 127 - 2)) (number 1)) []) ≡ false }
+    ensures one_more { is_too_wide (evaluate_held (sum (number (2 ^ 127 - 1)) (number 1)) []) ≡ true }
+    ensures place { held_ending_of (returns_late too_large) 1000 ≡ held_number (in_main 1) empty }
+    ensures within { held_ending_of (returns_late too_large) 2 ≡ held_number (in_main 1) empty }
+    ensures past_the_bound { held_ending_of (returns_late too_large) 1 ≡ ended (test_run (returns_late too_large) no_memory (codes "main") [] 1) }
+    ensures none { held_ending_of (calls half (number 9 ∷ [])) 1000 ≡ ended (test_run (calls half (number 9 ∷ [])) no_memory (codes "main") [] 1000) }
+{}
+
+/// Choices are those of guards that are booleans and of actions whose arguments have values, in order.
+pub fn choices_stand_in_order()
+    ensures guards { choices ten_fails no_memory (integer (pos 10) ∷ []) 1000 (start ten_fails (codes "main") [] empty 0) ≡ 0 ∷ 1 ∷ [] }
+    ensures cut { choices ten_fails no_memory (integer (pos 10) ∷ []) 2 (start ten_fails (codes "main") [] empty 0) ≡ 0 ∷ [] }
+    ensures no_boolean { choices guard_is_a_number no_memory [] 1000 (start guard_is_a_number (codes "main") [] empty 0) ≡ [] }
+    ensures done { choices takes_two_symbols symbol_memory [] 1000 (start takes_two_symbols (codes "main") [] empty 0) ≡ 0 ∷ [] }
+    ensures failed { choices looks_up no_memory [] 1000 (start looks_up (codes "main") [] empty 0) ≡ 1 ∷ [] }
+    ensures missed { choices looks_up missing_memory [] 1000 (start looks_up (codes "main") [] empty 0) ≡ 2 ∷ [] }
 {}

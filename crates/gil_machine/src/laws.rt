@@ -14,6 +14,11 @@ ghost use Rattle.gil_machine.specs.Laws.{
   CleanHasNoBug,
   StaysPlaced,
   StartsPlaced,
+  StepsAreLocal,
+  MissesFail,
+  HeldValuesAreValues,
+  HeldRunsAreRuns,
+  NumbersAreFirst,
 };
 
 /// A run that is over is over with any larger bound, with the same end.
@@ -80,4 +85,26 @@ pub fn starts_are_placed()
 pub fn the_counter_is_new()
     ensures state { CounterIsNew }
     ensures action { MayActWhereReached }
+{}
+
+/// A step that misses no key is the same beside any compatible rest of the heap, which it keeps.
+pub fn steps_are_local()
+    ensures { StepsAreLocal }
+{}
+
+/// A key that is missed is what the machine fails with.
+pub fn misses_fail()
+    ensures { MissesFail }
+{}
+
+/// A run whose numbers can be held in 128 bits is the run that stands.
+pub fn held_runs_are_runs()
+    ensures values { HeldValuesAreValues }
+    ensures runs { HeldRunsAreRuns }
+{}
+
+/// A run comes to a number that can't be held exactly where the first such result is computed, before it has ended and
+/// within its bound.
+pub fn numbers_are_first()
+    ensures { NumbersAreFirst }
 {}
