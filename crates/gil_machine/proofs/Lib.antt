@@ -1,8 +1,11 @@
 pub mod Beside
+pub mod Evaluated
 pub mod HeldRuns
 pub mod HeldValues
+pub mod KeptValues
 pub mod Placed
 pub mod Proper
 pub mod Runs
+pub mod Sizes
 pub mod Steps
 pub mod Tests

@@ -1,10 +1,13 @@
 pub mod Beside
 pub mod Choices
 pub mod Examples
+pub mod Gives
 pub mod Held
+pub mod Kept
 pub mod Laws
 pub mod Placed
 pub mod Proper
 pub mod Run
 pub mod State
 pub mod Step
+pub mod StoreView

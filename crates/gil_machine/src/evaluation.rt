@@ -1,0 +1,113 @@
+//! The values of expressions.
+ghost use Rattle.std.specs.Prelude.{IfOk};
+ghost use Rattle.gil_values.specs.Answers.{Answers};
+ghost use Rattle.gil_values.specs.Operators.{Outcome, binary, unary};
+ghost use Rattle.gil_values.specs.View.{value_view};
+ghost use Rattle.gil_syntax.specs.Evaluation.{Store as PureStore};
+ghost use Rattle.gil_syntax.specs.View.{expr_view, exprs_view};
+ghost use Rattle.gil_machine.specs.Gives.{Gives, GivesAll};
+ghost use Rattle.gil_machine.specs.Held.{HeldOutcome, HeldOutcomes, after_held, as_held_list, evaluate_all_held, evaluate_held, held, held_or_unset};
+ghost use Rattle.gil_machine.specs.Kept.{Keeps, kept_value};
+ghost use Rattle.gil_machine.specs.StoreView.{store_view};
+
+use crate::faults::EvaluationFault;
+use crate::store::Store;
+use gil_syntax::{Expr, Exprs};
+use gil_values::{BinOp, OpFault, Text, UnOp, Value, Values, apply1, apply2};
+use std::alloc::Global;
+
+/// The value of an expression: left to right, the value or the first fault, a result that leaves 128 bits among them.
+#[cycle(evaluation)]
+pub fn evaluate(alloc: Global, expression: &Expr, store: &Store) -> Result<Value, EvaluationFault>
+    ensures { (s : PureStore) → Keeps (store_view store.now) s → Gives result (evaluate_held (expr_view expression.now) s) }
+{
+    match expression {
+        Expr::Lit(value) => Ok(value.copy(alloc)?),
+        Expr::Name(name) => value_of(alloc, store, name),
+        Expr::Logical(name) => value_of(alloc, store, name),
+        Expr::List(elements) => as_list(evaluate_all(alloc, elements, store)),
+        Expr::Op1(op, operand) => one_operand(alloc, *op, evaluate(alloc, operand, store)),
+        Expr::Op2(op, left, right) => match evaluate(alloc, left, store) {
+            Ok(left) => two_operands(alloc, *op, &left, evaluate(alloc, right, store)),
+            Err(fault) => Err(fault),
+        },
+    }
+}
+
+/// The values of expressions in order, or the first fault.
+#[cycle(evaluation)]
+pub fn evaluate_all(
+    alloc: Global,
+    expressions: &Exprs,
+    store: &Store,
+) -> Result<Values, EvaluationFault>
+    ensures { (s : PureStore) → Keeps (store_view store.now) s → GivesAll result (evaluate_all_held (exprs_view expressions.now) s) }
+{
+    let mut values = Values::new(alloc);
+    for expression in expressions.as_slice() {
+        match evaluate(alloc, expression, store) {
+            Ok(value) => values.push(value)?,
+            Err(fault) => return Err(fault),
+        }
+    }
+    Ok(values)
+}
+
+/// The value of a name.
+fn value_of(alloc: Global, store: &Store, name: &Text) -> Result<Value, EvaluationFault>
+    ensures { Gives result (held_or_unset (kept_value (store_view store.now) name.now)) }
+{
+    match store.get(name) {
+        Some(value) => Ok(value.copy(alloc)?),
+        None => Err(EvaluationFault::Unset),
+    }
+}
+
+/// The list of values, where each element has one.
+fn as_list(values: Result<Values, EvaluationFault>) -> Result<Value, EvaluationFault>
+    ensures { (o : HeldOutcomes) → GivesAll values o → Gives result (as_held_list o) }
+{
+    match values {
+        Ok(values) => Ok(Value::List(values)),
+        Err(fault) => Err(fault),
+    }
+}
+
+/// What an operator of one operand gives, where that has a value.
+fn one_operand(
+    alloc: Global,
+    op: UnOp,
+    operand: Result<Value, EvaluationFault>,
+) -> Result<Value, EvaluationFault>
+    ensures { (o : HeldOutcome) → Gives operand o → Gives result (after_held o (λ v. held (unary op v))) }
+{
+    match operand {
+        Ok(operand) => of_table(apply1(alloc, op, &operand)),
+        Err(fault) => Err(fault),
+    }
+}
+
+/// What an operator of two operands gives, where the right one has a value too.
+fn two_operands(
+    alloc: Global,
+    op: BinOp,
+    left: &Value,
+    right: Result<Value, EvaluationFault>,
+) -> Result<Value, EvaluationFault>
+    ensures { (o : HeldOutcome) → Gives right o → Gives result (after_held o (λ v. held (binary op (value_view left.now) v))) }
+{
+    match right {
+        Ok(right) => of_table(apply2(alloc, op, left, &right)),
+        Err(fault) => Err(fault),
+    }
+}
+
+/// What an operator answers, as evaluation gives it.
+fn of_table(answer: Result<Value, OpFault>) -> Result<Value, EvaluationFault>
+    ensures { (o : Outcome) → Answers answer o → Gives result (held o) }
+{
+    match answer {
+        Ok(value) => Ok(value),
+        Err(fault) => Err(EvaluationFault::from(fault)),
+    }
+}
