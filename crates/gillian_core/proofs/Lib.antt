@@ -1,7 +1,6 @@
 pub mod Cases
 pub mod Ending
 pub mod Joined
-pub mod Names
 pub mod Numbers
 pub mod Paths
 pub mod Runs

@@ -3,8 +3,8 @@ use Rattle.std.proofs.Common.{◌≡◌, ◌++◌, ℕ, List, [], ◌∷◌, ref
 use Rattle.std.specs.Prelude.{codes}
 use Rattle.std.specs.List.{flat_map}
 use Rattle.gil_lexer.specs.declared.signs.Sign.TheVariants as signs
-use Rattle.gillian_core.specs.declared.lexemes.Lexeme.{Lexeme}
-use Rattle.gillian_core.specs.declared.lexemes.Lexeme.TheVariants as lexemes
+use Rattle.gil_lexemes.specs.declared.standing.Lexeme.{Lexeme}
+use Rattle.gil_lexemes.specs.declared.standing.Lexeme.TheVariants as lexemes
 use Rattle.gillian_core.specs.declared.programs.Literal.{Literal}
 use Rattle.gillian_core.specs.declared.programs.Literal.TheVariants as literals
 use Rattle.gillian_core.specs.declared.programs.Command.{Command}

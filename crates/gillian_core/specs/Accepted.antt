@@ -2,9 +2,9 @@
 use Rattle.std.specs.Prelude.{ℕ, List}
 use Rattle.gil_lexer.specs.Texts.{AreTokensOf}
 use Rattle.gil_lexer.specs.declared.forms.Token.{Token}
-use Rattle.gillian_core.specs.declared.lexemes.Lexeme.{Lexeme}
+use Rattle.gil_lexemes.specs.declared.standing.Lexeme.{Lexeme}
 use Rattle.gillian_core.specs.declared.programs.Command.{Command}
-use Rattle.gillian_core.specs.Lexemes.{StandForAll}
+use Rattle.gil_lexemes.specs.Lexemes.{StandForAll}
 use Rattle.gillian_core.specs.Grammar.{Spells}
 
 -- The bytes are tokens and blanks, and the tokens stand for the lexemes of a forward program with these commands.

@@ -3,8 +3,8 @@ use Rattle.std.specs.Prelude.{◌≡◌, ℕ, ℤ, pos, List, [], ◌∷◌, ◌
 use Rattle.std.specs.List.{flat_map}
 use Rattle.gil_lexer.specs.declared.words.Word.TheVariants as words
 use Rattle.gil_lexer.specs.declared.signs.Sign.TheVariants as signs
-use Rattle.gillian_core.specs.declared.lexemes.Lexeme.{Lexeme}
-use Rattle.gillian_core.specs.declared.lexemes.Lexeme.TheVariants.{Name, Word, Number, Literal, Sign}
+use Rattle.gil_lexemes.specs.declared.standing.Lexeme.{Lexeme}
+use Rattle.gil_lexemes.specs.declared.standing.Lexeme.TheVariants.{Name, Word, Number, Literal, Sign}
 use Rattle.gillian_core.specs.declared.programs.Literal.{Literal as FailLiteral}
 use Rattle.gillian_core.specs.declared.programs.Literal.TheVariants as literals
 use Rattle.gillian_core.specs.declared.programs.Command.{Command}

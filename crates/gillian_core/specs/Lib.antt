@@ -5,7 +5,6 @@ pub mod Control
 pub mod Finishing
 pub mod Grammar
 pub mod Intervals
-pub mod Lexemes
 pub mod Literals
 pub mod Outcomes
 pub mod Programs

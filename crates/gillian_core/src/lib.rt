@@ -5,7 +5,6 @@ mod decision;
 mod forward;
 mod intervals;
 mod laws;
-mod lexemes;
 mod printing;
 mod programs;
 mod reading;

@@ -1,13 +1,13 @@
 //! Reading forward programs from lexemes.
 ghost use Rattle.std.specs.Prelude.{◌≡◌, ℕ, ℤ, pos, List, [], ◌∷◌, ◌++◌, ◌↔◌, codes, IsTrue, IfOk, IfSome, IfNone};
 ghost use Rattle.std.specs.List.{flat_map};
-ghost use Rattle.gillian_core.specs.declared.lexemes.Lexeme.{Lexeme};
+ghost use Rattle.gil_lexemes.specs.declared.standing.Lexeme.{Lexeme};
 ghost use Rattle.gillian_core.specs.declared.programs.Literal.{Literal};
 ghost use Rattle.gillian_core.specs.declared.programs.Command.{Command};
 ghost use Rattle.gillian_core.specs.Grammar.{Spells, head_lexemes, command_lexemes, guard_lexemes, literal_lexeme};
 
 use crate::forward::are_forward;
-use crate::lexemes::Lexeme;
+use gil_lexemes::Lexeme;
 use crate::programs::{Command, ForwardProgram, Literal};
 use gil_lexer::{Sign, Word};
 use gil_values::Text;

@@ -15,7 +15,7 @@ ghost use Rattle.gillian_core.specs.Right.{IsRightAnswer};
 ghost use Rattle.gillian_core.specs.Words.{WordsFit, spelled, test_head};
 
 use crate::decision::decide;
-use crate::lexemes::lexemes;
+use gil_lexemes::lexemes;
 use crate::printing::report;
 use crate::programs::ForwardProgram;
 use crate::reading::program_of;

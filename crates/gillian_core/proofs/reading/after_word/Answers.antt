@@ -1,7 +1,7 @@
 use Rattle.std.proofs.Common.{rules, sym, ap, ◌≡◌, ◌∷◌, ◌∙◌}
 use Rattle.gil_lexer.specs.contracts.words.Word.{the_type}
 use denote.Enum.Bare.{same_true}
-use Rattle.gillian_core.specs.declared.lexemes.Lexeme.TheVariants as lexemes
+use Rattle.gil_lexemes.specs.declared.standing.Lexeme.TheVariants as lexemes
 use Rattle.gillian_core.proofs.reading.after_word.Goals as goal
 
 pub returns-in-Some-Word-default-clause-some : goal.returns-in-Some-Word-default-clause-some

@@ -4,12 +4,12 @@ use Rattle.gil_lexer.specs.Texts.{AreTokensOf}
 use Rattle.gil_lexer.specs.declared.forms.Token.{Token}
 use Rattle.gil_lexer.specs.declared.faults.LexKind.{LexKind}
 use Rattle.gil_lexer.specs.declared.faults.LexKind.TheVariants as kinds
-use Rattle.gillian_core.specs.declared.lexemes.Lexeme.{Lexeme}
+use Rattle.gil_lexemes.specs.declared.standing.Lexeme.{Lexeme}
 use Rattle.gillian_core.specs.declared.programs.Command.{Command}
 use Rattle.gillian_core.specs.declared.programs.ForwardProgram.{ForwardProgram}
 use Rattle.gillian_core.specs.Accepted.{Spell}
 use Rattle.gillian_core.specs.Grammar.{Spells}
-use Rattle.gillian_core.specs.Lexemes.{StandForAll}
+use Rattle.gil_lexemes.specs.Lexemes.{StandForAll}
 use Rattle.gillian_core.proofs.Standing.{spelled_as_read}
 use Rattle.gillian_core.proofs.top.read_text.Goals as goal
 

@@ -1,26 +1,31 @@
-//! Lexemes: what the tokens of a text stand for.
-ghost use Rattle.std.specs.Prelude.{◌≡◌, ℕ, ℤ, List, slice_range, All, IfOk};
+//! Lexemes, and those that the tokens of a text stand for.
+ghost use Rattle.std.specs.Prelude.{◌≡◌, ℕ, ℤ, List, ◌∷◌, slice_range, All, IfOk};
 ghost use Rattle.gil_values.specs.Characters.{IsText};
-ghost use Rattle.gil_lexer.specs.Spelling.{IsName, IsNumber, Spells, SpellsNumber, SpellsText};
+ghost use Rattle.gil_lexer.specs.Bytes.{hash, at_sign};
+ghost use Rattle.gil_lexer.specs.Spelling.{IsName, IsMarkedName, IsNumber, Spells, SpellsNumber, SpellsText};
 ghost use Rattle.gil_lexer.specs.Texts.{IsSlice};
-ghost use Rattle.gillian_core.specs.Lexemes.{StandsFor, StandForAll};
+ghost use Rattle.gil_lexemes.specs.Lexemes.{StandsFor, StandForAll};
 
 use gil_lexer::{Form, Sign, Token, Tokens, Word, number_of, text_of};
 use gil_values::Text;
 use std::alloc::{AllocError, Global};
 use std::str;
 
-/// What a token stands for, as far as forward programs have it.
+/// What a token stands for.
 #[derive(Debug, Drop)]
 pub enum Lexeme {
+    /// A name that is no reserved word.
     Name(Text),
+    /// A reserved word.
     Word(Word),
+    /// A logical name, with its `#`.
+    Logical(Text),
+    /// The name of a procedure literal, without its `@`.
+    Procedure(Text),
     Number(i64),
     /// The characters of a text literal.
     Literal(Text),
     Sign(Sign),
-    /// A logical name or a procedure literal.
-    Other,
 }
 
 /// The lexemes of a text with these tokens, in their order.
@@ -54,7 +59,8 @@ fn spelled(alloc: Global, form: Form, spelling: &[u8]) -> Result<Lexeme, AllocEr
         Form::Number => Ok(number_lexeme(spelling)),
         Form::Text => literal_of(alloc, spelling),
         Form::Sign(sign) => Ok(Lexeme::Sign(sign)),
-        Form::Logical | Form::Procedure => Ok(Lexeme::Other),
+        Form::Logical => logical_of(alloc, spelling),
+        Form::Procedure => procedure_of(alloc, spelling),
     }
 }
 
@@ -70,13 +76,32 @@ fn number_lexeme(spelling: &[u8]) -> Lexeme
 }
 
 /// The name that its own bytes are.
+#[tactic(auto, using(crate::proofs::Names::name_is_text))]
 fn name_of(alloc: Global, spelling: &[u8]) -> Result<Lexeme, AllocError>
     requires { IsName spelling.now }
     ensures { IfOk result (λ lexeme. lexeme ≡ Lexeme.Name spelling.now) }
 {
-    match str::from_utf8(spelling) {
-        Ok(characters) => Ok(Lexeme::Name(text_from(alloc, characters)?)),
-        Err(_) => unreachable!(),
+    Ok(Lexeme::Name(text_from_bytes(alloc, spelling)?))
+}
+
+/// The logical name that its own bytes are.
+#[tactic(auto, using(crate::proofs::Names::logical_is_text))]
+fn logical_of(alloc: Global, spelling: &[u8]) -> Result<Lexeme, AllocError>
+    requires { IsMarkedName hash spelling.now }
+    ensures { IfOk result (λ lexeme. lexeme ≡ Lexeme.Logical spelling.now) }
+{
+    Ok(Lexeme::Logical(text_from_bytes(alloc, spelling)?))
+}
+
+/// The procedure whose name stands behind the mark.
+#[tactic(auto, using(crate::proofs::Names::name_is_text))]
+fn procedure_of(alloc: Global, spelling: &[u8]) -> Result<Lexeme, AllocError>
+    requires { IsMarkedName at_sign spelling.now }
+    ensures { IfOk result (λ lexeme. (name : List ℕ) × (spelling.now ≡ at_sign ∷ name) × (lexeme ≡ Lexeme.Procedure name)) }
+{
+    match spelling {
+        [_, name @ ..] => Ok(Lexeme::Procedure(text_from_bytes(alloc, name)?)),
+        [] => unreachable!(),
     }
 }
 
@@ -88,6 +113,17 @@ fn literal_of(alloc: Global, spelling: &[u8]) -> Result<Lexeme, AllocError>
     match text_of(alloc, spelling)? {
         Some(characters) => Ok(Lexeme::Literal(text_from(alloc, characters.as_str())?)),
         None => unreachable!(),
+    }
+}
+
+/// The text of these bytes, each of which may stand in one.
+fn text_from_bytes(alloc: Global, characters: &[u8]) -> Result<Text, AllocError>
+    requires { IsText characters.now }
+    ensures { IfOk result (λ text. text ≡ characters.now) }
+{
+    match str::from_utf8(characters) {
+        Ok(characters) => text_from(alloc, characters),
+        Err(_) => unreachable!(),
     }
 }
 

@@ -1,5 +1,5 @@
-use Rattle.gillian_core.proofs.Standing.{stand_take}
-use Rattle.gillian_core.proofs.lexemes.lexemes.Goals as goal
+use Rattle.gil_lexemes.proofs.StandingLemmas.{stand_take}
+use Rattle.gil_lexemes.proofs.standing.lexemes.Goals as goal
 
 pub loop-token-preserved : goal.loop-token-preserved
 loop-token-preserved c =
