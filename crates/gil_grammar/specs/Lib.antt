@@ -1,0 +1,9 @@
+pub mod Annotations
+pub mod Assertions
+pub mod Commands
+pub mod Expressions
+pub mod Lists
+pub mod Nesting
+pub mod Programs
+pub mod Texts
+pub mod Vocabulary

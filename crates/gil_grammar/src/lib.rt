@@ -1,0 +1,6 @@
+//! The grammar of GIL texts: which lexemes spell which program.
+#![tactic(auto)]
+
+mod positions;
+
+pub use positions::Position;
