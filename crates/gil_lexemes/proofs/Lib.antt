@@ -1,2 +1,3 @@
+pub mod CursorLemmas
 pub mod Names
 pub mod StandingLemmas

@@ -1,1 +1,4 @@
 pub mod Lexemes
+pub mod Lists
+pub mod Reading
+pub mod Standing

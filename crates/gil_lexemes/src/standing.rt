@@ -1,8 +1,8 @@
 //! Lexemes, and those that the tokens of a text stand for.
 ghost use Rattle.std.specs.Prelude.{◌≡◌, ℕ, ℤ, List, ◌∷◌, slice_range, All, IfOk};
 ghost use Rattle.gil_values.specs.Characters.{IsText};
-ghost use Rattle.gil_lexer.specs.Bytes.{hash, at_sign};
-ghost use Rattle.gil_lexer.specs.Spelling.{IsName, IsMarkedName, IsNumber, Spells, SpellsNumber, SpellsText};
+ghost use Rattle.gil_lexer.specs.Bytes.{at_sign};
+ghost use Rattle.gil_lexer.specs.Spelling.{IsMarkedName, IsNumber, Spells, SpellsNumber, SpellsText};
 ghost use Rattle.gil_lexer.specs.Texts.{IsSlice};
 ghost use Rattle.gil_lexemes.specs.Lexemes.{StandsFor, StandForAll};
 
@@ -54,70 +54,51 @@ fn spelled(alloc: Global, form: Form, spelling: &[u8]) -> Result<Lexeme, AllocEr
     ensures { IfOk result (λ lexeme. StandsFor form spelling.now lexeme) }
 {
     match form {
-        Form::Name => name_of(alloc, spelling),
+        Form::Name => Ok(Lexeme::Name(text_from_bytes(alloc, spelling)?)),
         Form::Word(word) => Ok(Lexeme::Word(word)),
-        Form::Number => Ok(number_lexeme(spelling)),
-        Form::Text => literal_of(alloc, spelling),
+        Form::Logical => Ok(Lexeme::Logical(text_from_bytes(alloc, spelling)?)),
+        Form::Procedure => Ok(Lexeme::Procedure(procedure_name(alloc, spelling)?)),
+        Form::Number => Ok(Lexeme::Number(number_from(spelling))),
+        Form::Text => Ok(Lexeme::Literal(literal_text(alloc, spelling)?)),
         Form::Sign(sign) => Ok(Lexeme::Sign(sign)),
-        Form::Logical => logical_of(alloc, spelling),
-        Form::Procedure => procedure_of(alloc, spelling),
     }
 }
 
 /// The number that a number's digits spell.
-fn number_lexeme(spelling: &[u8]) -> Lexeme
+pub(crate) fn number_from(spelling: &[u8]) -> i64
     requires { IsNumber spelling.now }
-    ensures { (n : ℤ) × SpellsNumber spelling.now n × (result ≡ Lexeme.Number n) }
+    ensures { SpellsNumber spelling.now result }
 {
     match number_of(spelling) {
-        Some(number) => Lexeme::Number(number),
+        Some(number) => number,
         None => unreachable!(),
     }
 }
 
-/// The name that its own bytes are.
-#[tactic(auto, using(crate::proofs::Names::name_is_text))]
-fn name_of(alloc: Global, spelling: &[u8]) -> Result<Lexeme, AllocError>
-    requires { IsName spelling.now }
-    ensures { IfOk result (λ lexeme. lexeme ≡ Lexeme.Name spelling.now) }
-{
-    Ok(Lexeme::Name(text_from_bytes(alloc, spelling)?))
-}
-
-/// The logical name that its own bytes are.
-#[tactic(auto, using(crate::proofs::Names::logical_is_text))]
-fn logical_of(alloc: Global, spelling: &[u8]) -> Result<Lexeme, AllocError>
-    requires { IsMarkedName hash spelling.now }
-    ensures { IfOk result (λ lexeme. lexeme ≡ Lexeme.Logical spelling.now) }
-{
-    Ok(Lexeme::Logical(text_from_bytes(alloc, spelling)?))
-}
-
-/// The procedure whose name stands behind the mark.
-#[tactic(auto, using(crate::proofs::Names::name_is_text))]
-fn procedure_of(alloc: Global, spelling: &[u8]) -> Result<Lexeme, AllocError>
+/// The name of the procedure literal that the bytes are.
+pub(crate) fn procedure_name(alloc: Global, spelling: &[u8]) -> Result<Text, AllocError>
     requires { IsMarkedName at_sign spelling.now }
-    ensures { IfOk result (λ lexeme. (name : List ℕ) × (spelling.now ≡ at_sign ∷ name) × (lexeme ≡ Lexeme.Procedure name)) }
+    ensures { IfOk result (λ name. spelling.now ≡ at_sign ∷ name) }
 {
     match spelling {
-        [_, name @ ..] => Ok(Lexeme::Procedure(text_from_bytes(alloc, name)?)),
+        [_, name @ ..] => text_from_bytes(alloc, name),
         [] => unreachable!(),
     }
 }
 
 /// The characters that a text literal stands for.
-fn literal_of(alloc: Global, spelling: &[u8]) -> Result<Lexeme, AllocError>
+pub(crate) fn literal_text(alloc: Global, spelling: &[u8]) -> Result<Text, AllocError>
     requires { (characters : List ℕ) × SpellsText spelling.now characters }
-    ensures { IfOk result (λ lexeme. (characters : List ℕ) × SpellsText spelling.now characters × (lexeme ≡ Lexeme.Literal characters)) }
+    ensures { IfOk result (λ characters. SpellsText spelling.now characters) }
 {
     match text_of(alloc, spelling)? {
-        Some(characters) => Ok(Lexeme::Literal(text_from(alloc, characters.as_str())?)),
+        Some(characters) => text_from(alloc, characters.as_str()),
         None => unreachable!(),
     }
 }
 
 /// The text of these bytes, each of which may stand in one.
-fn text_from_bytes(alloc: Global, characters: &[u8]) -> Result<Text, AllocError>
+pub(crate) fn text_from_bytes(alloc: Global, characters: &[u8]) -> Result<Text, AllocError>
     requires { IsText characters.now }
     ensures { IfOk result (λ text. text ≡ characters.now) }
 {
