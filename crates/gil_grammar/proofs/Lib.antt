@@ -1,0 +1,3 @@
+pub mod ExpressionLaws
+pub mod ListLaws
+pub mod VocabularyLaws

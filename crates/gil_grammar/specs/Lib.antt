@@ -5,5 +5,6 @@ pub mod Expressions
 pub mod Lists
 pub mod Nesting
 pub mod Programs
+pub mod Reading
 pub mod Texts
 pub mod Vocabulary

@@ -1,3 +1,4 @@
 pub mod CursorLemmas
 pub mod Names
+pub mod ReadingLaws
 pub mod StandingLemmas
