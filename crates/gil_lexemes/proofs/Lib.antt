@@ -1,4 +1,5 @@
 pub mod CursorLemmas
+pub mod ListReading
 pub mod Names
 pub mod ReadingLaws
 pub mod StandingLemmas

@@ -18,19 +18,22 @@ use Rattle.gil_grammar.specs.Reading.Vocabulary.{word_value, unary_of_word, oper
 
 -- ---- literals and names
 
+abbrev pub name_leaf : Position → List Lexeme → Reading PureExpr
+name_leaf position ls = named_at position ls >>= λ x. Some (name x.0, x.1)
+
 -- the literal that a reserved word is, or else the name for which it serves
 abbrev pub word_leaf : Word → Position → List Lexeme → Reading PureExpr
 word_leaf word position ls =
     if is_some (word_value word)
     then (word_value word >>= λ v. Some (literal v, behind ls))
-    else (named_at position ls >>= λ x. Some (name x.0, x.1))
+    else name_leaf position ls
 
 abbrev pub logical_leaf : Position → List Lexeme → Reading PureExpr
 logical_leaf Assertion ls = logical_at ls >>= λ x. Some (logical x.0, x.1)
 logical_leaf _ ls = None
 
 abbrev pub leaf_by : Option Form → Position → List Lexeme → Reading PureExpr
-leaf_by (Some forms.Name) position ls = named_at position ls >>= λ x. Some (name x.0, x.1)
+leaf_by (Some forms.Name) position ls = name_leaf position ls
 leaf_by (Some (forms.Word word)) position ls = word_leaf word position ls
 leaf_by (Some forms.Logical) position ls = logical_leaf position ls
 leaf_by (Some forms.Procedure) position ls = procedure_at ls >>= λ f. Some (literal (procedure f.0), f.1)

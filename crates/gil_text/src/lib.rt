@@ -1,0 +1,5 @@
+//! GIL texts: the programs that they spell are read, exactly.
+#![tactic(auto)]
+
+mod expressions;
+mod vocabulary;
