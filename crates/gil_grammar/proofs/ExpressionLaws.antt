@@ -24,7 +24,7 @@ use Rattle.gil_grammar.specs.Lists.{SpellsMore, SpellsSeparated}
 use Rattle.gil_grammar.specs.Vocabulary.{between_operands, before_operands, literal_lexeme, unary_word, closing_parenthesis, comma, word_name, IsNameAt}
 use Rattle.gil_grammar.specs.Reading.Vocabulary.{operator_of, word_value, unary_of_word, named_at}
 use Rattle.gil_grammar.specs.Reading.Expressions.{word_leaf, logical_leaf, leaf_at, infix_at, nth_at, unary_at, list_at, word_bracketed, bracketed_by, bracketed_at, word_opens, opens, expr_at}
-use Rattle.gil_grammar.proofs.ListLaws.{Takes, Again, Shortens, NeverBegins, found_is, cond_cases, separated_takes, separated_again}
+use Rattle.gil_grammar.proofs.ListLaws.{Takes, Again, Reads, NeverBegins, found_is, cond_cases, separated_takes, separated_again}
 use Rattle.gil_grammar.proofs.VocabularyLaws.{word_value_takes, unary_takes, unary_again, operator_takes, named_takes, named_again, serving_word}
 
 -- ---- what is read is spelled
@@ -234,9 +234,9 @@ literal_leaf position (kind kinds.Null) lexeme rest e = rw (sym (found_is _ lexe
 literal_leaf position (procedure f) lexeme rest e = rw (sym (found_is _ lexeme e)) (refl, refl)
 literal_leaf position (list vs) lexeme rest e = absurd cc
 
-name_leaf : (position : Position) (x : List ℕ) (lexeme : Lexeme) (rest : List Lexeme) → IsNameAt position x lexeme → IsLeaf position (name x) (lexeme ∷ rest) rest
-name_leaf position x lexeme rest (inl is) = rw is (refl, refl)
-name_leaf position x lexeme rest (inr (word, says, is)) =
+name_leaf_again : (position : Position) (x : List ℕ) (lexeme : Lexeme) (rest : List Lexeme) → IsNameAt position x lexeme → IsLeaf position (name x) (lexeme ∷ rest) rest
+name_leaf_again position x lexeme rest (inl is) = rw is (refl, refl)
+name_leaf_again position x lexeme rest (inr (word, says, is)) =
     let serves = serving_word position word x says in
     rw is (serves.1, rw (serves.0, says) refl)
 
@@ -295,26 +295,30 @@ bracket_is_no_bracket : same_sign signs.LeftBracket signs.RightBracket ≡ false
 unfolding same_sign
 bracket_is_no_bracket = refl
 
-list_read : (n : ℕ) (position : Position) → Again (SpellsWithin n position) (expr_at n position) → (es : PureExprs) (inner rest : List Lexeme) → depths es ≤ n
+-- nothing is asked of the lexemes
+abbrev Anything : List Lexeme → Type 0
+Anything ls = Unit {0}
+
+list_read : (n : ℕ) (position : Position) → Again Anything (SpellsWithin n position) (expr_at n position) → (es : PureExprs) (inner rest : List Lexeme) → depths es ≤ n
     → SpellsElements position es inner (lexemes.Sign signs.RightBracket ∷ rest) → list_at (expr_at n position) (lexemes.Sign signs.LeftBracket ∷ inner) ≡ Some (list_of es, rest)
 unfolding list_at
 list_read n position again es inner rest deep h =
     let never : NeverBegins (SpellsWithin n position) signs.RightBracket = λ e ls after k. expr_never position signs.RightBracket parenthesis_is_no_bracket bracket_is_no_bracket e ls after k.1 in
-    let read = separated_again (SpellsWithin n position) (expr_at n position) again (λ e ls after k. expr_shortens position e ls after k.1) signs.RightBracket signs.Comma never
-      (to_list es) inner (lexemes.Sign signs.RightBracket ∷ rest) (within n position es inner _ deep h) (same_sign-refl signs.RightBracket) bracket_is_no_comma in
-    rw (same_sign-refl signs.LeftBracket, read, same_sign-refl signs.RightBracket, from_list-to_list es) refl
+    let read = separated_again Anything (λ l ls p. p) (SpellsWithin n position) (expr_at n position) again signs.RightBracket signs.Comma never
+      (to_list es) inner (lexemes.Sign signs.RightBracket ∷ rest) tt (within n position es inner _ deep h) (same_sign-refl signs.RightBracket) bracket_is_no_comma in
+    rw (same_sign-refl signs.LeftBracket, read.is, same_sign-refl signs.RightBracket, from_list-to_list es) refl
 
 -- what is spelled as an expression is read so
-pub expr_again : (n : ℕ) (position : Position) → Again (SpellsWithin n position) (expr_at n position)
+pub expr_again : (n : ℕ) (position : Position) (e : PureExpr) (ls rest : List Lexeme) → SpellsWithin n position e ls rest → expr_at n position ls ≡ Some (e, rest)
 expr_again n position (literal v) ls rest (deep, (lexeme, says, is)) = ap (expr_at n position) is ∙ leaf_again n position (literal v) _ rest (literal_leaf position v lexeme rest says)
-expr_again n position (name x) ls rest (deep, (lexeme, says, is)) = ap (expr_at n position) is ∙ leaf_again n position (name x) _ rest (name_leaf position x lexeme rest says)
+expr_again n position (name x) ls rest (deep, (lexeme, says, is)) = ap (expr_at n position) is ∙ leaf_again n position (name x) _ rest (name_leaf_again position x lexeme rest says)
 expr_again n position (logical x) ls rest (deep, (there, is)) = ap (expr_at n position) is ∙ leaf_again n position (logical x) _ rest (logical_leaf_again position x rest there)
 expr_again zero position (list_of es) ls rest (deep, h) = absurd (omega arith)
 expr_again zero position (unary_of op e) ls rest (deep, h) = absurd (omega arith)
 expr_again zero position (binary_of op d e) ls rest (deep, h) = absurd (omega arith)
 expr_again (suc n) position (list_of es) ls rest (deep, (inner, is, h)) =
     ap (expr_at (suc n) position) is
-    ∙ bracketed_again n position (list_of es) _ rest refl (list_read n position (expr_again n position) es inner rest (omega arith) h)
+    ∙ bracketed_again n position (list_of es) _ rest refl (list_read n position (λ d ls after p k. record { is = expr_again n position d ls after k; under = tt; shorter = expr_shortens position d ls after k.1 }) es inner rest (omega arith) h)
 expr_again (suc n) position (unary_of op e) ls rest (deep, (inner, is, h)) =
     let read = unary_read op (expr_at n position) e inner rest (expr_again n position e inner _ (omega arith, h)) in
     ap (expr_at (suc n) position) is ∙ bracketed_again n position (unary_of op e) _ rest read.0 read.1

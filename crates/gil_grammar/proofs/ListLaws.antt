@@ -13,13 +13,15 @@ use Rattle.gil_grammar.specs.Lists.{SpellsEach, SpellsMore, SpellsSeparated}
 abbrev pub Takes : {X : Type 0} → (X → List Lexeme → List Lexeme → Type 0) → (List Lexeme → Reading X) → Type 0
 Takes {X} spells read = (ls : List Lexeme) (found : X × List Lexeme) → read ls ≡ Some found → spells found.0 ls found.1
 
--- what is spelled by a relation is read by a function
-abbrev pub Again : {X : Type 0} → (X → List Lexeme → List Lexeme → Type 0) → (List Lexeme → Reading X) → Type 0
-Again {X} spells read = (x : X) (ls rest : List Lexeme) → spells x ls rest → read ls ≡ Some (x, rest)
+-- x is read from the lexemes ls, of which rest are left, fewer ones, and what P says of the former it says of the latter
+pub record Reads {X : Type 0} (P : List Lexeme → Type 0) (read : List Lexeme → Reading X) (x : X) (ls rest : List Lexeme) : Type 0 where
+  pub is : read ls ≡ Some (x, rest)
+  pub under : P rest
+  pub shorter : length rest < length ls
 
--- fewer lexemes are left
-abbrev pub Shortens : {X : Type 0} → (X → List Lexeme → List Lexeme → Type 0) → Type 0
-Shortens {X} spells = (x : X) (ls rest : List Lexeme) → spells x ls rest → length rest < length ls
+-- what is spelled by a relation is read by a function, where P holds
+abbrev pub Again : {X : Type 0} → (List Lexeme → Type 0) → (X → List Lexeme → List Lexeme → Type 0) → (List Lexeme → Reading X) → Type 0
+Again {X} P spells read = (x : X) (ls rest : List Lexeme) → P ls → spells x ls rest → Reads P read x ls rest
 
 -- none of these things begins with the sign
 abbrev pub NeverBegins : {X : Type 0} → (X → List Lexeme → List Lexeme → Type 0) → Sign → Type 0
@@ -69,32 +71,53 @@ module _ {X : Type 0} (spells : X → List Lexeme → List Lexeme → Type 0) (r
         subst (λ (f : List X × List Lexeme). SpellsEach spells f.0 ls f.1) (found_is (x.0.0 ∷ xs.0.0, xs.0.1) found xs.2)
         (x.0.1, takes ls x.0 x.1, each_takes n closing x.0.1 xs.0 xs.1))
 
-module _ {X : Type 0} (spells : X → List Lexeme → List Lexeme → Type 0) (read : List Lexeme → Reading X) (again : Again spells read) (shortens : Shortens spells) where
-  pub more_again : (n : ℕ) (separator : Sign) (xs : List X) (ls rest : List Lexeme) → length ls ≤ n → SpellsMore spells (lexemes.Sign separator) xs ls rest
-      → is_sign separator (first_form rest) ≡ false → more_at read n separator ls ≡ Some (xs, rest)
+-- x is read from the lexemes ls, of which rest are left
+pub record ReadsList {X : Type 0} (P : List Lexeme → Type 0) (read : List Lexeme → Reading X) (x : X) (ls rest : List Lexeme) : Type 0 where
+  pub is : read ls ≡ Some (x, rest)
+  pub under : P rest
+  pub shorter : length rest ≤ length ls
+
+module _ {X : Type 0} (P : List Lexeme → Type 0) (tails : (l : Lexeme) (ls : List Lexeme) → P (l ∷ ls) → P ls)
+  (spells : X → List Lexeme → List Lexeme → Type 0) (read : List Lexeme → Reading X) (again : Again P spells read) where
+  pub more_again : (n : ℕ) (separator : Sign) (xs : List X) (ls rest : List Lexeme) → length ls ≤ n → P ls → SpellsMore spells (lexemes.Sign separator) xs ls rest
+      → is_sign separator (first_form rest) ≡ false → ReadsList P (more_at read n separator) xs ls rest
   unfolding more_at
-  more_again zero separator [] ls rest within h ends = ap (λ (l : List Lexeme). Some ([], l)) h
-  more_again zero separator (x ∷ xs) ls rest within (inner, after, is, one, more) ends = absurd (let count = ap length is in omega arith)
-  more_again (suc n) separator [] ls rest within h ends = rw (h, ends) refl
-  more_again (suc n) separator (x ∷ xs) ls rest within (inner, after, is, one, more) ends =
+  more_again zero separator [] ls rest within p h ends = record { is = ap (λ (l : List Lexeme). Some ([], l)) h; under = subst P h p; shorter = omega (arith, ap length h) }
+  more_again zero separator (x ∷ xs) ls rest within p (inner, after, is, one, more) ends = absurd (let count = ap length is in omega arith)
+  more_again (suc n) separator [] ls rest within p h ends = record { is = rw (h, ends) refl; under = subst P h p; shorter = omega (arith, ap length h) }
+  more_again (suc n) separator (x ∷ xs) ls rest within p (inner, after, is, one, more) ends =
       let count = ap length is in
-      let short = shortens x inner after one in
-      let others : more_at read n separator after ≡ Some (xs, rest) = more_again n separator xs after rest (omega arith) more ends in
-      rw (is, same_sign-refl separator, again x inner after one, others) refl
+      let first = again x inner after (tails (lexemes.Sign separator) inner (subst P is p)) one in
+      let others = more_again n separator xs after rest (omega (arith, first.shorter)) first.under more ends in
+      record {
+        is = rw (is, same_sign-refl separator, first.is, others.is) refl;
+        under = others.under;
+        shorter = omega (arith, first.shorter, others.shorter);
+      }
 
-  pub separated_again : (closing separator : Sign) → NeverBegins spells closing → (xs : List X) (ls rest : List Lexeme) → SpellsSeparated spells (lexemes.Sign separator) xs ls rest
-      → is_sign closing (first_form rest) ≡ true → is_sign separator (first_form rest) ≡ false → separated_at read closing separator ls ≡ Some (xs, rest)
-  separated_again closing separator never [] ls rest h closes ends = rw (h, closes) refl
-  separated_again closing separator never (x ∷ xs) ls rest (after, one, more) closes ends =
-      rw (never x ls after one, again x ls after one, more_again (length after) separator xs after rest (omega arith) more ends) refl
+  pub separated_again : (closing separator : Sign) → NeverBegins spells closing → (xs : List X) (ls rest : List Lexeme) → P ls → SpellsSeparated spells (lexemes.Sign separator) xs ls rest
+      → is_sign closing (first_form rest) ≡ true → is_sign separator (first_form rest) ≡ false → ReadsList P (separated_at read closing separator) xs ls rest
+  separated_again closing separator never [] ls rest p h closes ends = record { is = rw (h, closes) refl; under = subst P h p; shorter = omega (arith, ap length h) }
+  separated_again closing separator never (x ∷ xs) ls rest p (after, one, more) closes ends =
+      let first = again x ls after p one in
+      let others = more_again (length after) separator xs after rest (omega arith) first.under more ends in
+      record {
+        is = rw (never x ls after one, first.is, others.is) refl;
+        under = others.under;
+        shorter = omega (arith, first.shorter, others.shorter);
+      }
 
-  pub each_again : (n : ℕ) (closing : Sign) → NeverBegins spells closing → (xs : List X) (ls rest : List Lexeme) → length ls ≤ n → SpellsEach spells xs ls rest
-      → is_sign closing (first_form rest) ≡ true → each_until read n closing ls ≡ Some (xs, rest)
+  pub each_again : (n : ℕ) (closing : Sign) → NeverBegins spells closing → (xs : List X) (ls rest : List Lexeme) → length ls ≤ n → P ls → SpellsEach spells xs ls rest
+      → is_sign closing (first_form rest) ≡ true → ReadsList P (each_until read n closing) xs ls rest
   unfolding each_until
-  each_again zero closing never [] ls rest within h closes = ap (λ (l : List Lexeme). Some ([], l)) h
-  each_again zero closing never (x ∷ xs) ls rest within (after, one, more) closes = absurd (let short = shortens x ls after one in omega arith)
-  each_again (suc n) closing never [] ls rest within h closes = rw (h, closes) refl
-  each_again (suc n) closing never (x ∷ xs) ls rest within (after, one, more) closes =
-      let short = shortens x ls after one in
-      let others : each_until read n closing after ≡ Some (xs, rest) = each_again n closing never xs after rest (omega arith) more closes in
-      rw (never x ls after one, again x ls after one, others) refl
+  each_again zero closing never [] ls rest within p h closes = record { is = ap (λ (l : List Lexeme). Some ([], l)) h; under = subst P h p; shorter = omega (arith, ap length h) }
+  each_again zero closing never (x ∷ xs) ls rest within p (after, one, more) closes = absurd (let first = again x ls after p one in omega (arith, first.shorter))
+  each_again (suc n) closing never [] ls rest within p h closes = record { is = rw (h, closes) refl; under = subst P h p; shorter = omega (arith, ap length h) }
+  each_again (suc n) closing never (x ∷ xs) ls rest within p (after, one, more) closes =
+      let first = again x ls after p one in
+      let others = each_again n closing never xs after rest (omega (arith, first.shorter)) first.under more closes in
+      record {
+        is = rw (never x ls after one, first.is, others.is) refl;
+        under = others.under;
+        shorter = omega (arith, first.shorter, others.shorter);
+      }

@@ -2,3 +2,4 @@
 -- and the two are proved to agree.
 pub mod Vocabulary
 pub mod Expressions
+pub mod Assertions

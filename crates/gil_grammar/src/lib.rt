@@ -3,4 +3,4 @@
 
 mod positions;
 
-pub use positions::Position;
+pub use positions::{Extent, Naming, Position};

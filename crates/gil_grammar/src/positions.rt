@@ -1,4 +1,4 @@
-//! Where names stand.
+//! Where names stand, and what is read of a list.
 
 /// Where a name stands, which decides which reserved words may serve as one.
 #[derive(Clone, Copy, Debug, PartialEq, Eq)]
@@ -11,4 +11,22 @@ pub enum Position {
     Predicate,
     /// As the name of an action, which may be `new`, `has`, `free`, `dispose`, `delete` or `setproto`.
     Action,
+}
+
+/// What a parameter or a variable is named by.
+#[derive(Clone, Copy, Debug, PartialEq, Eq)]
+pub enum Naming {
+    /// A name, as of a program variable.
+    Program,
+    /// A logical name.
+    Logical,
+}
+
+/// How many assertions in braces are read, where what follows them isn't known.
+#[derive(Clone, Copy, Debug, PartialEq, Eq)]
+pub enum Extent {
+    /// Each one that begins.
+    Whole,
+    /// As many as there are: what begins as one and isn't one is left.
+    Longest,
 }

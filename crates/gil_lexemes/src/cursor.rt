@@ -66,6 +66,13 @@ impl<'a> Cursor<'a> {
         is_sign(sign, self.first())
     }
 
+    /// Whether the next token is the reserved word.
+    pub fn is_at_word(&self, word: Word) -> bool
+        ensures { result ≡ spec.is_word word (first_form self.now) }
+    {
+        is_word(word, self.first())
+    }
+
     /// Another cursor at the same place.
     pub fn copy(&self) -> Cursor<'a>
         ensures { result ≡ self.now }
