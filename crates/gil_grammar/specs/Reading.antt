@@ -3,3 +3,5 @@
 pub mod Vocabulary
 pub mod Expressions
 pub mod Assertions
+pub mod Commands
+pub mod Programs

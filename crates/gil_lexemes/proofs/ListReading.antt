@@ -8,7 +8,7 @@ use Rattle.gil_lexemes.specs.declared.stops.Stop.TheVariants as stops
 use Rattle.gil_lexemes.specs.Lists.{with_front, more_at, each_until}
 use Rattle.gil_lexemes.specs.Reading.{Reading, ◌>>=◌, Fails, behind, first_form, is_sign}
 
-regroup : {X : Type 0} (front : List X) (x : X) (read : Reading (List X)) → with_front front (with_front (x ∷ []) read) ≡ with_front (front ++ x ∷ []) read
+pub regroup : {X : Type 0} (front : List X) (x : X) (read : Reading (List X)) → with_front front (with_front (x ∷ []) read) ≡ with_front (front ++ x ∷ []) read
 regroup front x (Some xs) = ap (λ ys. Some (ys, xs.1)) (simp append_assoc)
 regroup front x None = refl
 

@@ -2,5 +2,7 @@
 #![tactic(auto)]
 
 mod assertions;
+mod blocks;
+mod commands;
 mod expressions;
 mod vocabulary;
