@@ -12,10 +12,10 @@ use Rattle.gil_grammar.specs.Commands.{SpellsNames, SpellsStatement}
 use Rattle.gil_grammar.specs.Lists.{SpellsEach}
 use Rattle.gil_grammar.specs.Vocabulary.{opening_parenthesis, closing_parenthesis, opening_brace, closing_brace, semicolon, IsNameAt}
 
--- proc name(x, ..) { command; .. }. The number of a command is its index, from 0.
 abbrev pub commands_of : List PureNumberedCommand → List PureCommand
 commands_of body = map (λ c. c.command) body
 
+-- proc name(x, ..) { command; .. }. The number of a command is its index, from 0.
 abbrev pub SpellsProc : PureProc → List Lexeme → List Lexeme → Type 0
 SpellsProc q from rest =
     (params body : List Lexeme) × (from ≡ Word words.Proc ∷ Name q.name ∷ opening_parenthesis ∷ params)

@@ -5,3 +5,4 @@ pub mod Expressions
 pub mod Assertions
 pub mod Commands
 pub mod Programs
+pub mod Texts

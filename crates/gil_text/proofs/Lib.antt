@@ -1,1 +1,2 @@
 pub mod BlockLoop
+pub mod BodyLoop

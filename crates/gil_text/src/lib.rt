@@ -5,4 +5,6 @@ mod assertions;
 mod blocks;
 mod commands;
 mod expressions;
+mod located;
+mod programs;
 mod vocabulary;
