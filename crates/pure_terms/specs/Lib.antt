@@ -1,0 +1,13 @@
+pub mod Deciding
+pub mod Examples
+pub mod Folding
+pub mod Fragment
+pub mod Kinds
+pub mod Laws
+pub mod Meaning
+pub mod Numbers
+pub mod Pure
+pub mod Renaming
+pub mod Rewriting
+pub mod View
+pub mod Wide

@@ -1,0 +1,21 @@
+//! Terms, atoms, valuations, the decidable fragment, and what decides lists of atoms.
+#![tactic(auto)]
+
+mod atoms;
+mod deciders;
+mod examples;
+mod literals;
+mod queries;
+mod terms;
+mod variables;
+
+pub use atoms::{Atom, Atoms};
+pub use deciders::{Decider, Decision, Reason};
+pub use examples::{
+    limits_of_the_fragment, some_atoms_have_forms, some_kinds_are_known, some_terms_are_simple,
+    some_terms_fold, undefined_terms_are_neither, values_are_those_of_the_table,
+};
+pub use literals::Literal;
+pub use queries::{Choices, Query};
+pub use terms::{Term, Terms};
+pub use variables::{Sort, Valuation, Var, VarTable};
