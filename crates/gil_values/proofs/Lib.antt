@@ -1,6 +1,7 @@
 mod DivisionLaws
 pub mod Lists
 pub mod Numerals
+pub mod OperatorSymbols
 mod PrintedRows
 pub mod Rows
 mod TableLaws

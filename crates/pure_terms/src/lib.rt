@@ -4,6 +4,7 @@
 mod atoms;
 mod deciders;
 mod examples;
+mod laws;
 mod literals;
 mod queries;
 mod terms;
@@ -14,6 +15,11 @@ pub use deciders::{Decider, Decision, Reason};
 pub use examples::{
     limits_of_the_fragment, some_atoms_have_forms, some_kinds_are_known, some_terms_are_simple,
     some_terms_fold, undefined_terms_are_neither, values_are_those_of_the_table,
+};
+pub use laws::{
+    folding_replaces, fragment_atoms_are_true_or_false, known_kinds_are_right,
+    simple_terms_are_known, symbols_may_be_renamed, tables_may_grow, terms_invent_no_symbol,
+    the_fragment_goes_atom_by_atom, variables_decide,
 };
 pub use literals::Literal;
 pub use queries::{Choices, Query};
