@@ -26,7 +26,7 @@ pub all_pass : {X : Type 0} (f : X → Bool) (xs : List X) → ((i : ℕ) (x : X
 all_pass f [] each = refl
 all_pass f (y ∷ ys) each = and_from (f y) (list_all f ys) (each 0 y refl) (all_pass f ys (λ i x is. each (suc i) x is))
 
-stands-append : (n : ℕ) (xs ys : List Var) → stands_in n (map number_of (xs ++ ys)) ≡ (stands_in n (map number_of xs) || stands_in n (map number_of ys))
+pub stands-append : (n : ℕ) (xs ys : List Var) → stands_in n (map number_of (xs ++ ys)) ≡ (stands_in n (map number_of xs) || stands_in n (map number_of ys))
 stands-append n xs ys = ap (stands_in n) (map-append number_of xs ys) ∙ list_any-append (eqb n) (map number_of xs) (map number_of ys)
 
 -- what an atom names, the list names

@@ -1,7 +1,10 @@
 pub mod Counting
+pub mod EqualLists
 mod FoldingLaws
 pub mod FragmentLaws
 pub mod KindLaws
+pub mod ListTests
+pub mod Naming
 pub mod Renamed
 pub mod SimpleLaws
 pub mod SymbolLaws

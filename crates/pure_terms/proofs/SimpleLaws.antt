@@ -3,7 +3,6 @@ use Rattle.std.proofs.Common.{◌≡◌, ⊎_elim, ℕ, ◌<◌, ℤ, ◌+ℤ◌
 use Rattle.std.specs.Option.{option_map, option_and_then}
 use Rattle.std.specs.Result.{result_ok}
 use Rattle.std.proofs.lemmas.Bool.{false≢true, and_parts, or_cases}
-use Rattle.std.proofs.lemmas.Bool.Decides.{Decides-eqb}
 use Rattle.std.proofs.lemmas.Option.{slice_get_within, slice_get-get_or}
 use Rattle.gil_values.specs.declared.kinds.Kind.{Kind}
 use Rattle.gil_values.specs.declared.operators.UnOp.{UnOp}
@@ -14,25 +13,13 @@ use Rattle.gil_values.specs.Pure.{PureValue, integer, boolean, text, symbol, kin
 use Rattle.pure_terms.specs.declared.literals.Literal.{Literal}
 use Rattle.pure_terms.specs.declared.variables.Sort.{Sort}
 use Rattle.pure_terms.specs.declared.variables.Var.{Var}
+use Rattle.pure_terms.specs.EqualityLaws.{same_sorts}
 use Rattle.pure_terms.specs.Fragment.{is_integer_literal, is_variable_of, is_shift, is_simple, are_simple, is_kind_of_any, is_kind_literal, is_kind_test, is_simple_equality, is_integer_side, is_order, is_comparison, has_form, is_fragment_term, has_fragment_form}
-use Rattle.pure_terms.specs.Kinds.{sort_number, same_sort, kind_of_sort, kind_of_literal, kind_of_binary, is_of_kind, known_kind}
+use Rattle.pure_terms.specs.Kinds.{same_sort, kind_of_sort, kind_of_literal, kind_of_binary, is_of_kind, known_kind}
 use Rattle.pure_terms.specs.Laws.{SimpleTermsHaveKinds, SimpleTermsHaveValues, FragmentTermsAreBooleans}
 use Rattle.pure_terms.specs.Meaning.{literal_value, both, value, values, IsProper, AreVariablesOf, IsOver}
 use Rattle.pure_terms.specs.Pure.{PureTerm, literal, variable, list_of, unary_of, binary_of, PureTerms, no_terms, term_and, PureAtom, positive, negative, opening, term_of, variables, variables_of_all}
 use Rattle.pure_terms.proofs.KindLaws.{same_kinds, known_kinds_are_right, over_left, over_right, over_variable}
-
-pub same_sorts : (s t : Sort) → same_sort s t ≡ true → s ≡ t
-same_sorts Sort.Int Sort.Int h = refl
-same_sorts Sort.Bool Sort.Bool h = refl
-same_sorts Sort.Str Sort.Str h = refl
-same_sorts Sort.Sym Sort.Sym h = refl
-same_sorts Sort.Fresh Sort.Fresh h = refl
-same_sorts Sort.List Sort.List h = refl
-same_sorts Sort.Any Sort.Any h = refl
-same_sorts s t h = absurd (false≢true h)
-
-pub same_sort-refl : (s : Sort) → same_sort s s ≡ true
-same_sort-refl s = (Decides-eqb (sort_number s) (sort_number s)).1 refl
 
 -- ---- forms, taken apart
 

@@ -8,7 +8,7 @@ use Rattle.pure_terms.specs.declared.literals.Literal.{Literal}
 use Rattle.pure_terms.specs.declared.variables.Sort.{Sort}
 use Rattle.pure_terms.specs.Numbers.{is_between}
 use Rattle.pure_terms.specs.Kinds.{same_sort, is_of_kind, known_kind}
-use Rattle.pure_terms.specs.Pure.{PureTerm, literal, variable, list_of, unary_of, binary_of, PureTerms, no_terms, term_and, PureAtom, positive, negative, opening, term_of, variables_of_atoms}
+use Rattle.pure_terms.specs.Pure.{PureTerm, literal, variable, list_of, unary_of, binary_of, PureTerms, no_terms, term_and, PureAtom, positive, negative, opening, term_of, variables, variables_of_atoms}
 
 -- ---- simple terms
 
@@ -136,6 +136,10 @@ abbrev mutual
 -- the literals of the fragment: -2^80 to 2^80
 abbrev pub has_narrow_literals : PureAtom → Bool
 has_narrow_literals a = has_literals_between (neg_ℤ (pos (2 ^ 80))) (pos (2 ^ 80)) (term_of a)
+
+-- the term names the variable with this number
+abbrev pub names_number : ℕ → PureTerm → Bool
+names_number n t = list_any (λ x. nat_eq n x.number) (variables t)
 
 -- how many different numbers stand in a list
 abbrev pub different : List ℕ → ℕ

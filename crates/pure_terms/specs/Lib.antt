@@ -1,4 +1,6 @@
 pub mod Deciding
+pub mod Equality
+pub mod EqualityLaws
 pub mod Examples
 pub mod Folding
 pub mod Fragment

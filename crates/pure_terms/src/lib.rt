@@ -3,7 +3,10 @@
 
 mod atoms;
 mod deciders;
+mod equality;
 mod examples;
+mod fragment;
+mod kinds;
 mod laws;
 mod literals;
 mod queries;
@@ -12,10 +15,12 @@ mod variables;
 
 pub use atoms::{Atom, Atoms};
 pub use deciders::{Decider, Decision, Reason};
+pub use equality::equality_is_identity;
 pub use examples::{
     limits_of_the_fragment, some_atoms_have_forms, some_kinds_are_known, some_terms_are_simple,
     some_terms_fold, undefined_terms_are_neither, values_are_those_of_the_table,
 };
+pub use fragment::in_fragment;
 pub use laws::{
     folding_replaces, fragment_atoms_are_true_or_false, known_kinds_are_right,
     simple_terms_are_known, symbols_may_be_renamed, tables_may_grow, terms_invent_no_symbol,

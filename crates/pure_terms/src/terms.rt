@@ -1,5 +1,5 @@
 //! Terms and lists of terms.
-ghost use Rattle.std.specs.Prelude.{◌≡◌, [], ◌∷◌, ◌++◌, length, map, slice_get, OnOk, OnErr};
+ghost use Rattle.std.specs.Prelude.{◌≡◌, [], ◌∷◌, ◌++◌, length, map, slice_get, IfOk, OnOk, OnErr};
 ghost use Rattle.std.specs.Option.{option_map};
 ghost use Rattle.std.specs.Slice.Iter.{iter_rest};
 ghost use Rattle.pure_terms.specs.View.{term_view, terms_view};
@@ -26,6 +26,15 @@ pub enum Term {
 #[derive(Debug, Drop)]
 pub struct Terms {
     pub(crate) items: Vec<Term>,
+}
+
+impl Term {
+    /// An equal term.
+    pub fn copy(&self, alloc: Global) -> Result<Term, AllocError>
+        ensures { IfOk result (λ t. term_view t ≡ term_view self.now) }
+    {
+        copy_term(alloc, self)
+    }
 }
 
 impl Terms {
@@ -74,4 +83,42 @@ impl Terms {
     {
         self.items.as_slice()
     }
+
+    /// An equal list.
+    pub fn copy(&self, alloc: Global) -> Result<Terms, AllocError>
+        ensures { IfOk result (λ ts. terms_view ts ≡ terms_view self.now) }
+    {
+        copy_terms(alloc, self)
+    }
+}
+
+#[cycle(copy)]
+fn copy_term(alloc: Global, term: &Term) -> Result<Term, AllocError>
+    ensures { IfOk result (λ t. term_view t ≡ term_view term.now) }
+{
+    match term {
+        Term::Lit(literal) => Ok(Term::Lit(literal.copy(alloc)?)),
+        Term::Var(variable) => Ok(Term::Var(*variable)),
+        Term::List(terms) => Ok(Term::List(copy_terms(alloc, terms)?)),
+        Term::Op1(op, operand) => {
+            let operand = copy_term(alloc, operand)?;
+            Ok(Term::Op1(*op, Box::new(alloc, operand)?))
+        }
+        Term::Op2(op, left, right) => {
+            let left = copy_term(alloc, left)?;
+            let right = copy_term(alloc, right)?;
+            Ok(Term::Op2(*op, Box::new(alloc, left)?, Box::new(alloc, right)?))
+        }
+    }
+}
+
+#[cycle(copy)]
+fn copy_terms(alloc: Global, terms: &Terms) -> Result<Terms, AllocError>
+    ensures { IfOk result (λ ts. terms_view ts ≡ terms_view terms.now) }
+{
+    let mut items = Vec::with_capacity(alloc, terms.items.len())?;
+    for term in &terms.items {
+        items.push(copy_term(alloc, term)?)?;
+    }
+    Ok(Terms { items })
 }
