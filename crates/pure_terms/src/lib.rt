@@ -5,6 +5,7 @@ mod atoms;
 mod deciders;
 mod equality;
 mod examples;
+mod folding;
 mod fragment;
 mod kinds;
 mod laws;
@@ -20,6 +21,7 @@ pub use examples::{
     limits_of_the_fragment, some_atoms_have_forms, some_kinds_are_known, some_terms_are_simple,
     some_terms_fold, undefined_terms_are_neither, values_are_those_of_the_table,
 };
+pub use folding::{fold_binary, fold_unary};
 pub use fragment::in_fragment;
 pub use laws::{
     folding_replaces, fragment_atoms_are_true_or_false, known_kinds_are_right,

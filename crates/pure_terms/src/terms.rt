@@ -1,5 +1,5 @@
 //! Terms and lists of terms.
-ghost use Rattle.std.specs.Prelude.{◌≡◌, [], ◌∷◌, ◌++◌, length, map, slice_get, IfOk, OnOk, OnErr};
+ghost use Rattle.std.specs.Prelude.{◌≡◌, [], ◌∷◌, ◌++◌, ◌<◌, length, map, slice_get, Some, IfOk, OnOk, OnErr};
 ghost use Rattle.std.specs.Option.{option_map};
 ghost use Rattle.std.specs.Slice.Iter.{iter_rest};
 ghost use Rattle.pure_terms.specs.View.{term_view, terms_view};
@@ -82,6 +82,15 @@ impl Terms {
         ensures { map term_view result.now ≡ terms_view self.now }
     {
         self.items.as_slice()
+    }
+
+    /// The term at a place of the list; the others are let go.
+    pub fn into_element(self, index: usize) -> Term
+        requires { index < length (terms_view self) }
+        ensures { slice_get (terms_view self) index ≡ Some (term_view result) }
+    {
+        let mut items = self.items;
+        items.swap_remove(index)
     }
 
     /// An equal list.
