@@ -1,5 +1,6 @@
 pub mod Counting
 pub mod EqualLists
+pub mod Evaluated
 pub mod Folded
 mod FoldingLaws
 pub mod FragmentLaws

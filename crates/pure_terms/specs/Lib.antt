@@ -11,5 +11,6 @@ pub mod Numbers
 pub mod Pure
 pub mod Renaming
 pub mod Rewriting
+pub mod Truth
 pub mod View
 pub mod Wide

@@ -12,6 +12,7 @@ mod laws;
 mod literals;
 mod queries;
 mod terms;
+mod truth;
 mod variables;
 
 pub use atoms::{Atom, Atoms};
@@ -31,4 +32,5 @@ pub use laws::{
 pub use literals::Literal;
 pub use queries::{Choices, Query};
 pub use terms::{Term, Terms};
+pub use truth::{HoldsFault, holds};
 pub use variables::{Sort, Valuation, Var, VarTable};
