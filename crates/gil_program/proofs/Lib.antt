@@ -8,4 +8,5 @@ pub mod LimitLemmas
 pub mod NameLemmas
 pub mod PieceLemmas
 pub mod ProgramLemmas
+pub mod SimpleLemmas
 pub mod UnknownLemmas

@@ -6,3 +6,4 @@ pub mod Names
 pub mod Parts
 pub mod Program
 pub mod Sought
+pub mod Values

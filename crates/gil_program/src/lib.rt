@@ -12,7 +12,9 @@ mod limits;
 mod named;
 mod program;
 mod seeking;
+mod simple;
 mod unknown;
 
 pub use invalid::Invalid;
 pub use program::Prog;
+pub use simple::is_simple;
