@@ -1,5 +1,5 @@
 -- The last command of a body.
-use Rattle.std.proofs.Common.{◌≡◌, ℕ, zero, suc, ◌-◌, ◌||◌, List, [], ◌∷◌, map, length, Bool, Option, Some, None, slice_get, refl, sym, ap, ◌∙◌, arith}
+use Rattle.std.proofs.Common.{◌≡◌, ℕ, zero, suc, ◌-◌, ◌||◌, List, [], ◌∷◌, map, length, Bool, Some, slice_get, refl, ap, arith}
 use Rattle.std.specs.List.{list_any}
 use Rattle.gil_syntax.specs.Pure.{PureNumberedCommand}
 use Rattle.gil_syntax.specs.Valid.{ends_body, last_ends_body}

@@ -1,11 +1,11 @@
 -- Finding by name in a list, by the first place of the name.
-use Rattle.std.proofs.Common.{◌≡◌, ℕ, zero, suc, List, [], ◌∷◌, ◌++◌, map, length, Bool, true, false, cond, ◌||◌, if◌then◌else◌, Option, Some, None, is_some, slice_get, refl, sym, ap, ◌∙◌, Bor}
+use Rattle.std.proofs.Common.{◌≡◌, ℕ, suc, List, [], ◌∷◌, ◌++◌, map, length, Bool, true, false, cond, ◌||◌, if◌then◌else◌, Option, Some, None, is_some, slice_get, refl, sym, ap, ◌∙◌, Bor}
 use Rattle.std.specs.Option.{option_map, option_or}
-use Rattle.std.specs.List.{find, list_any}
+use Rattle.std.specs.List.{find}
 use Rattle.std.specs.Str.{bytes_eq}
 use Rattle.std.proofs.lemmas.Option.{slice_get-map}
 use Rattle.std.proofs.lemmas.List.Folds.{find-append}
-use Rattle.gil_syntax.specs.Pure.{PureProc, PureSpec, PurePredDef, PureParts}
+use Rattle.gil_syntax.specs.Pure.{PureProc, PureSpec, PurePredDef}
 use Rattle.gil_syntax.specs.Programs.{find_proc, find_spec, find_pred}
 use Rattle.gil_syntax.specs.Valid.{Signature, signature_of, is_named}
 use Rattle.gil_program.specs.Names.{first_place}

@@ -1,5 +1,5 @@
 -- What follows where no item has a fault of some kind.
-use Rattle.std.proofs.Common.{◌≡◌, ◌≢◌, ℕ, zero, suc, ◌+◌, ◌<◌, ◌≤◌, List, [], ◌∷◌, ◌++◌, map, take, length, Bool, true, false, ◌||◌, Option, Some, None, slice_get, IsTrue, refl, sym, ap, ◌∙◌, true≢false, append_assoc, get_or, Result, Ok, Err, OnOk, arith}
+use Rattle.std.proofs.Common.{◌≡◌, ℕ, zero, suc, ◌+◌, ◌≤◌, List, [], ◌∷◌, ◌++◌, map, take, length, Bool, true, false, ◌||◌, Option, Some, None, slice_get, IsTrue, refl, sym, ap, ◌∙◌, true≢false, append_assoc, get_or, Result, Ok, Err, OnOk, arith}
 use Rattle.std.specs.List.{list_any}
 use Rattle.std.specs.Option.{option_map}
 use Rattle.std.specs.Str.{bytes_eq}
@@ -8,7 +8,7 @@ use Rattle.std.proofs.lemmas.Option.{slice_get-get_or, slice_get-map}
 use Rattle.gil_syntax.specs.declared.validity.InvalidKind.{InvalidKind}
 use Rattle.gil_syntax.specs.declared.validity.InvalidKind.TheVariants.{Duplicate, BadLabel, NoEnd, UnknownName, Arity, TooMany, Memory}
 use Rattle.gil_syntax.specs.Pure.{PureParts}
-use Rattle.gil_syntax.specs.Valid.{is_among, has_twice, Signature, core_predicates, signature_of, predicates_of, is_named, ProgramItem, a_proc, a_pred, items_of, has_fault, has_fault_if_there, fault_at, IsAtFault, IsValid}
+use Rattle.gil_syntax.specs.Valid.{is_among, has_twice, Signature, core_predicates, signature_of, is_named, ProgramItem, a_proc, a_pred, items_of, has_fault, has_fault_if_there, fault_at, IsValid}
 use Rattle.gil_program.specs.ByName.{AreDistinct}
 use Rattle.gil_program.specs.First.{HasNone}
 use Rattle.gil_program.specs.Items.{before_proc, before_pred, items_before, item_of, StandsAt}
@@ -96,7 +96,7 @@ module _ (p : PureParts) where
         let i = length p.procs + length p.specs + j in
         let stands = pred_stands p i d j at refl in
         let fault : has_fault Duplicate p (before_pred p j) (a_pred d) ≡ false =
-            (λ k. has_fault_if_there Duplicate p (sym stands.1 k) (sym stands.0 k)) ∙ isnt_true (fault_at p Duplicate i) (none i) in
+        (λ k. has_fault_if_there Duplicate p (sym stands.1 k) (sym stands.0 k)) ∙ isnt_true (fault_at p Duplicate i) (none i) in
         let first = either_false _ _ (either_false _ _ fault).0 in
         (ap (is_among core_names) (sym named) ∙ among_core core_predicates d.name ∙ first.1, ap (is_among (take j own_names)) (sym named) ∙ preds_before_among p d j ∙ first.0)
 
@@ -108,7 +108,7 @@ module _ (p : PureParts) where
         let named : q.name ≡ x = (element_of (λ r. r.name) p.procs j x is).2 in
         let stands = proc_stands p j q at in
         let fault : has_fault Duplicate p (before_proc p j) (a_proc q) ≡ false =
-            (λ k. has_fault_if_there Duplicate p (sym stands.1 k) (sym stands.0 k)) ∙ isnt_true (fault_at p Duplicate j) (none j) in
+        (λ k. has_fault_if_there Duplicate p (sym stands.1 k) (sym stands.0 k)) ∙ isnt_true (fault_at p Duplicate j) (none j) in
         let first = either_false _ _ (either_false _ _ fault).0 in
         (refl, ap (is_among (take j (map (λ r. r.name) p.procs))) (sym named) ∙ procs_before_among p q j ∙ first.0)
 

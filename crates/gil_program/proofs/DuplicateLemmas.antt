@@ -3,7 +3,6 @@ use Rattle.std.proofs.Common.{◌≡◌, ℕ, List, [], ◌∷◌, ◌++◌, map
 use Rattle.std.specs.List.{list_any}
 use Rattle.std.specs.Option.{option_map_or}
 use Rattle.std.specs.Str.{bytes_eq}
-use Rattle.std.proofs.Math.Bool.{or-false}
 use Rattle.std.proofs.lemmas.List.{take-map}
 use Rattle.std.proofs.lemmas.List.Folds.{list_any-append}
 use Rattle.gil_syntax.specs.Pure.{PureProc, PureSpec, PurePredDef, PureParts}
@@ -53,7 +52,7 @@ pub preds_before : (p : PureParts) (d : PurePredDef) (k : ℕ)
 preds_before p d k =
     let test = same_name (a_pred d) in
     let others : list_any test (map a_proc p.procs ++ map a_spec p.specs) ≡ false =
-        list_any-append test (map a_proc p.procs) (map a_spec p.specs) ∙ (λ j. none_alike a_proc test p.procs (λ y. refl) j || none_alike a_spec test p.specs (λ y. refl) j) in
+    list_any-append test (map a_proc p.procs) (map a_spec p.specs) ∙ (λ j. none_alike a_proc test p.procs (λ y. refl) j || none_alike a_spec test p.specs (λ y. refl) j) in
     before_names (λ r. r.name) a_pred d.name test p.preds k (λ y. refl)
     ∙ ap (λ b. b || list_any test (map a_pred (take k p.preds))) (sym others)
     ∙ sym (list_any-append test (map a_proc p.procs ++ map a_spec p.specs) (map a_pred (take k p.preds)))

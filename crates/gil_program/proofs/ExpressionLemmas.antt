@@ -6,7 +6,6 @@ use Rattle.gil_program.proofs.NameLemmas.{map-take_read}
 use Rattle.std.proofs.lemmas.List.Folds.{list_any-append, list_any_at}
 use Rattle.std.proofs.lemmas.Option.{slice_get_within}
 use Rattle.gil_values.proofs.Lists.{slice_get-read, get_or-found}
-use Rattle.gil_values.specs.declared.operators.UnOp.{UnOp}
 use Rattle.gil_values.specs.declared.operators.BinOp.{BinOp}
 use Rattle.gil_values.specs.declared.tree.Value.{Value}
 use Rattle.gil_values.specs.View.{value_view}

@@ -1,5 +1,5 @@
 -- The items of a program by their numbers.
-use Rattle.std.proofs.Common.{◌≡◌, ℕ, zero, suc, ◌+◌, ◌-◌, ◌<◌, ◌≤◌, ⊎_elim, List, [], ◌∷◌, ◌++◌, map, take, length, Option, Some, None, slice_get, refl, sym, ap, ◌∙◌, subst, arith}
+use Rattle.std.proofs.Common.{◌≡◌, ℕ, zero, suc, ◌+◌, ◌<◌, ◌≤◌, ⊎_elim, List, [], ◌∷◌, ◌++◌, map, take, length, Some, None, slice_get, sym, ap, ◌∙◌, arith}
 use Rattle.std.specs.Option.{option_map}
 use Rattle.std.proofs.Math.Seq.{take-append-add}
 use Rattle.std.proofs.lemmas.List.{take-append-le, length-map, length-append, take-map}
@@ -49,17 +49,19 @@ module _ (p : PureParts) (i : ℕ) where
   pub proc_stands : (q : PureProc) → slice_get p.procs i ≡ Some q → (slice_get (items_of p) i ≡ Some (a_proc q)) × (take i (items_of p) ≡ before_proc p i)
   proc_stands q is =
       let inner = at_left a_proc specs p.procs i q is in
-      let below : i < length (procs ++ specs) = slice_get_within (procs ++ specs) i (a_proc q) inner in
-      (slice_get-left (procs ++ specs) preds i (a_proc q) inner,
-        take-append-le i (procs ++ specs) preds (omega (arith, below)) ∙ before_left a_proc specs p.procs i q is)
+      let below : i < length (procs ++ specs) = slice_get_within (procs ++ specs) i (a_proc q) inner in (
+        slice_get-left (procs ++ specs) preds i (a_proc q) inner,
+        take-append-le i (procs ++ specs) preds (omega (arith, below)) ∙ before_left a_proc specs p.procs i q is,
+      )
 
   pub spec_stands : (s : PureSpec) (j : ℕ) → slice_get p.specs j ≡ Some s → i ≡ length p.procs + j → (slice_get (items_of p) i ≡ Some (a_spec s)) × (take i (items_of p) ≡ before_spec p j)
   spec_stands s j is place =
       let counted : i ≡ length procs + j = omega (arith, place, length-map p.procs a_proc) in
       let inner = at_right a_spec procs p.specs i j s is counted in
-      let below : i < length (procs ++ specs) = slice_get_within (procs ++ specs) i (a_spec s) inner in
-      (slice_get-left (procs ++ specs) preds i (a_spec s) inner,
-        take-append-le i (procs ++ specs) preds (omega (arith, below)) ∙ before_right a_spec procs p.specs i j counted)
+      let below : i < length (procs ++ specs) = slice_get_within (procs ++ specs) i (a_spec s) inner in (
+        slice_get-left (procs ++ specs) preds i (a_spec s) inner,
+        take-append-le i (procs ++ specs) preds (omega (arith, below)) ∙ before_right a_spec procs p.specs i j counted,
+      )
 
   pub pred_stands : (d : PurePredDef) (j : ℕ) → slice_get p.preds j ≡ Some d → i ≡ length p.procs + length p.specs + j → (slice_get (items_of p) i ≡ Some (a_pred d)) × (take i (items_of p) ≡ before_pred p j)
   pred_stands d j is place =

@@ -1,5 +1,5 @@
 -- How many items of its own list stand before an item.
-use Rattle.std.proofs.Common.{◌≡◌, ℕ, zero, suc, ◌+◌, ◌<◌, List, [], ◌∷◌, ◌++◌, map, take, length, filter, Bool, true, false, cond, ◌||◌, leb, refl, sym, ap, ◌∙◌, arith}
+use Rattle.std.proofs.Common.{◌≡◌, ℕ, suc, ◌+◌, ◌<◌, List, [], ◌∷◌, ◌++◌, map, take, length, filter, Bool, true, false, cond, ◌||◌, leb, refl, sym, ap, ◌∙◌, arith}
 use Rattle.std.proofs.lemmas.List.{length-take}
 use Rattle.gil_syntax.specs.Pure.{PureProc, PureSpec, PurePredDef, PureParts}
 use Rattle.gil_syntax.specs.Valid.{ProgramItem, a_proc, a_spec, a_pred, same_list, most_items, is_large, has_wide_literal, is_too_many}
@@ -38,8 +38,15 @@ module _ (p : PureParts) (k : ℕ) where
   preds_kept : (d : PurePredDef) → k < length p.preds → kept (same_list (a_pred d)) (before_pred p k) ≡ k
   preds_kept d below =
       let keep = same_list (a_pred d) in
-      omega (arith, kept-append keep (map a_proc p.procs ++ map a_spec p.specs) (map a_pred (take k p.preds)), kept-append keep (map a_proc p.procs) (map a_spec p.specs),
-      kept_none keep a_proc (λ y. refl) p.procs, kept_none keep a_spec (λ y. refl) p.specs, kept_all keep a_pred (λ y. refl) (take k p.preds), length-take k p.preds)
+      omega (
+        arith,
+        kept-append keep (map a_proc p.procs ++ map a_spec p.specs) (map a_pred (take k p.preds)),
+        kept-append keep (map a_proc p.procs) (map a_spec p.specs),
+        kept_none keep a_proc (λ y. refl) p.procs,
+        kept_none keep a_spec (λ y. refl) p.specs,
+        kept_all keep a_pred (λ y. refl) (take k p.preds),
+        length-take k p.preds,
+      )
 
   pub proc_too_many : (q : PureProc) → k < length p.procs → (leb most_items k || is_large (a_proc q) || has_wide_literal p (a_proc q)) ≡ is_too_many p (before_proc p k) (a_proc q)
   proc_too_many q below = ap (λ n. leb most_items n || is_large (a_proc q) || has_wide_literal p (a_proc q)) (sym (procs_kept q below))

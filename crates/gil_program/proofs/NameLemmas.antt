@@ -5,7 +5,6 @@ use Rattle.std.proofs.lemmas.Bool.{le-ltb, lt-ltb}
 use Rattle.std.proofs.lemmas.Bool.Decides.{nat_tests}
 use Rattle.std.proofs.lemmas.Slice.Eq.{bytes_eq-Decides}
 use Rattle.std.proofs.lemmas.Cmp.{nat_list_eq_equiv}
-use Rattle.std.specs.List.{list_any}
 use Rattle.std.proofs.lemmas.List.Folds.{list_any-append}
 use Rattle.std.specs.Option.{option_map, option_or, option_map_or}
 use Rattle.std.specs.Str.{bytes_eq}
@@ -14,7 +13,6 @@ use Rattle.std.specs.HashSet as bag
 use Rattle.std.specs.HashMap as hash
 use Rattle.std.specs.HashSet.{HashSet}
 use Rattle.std.specs.HashMap.{HashMap}
-use Rattle.std.proofs.lemmas.Map.Text.{hash_map_updates_str}
 use denote.Ref.{Bor}
 use Rattle.gil_program.specs.Names.{has_name, place_of, first_place}
 
@@ -84,6 +82,7 @@ first_place-push [] y x = by (bytes_eq x y)
   where
     here : Option ℕ
     here = Some zero
+
     by : (b : Bool) → cond b here None ≡ cond b here None
     by b = refl
 first_place-push (z ∷ zs) y x = by (bytes_eq x z) (first_place-push zs y x)
@@ -92,6 +91,7 @@ first_place-push (z ∷ zs) y x = by (bytes_eq x z) (first_place-push zs y x)
     more None true = refl
     more None false = refl
     more (Some n) b = refl
+
     by : (b : Bool) → first_place (zs ++ y ∷ []) x ≡ option_or (first_place zs x) (cond (bytes_eq x y) (Some (length zs)) None)
         → (if b then Some 0 else option_map suc (first_place (zs ++ y ∷ []) x)) ≡ option_or (if b then Some 0 else option_map suc (first_place zs x)) (cond (bytes_eq x y) (Some (length (z ∷ zs))) None)
     by true rest = refl
@@ -111,6 +111,7 @@ is_among-take (y ∷ ys) (suc k) x = by (bytes_eq x y) (is_among-take ys k x)
     further : (o : Option ℕ) → option_map_or (λ j. ltb j k) o false ≡ option_map_or (λ j. ltb j (suc k)) (option_map suc o) false
     further None = refl
     further (Some j) = grind (arith, nat_tests)
+
     by : (b : Bool) → is_among (take k ys) x ≡ option_map_or (λ j. ltb j k) (first_place ys x) false
         → (b || is_among (take k ys) x) ≡ option_map_or (λ j. ltb j (suc k)) (if b then Some 0 else option_map suc (first_place ys x)) false
     by true rest = sym (lt-ltb zero (suc k) (omega arith))
@@ -161,6 +162,7 @@ places_more f xs i x k m n below is named new updates before y =
   where
     length-take-all : {X : Type 0} (i : ℕ) (xs : List X) → i < length xs → length (take i xs) ≡ i
     length-take-all i xs below = omega (arith, length-take i xs)
+
     by : (names : List (List ℕ)) (i : ℕ) (x y : List ℕ) (b : Bool) → bytes_eq x y ≡ b → length names ≡ i → first_place names x ≡ None
         → cond b (Some i) (first_place names y) ≡ option_or (first_place names y) (cond (bytes_eq y x) (Some (length names)) None)
     by names i x y true e long new =
@@ -188,6 +190,7 @@ places_same f xs i x m below is old before y =
     stays : (o : Option ℕ) (r : Option ℕ) → is_some o ≡ true → o ≡ option_or o r
     stays None r h = absurd (true≢false (sym h))
     stays (Some n) r h = refl
+
     by : (names : List (List ℕ)) (x y : List ℕ) (b : Bool) → bytes_eq y x ≡ b → is_some (first_place names x) ≡ true
         → first_place names y ≡ option_or (first_place names y) (cond (bytes_eq y x) (Some (length names)) None)
     by names x y true e old =

@@ -1,6 +1,6 @@
 -- Wide literals, and predicates used with other numbers of ins and outs, in the pieces of items.
 use Rattle.std.proofs.Common.{◌≡◌, ◌<◌, ◌+◌, ℕ, List, [], ◌∷◌, ◌++◌, map, take, get_or, length, Bool, true, false, not, ◌||◌, ◌&&◌, ◌==◌, cond, Option, Some, None, is_some, slice_get, refl, sym, ap, ◌∙◌, true≢false}
-use Rattle.std.specs.List.{list_any, flat_map}
+use Rattle.std.specs.List.{list_any}
 use Rattle.std.specs.Option.{option_map}
 use Rattle.std.specs.Str.{bytes_eq}
 use Rattle.std.specs.Bool.{Decides}
@@ -8,11 +8,10 @@ use Rattle.std.specs.Cmp.Lexicographic.{pointwise}
 use Rattle.std.proofs.Math.Bool.{or-false}
 use Rattle.std.proofs.lemmas.List.{take_more}
 use Rattle.std.proofs.lemmas.Slice.Eq.{bytes_eq-Decides, slice_eq-Decides}
-use Rattle.gil_values.specs.Pure.{PureValue}
 use Rattle.gil_syntax.specs.declared.assertions.Param.{Param}
 use Rattle.gil_syntax.specs.Pure.{PureExpr, literal, name, logical, list_of, unary_of, binary_of, PurePredUse, PureItem, PureNumberedCommand, PureParts}
 use Rattle.gil_syntax.specs.Subexpressions.{subexpressions, own_literals, literals_of}
-use Rattle.gil_syntax.specs.Valid.{is_among, has_twice, Signature, is_named, predicates_of, Piece, piece_of_assertion, piece_of_command, fits, misuses, is_wide}
+use Rattle.gil_syntax.specs.Valid.{is_among, has_twice, Signature, predicates_of, Piece, piece_of_assertion, piece_of_command, fits, misuses, is_wide}
 use Rattle.gil_program.specs.ByName.{find_signature, shape, AreDistinct}
 use Rattle.gil_program.specs.Found.{stands_in, stands_among, stands_in_assertion, stands_in_command}
 use Rattle.gil_program.specs.Sought.{is_wide_literal, no_node, no_use}
@@ -94,6 +93,7 @@ first_fits u (h ∷ hs) g once found = by (bytes_eq h.name u.pred) refl (first_f
   where
     alone : (is_among (names_of_signatures hs) h.name ≡ false) × (has_twice (names_of_signatures hs) ≡ false)
     alone = either_false (is_among (names_of_signatures hs) h.name) (has_twice (names_of_signatures hs)) once
+
     by : (b : Bool) → bytes_eq h.name u.pred ≡ b
         → (has_twice (names_of_signatures hs) ≡ false → find_signature hs u.pred ≡ Some g → list_any (fits u) hs ≡ (g.ins == length u.ins && g.outs == length u.outs))
         → cond b (Some h) (find_signature hs u.pred) ≡ Some g

@@ -1,5 +1,5 @@
 -- Procedures beside their names.
-use Rattle.std.proofs.Common.{◌≡◌, ℕ, List, [], ◌∷◌, ◌++◌, map, length, Bool, true, false, cond, ◌||◌, Option, Some, None, refl, sym, ap, ◌∙◌, true≢false, append_assoc, Bor}
+use Rattle.std.proofs.Common.{◌≡◌, ℕ, List, [], ◌∷◌, ◌++◌, map, Bool, true, false, cond, Option, Some, None, refl, sym, ap, ◌∙◌, append_assoc, Bor}
 use Rattle.std.specs.Map.{lookup}
 use Rattle.std.proofs.lemmas.List.{map-append}
 use Rattle.std.specs.Option.{option_map, option_copied}
@@ -62,7 +62,7 @@ not_longer xs ys once = by (has_twice xs) refl
 pub next_is_new : (procs done rest : List Proc) (q : Proc) → has_twice (names_of procs) ≡ false → procs ≡ (done ++ q ∷ []) ++ rest → lookup (bytes_eq q.name) (map (λ r. (r.name, r)) done) ≡ None
 next_is_new procs done rest q once is =
     let split : names_of procs ≡ (names_of done ++ q.name ∷ []) ++ names_of rest =
-        ap names_of is ∙ map-append (λ r. r.name) (done ++ q ∷ []) rest ∙ ap (λ xs. xs ++ names_of rest) (map-append (λ r. r.name) done (q ∷ [])) in
+    ap names_of is ∙ map-append (λ r. r.name) (done ++ q ∷ []) rest ∙ ap (λ xs. xs ++ names_of rest) (map-append (λ r. r.name) done (q ∷ [])) in
     let front : has_twice (names_of done ++ q.name ∷ []) ≡ false = not_longer (names_of done ++ q.name ∷ []) (names_of rest) (ap has_twice (sym split) ∙ once) in
     absent done q.name (either_false (is_among (names_of done) q.name) (has_twice (names_of done)) (sym (has_twice-push (names_of done) q.name) ∙ front)).0
 

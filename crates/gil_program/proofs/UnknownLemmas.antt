@@ -1,6 +1,6 @@
 -- Names that stand for nothing, in expressions, assertions and commands.
-use Rattle.std.proofs.Common.{◌≡◌, ◌⊎◌, ⊎_elim, ℕ, List, [], ◌∷◌, ◌++◌, map, Bool, true, false, not, ◌||◌, cond, Option, Some, None, is_some, refl, sym, ap, ◌∙◌, Bor}
-use Rattle.std.specs.List.{list_any, flat_map}
+use Rattle.std.proofs.Common.{◌≡◌, ◌⊎◌, ⊎_elim, ℕ, List, [], ◌∷◌, map, Bool, true, false, not, ◌||◌, cond, Some, is_some, refl, sym, ap, ◌∙◌, Bor}
+use Rattle.std.specs.List.{list_any}
 use Rattle.std.specs.Str.{bytes_eq}
 use Rattle.std.specs.HashSet as bag
 use Rattle.std.specs.HashSet.{HashSet}
@@ -8,9 +8,8 @@ use Rattle.std.proofs.Math.Bool.{or-false}
 use Rattle.gil_syntax.specs.declared.assertions.Item.{Item}
 use Rattle.gil_syntax.specs.declared.assertions.Param.{Param}
 use Rattle.gil_syntax.specs.declared.assertions.PredUse.{PredUse}
-use Rattle.gil_syntax.specs.declared.commands.Command
 use Rattle.gil_syntax.specs.declared.commands.Command.{Command}
-use Rattle.gil_syntax.specs.Pure.{PureExpr, literal, name, logical, list_of, unary_of, binary_of, PurePredUse, PureItem, PureCommand, assign, call, act, usym, isym, ifgoto, return, fail, vanish, fold_use, unfold_use, assert_that, loop_invariant, PureNumberedCommand, PureProc, PureParts}
+use Rattle.gil_syntax.specs.Pure.{PureExpr, literal, name, logical, list_of, unary_of, binary_of, PureItem, PureCommand, assign, call, act, usym, isym, ifgoto, return, fail, vanish, fold_use, unfold_use, assert_that, loop_invariant, PureNumberedCommand, PureProc, PureParts}
 use Rattle.gil_syntax.specs.Programs.{find_proc}
 use Rattle.gil_syntax.specs.Subexpressions.{subexpressions, own_logicals, logicals_of}
 use Rattle.gil_syntax.specs.Valid.{param_names, is_among, piece_of_assertion, declared_at, piece_of_command, Piece, names_undeclared, uses_unknown}

@@ -40,9 +40,7 @@ pub(crate) fn in_expression<S: Sought>(sought: &S, expression: &Expr) -> bool
     match expression {
         Expr::List(elements) => in_expressions(sought, elements),
         Expr::Op1(_, operand) => in_expression(sought, operand),
-        Expr::Op2(_, left, right) => {
-            in_expression(sought, left) || in_expression(sought, right)
-        }
+        Expr::Op2(_, left, right) => { in_expression(sought, left) || in_expression(sought, right) }
         _ => false,
     }
 }
@@ -66,7 +64,9 @@ fn in_use<S: Sought>(sought: &S, used: &PredUse) -> bool
     requires { S.is_ready sought.now }
     ensures { result ≡ stands_among (S.is_node sought.now) (S.is_use sought.now) (exprs_of_use (pred_use_view used.now)) (pred_use_view used.now ∷ []) }
 {
-    sought.tests_use(used) || in_expressions(sought, &used.ins) || in_expressions(sought, &used.outs)
+    sought.tests_use(used)
+        || in_expressions(sought, &used.ins)
+        || in_expressions(sought, &used.outs)
 }
 
 /// Whether it stands in an item.
@@ -108,7 +108,9 @@ pub(crate) fn in_command<S: Sought>(sought: &S, command: &Command) -> bool
         Command::IfGoto(guard, _) => in_expression(sought, guard),
         Command::Return(value) | Command::Fail(value) => in_expression(sought, value),
         Command::Fold(used) | Command::Unfold(used) => in_use(sought, used),
-        Command::AssertThat(items) | Command::LoopInvariant(_, _, items) => in_assertion(sought, items),
+        Command::AssertThat(items) | Command::LoopInvariant(_, _, items) => in_assertion(
+            sought, items,
+        ),
     }
 }
 

@@ -1,4 +1,4 @@
-use Rattle.std.proofs.Common.{◌||◌, ◌∷◌, map, sym, ap, ◌∙◌}
+use Rattle.std.proofs.Common.{◌||◌, ◌∷◌, map, ap, ◌∙◌}
 use Rattle.std.specs.List.{list_any}
 use Rattle.gil_syntax.specs.Valid.{misuses, piece_of_assertion}
 use Rattle.gil_syntax.specs.View.{spec_view}

@@ -17,8 +17,8 @@ returns-then-stands_before c =
 pub returns-else-stands_before : goal.returns-else-stands_before
 returns-else-stands_before c =
     let core : c.is_some.result ≡ is_named core_predicates c.args.pred.now.name =
-        c.is_some.ensures ∙ sym (is_some-map (λ a. (a.ins, a.outs)) c.core_arity.result) ∙ ap is_some c.core_arity.ensures ∙ is_some-map shape (find_signature core_predicates c.as_str-name.result.now)
-        ∙ sym (is_named-find core_predicates c.as_str-name.result.now) ∙ ap (is_named core_predicates) c.as_str-name.ensures.characters in
+    c.is_some.ensures ∙ sym (is_some-map (λ a. (a.ins, a.outs)) c.core_arity.result) ∙ ap is_some c.core_arity.ensures ∙ is_some-map shape (find_signature core_predicates c.as_str-name.result.now)
+    ∙ sym (is_named-find core_predicates c.as_str-name.result.now) ∙ ap (is_named core_predicates) c.as_str-name.ensures.characters in
     core
     ∙ ap (λ b. b || is_core_name (a_pred (pred_def_view c.args.pred.now))) (sym c.if-stands_before.false ∙ c.stands_before.ensures
     ∙ told _ _ c.args.pred.now.name c.as_str-name.result.now c.args.place c.requires.preds c.as_str-name.ensures.characters

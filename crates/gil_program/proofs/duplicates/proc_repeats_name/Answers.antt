@@ -1,5 +1,5 @@
 use Rattle.std.proofs.Common.{◌||◌, map, sym, ap, ◌∙◌}
-use Rattle.std.specs.List.{list_any, flat_map}
+use Rattle.std.specs.List.{list_any}
 use Rattle.gil_syntax.specs.Valid.{has_twice, lists_in_command}
 use Rattle.gil_syntax.specs.View.{numbered_command_view}
 use Rattle.gil_program.proofs.ExpressionLemmas.{read_seen, list_any-element, list_any-all, list_any-flat_map}

@@ -1,4 +1,4 @@
-use Rattle.std.proofs.Common.{◌≡◌, None, is_some, Bool, true, false, not, ap, map, take, sym, refl, ◌∙◌, arith}
+use Rattle.std.proofs.Common.{◌≡◌, is_some, ap, map, sym, ◌∙◌, arith}
 use Rattle.std.proofs.lemmas.List.{take_all}
 use Rattle.gil_program.specs.Names.{place_of, first_place}
 use Rattle.gil_program.proofs.NameLemmas.{places_more, places_same, none_there}
@@ -9,8 +9,8 @@ pub loop-place-preserved : goal.loop-place-preserved
 loop-place-preserved g c =
     let there : c.contains_key.result ≡ is_some (place_of c.loop-place.places (g.T.Named.name_of c.index-items-place.result)) = c.contains_key.ensures ∙ ap (λ x. is_some (place_of c.loop-place.places x)) c.name.ensures in
     elim c.if-not-contains_key.branch [
-      then-not-contains_key+in_ok-insert w ↦ λ y. ap (λ m. place_of m y) w.places-is ∙ places_more g.T.Named.name_of c.args.items.now c.loop-place.place c.index-items-place.result w.name-then-not-contains_key.result c.loop-place.places w.insert.new.self (omega arith) c.index-items-place.is w.name-then-not-contains_key.ensures (none_there _ (sym there ∙ w.if-not-contains_key.true)) w.in_ok-insert.ensures.updates c.loop-place.invariant y
-    | else-not-contains_key w ↦ λ y. ap (λ m. place_of m y) w.places-is ∙ places_same g.T.Named.name_of c.args.items.now c.loop-place.place c.index-items-place.result c.loop-place.places (omega arith) c.index-items-place.is (sym there ∙ w.if-not-contains_key.false) c.loop-place.invariant y
+      | then-not-contains_key+in_ok-insert w ↦ λ y. ap (λ m. place_of m y) w.places-is ∙ places_more g.T.Named.name_of c.args.items.now c.loop-place.place c.index-items-place.result w.name-then-not-contains_key.result c.loop-place.places w.insert.new.self (omega arith) c.index-items-place.is w.name-then-not-contains_key.ensures (none_there _ (sym there ∙ w.if-not-contains_key.true)) w.in_ok-insert.ensures.updates c.loop-place.invariant y
+      | else-not-contains_key w ↦ λ y. ap (λ m. place_of m y) w.places-is ∙ places_same g.T.Named.name_of c.args.items.now c.loop-place.place c.index-items-place.result c.loop-place.places (omega arith) c.index-items-place.is (sym there ∙ w.if-not-contains_key.false) c.loop-place.invariant y
     ]
 
 pub returns : goal.returns

@@ -1,6 +1,4 @@
-use Rattle.std.proofs.Common.{◌≡◌, Bool, true, false, not, ◌||◌, ap, map, take, drop, sym, refl, ◌∙◌, true≢false, arith}
-use Rattle.gil_syntax.specs.Valid.{is_among, has_twice}
-use Rattle.gil_program.specs.Names.{has_name}
+use Rattle.std.proofs.Common.{arith}
 use Rattle.gil_program.proofs.NameLemmas.{names_more, twice_more, twice_here}
 use Rattle.gil_program.proofs.named.has_twice.Goals as goal
 

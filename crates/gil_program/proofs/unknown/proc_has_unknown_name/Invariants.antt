@@ -1,6 +1,6 @@
 use Rattle.std.proofs.Common.{◌≡◌, map, take, false}
 use Rattle.std.specs.List.{list_any}
-use Rattle.gil_syntax.specs.View.{command_view, numbered_command_view}
+use Rattle.gil_syntax.specs.View.{numbered_command_view}
 use Rattle.gil_program.specs.ByName.{parts_of}
 use Rattle.gil_program.specs.Names.{has_name}
 use Rattle.gil_program.specs.Found.{stands_in_command}

@@ -1,4 +1,4 @@
-use Rattle.std.proofs.Common.{map, IsTrue, subst, sym, ap, ◌∙◌}
+use Rattle.std.proofs.Common.{IsTrue, subst, sym, ap, ◌∙◌}
 use Rattle.gil_syntax.specs.declared.validity.InvalidKind.TheVariants.{Duplicate}
 use Rattle.gil_syntax.specs.Valid.{has_twice, IsValid}
 use Rattle.gil_syntax.specs.View.{proc_view, parts_view}
