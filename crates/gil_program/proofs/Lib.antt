@@ -10,3 +10,4 @@ pub mod PieceLemmas
 pub mod ProgramLemmas
 pub mod SimpleLemmas
 pub mod UnknownLemmas
+pub mod WellMadeLemmas

@@ -1,6 +1,7 @@
 -- The nodes and uses that are faults.
 use Rattle.std.specs.Prelude.{ℕ, List, Bool, false, not, ◌||◌}
 use Rattle.gil_syntax.specs.Pure.{PureExpr, literal, logical, PurePredUse, PureCommand, fold_use, unfold_use, assert_that, loop_invariant, PureParts}
+use Rattle.gil_syntax.specs.WellMade.{is_well_made_node}
 use Rattle.gil_syntax.specs.Valid.{param_names, is_among, predicates_of, is_named, is_wide}
 
 -- a logical variable that isn't declared
@@ -29,3 +30,7 @@ no_node e = false
 
 abbrev pub no_use : PurePredUse → Bool
 no_use u = false
+
+-- a literal or a name that no well-made program has
+abbrev pub is_ill_made : PureExpr → Bool
+is_ill_made e = not (is_well_made_node e)

@@ -14,7 +14,9 @@ mod program;
 mod seeking;
 mod simple;
 mod unknown;
+mod well_made;
 
 pub use invalid::Invalid;
 pub use program::Prog;
 pub use simple::is_simple;
+pub use well_made::is_well_made;
