@@ -1,0 +1,4 @@
+pub mod BlockLaws
+pub mod Cells
+pub mod Names
+pub mod Table
