@@ -4,7 +4,7 @@ use Rattle.std.proofs.lemmas.Bool.{and_parts}
 use Rattle.std.specs.Option.{option_or}
 use Rattle.std.specs.List.{list_all, filter, find as find_first}
 use Rattle.std.specs.Ordering.{eq_by_cmp}
-use Rattle.std.specs.FinMap.{find, get, insert, get-from_entries}
+use Rattle.std.specs.FinMap.{find, get, insert, remove, get-from_entries, get-remove}
 use Rattle.gil_values.specs.Pure.{PureValue, boolean}
 use Rattle.gil_values.specs.Equality.{same_value}
 use Rattle.gil_values.specs.EqualityLaws.{same_value-Decides}
@@ -122,3 +122,37 @@ created-entries k d parts v es = ap (λ h. insert h k d) (joined-entries (map (�
 
 pub dispose_whole-entries : (l : ℕ) (parts : List Key) (es : Entries) → dispose_whole l parts (heap_of es) ≡ missed_or (find_first (λ k. not (is_some (find key_cmp k es))) parts) (heap_of es) (does (boolean true) (heap_of ((key l Gone, boolean true) ∷ elsewhere l es)))
 dispose_whole-entries l parts es = λ i. missed_or (first_missing-entries es parts i) (heap_of es) (does (boolean true) (disposed-entries l es i))
+
+abbrev pub without_key : Key → Entries → Entries
+without_key k es = filter (λ e. not (key_eq e.0 k)) es
+
+find-without_key : (k : Key) (es : Entries) (q : Key) → find key_cmp q (without_key k es) ≡ cond (key_eq q k) None (find key_cmp q es)
+find-without_key k [] q = none (key_eq q k)
+  where
+    none : (b : Bool) → ◌≡◌ {A = Option PureValue} None (cond b None None)
+    none true = refl
+    none false = refl
+find-without_key k (e ∷ es) q = step (key_eq e.0 k) refl (key_eq q e.0) refl (find-without_key k es q)
+  where
+    step : (b : Bool) → key_eq e.0 k ≡ b → (c : Bool) → key_eq q e.0 ≡ c → find key_cmp q (without_key k es) ≡ cond (key_eq q k) None (find key_cmp q es) → find key_cmp q (cond (not b) (e ∷ without_key k es) (without_key k es)) ≡ cond (key_eq q k) None (cond c (Some e.1) (find key_cmp q es))
+    step true here true tied later = later ∙ at_key (key_eq q k) (ap (λ m. key_eq m k) (same_key q e.0 tied) ∙ here)
+      where
+        at_key : (d : Bool) → d ≡ true → cond d None (find key_cmp q es) ≡ cond d None (Some e.1)
+        at_key true is = refl
+        at_key false is = absurd (true≢false (sym is))
+    step true here false apart later = later
+    step false away true tied later =
+        ap (λ b. cond b (Some e.1) (find key_cmp q (without_key k es))) tied
+        ∙ not_at (key_eq q k) (ap (λ m. key_eq m k) (same_key q e.0 tied) ∙ away)
+      where
+        not_at : (d : Bool) → d ≡ false → Some e.1 ≡ cond d None (Some e.1)
+        not_at true is = absurd (true≢false is)
+        not_at false is = refl
+    step false away false apart later = ap (λ b. cond b (Some e.1) (find key_cmp q (without_key k es))) apart ∙ later
+
+pub removed-entries : (k : Key) (es : Entries) → remove (heap_of es) k ≡ heap_of (without_key k es)
+removed-entries k es = same_heap _ _ (λ q.
+    get-remove key_cmp-total (heap_of es) k q
+    ∙ ap (cond (key_eq q k) None) (listed_at es q)
+    ∙ sym (find-without_key k es q)
+    ∙ sym (listed_at (without_key k es) q))
