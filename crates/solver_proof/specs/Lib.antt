@@ -1,0 +1,6 @@
+pub mod Chains
+pub mod Closing
+pub mod Pure
+pub mod Refuting
+pub mod Sums
+pub mod View

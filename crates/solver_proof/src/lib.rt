@@ -1,0 +1,10 @@
+//! Proofs that no proper valuation makes every atom of a list true, and what checks them.
+#![tactic(auto)]
+
+mod laws;
+mod proofs;
+mod refuters;
+
+pub use laws::closed_lists_have_no_solution;
+pub use proofs::{ChainEnd, Factor, Factors, Places, Proof, Proofs};
+pub use refuters::Refuter;
