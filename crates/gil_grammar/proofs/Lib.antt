@@ -1,7 +1,9 @@
 pub mod AssertionLaws
 pub mod AssertionReads
 pub mod CommandLaws
+pub mod CommandReads
 pub mod ExpressionLaws
 pub mod ListLaws
 pub mod NestingLaws
+pub mod ProgramLaws
 pub mod VocabularyLaws
