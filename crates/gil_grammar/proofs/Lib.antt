@@ -6,4 +6,5 @@ pub mod ExpressionLaws
 pub mod ListLaws
 pub mod NestingLaws
 pub mod ProgramLaws
+pub mod TextLaws
 pub mod VocabularyLaws
