@@ -1,2 +1,3 @@
 pub mod BlockLoop
 pub mod BodyLoop
+pub mod ItemLoop

@@ -6,5 +6,7 @@ mod blocks;
 mod commands;
 mod expressions;
 mod located;
+mod nesting;
 mod programs;
+mod reading;
 mod vocabulary;
