@@ -20,3 +20,6 @@ pub use invalid::Invalid;
 pub use program::Prog;
 pub use simple::is_simple;
 pub use well_made::is_well_made;
+
+#[cfg(test)]
+mod tests;
