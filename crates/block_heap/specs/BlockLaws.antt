@@ -1,7 +1,7 @@
 -- The actions of blocks keep the laws of memories.
 use Rattle.std.proofs.Common.{◌≡◌, ◌⊎◌, ⊎_elim, inl, inr, ℕ, ℤ, pos, negsuc, ◌≤ℤ◌, ◌<ℤ◌, Bool, true, false, ◌&&◌, ◌||◌, if◌then◌else◌, T, List, [], ◌∷◌, Option, Some, None, Result, Ok, Err, IsTrue, IsSome, refl, sym, ap, subst, ◌∙◌, true≢false, arith, append-nil}
 use Rattle.std.proofs.lemmas.Int.{ints}
-use Rattle.std.proofs.lemmas.Bool.{and_parts}
+use Rattle.std.proofs.lemmas.Bool.{and_parts, and_from}
 use Rattle.std.proofs.lemmas.List.Elements.{Contains-append_left}
 use Rattle.std.specs.List.{Contains}
 use Rattle.std.specs.Int.Signed.{le_z, lt_z}
@@ -30,6 +30,7 @@ use Rattle.block_heap.specs.declared.actions.BlockAction.{BlockAction}
 use Rattle.block_heap.specs.declared.actions.BlockAction.TheVariants.{Alloc, Load, Store, Free}
 use Rattle.block_heap.specs.Names.{action_of}
 use Rattle.block_heap.specs.Table.{number_of, address, address_parts, address_of, number_in, address_in, address_and_value_in, cell_keys, count_of, is_size, is_outside, allocated, alloc_block, bounded, load, store, free, act_of, block_actions}
+use Rattle.block_heap.specs.Rows.{SizesAreGiven, OtherSizesFail}
 use Rattle.block_heap.specs.Cells.{cells_fit, cells_own, block_whole}
 
 -- the new symbol isn't in the heap
@@ -306,3 +307,32 @@ block_is_memory = record {
 
 pub block_misses_what_lacks : MissesWhatLacks Block block_actions
 block_misses_what_lacks action fresh args h k is may missed = (keeps_act fresh args h is (action_of action) may.new_in_heap).lacks k missed
+
+-- ---- sizes
+
+test_true : (b : Bool) → T b → b ≡ true
+test_true true is = refl
+test_true false is = absurd is
+
+test_false : (b : Bool) → ¬ T b → b ≡ false
+test_false true other = absurd (other tt)
+test_false false other = refl
+
+first_false : (b c : Bool) → b ≡ false → (b && c) ≡ false
+first_false true c is = absurd (true≢false is)
+first_false false c is = refl
+
+second_false : (b c : Bool) → c ≡ false → (b && c) ≡ false
+second_false true c is = is
+second_false false c is = refl
+
+pub sizes_are_given : SizesAreGiven
+sizes_are_given l n h low high =
+    ap (λ b. (if b then allocated (Some l) n h else fails Failure.Size h).outcome) (and_from (le_z (pos 0) n) (le_z n (pos 10000)) (test_true (le_z (pos 0) n) low.le) (test_true (le_z n (pos 10000)) high.le))
+
+pub other_sizes_fail : OtherSizesFail
+other_sizes_fail fresh n h outside = ap (λ b. if b then allocated fresh n h else fails Failure.Size h) (no_size outside)
+  where
+    no_size : (n <ℤ pos 0) ⊎ (pos 10000 <ℤ n) → is_size n ≡ false
+    no_size (inl low) = first_false (le_z (pos 0) n) (le_z n (pos 10000)) (test_false (le_z (pos 0) n) (λ t. let b : pos 0 ≤ℤ n = record { le = t } in absurd (omega (arith, ints))))
+    no_size (inr high) = second_false (le_z (pos 0) n) (le_z n (pos 10000)) (test_false (le_z n (pos 10000)) (λ t. let b : n ≤ℤ pos 10000 = record { le = t } in absurd (omega (arith, ints))))

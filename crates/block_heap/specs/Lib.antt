@@ -1,4 +1,5 @@
 pub mod BlockLaws
 pub mod Cells
 pub mod Names
+pub mod Rows
 pub mod Table

@@ -83,32 +83,37 @@ joined-entries es fs = same_heap _ _ (λ k.
     ∙ (λ i. option_or (listed_at es k i) (listed_at fs k i))
     ∙ sym (listed_at (es ++ fs) k ∙ find-append k es fs))
 
-abbrev pub elsewhere : ℕ → Entries → Entries
-elsewhere l es = filter (λ e. not (nat_eq e.0.loc l)) es
+-- the entries whose keys pass a test
+abbrev pub kept : (Key → Bool) → Entries → Entries
+kept p es = filter (λ e. p e.0) es
 
-find-elsewhere : (l : ℕ) (es : Entries) (k : Key) → find key_cmp k (elsewhere l es) ≡ cond (nat_eq k.loc l) None (find key_cmp k es)
-find-elsewhere l [] k = none (nat_eq k.loc l)
+find-kept : (p : Key → Bool) (es : Entries) (q : Key) → find key_cmp q (kept p es) ≡ cond (p q) (find key_cmp q es) None
+find-kept p [] q = none (p q)
   where
     none : (b : Bool) → ◌≡◌ {A = Option PureValue} None (cond b None None)
     none true = refl
     none false = refl
-find-elsewhere l (e ∷ es) k = step (nat_eq e.0.loc l) refl (key_eq k e.0) refl (find-elsewhere l es k)
+find-kept p (e ∷ es) q = step (p e.0) refl (key_eq q e.0) refl (find-kept p es q)
   where
-    step : (b : Bool) → nat_eq e.0.loc l ≡ b → (c : Bool) → key_eq k e.0 ≡ c → find key_cmp k (elsewhere l es) ≡ cond (nat_eq k.loc l) None (find key_cmp k es) → find key_cmp k (cond (not b) (e ∷ elsewhere l es) (elsewhere l es)) ≡ cond (nat_eq k.loc l) None (cond c (Some e.1) (find key_cmp k es))
-    step true here true tied later = later ∙ at_location (nat_eq k.loc l) (ap (λ (q : Key). nat_eq q.loc l) (same_key k e.0 tied) ∙ here)
-      where
-        at_location : (d : Bool) → d ≡ true → cond d None (find key_cmp k es) ≡ cond d None (Some e.1)
-        at_location true is = refl
-        at_location false is = absurd (true≢false (sym is))
-    step true here false apart later = later
-    step false away true tied later =
-        ap (λ b. cond b (Some e.1) (find key_cmp k (elsewhere l es))) tied
-        ∙ not_at (nat_eq k.loc l) (ap (λ (q : Key). nat_eq q.loc l) (same_key k e.0 tied) ∙ away)
-      where
-        not_at : (d : Bool) → d ≡ false → Some e.1 ≡ cond d None (Some e.1)
-        not_at true is = absurd (true≢false is)
-        not_at false is = refl
-    step false away false apart later = ap (λ b. cond b (Some e.1) (find key_cmp k (elsewhere l es))) apart ∙ later
+    step : (b : Bool) → p e.0 ≡ b → (c : Bool) → key_eq q e.0 ≡ c → find key_cmp q (kept p es) ≡ cond (p q) (find key_cmp q es) None → find key_cmp q (cond b (e ∷ kept p es) (kept p es)) ≡ cond (p q) (cond c (Some e.1) (find key_cmp q es)) None
+    step true passes true tied later =
+        ap (λ c. cond c (Some e.1) (find key_cmp q (kept p es))) tied
+        ∙ ap (λ d. cond d (Some e.1) None) (sym (ap p (same_key q e.0 tied) ∙ passes))
+    step true passes false apart later = ap (λ c. cond c (Some e.1) (find key_cmp q (kept p es))) apart ∙ later
+    step false fails true tied later =
+        let out : p q ≡ false = ap p (same_key q e.0 tied) ∙ fails in
+        later ∙ ap (λ d. cond d (find key_cmp q es) None) out ∙ ap (λ d. cond d (Some e.1) None) (sym out)
+    step false fails false apart later = later
+
+turned : (b : Bool) (o : Option PureValue) → cond (not b) o None ≡ cond b None o
+turned true o = refl
+turned false o = refl
+
+abbrev pub elsewhere : ℕ → Entries → Entries
+elsewhere l es = kept (λ k. not (nat_eq k.loc l)) es
+
+find-elsewhere : (l : ℕ) (es : Entries) (k : Key) → find key_cmp k (elsewhere l es) ≡ cond (nat_eq k.loc l) None (find key_cmp k es)
+find-elsewhere l es k = find-kept (λ q. not (nat_eq q.loc l)) es k ∙ turned (nat_eq k.loc l) (find key_cmp k es)
 
 pub disposed-entries : (l : ℕ) (es : Entries) → disposed l (heap_of es) ≡ heap_of ((key l Gone, boolean true) ∷ elsewhere l es)
 disposed-entries l es = same_heap _ _ (λ k.
@@ -124,35 +129,11 @@ pub dispose_whole-entries : (l : ℕ) (parts : List Key) (es : Entries) → disp
 dispose_whole-entries l parts es = λ i. missed_or (first_missing-entries es parts i) (heap_of es) (does (boolean true) (disposed-entries l es i))
 
 abbrev pub without_key : Key → Entries → Entries
-without_key k es = filter (λ e. not (key_eq e.0 k)) es
-
-find-without_key : (k : Key) (es : Entries) (q : Key) → find key_cmp q (without_key k es) ≡ cond (key_eq q k) None (find key_cmp q es)
-find-without_key k [] q = none (key_eq q k)
-  where
-    none : (b : Bool) → ◌≡◌ {A = Option PureValue} None (cond b None None)
-    none true = refl
-    none false = refl
-find-without_key k (e ∷ es) q = step (key_eq e.0 k) refl (key_eq q e.0) refl (find-without_key k es q)
-  where
-    step : (b : Bool) → key_eq e.0 k ≡ b → (c : Bool) → key_eq q e.0 ≡ c → find key_cmp q (without_key k es) ≡ cond (key_eq q k) None (find key_cmp q es) → find key_cmp q (cond (not b) (e ∷ without_key k es) (without_key k es)) ≡ cond (key_eq q k) None (cond c (Some e.1) (find key_cmp q es))
-    step true here true tied later = later ∙ at_key (key_eq q k) (ap (λ m. key_eq m k) (same_key q e.0 tied) ∙ here)
-      where
-        at_key : (d : Bool) → d ≡ true → cond d None (find key_cmp q es) ≡ cond d None (Some e.1)
-        at_key true is = refl
-        at_key false is = absurd (true≢false (sym is))
-    step true here false apart later = later
-    step false away true tied later =
-        ap (λ b. cond b (Some e.1) (find key_cmp q (without_key k es))) tied
-        ∙ not_at (key_eq q k) (ap (λ m. key_eq m k) (same_key q e.0 tied) ∙ away)
-      where
-        not_at : (d : Bool) → d ≡ false → Some e.1 ≡ cond d None (Some e.1)
-        not_at true is = absurd (true≢false is)
-        not_at false is = refl
-    step false away false apart later = ap (λ b. cond b (Some e.1) (find key_cmp q (without_key k es))) apart ∙ later
+without_key k es = kept (λ q. not (key_eq q k)) es
 
 pub removed-entries : (k : Key) (es : Entries) → remove (heap_of es) k ≡ heap_of (without_key k es)
 removed-entries k es = same_heap _ _ (λ q.
     get-remove key_cmp-total (heap_of es) k q
     ∙ ap (cond (key_eq q k) None) (listed_at es q)
-    ∙ sym (find-without_key k es q)
+    ∙ sym (find-kept (λ m. not (key_eq m k)) es q ∙ turned (key_eq q k) (find key_cmp q es))
     ∙ sym (listed_at (without_key k es) q))
