@@ -55,3 +55,6 @@ impl LocalMemory for BlockHeap {
         }
     }
 }
+
+#[cfg(test)]
+mod tests;
