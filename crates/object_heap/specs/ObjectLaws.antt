@@ -105,36 +105,36 @@ module _ (fresh : Option ℕ) (args : List PureValue) (h : Heap) (is : IsHeapOf 
       (overwritten_heap Object h (key l s) v plain (has_key h (key l s) w held) is)
       (λ n in_value. among_arguments n (of_value n in_value))
       (allowed_in Object fresh args h (insert h (key l s) v) (λ q u at_q. ⊎_elim
-          (λ put. inr (subst (λ (k : Key). IsAllowed fresh args h k.loc) (sym put.0) (among_arguments l occurs), λ n in_value. among_arguments n (of_value n (subst (OccursIn n) put.1 in_value))))
-          (λ kept. inl kept.1)
-          (held_inserted h (key l s) q v u at_q)))
+      (λ put. inr (subst (λ (k : Key). IsAllowed fresh args h k.loc) (sym put.0) (among_arguments l occurs), λ n in_value. among_arguments n (of_value n (subst (OccursIn n) put.1 in_value))))
+      (λ kept. inl kept.1)
+      (held_inserted h (key l s) q v u at_q)))
 
   keeps_get : (l : ℕ) (p : List ℕ) → OccursAmong l args → Kept (get_property l p h)
   keeps_get l p occurs = at_cases Kept h (key l (Name p)) (λ v. does v h) (unlisted_at h (key l Dom) p (λ _. does (kind Undef) h) (misses (key l (Name p)) h))
       (λ v held. keeps_tells Object fresh args h v is (allowed_held Object fresh args h (key l (Name p)) v held))
       (λ lacks. unlisted_cases Kept h (key l Dom) p (λ _. does (kind Undef) h) (misses (key l (Name p)) h)
-          (λ d dom apart. keeps_tells Object fresh args h (kind Undef) is (λ n in_value. absurd (none_contained n in_value)))
-          (keeps_missed l (Name p) refl occurs lacks))
+      (λ d dom apart. keeps_tells Object fresh args h (kind Undef) is (λ n in_value. absurd (none_contained n in_value)))
+      (keeps_missed l (Name p) refl occurs lacks))
 
   keeps_set : (l : ℕ) (p : List ℕ) (v : PureValue) → OccursAmong l args → ((n : ℕ) → OccursIn n v → OccursAmong n args) → Kept (set_property l p v h)
   keeps_set l p v occurs of_value = at_cases Kept h (key l (Name p)) (λ _. does v (insert h (key l (Name p)) v)) (unlisted_at h (key l Dom) p (λ d. does v (insert (insert h (key l (Name p)) v) (key l Dom) (appended d p))) (misses (key l (Name p)) h))
       (λ w held. keeps_overwrites l (Name p) v w tt occurs of_value held)
       (λ lacks. unlisted_cases Kept h (key l Dom) p (λ d. does v (insert (insert h (key l (Name p)) v) (key l Dom) (appended d p))) (misses (key l (Name p)) h)
-          (λ d dom apart. keeps_does Object fresh args h v (insert (insert h (key l (Name p)) v) (key l Dom) (appended d p))
-              (record {
-                subkeys = λ q has. let w = value_at (insert (insert h (key l (Name p)) v) (key l Dom) (appended d p)) q has in ⊎_elim (λ old. is.subkeys q (has_key h q w.0 old))
-                    (λ fresh_key. ⊎_elim (λ listed. subst (λ (k : Key). IsTrue (has_subkey Object k.sub)) (sym listed.0) refl) (λ name. subst (λ (k : Key). IsTrue (has_subkey Object k.sub)) (sym name.0) refl) fresh_key)
-                    (held_new h l p v d dom apart is.well_formed q w.0 w.1);
-                well_formed = new_well_formed h l p v d dom apart is.well_formed;
-              })
-              (λ n in_value. among_arguments n (of_value n in_value))
-              (allowed_in Object fresh args h (insert (insert h (key l (Name p)) v) (key l Dom) (appended d p)) (λ q w at_q. ⊎_elim inl
-                  (λ fresh_key. ⊎_elim
-                      (λ listed. inr (subst (λ (k : Key). IsAllowed fresh args h k.loc) (sym listed.0) (among_arguments l occurs), λ n in_value. absurd (no_symbol_in_names (appended d p) (appended_names d p (is.well_formed.name_lists l Dom d tt dom) apart) n (subst (OccursIn n) listed.1 in_value))))
-                      (λ name. inr (subst (λ (k : Key). IsAllowed fresh args h k.loc) (sym name.0) (among_arguments l occurs), λ n in_value. among_arguments n (of_value n (subst (OccursIn n) name.1 in_value))))
-                      fresh_key)
-                  (held_new h l p v d dom apart is.well_formed q w at_q))))
-          (keeps_missed l (Name p) refl occurs lacks))
+      (λ d dom apart. keeps_does Object fresh args h v (insert (insert h (key l (Name p)) v) (key l Dom) (appended d p))
+      (record {
+        subkeys = λ q has. let w = value_at (insert (insert h (key l (Name p)) v) (key l Dom) (appended d p)) q has in ⊎_elim (λ old. is.subkeys q (has_key h q w.0 old))
+            (λ fresh_key. ⊎_elim (λ listed. subst (λ (k : Key). IsTrue (has_subkey Object k.sub)) (sym listed.0) refl) (λ name. subst (λ (k : Key). IsTrue (has_subkey Object k.sub)) (sym name.0) refl) fresh_key)
+            (held_new h l p v d dom apart is.well_formed q w.0 w.1);
+        well_formed = new_well_formed h l p v d dom apart is.well_formed;
+      })
+      (λ n in_value. among_arguments n (of_value n in_value))
+      (allowed_in Object fresh args h (insert (insert h (key l (Name p)) v) (key l Dom) (appended d p)) (λ q w at_q. ⊎_elim inl
+      (λ fresh_key. ⊎_elim
+      (λ listed. inr (subst (λ (k : Key). IsAllowed fresh args h k.loc) (sym listed.0) (among_arguments l occurs), λ n in_value. absurd (no_symbol_in_names (appended d p) (appended_names d p (is.well_formed.name_lists l Dom d tt dom) apart) n (subst (OccursIn n) listed.1 in_value))))
+      (λ name. inr (subst (λ (k : Key). IsAllowed fresh args h k.loc) (sym name.0) (among_arguments l occurs), λ n in_value. among_arguments n (of_value n (subst (OccursIn n) name.1 in_value))))
+      fresh_key)
+      (held_new h l p v d dom apart is.well_formed q w at_q))))
+      (keeps_missed l (Name p) refl occurs lacks))
 
   keeps_takes : (l : ℕ) (p : List ℕ) (d : PureValue) → OccursAmong l args → Holds h (key l Dom) d → Kept (does (boolean true) (insert (remove h (key l (Name p))) (key l Dom) (without_name d p)))
   keeps_takes l p d occurs dom = keeps_does Object fresh args h (boolean true) (insert (remove h (key l (Name p))) (key l Dom) (without_name d p))
@@ -144,9 +144,9 @@ module _ (fresh : Option ℕ) (args : List PureValue) (h : Heap) (is : IsHeapOf 
       })
       (λ n in_value. absurd (none_contained n in_value))
       (allowed_in Object fresh args h (insert (remove h (key l (Name p))) (key l Dom) (without_name d p)) (λ q w at_q. ⊎_elim
-          (λ listed. inr (subst (λ (k : Key). IsAllowed fresh args h k.loc) (sym listed.0) (among_arguments l occurs), λ n in_value. absurd (no_symbol_in_names (without_name d p) (without_names d p (is.well_formed.name_lists l Dom d tt dom)) n (subst (OccursIn n) listed.1 in_value))))
-          (λ old. inl old.1)
-          (held_less h l p d dom is.well_formed q w at_q)))
+      (λ listed. inr (subst (λ (k : Key). IsAllowed fresh args h k.loc) (sym listed.0) (among_arguments l occurs), λ n in_value. absurd (no_symbol_in_names (without_name d p) (without_names d p (is.well_formed.name_lists l Dom d tt dom)) n (subst (OccursIn n) listed.1 in_value))))
+      (λ old. inl old.1)
+      (held_less h l p d dom is.well_formed q w at_q)))
 
   if_kept : (b : Bool) (r s : ActionResult) → Kept r → Kept s → Kept (if b then r else s)
   if_kept true r s first second = first
@@ -155,10 +155,10 @@ module _ (fresh : Option ℕ) (args : List PureValue) (h : Heap) (is : IsHeapOf 
   keeps_delete : (l : ℕ) (p : List ℕ) → OccursAmong l args → Kept (delete_property l p h)
   keeps_delete l p occurs = at_cases Kept h (key l Dom) (λ d. if lists_name d p then at h (key l (Name p)) (λ _. does (boolean true) (insert (remove h (key l (Name p))) (key l Dom) (without_name d p))) (misses (key l (Name p)) h) else does (boolean true) h) (misses (key l Dom) h)
       (λ d dom. if_kept (lists_name d p) _ (does (boolean true) h)
-          (at_cases Kept h (key l (Name p)) (λ _. does (boolean true) (insert (remove h (key l (Name p))) (key l Dom) (without_name d p))) (misses (key l (Name p)) h)
-              (λ w held. keeps_takes l p d occurs dom)
-              (keeps_missed l (Name p) refl occurs))
-          (keeps_truth true))
+      (at_cases Kept h (key l (Name p)) (λ _. does (boolean true) (insert (remove h (key l (Name p))) (key l Dom) (without_name d p))) (misses (key l (Name p)) h)
+      (λ w held. keeps_takes l p d occurs dom)
+      (keeps_missed l (Name p) refl occurs))
+      (keeps_truth true))
       (keeps_missed l Dom refl occurs)
 
   keeps_has : (l : ℕ) (p : List ℕ) → OccursAmong l args → Kept (has_property l p h)
@@ -265,8 +265,8 @@ module _ (h rest : Heap) (compatible : IsCompatible h rest) (is : IsHeapOf Objec
   same_get l p = at_both Same h rest (key l (Name p)) (λ v. does v h) (unlisted_at h (key l Dom) p (λ _. does (kind Undef) h) (misses (key l (Name p)) h)) (λ v. does v whole) (unlisted_at whole (key l Dom) p (λ _. does (kind Undef) whole) (misses (key l (Name p)) whole))
       (λ v held. same_tells v h rest compatible)
       (λ no no_there. unlisted_both Same h rest (key l Dom) p (λ _. does (kind Undef) h) (misses (key l (Name p)) h) (λ _. does (kind Undef) whole) (misses (key l (Name p)) whole)
-          (λ d dom. same_tells (kind Undef) h rest compatible)
-          (same_misses (key l (Name p)) h rest))
+      (λ d dom. same_tells (kind Undef) h rest compatible)
+      (same_misses (key l (Name p)) h rest))
       (λ v no there. same_unlisted_there l p v _ (does v whole) there)
 
   -- a name added, where the rest lacks it
@@ -274,10 +274,10 @@ module _ (h rest : Heap) (compatible : IsCompatible h rest) (is : IsHeapOf Objec
   same_adds l p v d dom apart = same_does v (insert (insert h (key l (Name p)) v) (key l Dom) (appended d p)) rest (insert (insert whole (key l (Name p)) v) (key l Dom) (appended d p))
       (ap (λ g. insert g (key l Dom) (appended d p)) (insert-joined h rest (key l (Name p)) v) ∙ insert-joined (insert h (key l (Name p)) v) rest (key l Dom) (appended d p))
       (λ q has in_rest.
-          let w = value_at (insert (insert h (key l (Name p)) v) (key l Dom) (appended d p)) q has in
-          ⊎_elim (λ old. compatible.disjoint q (has_key h q w.0 old) in_rest)
-          (λ new_key. ⊎_elim (λ listed. compatible.disjoint (key l Dom) (has_key h (key l Dom) d dom) (subst (HasKey rest) listed.0 in_rest)) (λ name. away l p d dom apart (subst (HasKey rest) name.0 in_rest)) new_key)
-          (held_new h l p v d dom apart small_well q w.0 w.1))
+      let w = value_at (insert (insert h (key l (Name p)) v) (key l Dom) (appended d p)) q has in
+      ⊎_elim (λ old. compatible.disjoint q (has_key h q w.0 old) in_rest)
+      (λ new_key. ⊎_elim (λ listed. compatible.disjoint (key l Dom) (has_key h (key l Dom) d dom) (subst (HasKey rest) listed.0 in_rest)) (λ name. away l p d dom apart (subst (HasKey rest) name.0 in_rest)) new_key)
+      (held_new h l p v d dom apart small_well q w.0 w.1))
       (new_well_formed whole l p v d (held_in_union h rest compatible (key l Dom) d dom) apart is.well_formed)
     where
       small_well : IsWellFormed h
@@ -287,9 +287,9 @@ module _ (h rest : Heap) (compatible : IsCompatible h rest) (is : IsHeapOf Objec
   same_set l p v = at_both Same h rest (key l (Name p)) (λ _. does v (insert h (key l (Name p)) v)) (unlisted_at h (key l Dom) p (λ d. does v (insert (insert h (key l (Name p)) v) (key l Dom) (appended d p))) (misses (key l (Name p)) h)) (λ _. does v (insert whole (key l (Name p)) v)) (unlisted_at whole (key l Dom) p (λ d. does v (insert (insert whole (key l (Name p)) v) (key l Dom) (appended d p))) (misses (key l (Name p)) whole))
       (λ w held. same_overwrites l (Name p) v w tt held)
       (λ no no_there. at_both Same h rest (key l Dom) _ (misses (key l (Name p)) h) _ (misses (key l (Name p)) whole)
-          (λ d dom. by_name d dom (lists_name d p) refl)
-          (λ lacks lacks_there. same_misses (key l (Name p)) h rest (misses (key l (Name p)) whole))
-          (λ d lacks there. same_misses (key l (Name p)) h rest _))
+      (λ d dom. by_name d dom (lists_name d p) refl)
+      (λ lacks lacks_there. same_misses (key l (Name p)) h rest (misses (key l (Name p)) whole))
+      (λ d lacks there. same_misses (key l (Name p)) h rest _))
       (λ w no there. same_unlisted_there l p w _ (does v (insert whole (key l (Name p)) v)) there)
     where
       by_name : (d : PureValue) → Holds h (key l Dom) d → (b : Bool) → lists_name d p ≡ b → Same (if b then misses (key l (Name p)) h else does v (insert (insert h (key l (Name p)) v) (key l Dom) (appended d p))) (if b then misses (key l (Name p)) whole else does v (insert (insert whole (key l (Name p)) v) (key l Dom) (appended d p)))
@@ -300,9 +300,9 @@ module _ (h rest : Heap) (compatible : IsCompatible h rest) (is : IsHeapOf Objec
   same_takes l p d w dom held = same_does (boolean true) (insert (remove h (key l (Name p))) (key l Dom) (without_name d p)) rest (insert (remove whole (key l (Name p))) (key l Dom) (without_name d p))
       (ap (λ g. insert g (key l Dom) (without_name d p)) (remove-joined h rest (key l (Name p)) (compatible.disjoint (key l (Name p)) (has_key h (key l (Name p)) w held))) ∙ insert-joined (remove h (key l (Name p))) rest (key l Dom) (without_name d p))
       (λ q has in_rest.
-          let u = value_at (insert (remove h (key l (Name p))) (key l Dom) (without_name d p)) q has in
-          ⊎_elim (λ listed. compatible.disjoint (key l Dom) (has_key h (key l Dom) d dom) (subst (HasKey rest) listed.0 in_rest)) (λ old. compatible.disjoint q (has_key h q u.0 old.1) in_rest)
-          (held_less h l p d dom (part_well_formed h whole (first_part h rest compatible.disjoint) is.well_formed) q u.0 u.1))
+      let u = value_at (insert (remove h (key l (Name p))) (key l Dom) (without_name d p)) q has in
+      ⊎_elim (λ listed. compatible.disjoint (key l Dom) (has_key h (key l Dom) d dom) (subst (HasKey rest) listed.0 in_rest)) (λ old. compatible.disjoint q (has_key h q u.0 old.1) in_rest)
+      (held_less h l p d dom (part_well_formed h whole (first_part h rest compatible.disjoint) is.well_formed) q u.0 u.1))
       (less_well_formed whole l p d (held_in_union h rest compatible (key l Dom) d dom) is.well_formed)
 
   if_same : (b : Bool) (r s t u : ActionResult) → Same r t → Same s u → Same (if b then r else s) (if b then t else u)
@@ -312,11 +312,11 @@ module _ (h rest : Heap) (compatible : IsCompatible h rest) (is : IsHeapOf Objec
   same_delete : (l : ℕ) (p : List ℕ) → Same (delete_property l p h) (delete_property l p whole)
   same_delete l p = at_both Same h rest (key l Dom) _ (misses (key l Dom) h) _ (misses (key l Dom) whole)
       (λ d dom. if_same (lists_name d p) _ (does (boolean true) h) _ (does (boolean true) whole)
-          (at_both Same h rest (key l (Name p)) _ (misses (key l (Name p)) h) _ (misses (key l (Name p)) whole)
-              (λ w held. same_takes l p d w dom held)
-              (λ no no_there. same_misses (key l (Name p)) h rest (misses (key l (Name p)) whole))
-              (λ w no there. same_misses (key l (Name p)) h rest _))
-          (same_tells (boolean true) h rest compatible))
+      (at_both Same h rest (key l (Name p)) _ (misses (key l (Name p)) h) _ (misses (key l (Name p)) whole)
+      (λ w held. same_takes l p d w dom held)
+      (λ no no_there. same_misses (key l (Name p)) h rest (misses (key l (Name p)) whole))
+      (λ w no there. same_misses (key l (Name p)) h rest _))
+      (same_tells (boolean true) h rest compatible))
       (λ no no_there. same_misses (key l Dom) h rest (misses (key l Dom) whole))
       (λ d no there. same_misses (key l Dom) h rest _)
 
@@ -324,12 +324,12 @@ module _ (h rest : Heap) (compatible : IsCompatible h rest) (is : IsHeapOf Objec
   same_has l p = at_both Same h rest (key l (Name p)) (λ _. does (boolean true) h) (at h (key l Dom) (λ d. does (boolean (lists_name d p)) h) (misses (key l (Name p)) h)) (λ _. does (boolean true) whole) (at whole (key l Dom) (λ d. does (boolean (lists_name d p)) whole) (misses (key l (Name p)) whole))
       (λ v held. same_tells (boolean true) h rest compatible)
       (λ no no_there. at_both Same h rest (key l Dom) (λ d. does (boolean (lists_name d p)) h) (misses (key l (Name p)) h) (λ d. does (boolean (lists_name d p)) whole) (misses (key l (Name p)) whole)
-          (λ d dom. same_tells (boolean (lists_name d p)) h rest compatible)
-          (λ lacks lacks_there. same_misses (key l (Name p)) h rest (misses (key l (Name p)) whole))
-          (λ d lacks there. same_misses (key l (Name p)) h rest (does (boolean (lists_name d p)) whole)))
+      (λ d dom. same_tells (boolean (lists_name d p)) h rest compatible)
+      (λ lacks lacks_there. same_misses (key l (Name p)) h rest (misses (key l (Name p)) whole))
+      (λ d lacks there. same_misses (key l (Name p)) h rest (does (boolean (lists_name d p)) whole)))
       (λ v no there. at_cases (λ r. Same r (does (boolean true) whole)) h (key l Dom) (λ d. does (boolean (lists_name d p)) h) (misses (key l (Name p)) h)
-          (λ d dom. subst (λ b. Same (does (boolean b) h) (does (boolean true) whole)) (sym (listed_there l p d v dom there)) (same_tells (boolean true) h rest compatible))
-          (λ lacks. same_misses (key l (Name p)) h rest (does (boolean true) whole)))
+      (λ d dom. subst (λ b. Same (does (boolean b) h) (does (boolean true) whole)) (sym (listed_there l p d v dom there)) (same_tells (boolean true) h rest compatible))
+      (λ lacks. same_misses (key l (Name p)) h rest (does (boolean true) whole)))
 
   same_get_prototype : (l : ℕ) → Same (get_prototype l h) (get_prototype l whole)
   same_get_prototype l = at_both Same h rest (key l Proto) (λ v. does v h) (misses (key l Proto) h) (λ v. does v whole) (misses (key l Proto) whole)

@@ -1,8 +1,6 @@
 //! The memory of objects.
 use crate::actions::ObjectAction;
-use crate::table::{
-    act_delete, act_get, act_get_proto, act_has, act_new, act_set, act_set_proto,
-};
+use crate::table::{act_delete, act_get, act_get_proto, act_has, act_new, act_set, act_set_proto};
 use gil_values::{Text, Values};
 use mem_model::{Failure, LocalMemory, Outcome, StoredHeap};
 use std::alloc::{AllocError, Global};
@@ -61,3 +59,6 @@ impl LocalMemory for ObjectHeap {
         }
     }
 }
+
+#[cfg(test)]
+mod tests;

@@ -21,9 +21,7 @@ ghost use Rattle.object_heap.specs.Table.{
 use crate::arguments::{location_and_prototype_arguments, prototype_argument};
 use crate::names::{with_name, without};
 use gil_values::{Kind, Text, Value, Values};
-use mem_model::arguments::{
-    location_argument, property_and_value_arguments, property_arguments,
-};
+use mem_model::arguments::{location_argument, property_and_value_arguments, property_arguments};
 use mem_model::names::is_listed;
 use mem_model::{Failure, Key, Outcome, StoredHeap, Sub};
 use std::alloc::{AllocError, Global};
@@ -192,12 +190,7 @@ pub fn act_has(heap: &StoredHeap, alloc: Global, args: &Values) -> Result<Outcom
 }
 
 /// Whether an object has a property.
-fn has(
-    heap: &StoredHeap,
-    alloc: Global,
-    location: u64,
-    name: &Text,
-) -> Result<Outcome, AllocError>
+fn has(heap: &StoredHeap, alloc: Global, location: u64, name: &Text) -> Result<Outcome, AllocError>
     ensures { Answers result (stored_heap_view heap.now) (stored_heap_view heap.now) (has_property location name.now (stored_heap_view heap.now)) }
 {
     let property = Key::property(alloc, location, name)?;

@@ -15,8 +15,8 @@ pub returns-clause-taken : goal.returns-clause-taken
 returns-clause-taken c =
     at_entries with_both (key 3 Dom) _ _ ∙ at_entries with_both (key 3 (Name (codes "a"))) _ _
     ∙ ap (does (boolean true)) (
-      ap (λ h. insert h (key 3 Dom) (without_name a_and_b (codes "a"))) (removed-entries (key 3 (Name (codes "a"))) with_both)
-      ∙ same_entries ((key 3 Dom, without_name a_and_b (codes "a")) ∷ without_key (key 3 (Name (codes "a"))) with_both) with_b refl)
+    ap (λ h. insert h (key 3 Dom) (without_name a_and_b (codes "a"))) (removed-entries (key 3 (Name (codes "a"))) with_both)
+    ∙ same_entries ((key 3 Dom, without_name a_and_b (codes "a")) ∷ without_key (key 3 (Name (codes "a"))) with_both) with_b refl)
 
 pub returns-clause-absent : goal.returns-clause-absent
 returns-clause-absent c = at_entries with_both (key 3 Dom) _ _

@@ -11,5 +11,5 @@ pub replace-requires : goal.replace-requires
 replace-requires c =
     subst (λ g. HasKey g c.key_at-domain.result) (sym c.remove.ensures)
     (has_removed (stored_heap_view c.args.heap.now) c.in_ok-property.property c.key_at-domain.result
-      (λ same. let subs : ◌≡◌ {A = Sub} Dom (Name c.args.name.now) = ap (λ (k : Key). k.sub) (sym c.key_at-domain.ensures ∙ same ∙ c.in_ok-property.ensures) in absurd (cc))
-      (ap is_some (sym c.in-Some.ensures)))
+    (λ same. let subs : ◌≡◌ {A = Sub} Dom (Name c.args.name.now) = ap (λ (k : Key). k.sub) (sym c.key_at-domain.ensures ∙ same ∙ c.in_ok-property.ensures) in absurd (cc))
+    (ap is_some (sym c.in-Some.ensures)))

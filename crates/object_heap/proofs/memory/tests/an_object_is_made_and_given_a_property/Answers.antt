@@ -1,0 +1,31 @@
+use Rattle.std.proofs.Common.{◌≡◌, Some, true, sym, ap, subst}
+use Rattle.gil_values.specs.Symbols.{OccursAmong}
+use Rattle.gil_values.specs.View.{values_view}
+use Rattle.mem_model.specs.declared.keys.MemoryName.TheVariants.{Object}
+use Rattle.mem_model.specs.Actions.{MayAct}
+use Rattle.mem_model.specs.Heaps.{IsHeapOf}
+use Rattle.mem_model.specs.Stored.{stored_heap_view}
+use Rattle.mem_model.proofs.Parts.{empty_is_heap, may_on_empty}
+use Rattle.mem_model.proofs.Cases.{none_contained}
+use Rattle.object_heap.specs.Names.{action_of, takes_symbol_of}
+use Rattle.object_heap.specs.Table.{object_actions}
+use Rattle.object_heap.specs.ObjectLaws.{object_is_memory}
+use Rattle.object_heap.proofs.memory.tests.an_object_is_made_and_given_a_property.Goals as goal
+
+pub act-requires-clause-of_memory : goal.act-requires-clause-of_memory
+act-requires-clause-of_memory g c = subst (IsHeapOf Object) (sym c.in_ok-memory.ensures) (empty_is_heap Object)
+
+pub act-requires-clause-may : goal.act-requires-clause-may
+act-requires-clause-may g c =
+    may_on_empty object_actions c.in_ok-new.new 3 (values_view c.in_ok-prototype.prototype) (stored_heap_view c.in_ok-memory.memory.heap) c.in_ok-memory.ensures
+    (ap (λ t. takes_symbol_of (action_of t)) c.in_ok-new.ensures)
+    (λ n occurs. none_contained n (subst (OccursAmong n) c.in_ok-prototype.ensures occurs))
+
+pub ask-requires-clause-of_memory : goal.ask-requires-clause-of_memory
+ask-requires-clause-of_memory g c =
+    subst (IsHeapOf Object) (sym c.in_ok-made.ensures.changed)
+    (object_is_memory.keeps_heaps c.in_ok-new.new (Some 3) (values_view c.in_ok-prototype.prototype) (stored_heap_view c.in_ok-memory.memory.heap)
+    (subst (IsHeapOf Object) (sym c.in_ok-memory.ensures) (empty_is_heap Object))
+    (may_on_empty object_actions c.in_ok-new.new 3 (values_view c.in_ok-prototype.prototype) (stored_heap_view c.in_ok-memory.memory.heap) c.in_ok-memory.ensures
+    (ap (λ t. takes_symbol_of (action_of t)) c.in_ok-new.ensures)
+    (λ n occurs. none_contained n (subst (OccursAmong n) c.in_ok-prototype.ensures occurs))))
