@@ -69,11 +69,11 @@ pub same_entries : (es fs : Entries) → agree es fs ≡ true → heap_of es ≡
 same_entries es fs is =
     let both = and_parts (list_all (λ e. finds_same es fs e.0) es) (list_all (λ e. finds_same es fs e.0) fs) is in
     same_heap _ _ (λ k.
-        listed_at es k
-        ∙ none_both (find key_cmp k es) (find key_cmp k fs)
-            (λ found. same_option-is _ _ (at_entry (finds_same es fs) es both.0 k found))
-            (λ found. same_option-is _ _ (at_entry (finds_same es fs) fs both.1 k found))
-        ∙ sym (listed_at fs k))
+    listed_at es k
+    ∙ none_both (find key_cmp k es) (find key_cmp k fs)
+    (λ found. same_option-is _ _ (at_entry (finds_same es fs) es both.0 k found))
+    (λ found. same_option-is _ _ (at_entry (finds_same es fs) fs both.1 k found))
+    ∙ sym (listed_at fs k))
 
 -- ---- changes of lists
 

@@ -104,3 +104,6 @@ impl StoredHeap {
         Ok(())
     }
 }
+
+#[cfg(test)]
+mod tests;
