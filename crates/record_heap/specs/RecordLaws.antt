@@ -1,5 +1,5 @@
 -- The actions of records keep the laws of memories.
-use Rattle.std.proofs.Common.{◌≡◌, ◌⊎◌, ⊎_elim, inl, inr, ℕ, Bool, true, false, if◌then◌else◌, List, Option, Some, None, Result, Ok, Err, IsTrue, IsSome, refl, sym, ap, subst, ◌∙◌, true≢false}
+use Rattle.std.proofs.Common.{◌≡◌, ⊎_elim, inl, inr, ℕ, Bool, true, false, if◌then◌else◌, List, Option, Some, None, Result, Ok, Err, IsTrue, refl, sym, ap, subst, ◌∙◌, true≢false}
 use Rattle.std.specs.FinMap.{insert}
 use Rattle.gil_values.specs.Pure.{PureValue, symbol, kind}
 use Rattle.gil_values.specs.Symbols.{OccursIn, OccursAmong}
@@ -9,9 +9,9 @@ use Rattle.mem_model.specs.declared.keys.Sub.TheVariants.{Name, Shape, Gone}
 use Rattle.mem_model.specs.declared.keys.MemoryName.TheVariants.{Record}
 use Rattle.mem_model.specs.declared.failures.Failure.{Failure}
 use Rattle.mem_model.specs.Keys.{key}
-use Rattle.mem_model.specs.Names.{is_name_list, lists_name}
+use Rattle.mem_model.specs.Names.{is_name_list}
 use Rattle.mem_model.specs.Heaps.{Heap, Holds, HasKey, IsHeapOf, IsCompatible, joined, OccursInHeap}
-use Rattle.mem_model.specs.Actions.{Actions, ActionResult, IsMemory, MissesWhatLacks}
+use Rattle.mem_model.specs.Actions.{ActionResult, IsMemory, MissesWhatLacks}
 use Rattle.mem_model.specs.Arguments.{one_of, location_in, property_in, property_and_value_in}
 use Rattle.mem_model.specs.Tables.{does, fails, misses, at, unlisted_at, names_of, name_keys, dispose_whole}
 use Rattle.mem_model.proofs.Joins.{has_key}
@@ -19,7 +19,7 @@ use Rattle.mem_model.proofs.Compatible.{join_is_heap}
 use Rattle.mem_model.proofs.Holding.{held_inserted, has_overwritten, insert-joined}
 use Rattle.mem_model.proofs.Formed.{overwritten_heap, overwritten_well_formed}
 use Rattle.mem_model.proofs.ArgumentSymbols.{then_ok, same_ok, one_symbols, location_occurs, property_occurs, property_and_value_occur, symbol_alone}
-use Rattle.mem_model.proofs.Making.{IsNewLocation, new_location, keeps_creates, same_creates}
+use Rattle.mem_model.proofs.Making.{new_location, keeps_creates, same_creates}
 use Rattle.mem_model.proofs.Disposing.{keeps_disposes, changes_disposes, same_disposes}
 use Rattle.mem_model.proofs.Cases.{Keeps, IsAllowed, ChangesWhenDone, IsSameWhenSettled, at_cases, unlisted_cases, read_cases, at_both, unlisted_both, read_both, keeps_fails, keeps_misses, keeps_tells, keeps_does, allowed_held, allowed_in, same_fails, same_tells, same_misses, same_does, none_contained, in_union, rest_in_union, held_in_union, gone_apart, gone_there}
 use Rattle.record_heap.specs.declared.actions.RecordAction.{RecordAction}

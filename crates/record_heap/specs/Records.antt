@@ -1,6 +1,6 @@
 -- The keys of a record: `Shape`, and those of its names.
-use Rattle.std.proofs.Common.{◌≡◌, ◌⊎◌, ⊎_elim, ℕ, Bool, true, false, ◌||◌, if◌then◌else◌, List, ◌∷◌, Result, Ok, Err, IsTrue, refl, sym, ap, subst, ◌∙◌, true≢false}
-use Rattle.gil_values.specs.Pure.{PureValue, list, from_list, to_list, to_list-from_list}
+use Rattle.std.proofs.Common.{◌≡◌, ⊎_elim, ℕ, Bool, true, false, if◌then◌else◌, List, ◌∷◌, Result, Ok, Err, IsTrue, refl, sym, ap, subst, ◌∙◌, true≢false}
+use Rattle.gil_values.specs.Pure.{PureValue, list, from_list, to_list-from_list}
 use Rattle.mem_model.specs.declared.keys.Key.{Key}
 use Rattle.mem_model.specs.declared.keys.Sub.{Sub}
 use Rattle.mem_model.specs.declared.keys.Sub.TheVariants.{Name, At, Shape, Bound, Dom, Proto, Gone}
@@ -8,7 +8,7 @@ use Rattle.mem_model.specs.declared.keys.MemoryName.TheVariants.{Record}
 use Rattle.mem_model.specs.declared.failures.Failure.{Failure}
 use Rattle.mem_model.specs.Keys.{key, has_subkey}
 use Rattle.mem_model.specs.KeyOrder.{key_eq}
-use Rattle.mem_model.specs.Names.{are_distinct_texts, is_name_list, lists_name}
+use Rattle.mem_model.specs.Names.{are_distinct_texts}
 use Rattle.mem_model.specs.Heaps.{Heap, Holds, HasKey, IsHeapOf}
 use Rattle.mem_model.specs.Arguments.{and_then, one_of}
 use Rattle.mem_model.specs.Tables.{is_among, texts_of, names_of, name_keys, IsWhole}

@@ -1,6 +1,6 @@
 -- The heaps of the rows that show what the actions do. The record stands at the location 3, the symbol 4 is another.
 use Rattle.std.specs.Prelude.{◌≡◌, ℕ, pos, List, [], ◌∷◌, true, Option, codes}
-use Rattle.gil_values.specs.Pure.{PureValue, integer, boolean, text, symbol, kind, list, from_list}
+use Rattle.gil_values.specs.Pure.{PureValue, boolean, text, symbol, kind}
 use Rattle.gil_values.specs.declared.kinds.Kind.TheVariants.{Null}
 use Rattle.mem_model.specs.declared.keys.Sub.TheVariants.{Name, Shape, Gone}
 use Rattle.mem_model.specs.Keys.{key}

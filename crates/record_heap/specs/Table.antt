@@ -1,7 +1,7 @@
 -- The actions of records. l is a location, p a name, D the list of names at `Shape`. Cases are tried in the order given.
 use Rattle.std.specs.Prelude.{ℕ, List, Option, Some, None, Result, Ok, Err, if◌then◌else◌}
 use Rattle.std.specs.FinMap.{insert}
-use Rattle.gil_values.specs.Pure.{PureValue, kind, symbol, boolean}
+use Rattle.gil_values.specs.Pure.{PureValue, kind, symbol}
 use Rattle.gil_values.specs.declared.kinds.Kind.TheVariants.{Null}
 use Rattle.mem_model.specs.declared.keys.Sub.TheVariants.{Name, Shape, Gone}
 use Rattle.mem_model.specs.declared.failures.Failure.{Failure}

@@ -1,4 +1,4 @@
-use Rattle.std.proofs.Common.{◌≡◌, List, sym, subst, ◌∙◌}
+use Rattle.std.proofs.Common.{sym, subst, ◌∙◌}
 use Rattle.gil_values.specs.View.{value_view}
 use Rattle.mem_model.specs.declared.keys.Sub.TheVariants.{Shape}
 use Rattle.mem_model.specs.Keys.{key}

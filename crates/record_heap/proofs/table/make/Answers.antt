@@ -1,7 +1,7 @@
-use Rattle.std.proofs.Common.{◌≡◌, Some, map, sym, ap, subst, ◌∙◌}
+use Rattle.std.proofs.Common.{◌≡◌, sym, ap, subst, ◌∙◌}
 use Rattle.gil_values.specs.declared.kinds.Kind.TheVariants.{Null}
 use Rattle.gil_values.specs.declared.tree.Value
-use Rattle.gil_values.specs.Pure.{PureValue, list, from_list, kind}
+use Rattle.gil_values.specs.Pure.{PureValue, list, from_list}
 use Rattle.gil_values.specs.View.{value_view, values_view}
 use Rattle.gil_values.proofs.Views.{value_view-Sym, value_view-List, value_view-Kind}
 use Rattle.mem_model.specs.declared.keys.Sub.TheVariants.{Shape}

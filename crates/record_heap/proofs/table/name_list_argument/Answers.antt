@@ -1,5 +1,5 @@
-use Rattle.std.proofs.Common.{◌≡◌, Bool, sym, ap, ◌∙◌, if◌then◌else◌, Result, Ok, Err}
-use Rattle.gil_values.specs.Pure.{PureValue, list, from_list}
+use Rattle.std.proofs.Common.{Bool, ap, ◌∙◌, if◌then◌else◌, Ok, Err}
+use Rattle.gil_values.specs.Pure.{list, from_list}
 use Rattle.gil_values.specs.View.{value_view, values_view}
 use Rattle.gil_values.proofs.Views.{value_view-List}
 use Rattle.mem_model.specs.declared.failures.Failure.{Failure}
