@@ -6,7 +6,7 @@ mod FoldingLaws
 pub mod FragmentLaws
 pub mod KindLaws
 pub mod ListTests
-pub mod Naming
+pub mod NamingLaws
 pub mod Renamed
 pub mod SimpleLaws
 pub mod SymbolLaws

@@ -137,10 +137,6 @@ abbrev mutual
 abbrev pub has_narrow_literals : PureAtom → Bool
 has_narrow_literals a = has_literals_between (neg_ℤ (pos (2 ^ 80))) (pos (2 ^ 80)) (term_of a)
 
--- the term names the variable with this number
-abbrev pub names_number : ℕ → PureTerm → Bool
-names_number n t = list_any (λ x. nat_eq n x.number) (variables t)
-
 -- how many different numbers stand in a list
 abbrev pub different : List ℕ → ℕ
 different [] = 0

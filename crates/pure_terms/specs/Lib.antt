@@ -7,6 +7,7 @@ pub mod Fragment
 pub mod Kinds
 pub mod Laws
 pub mod Meaning
+pub mod Naming
 pub mod Numbers
 pub mod Pure
 pub mod Renaming

@@ -1,8 +1,9 @@
 //! Which lists of atoms a decider always decides.
 ghost use Rattle.std.specs.Prelude.{◌≡◌, ◌↔◌, ◌<◌, ◌^◌, IsTrue, nat_eq};
 ghost use Rattle.std.specs.List.{list_all, list_any};
-ghost use Rattle.pure_terms.specs.Fragment.{is_simple, are_simple, names_sort, name_sort, is_plain, is_variable_of, is_integer_literal, is_shift, is_flat, is_kind_of_any, is_kind_literal, is_kind_test, is_simple_equality, is_integer_side, is_order, is_comparison, has_form, any_is_a_side, is_fragment_term, has_fragment_form, is_literal_between, has_literals_between, have_literals_between, has_narrow_literals, names_number, variable_count, InFragment};
+ghost use Rattle.pure_terms.specs.Fragment.{is_simple, are_simple, names_sort, name_sort, is_plain, is_variable_of, is_integer_literal, is_shift, is_flat, is_kind_of_any, is_kind_literal, is_kind_test, is_simple_equality, is_integer_side, is_order, is_comparison, has_form, any_is_a_side, is_fragment_term, has_fragment_form, is_literal_between, has_literals_between, have_literals_between, has_narrow_literals, variable_count, InFragment};
 ghost use Rattle.pure_terms.specs.Meaning.{AreOver};
+ghost use Rattle.pure_terms.specs.Naming.{names_number};
 ghost use Rattle.pure_terms.specs.Pure.{from_list, term_of, variables_of_all};
 ghost use Rattle.pure_terms.specs.View.{term_view, terms_view, atom_view, atoms_view};
 
@@ -163,15 +164,6 @@ const GREATEST_LITERAL: i128 = 1_208_925_819_614_629_174_706_176;
 /// A list of the fragment names fewer variables than this: 2^40.
 const FEW_VARIABLES: usize = 1_099_511_627_776;
 
-impl Term {
-    /// Whether the term names the variable with a number.
-    pub fn names(&self, number: u64) -> bool
-        ensures { result ≡ names_number number (term_view self.now) }
-    {
-        term_names(self, number)
-    }
-}
-
 impl Atom {
     /// Whether the atom has a form of the fragment.
     pub fn has_fragment_form(&self) -> bool
@@ -245,31 +237,6 @@ fn some_atom_names(atoms: &Atoms, number: u64) -> bool
     ensures { result ≡ list_any (λ a. names_number number (term_of (atom_view a))) atoms.now }
 {
     atoms.iter().any(|atom| atom.term().names(number))
-}
-
-#[cycle(names)]
-fn term_names(term: &Term, number: u64) -> bool
-    ensures { result ≡ names_number number (term_view term.now) }
-{
-    match term {
-        Term::Lit(_) => false,
-        Term::Var(variable) => number == variable.number,
-        Term::List(terms) => terms_name(terms, number),
-        Term::Op1(_, operand) => term_names(operand, number),
-        Term::Op2(_, left, right) => term_names(left, number) || term_names(right, number),
-    }
-}
-
-#[cycle(names)]
-fn terms_name(terms: &Terms, number: u64) -> bool
-    ensures { result ≡ list_any (λ x. nat_eq number x.number) (variables_of_all (from_list (terms_view terms.now))) }
-{
-    for term in &terms.items {
-        if term_names(term, number) {
-            return true;
-        }
-    }
-    false
 }
 
 /// Whether an atom's term is one of the fragment, limits aside.

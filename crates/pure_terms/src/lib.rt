@@ -10,6 +10,7 @@ mod fragment;
 mod kinds;
 mod laws;
 mod literals;
+mod naming;
 mod queries;
 mod terms;
 mod truth;

@@ -1,4 +1,5 @@
 pub mod ChainSound
+pub mod Growing
 mod Sound
 pub mod SumSound
 pub mod Truths

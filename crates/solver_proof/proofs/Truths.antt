@@ -21,7 +21,7 @@ use Rattle.pure_terms.specs.Meaning.{value, truth, is_that_boolean, all_true, Is
 use Rattle.pure_terms.specs.Pure.{PureTerm, literal, variable, list_of, unary_of, binary_of, PureAtom, positive, negative, opening, term_of, variables, variables_of_atoms}
 use Rattle.pure_terms.proofs.FragmentLaws.{passes_at}
 use Rattle.pure_terms.proofs.KindLaws.{over_left, over_right}
-use Rattle.solver_proof.specs.Chains.{equals, truth_term, kind_is, Sides, sides_of_equality, sides_of_variable, either_sides, equality_of, disequality_of, KindFact, kind_fact_of_term, kind_fact_of}
+use Rattle.solver_proof.specs.Chains.{equals, truth_term, kind_is, Sides, sides_of_equality, sides_of_variable, either_sides, unless_kind_fact, equality_of, disequality_of, KindFact, kind_fact_of_term, kind_fact_of}
 
 -- ---- lists
 
@@ -168,10 +168,13 @@ linked_either : (vars : List Sort) (v : List PureValue) (o p : Option Sides) (si
 linked_either vars v (Some found) p sides is h k = let same : found ≡ sides = cc in subst (λ (q : Sides). Linked vars v q.left q.right) same (h found refl)
 linked_either vars v None p sides is h k = k sides is
 
+no_kind_fact : (o : Option KindFact) (p : Option Sides) (sides : Sides) → unless_kind_fact o p ≡ Some sides → p ≡ Some sides
+no_kind_fact (Some fact) p sides is = cc
+no_kind_fact None p sides is = is
+
 pub equality-linked : (vars : List Sort) (v : List PureValue) (a : PureAtom) (sides : Sides) → equality_of a ≡ Some sides → truth v a ≡ true → IsOver vars (term_of a) → Linked vars v sides.left sides.right
 equality-linked vars v (positive t) sides is h over =
-    linked_either vars v (sides_of_equality t) (sides_of_variable true t) sides is
-    (λ found e. linked_sides vars v t found e h over)
+    linked_either vars v (unless_kind_fact (kind_fact_of_term true t) (sides_of_equality t)) (sides_of_variable true t) sides is (λ found e. linked_sides vars v t found (no_kind_fact (kind_fact_of_term true t) (sides_of_equality t) found e) h over)
     (λ found e. linked_variable vars v true t found e (true_boolean (value v t) h) over)
 equality-linked vars v (negative t) sides is h over = linked_variable vars v false t sides is (false_boolean (value v t) h) over
 equality-linked vars v (opening t) sides is h over = cc

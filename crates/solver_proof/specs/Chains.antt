@@ -41,17 +41,6 @@ abbrev pub either_sides : Option Sides → Option Sides → Option Sides
 either_sides (Some sides) other = Some sides
 either_sides None other = other
 
--- the two terms that an atom says to be equal; an atom of a Bool variable is an equality with true or false
-abbrev pub equality_of : PureAtom → Option Sides
-equality_of (positive t) = either_sides (sides_of_equality t) (sides_of_variable true t)
-equality_of (negative t) = sides_of_variable false t
-equality_of (opening t) = None
-
--- the two terms that an atom says to be different
-abbrev pub disequality_of : PureAtom → Option Sides
-disequality_of (negative t) = sides_of_equality t
-disequality_of _ = None
-
 -- what an atom says of a term's kind: that it is this one, or that it isn't
 pub record KindFact : Type 0 where
   pub subject : PureTerm
@@ -70,6 +59,22 @@ abbrev pub kind_fact_of : PureAtom → Option KindFact
 kind_fact_of (positive t) = kind_fact_of_term true t
 kind_fact_of (negative t) = kind_fact_of_term false t
 kind_fact_of (opening t) = None
+
+-- `(kind(t) = K)` serves at the end of a chain, and is no link of it
+abbrev pub unless_kind_fact : Option KindFact → Option Sides → Option Sides
+unless_kind_fact (Some fact) sides = None
+unless_kind_fact None sides = sides
+
+-- the two terms that an atom says to be equal; an atom of a Bool variable is an equality with true or false
+abbrev pub equality_of : PureAtom → Option Sides
+equality_of (positive t) = either_sides (unless_kind_fact (kind_fact_of_term true t) (sides_of_equality t)) (sides_of_variable true t)
+equality_of (negative t) = sides_of_variable false t
+equality_of (opening t) = None
+
+-- the two terms that an atom says to be different
+abbrev pub disequality_of : PureAtom → Option Sides
+disequality_of (negative t) = sides_of_equality t
+disequality_of _ = None
 
 abbrev pub equality_at : List PureAtom → ℕ → Option Sides
 equality_at atoms i = option_and_then equality_of (slice_get atoms i)

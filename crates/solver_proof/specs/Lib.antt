@@ -1,5 +1,6 @@
 pub mod Chains
 pub mod Closing
+pub mod Lists
 pub mod Pure
 pub mod Refuting
 pub mod Sums

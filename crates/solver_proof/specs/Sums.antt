@@ -1,5 +1,6 @@
 -- Sums of rows. A row says of whole numbers that one less another plus a constant is at most 0, or is 0.
-use Rattle.std.specs.Prelude.{◌≡◌, ℕ, ◌+◌, ◌*◌, ◌<◌, ◌^◌, ℤ, pos, neg_ℤ, ◌+ℤ◌, ◌-ℤ◌, ◌*ℤ◌, ◌<ℤ◌, unsigned_abs, int_lt, List, [], ◌∷◌, map, slice_get, Bool, true, false, not, ◌&&◌, ◌||◌, if◌then◌else◌, Option, Some, None, IsTrue, nat_eq}
+use Prim.Native.Nat.{◌∣◌}
+use Rattle.std.specs.Prelude.{◌≡◌, ℕ, ℤ, pos, neg_ℤ, ◌+ℤ◌, ◌-ℤ◌, ◌*ℤ◌, ◌<ℤ◌, unsigned_abs, int_lt, List, [], ◌∷◌, map, slice_get, Bool, true, false, not, ◌&&◌, ◌||◌, if◌then◌else◌, Option, Some, None, IsTrue, nat_eq}
 use Rattle.std.specs.Option.{option_and_then}
 use Rattle.std.specs.List.{list_all, list_any}
 use Rattle.gil_values.specs.declared.operators.BinOp.{BinOp}
@@ -108,28 +109,31 @@ abbrev pub are_apart : List ℕ → Bool
 are_apart [] = true
 are_apart (n ∷ ns) = not (list_any (nat_eq n) ns) && are_apart ns
 
--- d divides n
-abbrev pub Divides : ℕ → ℕ → Type 0
-Divides d n = (k : ℕ) × (n ≡ k * d)
-
 abbrev pub DividesEach : ℕ → List Factor → Type 0
-DividesEach d fs = (i : ℕ) (f : Factor) → slice_get fs i ≡ Some f → Divides d (unsigned_abs f.factor)
+DividesEach d [] = Unit {0}
+DividesEach d (f ∷ fs) = (d ∣ unsigned_abs f.factor) × DividesEach d fs
 
--- how large the sum may grow on the way
-abbrev pub weight_of : ℤ → Option Row → ℕ
-weight_of f (Some row) = (unsigned_abs f + 1) * (unsigned_abs row.constant + 1)
-weight_of f None = 0
+-- the code can hold each product and each sum of the products from one of them to the last
+abbrev pub is_held_total : List PureAtom → (Row → ℤ) → List Factor → Bool
+is_held_total atoms part [] = true
+is_held_total atoms part (f ∷ fs) = is_held (of_row part f.factor (row_at atoms f.atom)) && (is_held (total atoms part (f ∷ fs)) && is_held_total atoms part fs)
 
-abbrev pub weight : List PureAtom → List Factor → ℕ
-weight atoms [] = 0
-weight atoms (f ∷ fs) = weight_of f.factor (row_at atoms f.atom) + weight atoms fs
+-- the code can hold the constants of the rows
+abbrev pub is_held_row : Option Row → Bool
+is_held_row (Some row) = is_held row.constant
+is_held_row None = true
+
+abbrev pub are_held_rows : List PureAtom → List Factor → Bool
+are_held_rows atoms fs = list_all (λ f. is_held_row (row_at atoms f.atom)) fs
 
 -- the rows of different atoms times their factors add to a positive constant without variables; no number above 1 divides
--- each factor; and the code can hold the sum, in whatever order it is made
+-- each factor; and the code can hold the numbers on the way
 pub record SumCloses (atoms : List PureAtom) (fs : List Factor) : Type 0 where
   pub apart : IsTrue (are_apart (map (λ f. f.atom) fs))
   pub factors : IsTrue (are_factors atoms fs)
   pub constant : pos 0 <ℤ total atoms (λ row. row.constant) fs
   pub variables : (x : ℕ) → total atoms (coefficient x) fs ≡ pos 0
   pub no_divisor : (d : ℕ) → DividesEach d fs → d ≡ 1
-  pub held : weight atoms fs < 2 ^ 127
+  pub held_rows : IsTrue (are_held_rows atoms fs)
+  pub held_constant : IsTrue (is_held_total atoms (λ row. row.constant) fs)
+  pub held_variables : (x : ℕ) → IsTrue (is_held_total atoms (coefficient x) fs)

@@ -2,6 +2,7 @@
 #![tactic(auto)]
 
 mod laws;
+mod lists;
 mod proofs;
 mod refuters;
 

@@ -2,7 +2,7 @@ use Rattle.std.proofs.Common.{◌≤◌, length, arith}
 use Rattle.std.proofs.lemmas.Bool.{lt-ltb}
 use Rattle.pure_terms.specs.Fragment.{variable_count}
 use Rattle.pure_terms.specs.View.{atoms_view}
-use Rattle.pure_terms.proofs.Naming.{count_bound}
+use Rattle.pure_terms.proofs.NamingLaws.{count_bound}
 use Rattle.pure_terms.proofs.fragment.name_few_variables.Goals as goal
 
 pub returns-then-len-lt-FEW_VARIABLES : goal.returns-then-len-lt-FEW_VARIABLES

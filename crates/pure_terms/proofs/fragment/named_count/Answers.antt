@@ -2,7 +2,7 @@ use Rattle.std.proofs.Common.{◌≡◌, ◌≤◌, length, sym, ◌∙◌, ap, 
 use Rattle.pure_terms.specs.View.{atoms_view}
 use Rattle.pure_terms.proofs.Counting.{standing_below, standing_below-bound}
 use Rattle.pure_terms.proofs.FragmentLaws.{numbers_of}
-use Rattle.pure_terms.proofs.Naming.{count_standing, counted_more, not_counted_more}
+use Rattle.pure_terms.proofs.NamingLaws.{count_standing, counted_more, not_counted_more}
 use Rattle.pure_terms.proofs.fragment.named_count.Goals as goal
 use Rattle.pure_terms.proofs.fragment.named_count.Goals.{then-some_atom_names, else-some_atom_names}
 

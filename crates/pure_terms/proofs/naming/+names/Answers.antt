@@ -1,9 +1,9 @@
 use Rattle.std.proofs.Common.{◌≡◌, ◌≤◌, length, Some, slice_get, sym, ◌∙◌, arith}
-use Rattle.pure_terms.specs.Fragment.{names_number}
+use Rattle.pure_terms.specs.Naming.{names_number}
 use Rattle.pure_terms.specs.View.{term_view, terms_view}
 use Rattle.pure_terms.proofs.ListTests.{term_at, length_of, any_more, any_found, any_whole}
-use Rattle.pure_terms.proofs.Naming.{names_list}
-use Rattle.pure_terms.proofs.fragment.+names.Goals as goal
+use Rattle.pure_terms.proofs.NamingLaws.{names_list}
+use Rattle.pure_terms.proofs.naming.+names.Goals as goal
 
 pub terms_name-returns-then-term_names : goal.terms_name-returns-then-term_names
 terms_name-returns-then-term_names t c =

@@ -1,0 +1,32 @@
+-- Lists of borrowed atoms.
+use Rattle.std.specs.Prelude.{◌≡◌, ℕ, ◌+◌, List, [], ◌∷◌, ◌++◌, map, length, slice_get, Some}
+use Rattle.gil_values.specs.declared.kinds.Kind.{Kind}
+use Rattle.pure_terms.specs.Pure.{PureTerm, from_list, PureAtom, positive, negative, opening}
+use Rattle.pure_terms.specs.View.{term_view, terms_view, atoms_view}
+use Rattle.solver_proof.specs.declared.lists.Fact.{Fact}
+use Rattle.solver_proof.specs.declared.lists.Found.{Found}
+use Rattle.solver_proof.specs.declared.lists.AtomList.{AtomList, fold-AtomList}
+use Rattle.solver_proof.specs.declared.lists.AtomList.TheOpen.{AtomList-F}
+use Rattle.solver_proof.specs.Chains.{equals, kind_is}
+use Rattle.solver_proof.specs.Closing.{element_equalities}
+
+abbrev pub fact_view : Fact → PureAtom
+fact_view (Fact.Holds t) = positive (term_view t.now)
+fact_view (Fact.Not t) = negative (term_view t.now)
+fact_view (Fact.Open t) = opening (term_view t.now)
+fact_view (Fact.Equal s t) = positive (equals (term_view s.now) (term_view t.now))
+fact_view (Fact.Differ s t) = negative (equals (term_view s.now) (term_view t.now))
+fact_view (Fact.KindIs t k) = positive (kind_is (term_view t.now) k)
+
+abbrev pub list_step : AtomList-F (List PureAtom) → List PureAtom
+list_step (AtomList-F.Given atoms) = atoms_view atoms.now
+list_step (AtomList-F.More rest fact) = rest.now ++ fact_view fact ∷ []
+list_step (AtomList-F.Parts rest left right) = rest.now ++ element_equalities (from_list (terms_view left.now)) (from_list (terms_view right.now))
+
+abbrev pub list_view : AtomList → List PureAtom
+list_view = fold-AtomList (List PureAtom) list_step
+
+-- what stands at a place, or how far it lies past the end
+abbrev pub FindsAt : List PureAtom → ℕ → Found → Type 0
+FindsAt atoms i (Found.Here fact) = slice_get atoms i ≡ Some (fact_view fact)
+FindsAt atoms i (Found.Past past) = i ≡ length atoms + past
