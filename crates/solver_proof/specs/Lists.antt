@@ -1,5 +1,5 @@
 -- Lists of borrowed atoms.
-use Rattle.std.specs.Prelude.{◌≡◌, ℕ, ◌+◌, List, [], ◌∷◌, ◌++◌, map, length, slice_get, Some}
+use Rattle.std.specs.Prelude.{◌≡◌, ℕ, ◌+◌, List, [], ◌∷◌, ◌++◌, map, length, slice_get, true, false, Some}
 use Rattle.gil_values.specs.declared.kinds.Kind.{Kind}
 use Rattle.pure_terms.specs.Pure.{PureTerm, from_list, PureAtom, positive, negative, opening}
 use Rattle.pure_terms.specs.View.{term_view, terms_view, atoms_view}
@@ -7,7 +7,10 @@ use Rattle.solver_proof.specs.declared.lists.Fact.{Fact}
 use Rattle.solver_proof.specs.declared.lists.Found.{Found}
 use Rattle.solver_proof.specs.declared.lists.AtomList.{AtomList, fold-AtomList}
 use Rattle.solver_proof.specs.declared.lists.AtomList.TheOpen.{AtomList-F}
-use Rattle.solver_proof.specs.Chains.{equals, kind_is}
+use Rattle.solver_proof.specs.declared.facts.Pair.{Pair}
+use Rattle.solver_proof.specs.declared.facts.Said.{Said}
+use Rattle.solver_proof.specs.declared.facts.Truths.{Truths}
+use Rattle.solver_proof.specs.Chains.{equals, truth_term, kind_is, Sides, KindFact}
 use Rattle.solver_proof.specs.Closing.{element_equalities}
 
 abbrev pub fact_view : Fact → PureAtom
@@ -30,3 +33,13 @@ list_view = fold-AtomList (List PureAtom) list_step
 abbrev pub FindsAt : List PureAtom → ℕ → Found → Type 0
 FindsAt atoms i (Found.Here fact) = slice_get atoms i ≡ Some (fact_view fact)
 FindsAt atoms i (Found.Past past) = i ≡ length atoms + past
+
+abbrev pub pair_view : Pair → Sides
+pair_view p = record { left = term_view p.left.now; right = term_view p.right.now }
+
+abbrev pub said_view : Said → KindFact
+said_view s = record { subject = term_view s.subject.now; kind = s.kind; is_so = s.is_so }
+
+-- the two literals
+abbrev pub AreTruths : Truths → Type 0
+AreTruths t = (term_view t.yes.now ≡ truth_term true) × (term_view t.no.now ≡ truth_term false)
