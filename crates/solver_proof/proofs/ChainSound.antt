@@ -43,6 +43,38 @@ joined l m =
       over_second = m.over_second;
     }
 
+-- ---- a term and itself
+
+pub never_different : (t : PureTerm) → are_different_literals t t ≡ true → ⊥
+never_different (literal l) h = false≢true (sym (ap not (same_literal-refl l)) ∙ h)
+never_different (variable x) h = false≢true h
+never_different (list_of ts) h = false≢true h
+never_different (unary_of op t) h = false≢true h
+never_different (binary_of op s t) h = false≢true h
+
+pub never_other : (k l : Option Kind) → k ≡ l → are_other_kinds k l ≡ true → ⊥
+never_other (Some k) (Some l) e other = let same : k ≡ l = cc in false≢true (sym (ap not (ap (same_kind k) (sym same) ∙ same_value-refl (kind k))) ∙ other)
+never_other (Some k) None e other = false≢true other
+never_other None l e other = false≢true other
+
+passes : (f : Var → Bool) (zs : List Var) (z : Var) → list_all f zs ≡ true → Contains zs z → f z ≡ true
+passes f [] z all has = absurd (none_contained z has)
+passes f (x ∷ zs) z all (zero, below, is) = ap f (sym is) ∙ (and_parts (f x) (list_all f zs) all).0
+passes f (x ∷ zs) z all (suc k, below, is) = passes f zs z (and_parts (f x) (list_all f zs) all).1 (k, omega (arith, below), is)
+
+all_below : (n : ℕ) (ys : List Var) (y : Var) → list_all (λ z. ltb z.number n) ys ≡ true → Contains ys y → y.number < n
+all_below n ys y all has = ltb-true y.number n (passes (λ (z : Var). ltb z.number n) ys y all has)
+
+pub never_itself : (t : PureTerm) → is_fresh_over t t ≡ true → ⊥
+never_itself (variable x) h =
+    let parts = and_parts (same_sort x.sort Sort.Fresh) (list_all (λ y. ltb y.number x.number) (variables (variable x))) h in
+    let below : x.number < x.number = all_below x.number (x ∷ []) x parts.1 (Contains-push [] x) in
+    absurd (omega (arith, below))
+never_itself (literal l) h = false≢true h
+never_itself (list_of ts) h = false≢true h
+never_itself (unary_of op t) h = false≢true h
+never_itself (binary_of op s t) h = false≢true h
+
 module _ (vars : List Sort) (v : List PureValue) (proper : IsProper vars v) (atoms : List PureAtom) (over : AreOver vars atoms) (all : all_true v atoms ≡ true) where
   linked_at : (i : ℕ) (sides : Sides) → equality_at atoms i ≡ Some sides → Linked vars v sides.left sides.right
   linked_at i sides is =
@@ -75,11 +107,7 @@ module _ (vars : List Sort) (v : List PureValue) (proper : IsProper vars v) (ato
   -- ---- kinds
 
   kinds_close : (s t : PureTerm) → (s ≡ t) ⊎ Linked vars v s t → are_other_kinds (known_kind s) (known_kind t) ≡ true → ⊥
-  kinds_close s t (inl e) other = never_other (known_kind s) (known_kind t) (ap known_kind e) other where
-    never_other : (k l : Option Kind) → k ≡ l → are_other_kinds k l ≡ true → ⊥
-    never_other (Some k) (Some l) e other = let same : k ≡ l = cc in false≢true (sym (ap not (ap (same_kind k) (sym same) ∙ same_value-refl (kind k))) ∙ other)
-    never_other (Some k) None e other = false≢true other
-    never_other None l e other = false≢true other
+  kinds_close s t (inl e) other = never_other (known_kind s) (known_kind t) (ap known_kind e) other
   kinds_close s t (inr l) other = known_differ (known_kind s) (known_kind t) refl refl other where
     known_differ : (j k : Option Kind) → known_kind s ≡ j → known_kind t ≡ k → are_other_kinds j k ≡ true → ⊥
     known_differ (Some j) (Some k) is_j is_k other =
@@ -91,23 +119,6 @@ module _ (vars : List Sort) (v : List PureValue) (proper : IsProper vars v) (ato
     known_differ None k is_j is_k other = false≢true other
 
   -- ---- fresh variables
-
-  all_below : (n : ℕ) (ys : List Var) (y : Var) → list_all (λ z. ltb z.number n) ys ≡ true → Contains ys y → y.number < n
-  all_below n ys y all has = ltb-true y.number n (passes (λ (z : Var). ltb z.number n) ys y all has) where
-    passes : (f : Var → Bool) (zs : List Var) (z : Var) → list_all f zs ≡ true → Contains zs z → f z ≡ true
-    passes f [] z all has = absurd (none_contained z has)
-    passes f (x ∷ zs) z all (zero, below, is) = ap f (sym is) ∙ (and_parts (f x) (list_all f zs) all).0
-    passes f (x ∷ zs) z all (suc k, below, is) = passes f zs z (and_parts (f x) (list_all f zs) all).1 (k, omega (arith, below), is)
-
-  never_itself : (t : PureTerm) → is_fresh_over t t ≡ true → ⊥
-  never_itself (variable x) h =
-      let parts = and_parts (same_sort x.sort Sort.Fresh) (list_all (λ y. ltb y.number x.number) (variables (variable x))) h in
-      let below : x.number < x.number = all_below x.number (x ∷ []) x parts.1 (Contains-push [] x) in
-      absurd (omega (arith, below))
-  never_itself (literal l) h = false≢true h
-  never_itself (list_of ts) h = false≢true h
-  never_itself (unary_of op t) h = false≢true h
-  never_itself (binary_of op s t) h = false≢true h
 
   symbol_of_fresh : (x : Var) (w : PureValue) → x.sort ≡ Sort.Fresh → IsOver vars (variable x) → value v (variable x) ≡ Some w → (n : ℕ) × (w ≡ symbol n)
   symbol_of_fresh x w sort over_x has = symbol_of_kind w (known_kinds_are_right vars v (variable x) w Kind.Sym proper over_x has (ap (λ s. known_kind (variable (record { number = x.number; sort = s }))) sort)) where

@@ -4,3 +4,4 @@ mod Sound
 pub mod SumSound
 pub mod Truths
 pub mod Views
+pub mod WalkLaws

@@ -5,3 +5,4 @@ pub mod Pure
 pub mod Refuting
 pub mod Sums
 pub mod View
+pub mod Walks
