@@ -1,5 +1,5 @@
 -- Lists of borrowed atoms.
-use Rattle.std.specs.Prelude.{◌≡◌, ℕ, ◌+◌, List, [], ◌∷◌, ◌++◌, map, length, slice_get, true, false, Some}
+use Rattle.std.specs.Prelude.{◌≡◌, ℕ, ◌+◌, List, [], ◌∷◌, ◌++◌, map, length, slice_get, Some}
 use Rattle.gil_values.specs.declared.kinds.Kind.{Kind}
 use Rattle.pure_terms.specs.Pure.{PureTerm, from_list, PureAtom, positive, negative, opening}
 use Rattle.pure_terms.specs.View.{term_view, terms_view, atoms_view}
@@ -9,7 +9,8 @@ use Rattle.solver_proof.specs.declared.lists.AtomList.{AtomList, fold-AtomList}
 use Rattle.solver_proof.specs.declared.lists.AtomList.TheOpen.{AtomList-F}
 use Rattle.solver_proof.specs.declared.facts.Pair.{Pair}
 use Rattle.solver_proof.specs.declared.facts.Said.{Said}
-use Rattle.solver_proof.specs.declared.facts.Truths.{Truths}
+use Rattle.solver_proof.specs.declared.facts.Side.{Side}
+use Rattle.solver_proof.specs.declared.facts.Link.{Link}
 use Rattle.solver_proof.specs.Chains.{equals, truth_term, kind_is, Sides, KindFact}
 use Rattle.solver_proof.specs.Closing.{element_equalities}
 
@@ -40,6 +41,9 @@ pair_view p = record { left = term_view p.left.now; right = term_view p.right.no
 abbrev pub said_view : Said → KindFact
 said_view s = record { subject = term_view s.subject.now; kind = s.kind; is_so = s.is_so }
 
--- the two literals
-abbrev pub AreTruths : Truths → Type 0
-AreTruths t = (term_view t.yes.now ≡ truth_term true) × (term_view t.no.now ≡ truth_term false)
+abbrev pub side_view : Side → PureTerm
+side_view (Side.Of t) = term_view t.now
+side_view (Side.Truth b) = truth_term b
+
+abbrev pub link_view : Link → Sides
+link_view l = record { left = side_view l.left; right = side_view l.right }

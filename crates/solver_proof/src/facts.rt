@@ -1,9 +1,10 @@
 //! What the atoms of a list say: equalities, disequalities and kinds.
-ghost use Rattle.std.specs.Prelude.{◌≡◌, Bool, true, Some};
+ghost use Rattle.std.specs.Prelude.{◌≡◌, true, Some};
 ghost use Rattle.std.specs.Option.{option_map};
+ghost use Rattle.pure_terms.specs.Equality.{same_term};
 ghost use Rattle.pure_terms.specs.View.{term_view};
 ghost use Rattle.solver_proof.specs.Chains.{truth_term, sides_of_equality, sides_of_variable, unless_kind_fact, equality_of, disequality_of, kind_fact, kind_fact_of_term, kind_fact_of, equality_at, disequality_at, kind_fact_at};
-ghost use Rattle.solver_proof.specs.Lists.{fact_view, list_view, pair_view, said_view, AreTruths};
+ghost use Rattle.solver_proof.specs.Lists.{fact_view, list_view, pair_view, link_view, said_view, side_view};
 
 use crate::lists::{AtomList, Fact, fact_at};
 use gil_values::{BinOp, Kind, UnOp};
@@ -16,11 +17,18 @@ pub(crate) struct Pair<'a> {
     pub(crate) right: &'a Term,
 }
 
-/// The literals true and false, as terms.
+/// A side of an equality: a term, or true or false.
 #[derive(Clone, Copy)]
-pub(crate) struct Truths<'a> {
-    pub(crate) yes: &'a Term,
-    pub(crate) no: &'a Term,
+pub(crate) enum Side<'a> {
+    Of(&'a Term),
+    Truth(bool),
+}
+
+/// Two sides that an atom says to be equal.
+#[derive(Clone, Copy)]
+pub(crate) struct Link<'a> {
+    pub(crate) left: Side<'a>,
+    pub(crate) right: Side<'a>,
 }
 
 /// What is said of a term's kind.
@@ -32,16 +40,11 @@ pub(crate) struct Said<'a> {
 }
 
 /// The two terms that the atom at a place says to be equal.
-pub(crate) fn find_equality<'a>(
-    list: &AtomList<'a>,
-    place: usize,
-    truths: Truths<'a>,
-) -> Option<Pair<'a>>
-    requires { AreTruths truths }
-    ensures { option_map pair_view result ≡ equality_at (list_view list.now) place }
+pub(crate) fn find_equality<'a>(list: &AtomList<'a>, place: usize) -> Option<Link<'a>>
+    ensures { option_map link_view result ≡ equality_at (list_view list.now) place }
 {
     match fact_at(list, place) {
-        Some(fact) => equality_of(fact, truths),
+        Some(fact) => equality_of(fact),
         None => None,
     }
 }
@@ -56,6 +59,42 @@ pub(crate) fn find_disequality<'a>(list: &AtomList<'a>, place: usize) -> Option<
     }
 }
 
+/// Whether two sides are the same term.
+pub(crate) fn are_same(first: Side<'_>, second: Side<'_>) -> bool
+    ensures { result ≡ same_term (side_view first.entry) (side_view second.entry) }
+{
+    match first {
+        Side::Of(term) => match second {
+            Side::Of(other) => *term == *other,
+            Side::Truth(truth) => is_truth(term, truth),
+        },
+        Side::Truth(truth) => match second {
+            Side::Of(other) => is_truth_first(truth, other),
+            Side::Truth(other) => truth == other,
+        },
+    }
+}
+
+/// Whether a term is this literal.
+fn is_truth(term: &Term, truth: bool) -> bool
+    ensures { result ≡ same_term (term_view term.now) (truth_term truth) }
+{
+    match term {
+        Term::Lit(Literal::Bool(b)) => *b == truth,
+        _ => false,
+    }
+}
+
+/// Whether a term is this literal, the other way round.
+fn is_truth_first(truth: bool, term: &Term) -> bool
+    ensures { result ≡ same_term (truth_term truth) (term_view term.now) }
+{
+    match term {
+        Term::Lit(Literal::Bool(b)) => truth == *b,
+        _ => false,
+    }
+}
+
 /// What the atom at a place says of a term's kind.
 pub(crate) fn find_kind<'a>(list: &AtomList<'a>, place: usize) -> Option<Said<'a>>
     ensures { option_map said_view result ≡ kind_fact_at (list_view list.now) place }
@@ -66,17 +105,16 @@ pub(crate) fn find_kind<'a>(list: &AtomList<'a>, place: usize) -> Option<Said<'a
     }
 }
 
-fn equality_of<'a>(fact: Fact<'a>, truths: Truths<'a>) -> Option<Pair<'a>>
-    requires { AreTruths truths }
-    ensures { option_map pair_view result ≡ equality_of (fact_view fact.entry) }
+fn equality_of<'a>(fact: Fact<'a>) -> Option<Link<'a>>
+    ensures { option_map link_view result ≡ equality_of (fact_view fact.entry) }
 {
     match fact {
         Fact::Holds(term) => match link_of(term) {
             Some(pair) => Some(pair),
-            None => truth_of(term, truths.yes),
+            None => truth_of(term, true),
         },
-        Fact::Not(term) => truth_of(term, truths.no),
-        Fact::Equal(left, right) => link(left, right),
+        Fact::Not(term) => truth_of(term, false),
+        Fact::Equal(left, right) => link_between(left, right),
         Fact::Differ(_, _) => None,
         Fact::Open(_) => None,
         Fact::KindIs(_, _) => None,
@@ -84,35 +122,38 @@ fn equality_of<'a>(fact: Fact<'a>, truths: Truths<'a>) -> Option<Pair<'a>>
 }
 
 /// The two sides of an equality that is no test of a kind.
-fn link_of<'a>(term: &'a Term) -> Option<Pair<'a>>
-    ensures { option_map pair_view result ≡ unless_kind_fact (kind_fact_of_term true (term_view term.now)) (sides_of_equality (term_view term.now)) }
+fn link_of<'a>(term: &'a Term) -> Option<Link<'a>>
+    ensures { option_map link_view result ≡ unless_kind_fact (kind_fact_of_term true (term_view term.now)) (sides_of_equality (term_view term.now)) }
 {
     match term {
-        Term::Op2(BinOp::Equal, left, right) => link(left, right),
+        Term::Op2(BinOp::Equal, left, right) => link_between(left, right),
         _ => None,
     }
 }
 
 /// Two sides, where they are no test of a kind.
-fn link<'a>(left: &'a Term, right: &'a Term) -> Option<Pair<'a>>
-    ensures { option_map pair_view result ≡ unless_kind_fact (kind_fact true (term_view left.now) (term_view right.now)) (Some (record { left = term_view left.now; right = term_view right.now })) }
+fn link_between<'a>(left: &'a Term, right: &'a Term) -> Option<Link<'a>>
+    ensures { option_map link_view result ≡ unless_kind_fact (kind_fact true (term_view left.now) (term_view right.now)) (Some (record { left = term_view left.now; right = term_view right.now })) }
 {
     match kind_said(left, right, true) {
         Some(_) => None,
-        None => Some(Pair { left, right }),
+        None => Some(Link {
+            left: Side::Of(left),
+            right: Side::Of(right),
+        }),
     }
 }
 
-/// A Bool variable and a literal.
-fn truth_of<'a>(term: &'a Term, truth: &'a Term) -> Option<Pair<'a>>
-    ensures { (b : Bool) → term_view truth.now ≡ truth_term b → option_map pair_view result ≡ sides_of_variable b (term_view term.now) }
+/// A Bool variable, and whether it is said to be true.
+fn truth_of<'a>(term: &'a Term, truth: bool) -> Option<Link<'a>>
+    ensures { option_map link_view result ≡ sides_of_variable truth (term_view term.now) }
 {
     match term {
         Term::Var(variable) => {
             if variable.sort == Sort::Bool {
-                return Some(Pair {
-                    left: term,
-                    right: truth,
+                return Some(Link {
+                    left: Side::Of(term),
+                    right: Side::Truth(truth),
                 });
             }
             None

@@ -1,6 +1,7 @@
 //! Proofs that no proper valuation makes every atom of a list true, and what checks them.
 #![tactic(auto)]
 
+mod chains;
 mod facts;
 mod laws;
 mod lists;
