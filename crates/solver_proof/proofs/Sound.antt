@@ -1,8 +1,9 @@
 -- A list that a proof closes has no proper valuation under which every atom is true.
-use Rattle.std.proofs.Common.{◌≡◌, ⊎_elim, ◌⊎◌, inl, inr, ℕ, zero, suc, List, [], ◌∷◌, ◌++◌, map, length, Bool, true, false, ◌||◌, Option, Some, None, slice_get, refl, sym, ap, ◌∙◌, subst, true≢false, arith}
-use Rattle.std.specs.Option.{option_map}
+use Rattle.std.proofs.Common.{if◌then◌else◌, ◌&&◌, ◌≡◌, ⊎_elim, ◌⊎◌, inl, inr, ℕ, zero, suc, List, [], ◌∷◌, ◌++◌, map, length, Bool, true, false, ◌||◌, Option, Some, None, slice_get, refl, sym, ap, ◌∙◌, subst, true≢false, arith}
+use Rattle.std.specs.Option.{option_map, option_and_then, IsSomeAnd}
+use Rattle.std.proofs.lemmas.Option.{option_and_then_some}
 use Rattle.std.specs.List.{Contains}
-use Rattle.std.proofs.lemmas.Bool.{false≢true, and_from, cases_Bool}
+use Rattle.std.proofs.lemmas.Bool.{false≢true, and_parts, and_from, or_cases, cases_Bool, not-true}
 use Rattle.std.proofs.lemmas.List.Elements.{Contains-append_left, Contains-append_right, Contains-append_cases}
 use Rattle.gil_values.specs.declared.kinds.Kind.{Kind}
 use Rattle.gil_values.specs.declared.operators.BinOp.{BinOp}
@@ -16,17 +17,19 @@ use Rattle.pure_terms.specs.declared.variables.Sort.{Sort}
 use Rattle.pure_terms.specs.declared.variables.Var.{Var}
 use Rattle.pure_terms.specs.Fragment.{is_variable_of, is_simple_equality, is_comparison, is_kind_test, has_form}
 use Rattle.pure_terms.specs.Meaning.{both, value, values, truth, is_that_boolean, all_true, IsProper, IsOver, AreOver}
-use Rattle.pure_terms.specs.Pure.{PureTerm, literal, variable, list_of, unary_of, PureTerms, no_terms, term_and, to_list, PureAtom, positive, negative, term_of, variables, variables_of_all, variables_of_atoms}
+use Rattle.pure_terms.specs.Pure.{PureTerm, literal, variable, list_of, binary_of, unary_of, PureTerms, no_terms, term_and, to_list, PureAtom, positive, negative, term_of, variables, variables_of_all, variables_of_atoms}
 use Rattle.pure_terms.proofs.KindLaws.{same_kinds, over_left, over_right}
 use Rattle.pure_terms.proofs.SimpleLaws.{variable-has_value, form-boolean, IsBoolean}
 use Rattle.pure_terms.proofs.VariableLaws.{depend_on_variables}
-use Rattle.solver_proof.specs.Chains.{equals, truth_term, kind_is}
-use Rattle.solver_proof.specs.Closing.{CompareLiterals, may_split, kinds_of_values, all_kinds, kind_atoms, boolean_atoms, kind_value_atoms, element_equalities, element_disequalities, MeetCloses, Closes, CloseEach}
+use Rattle.solver_proof.specs.Chains.{equals, truth_term, kind_is, Sides, disequality_of, disequality_at, KindFact, kind_fact_of, kind_fact_at, are_sides}
+use Rattle.pure_terms.specs.Equality.{same_term}
+use Rattle.pure_terms.specs.EqualityLaws.{same_term-same}
+use Rattle.solver_proof.specs.Closing.{at_most, compares_literals, is_false_comparison, may_split, kinds_of_values, all_kinds, kind_atoms, boolean_atoms, kind_value_atoms, element_equalities, element_disequalities, HaveOneLength, Lists, lists_of_terms, lists_of, equal_sides_of, equal_lists_at, different_lists_at, atoms_of_kind, atoms_of_subject, value_atoms, at_most_of, at_most_at, meet, Closes, CloseEach}
 use Rattle.solver_proof.specs.Pure.{PureProof, sum_of, false_at, chain, cases_of, values_at, parts_apart, parts_at, differ_at, split_on, meet_at, PureProofs, no_proofs, proof_and}
 use Rattle.solver_proof.specs.Refuting.{ClosedListsHaveNoSolution}
 use Rattle.solver_proof.proofs.ChainSound.{chain-closes}
 use Rattle.solver_proof.proofs.SumSound.{sum-closes, meet_numbers}
-use Rattle.solver_proof.proofs.Truths.{true_at, true_more, true_one_more, over_more, over_one, over_at, over_sides, over_both, over_literal, SameValues, true_equality, false_equality, equality_true, equality_false, fact-has, kind_is-true}
+use Rattle.solver_proof.proofs.Truths.{HasKindFact, true_at, true_more, true_one_more, over_more, over_one, over_at, over_sides, over_both, over_literal, SameValues, true_equality, false_equality, equality_true, equality_false, fact-has, kind_is-true}
 
 -- some atom of the list is true
 abbrev SomeTrue : List PureValue → List PureAtom → Type 0
@@ -208,8 +211,19 @@ may_split-form : (t : PureTerm) → may_split t ≡ true → has_form t ≡ true
 may_split-form t may = first_three (is_variable_of Sort.Bool t) (is_simple_equality t) (is_comparison t) (is_kind_test t) may
 
 module _ (vars : List Sort) (v : List PureValue) (proper : IsProper vars v) where
-  compare_literals : (a : PureAtom) → CompareLiterals a → truth v a ≡ truth [] a
-  compare_literals a (op, (k, (l, (is, compares)))) = depend_on_variables.truths a v [] (λ x has. absurd (none_contained x (subst (λ t. Contains (variables t) x) is has)))
+  -- a comparison of literals has no variables
+  no_variables : (t : PureTerm) → compares_literals t ≡ true → variables t ≡ []
+  no_variables (binary_of op (literal k) (literal l)) h = refl
+  no_variables t h = absurd (false≢true h)
+
+  compare_literals : (a : PureAtom) → compares_literals (term_of a) ≡ true → truth v a ≡ truth [] a
+  compare_literals a h = depend_on_variables.truths a v [] (λ x has. absurd (none_contained x (subst (λ xs. Contains xs x) (no_variables (term_of a) h) has)))
+
+  false-closes : (atoms : List PureAtom) (i : ℕ) (o : Option PureAtom) → slice_get atoms i ≡ o → all_true v atoms ≡ true → is_false_comparison o ≡ true → ⊥
+  false-closes atoms i (Some a) here all h =
+      let parts = and_parts _ _ h in
+      true≢false (sym (true_at v atoms i a all here) ∙ compare_literals a parts.0 ∙ not-true (truth [] a) parts.1)
+  false-closes atoms i None here all h = false≢true h
 
   either_is : (t : PureTerm) → IsBoolean (value v t) → (truth v (positive t) ≡ true) ⊎ (truth v (negative t) ≡ true)
   either_is t (true, is) = inl (ap (is_that_boolean true) is)
@@ -218,54 +232,155 @@ module _ (vars : List Sort) (v : List PureValue) (proper : IsProper vars v) wher
   split-true : (t : PureTerm) → IsOver vars t → may_split t ≡ true → (truth v (positive t) ≡ true) ⊎ (truth v (negative t) ≡ true)
   split-true t over may = either_is t (form-boolean vars v proper t over (may_split-form t may))
 
-  meet-closes : (atoms : List PureAtom) (i j k : ℕ) → all_true v atoms ≡ true → MeetCloses atoms i j k → ⊥
-  meet-closes atoms i j k all (s, (t, (first, second, differ))) =
-      meet_numbers vars v proper s t (true_at v atoms i _ all first) (true_at v atoms j _ all second)
-      (⊎_elim (λ straight. inl (true_at v atoms k _ all straight)) (λ across. inr (true_at v atoms k _ all across)) differ)
+  from_at_most : (a : PureAtom) (sides : Sides) → at_most_of a ≡ Some sides → a ≡ positive (at_most sides.left sides.right)
+  from_at_most (positive (binary_of BinOp.LessOrEqual s t)) sides is = let same : record { left = s; right = t } ≡ sides = cc in ap (λ (p : Sides). positive (at_most p.left p.right)) same
+  from_at_most a sides is = cc
+
+  at_most_true : (atoms : List PureAtom) (i : ℕ) (sides : Sides) → all_true v atoms ≡ true → at_most_at atoms i ≡ Some sides → truth v (positive (at_most sides.left sides.right)) ≡ true
+  at_most_true atoms i sides all is = option_and_then_some at_most_of (slice_get atoms i) sides is (λ a here found. sym (ap (truth v) (from_at_most a sides found)) ∙ true_at v atoms i a all here)
+
+  from_different : (a : PureAtom) (sides : Sides) → disequality_of a ≡ Some sides → a ≡ negative (equals sides.left sides.right)
+  from_different (negative (binary_of BinOp.Equal s t)) sides is = let same : record { left = s; right = t } ≡ sides = cc in ap (λ (p : Sides). negative (equals p.left p.right)) same
+  from_different a sides is = cc
+
+  different_true : (atoms : List PureAtom) (i : ℕ) (sides : Sides) → all_true v atoms ≡ true → disequality_at atoms i ≡ Some sides → truth v (negative (equals sides.left sides.right)) ≡ true
+  different_true atoms i sides all is = option_and_then_some disequality_of (slice_get atoms i) sides is (λ a here found. sym (ap (truth v) (from_different a sides found)) ∙ true_at v atoms i a all here)
+
+  some_different : (s t : PureTerm) (atoms : List PureAtom) (k : ℕ) (o : Option Sides) → disequality_at atoms k ≡ o → all_true v atoms ≡ true → are_sides o s t ≡ true
+      → (truth v (negative (equals s t)) ≡ true) ⊎ (truth v (negative (equals t s)) ≡ true)
+  some_different s t atoms k (Some sides) is all h =
+      let fails = different_true atoms k sides all is in
+      ⊎_elim
+        (λ straight. let parts = and_parts (same_term sides.left s) (same_term sides.right t) straight in
+          inl ((λ j. truth v (negative (equals (sym (same_term-same sides.left s parts.0) j) (sym (same_term-same sides.right t parts.1) j)))) ∙ fails))
+        (λ across. let parts = and_parts (same_term sides.left t) (same_term sides.right s) across in
+          inr ((λ j. truth v (negative (equals (sym (same_term-same sides.left t parts.0) j) (sym (same_term-same sides.right s parts.1) j)))) ∙ fails))
+        (or_cases (same_term sides.left s && same_term sides.right t) (same_term sides.left t && same_term sides.right s) h)
+  some_different s t atoms k None is all h = absurd (false≢true h)
+
+  meet-closes : (atoms : List PureAtom) (i j k : ℕ) (o p : Option Sides) → at_most_at atoms i ≡ o → at_most_at atoms j ≡ p → all_true v atoms ≡ true → meet o p (disequality_at atoms k) ≡ true → ⊥
+  meet-closes atoms i j k (Some up) (Some down) is_up is_down all h =
+      let parts = and_parts (same_term up.left down.right && same_term up.right down.left) (are_sides (disequality_at atoms k) up.left up.right) h in
+      let turned = and_parts (same_term up.left down.right) (same_term up.right down.left) parts.0 in
+      meet_numbers vars v proper up.left up.right (at_most_true atoms i up all is_up)
+        ((λ x. truth v (positive (at_most (same_term-same up.right down.left turned.1 x) (same_term-same up.left down.right turned.0 x)))) ∙ at_most_true atoms j down all is_down)
+        (some_different up.left up.right atoms k (disequality_at atoms k) refl all parts.1)
+  meet-closes atoms i j k (Some up) None is_up is_down all h = false≢true h
+  meet-closes atoms i j k None p is_up is_down all h = false≢true h
+
+  -- ---- lists
+
+  from_lists : (s t : PureTerm) (lists : Lists) → lists_of_terms s t ≡ Some lists → (s ≡ list_of lists.left) × (t ≡ list_of lists.right)
+  from_lists (list_of ts) (list_of us) lists is = let same : record { left = ts; right = us } ≡ lists = cc in (ap (λ (l : Lists). list_of l.left) same, ap (λ (l : Lists). list_of l.right) same)
+  from_lists s t lists is = cc
+
+  from_equal : (a : PureAtom) (sides : Sides) → equal_sides_of a ≡ Some sides → a ≡ positive (equals sides.left sides.right)
+  from_equal (positive (binary_of BinOp.Equal s t)) sides is = let same : record { left = s; right = t } ≡ sides = cc in ap (λ (p : Sides). positive (equals p.left p.right)) same
+  from_equal a sides is = cc
+
+  list_equality : (atoms : List PureAtom) (i : ℕ) (o : Option Sides) (lists : Lists) → option_and_then equal_sides_of (slice_get atoms i) ≡ o → lists_of o ≡ Some lists → slice_get atoms i ≡ Some (positive (equals (list_of lists.left) (list_of lists.right)))
+  list_equality atoms i (Some sides) lists is found =
+      let both = from_lists sides.left sides.right lists found in
+      option_and_then_some equal_sides_of (slice_get atoms i) sides is (λ a here e. here ∙ ap Some (from_equal a sides e) ∙ (λ j. Some (positive (equals (both.0 j) (both.1 j)))))
+  list_equality atoms i None lists is found = cc
+
+  list_difference : (atoms : List PureAtom) (i : ℕ) (o : Option Sides) (lists : Lists) → disequality_at atoms i ≡ o → lists_of o ≡ Some lists → slice_get atoms i ≡ Some (negative (equals (list_of lists.left) (list_of lists.right)))
+  list_difference atoms i (Some sides) lists is found =
+      let both = from_lists sides.left sides.right lists found in
+      option_and_then_some disequality_of (slice_get atoms i) sides is (λ a here e. here ∙ ap Some (from_different a sides e) ∙ (λ j. Some (negative (equals (both.0 j) (both.1 j)))))
+  list_difference atoms i None lists is found = cc
+
+  -- some atom of a variable and the values of the kind that is said of it is true
+  abbrev Exhausts : List PureAtom → Type 0
+  Exhausts more = SomeTrue v more × AreOver vars more
+
+  of_kind : (x : Var) (k : Kind) (w : PureValue) (more : List PureAtom) → atoms_of_kind x k ≡ Some more → IsOver vars (variable x) → value v (variable x) ≡ Some w → kind_of w ≡ k → Exhausts more
+  of_kind x Kind.Bool w more is over has said =
+      let same : boolean_atoms x ≡ more = cc in subst Exhausts same (some_boolean v x w has said, over_booleans vars x over)
+  of_kind x Kind.Kind w more is over has said =
+      let same : kind_value_atoms x ≡ more = cc in subst Exhausts same (some_kind_value v x w has said, over_kind_values vars x all_kinds over)
+  of_kind x k w more is over has said = cc
+
+  of_subject : (t : PureTerm) (k : Kind) (w : PureValue) (more : List PureAtom) → atoms_of_subject t k ≡ Some more → IsOver vars t → value v t ≡ Some w → kind_of w ≡ k → Exhausts more
+  of_subject (variable x) k w more is over has said = of_kind x k w more is over has said
+  of_subject (literal l) k w more is over has said = cc
+  of_subject (list_of ts) k w more is over has said = cc
+  of_subject (unary_of op t) k w more is over has said = cc
+  of_subject (binary_of op s t) k w more is over has said = cc
+
+  if_so : (b : Bool) (o : Option (List PureAtom)) (more : List PureAtom) → (if b then o else None) ≡ Some more → (b ≡ true) × (o ≡ Some more)
+  if_so true o more is = (refl, is)
+  if_so false o more is = cc
+
+  exhausted : (atoms : List PureAtom) (i : ℕ) (o : Option KindFact) (more : List PureAtom) → kind_fact_at atoms i ≡ o → value_atoms o ≡ Some more → AreOver vars atoms → all_true v atoms ≡ true → Exhausts more
+  exhausted atoms i (Some fact) more is found over all =
+      let (so, atoms_are) = if_so fact.is_so (atoms_of_subject fact.subject fact.kind) more found in
+      let has : HasKindFact vars v fact = option_and_then_some kind_fact_of (slice_get atoms i) fact is (λ a here e. fact-has vars v a fact e (true_at v atoms i a all here) (over_at vars atoms i a over here)) in
+      of_subject fact.subject fact.kind has.subject_value more atoms_are has.over_subject has.has (same_kinds (kind_of has.subject_value) fact.kind (has.so ∙ so))
+  exhausted atoms i None more is found over all = cc
+
+  -- the proofs refute each true atom of a list, and the proof the list with more atoms
+  abbrev Refutes : List PureAtom → PureProofs → Type 0
+  Refutes atoms ps = (more : List PureAtom) → AreOver vars more → CloseEach vars atoms more ps → (i : ℕ) (a : PureAtom) → slice_get more i ≡ Some a → truth v a ≡ true → ⊥
+
+  abbrev RefutesMore : List PureAtom → PureProof → Type 0
+  RefutesMore atoms p = (more : List PureAtom) → AreOver vars (atoms ++ more) → all_true v (atoms ++ more) ≡ true → Closes vars (atoms ++ more) p → ⊥
+
+  each_value : (atoms : List PureAtom) (i : ℕ) (ps : PureProofs) → Refutes atoms ps → AreOver vars atoms → all_true v atoms ≡ true → (o : Option (List PureAtom)) → value_atoms (kind_fact_at atoms i) ≡ o → IsSomeAnd o (λ more. CloseEach vars atoms more ps) → ⊥
+  each_value atoms i ps refutes over all (Some more) is each =
+      let ((j, (a, (at, is_true))), over_more) = exhausted atoms i (kind_fact_at atoms i) more refl is over all in
+      refutes more over_more each j a at is_true
+  each_value atoms i ps refutes over all None is each = each
+
+  lists_apart : (atoms : List PureAtom) (i : ℕ) → all_true v atoms ≡ true → (o : Option Lists) → equal_lists_at atoms i ≡ o → IsSomeAnd o (λ lists. ¬ HaveOneLength lists.left lists.right) → ⊥
+  lists_apart atoms i all (Some lists) is apart =
+      let here = list_equality atoms i _ lists refl is in
+      let (ws, (of_ts, of_us)) = equal_lists v lists.left lists.right (true_equality v (list_of lists.left) (list_of lists.right) (true_at v atoms i _ all here)) in
+      apart (sym (values-length v lists.left ws of_ts) ∙ values-length v lists.right ws of_us)
+  lists_apart atoms i all None is apart = apart
+
+  lists_parted : (atoms : List PureAtom) (i : ℕ) (p : PureProof) → RefutesMore atoms p → AreOver vars atoms → all_true v atoms ≡ true → (o : Option Lists) → equal_lists_at atoms i ≡ o
+      → IsSomeAnd o (λ lists. HaveOneLength lists.left lists.right × Closes vars (atoms ++ element_equalities lists.left lists.right) p) → ⊥
+  lists_parted atoms i p refutes over all (Some lists) is closes =
+      let here = list_equality atoms i _ lists refl is in
+      let (ws, (of_ts, of_us)) = equal_lists v lists.left lists.right (true_equality v (list_of lists.left) (list_of lists.right) (true_at v atoms i _ all here)) in
+      let sides = over_sides vars BinOp.Equal (list_of lists.left) (list_of lists.right) (over_at vars atoms i _ over here) in
+      refutes (element_equalities lists.left lists.right)
+        (over_more vars atoms (element_equalities lists.left lists.right) over (over_equalities vars lists.left lists.right sides.0 sides.1))
+        (true_more v atoms (element_equalities lists.left lists.right) all (equalities-true v lists.left lists.right ws of_ts of_us)) closes.1
+  lists_parted atoms i p refutes over all None is closes = closes
+
+  lists_differ : (atoms : List PureAtom) (i : ℕ) (ps : PureProofs) → Refutes atoms ps → AreOver vars atoms → all_true v atoms ≡ true → (o : Option Lists) → different_lists_at atoms i ≡ o
+      → IsSomeAnd o (λ lists. HaveOneLength lists.left lists.right × CloseEach vars atoms (element_disequalities lists.left lists.right) ps) → ⊥
+  lists_differ atoms i ps refutes over all (Some lists) is closes =
+      let here = list_difference atoms i (disequality_at atoms i) lists refl is in
+      let other = false_equality v (list_of lists.left) (list_of lists.right) (true_at v atoms i _ all here) in
+      let (xs, (of_ts, is_ts)) = list_values v lists.left other.first other.left in
+      let (ys, (of_us, is_us)) = list_values v lists.right other.second other.right in
+      let sides = over_sides vars BinOp.Equal (list_of lists.left) (list_of lists.right) (over_at vars atoms i _ over here) in
+      let apart : xs ≡ ys → ⊥ = (λ e. true≢false (sym (same_value-refl other.first) ∙ ap (same_value other.first) (is_ts ∙ ap (λ ws. list (list_elements ws)) e ∙ sym is_us) ∙ other.differ)) in
+      let (j, (a, (at, is_true))) = some_differ v lists.left lists.right xs ys of_ts of_us closes.0 apart in
+      refutes (element_disequalities lists.left lists.right) (over_disequalities vars lists.left lists.right sides.0 sides.1) closes.1 j a at is_true
+  lists_differ atoms i ps refutes over all None is closes = closes
 
   mutual
     sound : (atoms : List PureAtom) (p : PureProof) → AreOver vars atoms → all_true v atoms ≡ true → Closes vars atoms p → ⊥
     sound atoms (sum_of fs) over all closes = sum-closes vars v proper atoms over all fs closes
-    sound atoms (false_at i) over all (a, (here, literals, fails)) = true≢false (sym (true_at v atoms i a all here) ∙ compare_literals a literals ∙ fails)
+    sound atoms (false_at i) over all closes = false-closes atoms i (slice_get atoms i) refl all closes
     sound atoms (chain is end) over all (s, (t, (leads, closes))) = chain-closes vars v proper atoms over all is end s t leads closes
     sound atoms (cases_of x ps) over all (over_x, each) =
         let (w, has) = variable-has_value vars v x proper over_x in
         let (i, (a, (at, is_true))) = some_kind v x w has in
         sound_each atoms (kind_atoms x) ps over (over_kind_atoms vars x kinds_of_values over_x) all each i a at is_true
-    sound atoms (values_at i ps) over all (x, closes) = ⊎_elim
-        (λ booleans.
-        let over_x : IsOver vars (variable x) = (over_sides vars BinOp.Equal (unary_of UnOp.Kind (variable x)) (literal (Literal.Kind Kind.Bool)) (over_at vars atoms i _ over booleans.0)).0 in
-        let fact = fact-has vars v (positive (kind_is (variable x) Kind.Bool)) _ refl (true_at v atoms i _ all booleans.0) (over_at vars atoms i _ over booleans.0) in
-        let (j, (a, (at, is_true))) = some_boolean v x fact.subject_value fact.has (same_kinds (kind_of fact.subject_value) Kind.Bool fact.so) in
-        sound_each atoms (boolean_atoms x) ps over (over_booleans vars x over_x) all booleans.1 j a at is_true)
-        (λ kinds.
-        let over_x : IsOver vars (variable x) = (over_sides vars BinOp.Equal (unary_of UnOp.Kind (variable x)) (literal (Literal.Kind Kind.Kind)) (over_at vars atoms i _ over kinds.0)).0 in
-        let fact = fact-has vars v (positive (kind_is (variable x) Kind.Kind)) _ refl (true_at v atoms i _ all kinds.0) (over_at vars atoms i _ over kinds.0) in
-        let (j, (a, (at, is_true))) = some_kind_value v x fact.subject_value fact.has (same_kinds (kind_of fact.subject_value) Kind.Kind fact.so) in
-        sound_each atoms (kind_value_atoms x) ps over (over_kind_values vars x all_kinds over_x) all kinds.1 j a at is_true)
-        closes
-    sound atoms (parts_apart i) over all (ts, (us, (here, apart))) =
-        let (ws, (of_ts, of_us)) = equal_lists v ts us (true_equality v (list_of ts) (list_of us) (true_at v atoms i _ all here)) in
-        apart (sym (values-length v ts ws of_ts) ∙ values-length v us ws of_us)
-    sound atoms (parts_at i p) over all (ts, (us, (here, lengths, closes))) =
-        let (ws, (of_ts, of_us)) = equal_lists v ts us (true_equality v (list_of ts) (list_of us) (true_at v atoms i _ all here)) in
-        let sides = over_sides vars BinOp.Equal (list_of ts) (list_of us) (over_at vars atoms i _ over here) in
-        sound (atoms ++ element_equalities ts us) p
-        (over_more vars atoms (element_equalities ts us) over (over_equalities vars ts us sides.0 sides.1))
-        (true_more v atoms (element_equalities ts us) all (equalities-true v ts us ws of_ts of_us)) closes
-    sound atoms (differ_at i ps) over all (ts, (us, (here, lengths, each))) =
-        let other = false_equality v (list_of ts) (list_of us) (true_at v atoms i _ all here) in
-        let (xs, (of_ts, is_ts)) = list_values v ts other.first other.left in
-        let (ys, (of_us, is_us)) = list_values v us other.second other.right in
-        let sides = over_sides vars BinOp.Equal (list_of ts) (list_of us) (over_at vars atoms i _ over here) in
-        let apart : xs ≡ ys → ⊥ = (λ e. true≢false (sym (same_value-refl other.first) ∙ ap (same_value other.first) (is_ts ∙ ap (λ ws. list (list_elements ws)) e ∙ sym is_us) ∙ other.differ)) in
-        let (j, (a, (at, is_true))) = some_differ v ts us xs ys of_ts of_us lengths apart in
-        sound_each atoms (element_disequalities ts us) ps over (over_disequalities vars ts us sides.0 sides.1) all each j a at is_true
+    sound atoms (values_at i ps) over all closes = each_value atoms i ps (λ more over_more each j a at is_true. sound_each atoms more ps over over_more all each j a at is_true) over all (value_atoms (kind_fact_at atoms i)) refl closes
+    sound atoms (parts_apart i) over all closes = lists_apart atoms i all (equal_lists_at atoms i) refl closes
+    sound atoms (parts_at i p) over all closes = lists_parted atoms i p (λ more over_more all_more closes_more. sound (atoms ++ more) p over_more all_more closes_more) over all (equal_lists_at atoms i) refl closes
+    sound atoms (differ_at i ps) over all closes = lists_differ atoms i ps (λ more over_more each j a at is_true. sound_each atoms more ps over over_more all each j a at is_true) over all (different_lists_at atoms i) refl closes
     sound atoms (split_on t p q) over all (over_t, may, first, second) = ⊎_elim
         (λ is_true. sound (atoms ++ positive t ∷ []) p (over_more vars atoms (positive t ∷ []) over (over_one vars (positive t) over_t)) (true_one_more v atoms (positive t) all is_true) first)
         (λ is_false. sound (atoms ++ negative t ∷ []) q (over_more vars atoms (negative t ∷ []) over (over_one vars (negative t) over_t)) (true_one_more v atoms (negative t) all is_false) second)
         (split-true t over_t may)
-    sound atoms (meet_at i j k) over all closes = meet-closes atoms i j k all closes
+    sound atoms (meet_at i j k) over all closes = meet-closes atoms i j k (at_most_at atoms i) (at_most_at atoms j) refl refl all closes
 
     sound_each : (atoms more : List PureAtom) (ps : PureProofs) → AreOver vars atoms → AreOver vars more → all_true v atoms ≡ true → CloseEach vars atoms more ps → (i : ℕ) (a : PureAtom) → slice_get more i ≡ Some a → truth v a ≡ true → ⊥
     sound_each atoms [] no_proofs over over_too all each i a at is_true = cc

@@ -1,5 +1,7 @@
 -- What each proof closes, over a list of atoms that grows.
-use Rattle.std.specs.Prelude.{◌≡◌, ◌⊎◌, ℕ, List, [], ◌∷◌, ◌++◌, map, length, slice_get, Bool, true, false, ◌||◌, Some, IsTrue}
+use Rattle.std.specs.Prelude.{◌≡◌, ℕ, List, [], ◌∷◌, ◌++◌, map, length, slice_get, Bool, true, false, not, ◌&&◌, ◌||◌, if◌then◌else◌, Option, Some, None, IsTrue}
+use Rattle.std.specs.Option.{option_and_then, IsSomeAnd}
+use Rattle.pure_terms.specs.Equality.{same_term}
 use Rattle.gil_values.specs.declared.kinds.Kind.{Kind}
 use Rattle.gil_values.specs.declared.operators.BinOp.{BinOp}
 use Rattle.pure_terms.specs.declared.literals.Literal.{Literal}
@@ -9,7 +11,7 @@ use Rattle.pure_terms.specs.Fragment.{is_order, is_variable_of, is_simple_equali
 use Rattle.pure_terms.specs.Meaning.{truth, IsOver}
 use Rattle.pure_terms.specs.Pure.{PureTerm, literal, variable, list_of, binary_of, PureTerms, term_and, to_list, PureAtom, positive, negative, term_of}
 use Rattle.solver_proof.specs.declared.proofs.ChainEnd.{ChainEnd}
-use Rattle.solver_proof.specs.Chains.{equals, truth_term, kind_is, Leads, end_closes}
+use Rattle.solver_proof.specs.Chains.{equals, truth_term, kind_is, Sides, sides_of_equality, KindFact, kind_fact_at, disequality_at, are_sides, Leads, end_closes}
 use Rattle.solver_proof.specs.Pure.{PureProof, sum_of, false_at, chain, cases_of, values_at, parts_apart, parts_at, differ_at, split_on, meet_at, PureProofs, no_proofs, proof_and}
 use Rattle.solver_proof.specs.Sums.{SumCloses}
 
@@ -24,9 +26,15 @@ abbrev pub compares : BinOp → Bool
 compares BinOp.Equal = true
 compares op = is_order op
 
--- the atom compares two literals by `=`, `<` or `<=`
-abbrev pub CompareLiterals : PureAtom → Type 0
-CompareLiterals a = (op : BinOp) × ((k : Literal) × ((l : Literal) × ((term_of a ≡ binary_of op (literal k) (literal l)) × IsTrue (compares op))))
+-- whether the atom compares two literals by `=`, `<` or `<=`
+abbrev pub compares_literals : PureTerm → Bool
+compares_literals (binary_of op (literal k) (literal l)) = compares op
+compares_literals t = false
+
+-- whether the atom compares two literals and isn't true
+abbrev pub is_false_comparison : Option PureAtom → Bool
+is_false_comparison (Some a) = compares_literals (term_of a) && not (truth [] a)
+is_false_comparison None = false
 
 -- a term by which a list may be split: a Bool variable, `=` of two simple terms, or `<` or `<=` of two that are whole
 -- numbers by form and sort
@@ -62,40 +70,81 @@ element_disequalities _ _ = []
 abbrev pub HaveOneLength : PureTerms → PureTerms → Type 0
 HaveOneLength ts us = length (to_list ts) ≡ length (to_list us)
 
--- the atom at this place is an equality, or a disequality, of list terms
-abbrev pub IsListEquality : List PureAtom → ℕ → PureTerms → PureTerms → Type 0
-IsListEquality atoms i ts us = StandsAt atoms i (positive (equals (list_of ts) (list_of us)))
+-- the elements of two list terms
+pub record Lists : Type 0 where
+  pub left : PureTerms
+  pub right : PureTerms
 
-abbrev pub IsListDisequality : List PureAtom → ℕ → PureTerms → PureTerms → Type 0
-IsListDisequality atoms i ts us = StandsAt atoms i (negative (equals (list_of ts) (list_of us)))
+abbrev pub lists_of_terms : PureTerm → PureTerm → Option Lists
+lists_of_terms (list_of ts) (list_of us) = Some (record { left = ts; right = us })
+lists_of_terms s t = None
+
+abbrev pub lists_of : Option Sides → Option Lists
+lists_of (Some sides) = lists_of_terms sides.left sides.right
+lists_of None = None
+
+abbrev pub equal_sides_of : PureAtom → Option Sides
+equal_sides_of (positive t) = sides_of_equality t
+equal_sides_of a = None
+
+-- the list terms that the atom at this place says to be equal, and to be different
+abbrev pub equal_lists_at : List PureAtom → ℕ → Option Lists
+equal_lists_at atoms i = lists_of (option_and_then equal_sides_of (slice_get atoms i))
+
+abbrev pub different_lists_at : List PureAtom → ℕ → Option Lists
+different_lists_at atoms i = lists_of (disequality_at atoms i)
+
+-- the atoms of a variable and each value of the kind that is said of it, which is Bool or Kind
+abbrev pub atoms_of_kind : Var → Kind → Option (List PureAtom)
+atoms_of_kind x Kind.Bool = Some (boolean_atoms x)
+atoms_of_kind x Kind.Kind = Some (kind_value_atoms x)
+atoms_of_kind x k = None
+
+abbrev pub atoms_of_subject : PureTerm → Kind → Option (List PureAtom)
+atoms_of_subject (variable x) k = atoms_of_kind x k
+atoms_of_subject t k = None
+
+abbrev pub value_atoms : Option KindFact → Option (List PureAtom)
+value_atoms (Some fact) = if fact.is_so then atoms_of_subject fact.subject fact.kind else None
+value_atoms None = None
 
 -- equalities lead to two terms that can't be equal
 abbrev pub ChainCloses : List PureAtom → List ℕ → ChainEnd → Type 0
 ChainCloses atoms is end = (s : PureTerm) × ((t : PureTerm) × (Leads atoms is s t × IsTrue (end_closes atoms end s t)))
 
--- the atoms at these places say `s <= t`, `t <= s`, and that s and t differ
-abbrev pub MeetCloses : List PureAtom → ℕ → ℕ → ℕ → Type 0
-MeetCloses atoms i j k = (s : PureTerm) × ((t : PureTerm) × (StandsAt atoms i (positive (at_most s t)) × StandsAt atoms j (positive (at_most t s))
-    × (StandsAt atoms k (negative (equals s t)) ⊎ StandsAt atoms k (negative (equals t s)))))
+-- the two terms of which an atom says `s <= t`
+abbrev pub sides_of_at_most : PureTerm → Option Sides
+sides_of_at_most (binary_of BinOp.LessOrEqual s t) = Some (record { left = s; right = t })
+sides_of_at_most t = None
+
+abbrev pub at_most_of : PureAtom → Option Sides
+at_most_of (positive t) = sides_of_at_most t
+at_most_of a = None
+
+abbrev pub at_most_at : List PureAtom → ℕ → Option Sides
+at_most_at atoms i = option_and_then at_most_of (slice_get atoms i)
+
+-- `s <= t`, `t <= s`, and that s and t differ
+abbrev pub meet : Option Sides → Option Sides → Option Sides → Bool
+meet (Some up) (Some down) differ = (same_term up.left down.right && same_term up.right down.left) && are_sides differ up.left up.right
+meet up down differ = false
 
 -- the proof closes the list
 abbrev mutual
   pub Closes : List Sort → List PureAtom → PureProof → Type 0
   Closes vars atoms (sum_of fs) = SumCloses atoms fs
-  Closes vars atoms (false_at i) = (a : PureAtom) × (StandsAt atoms i a × CompareLiterals a × (truth [] a ≡ false))
+  Closes vars atoms (false_at i) = IsTrue (is_false_comparison (slice_get atoms i))
   Closes vars atoms (chain is end) = ChainCloses atoms is end
   Closes vars atoms (cases_of x ps) = IsOver vars (variable x) × CloseEach vars atoms (kind_atoms x) ps
-  Closes vars atoms (values_at i ps) =
-      (x : Var) × ((StandsAt atoms i (positive (kind_is (variable x) Kind.Bool)) × CloseEach vars atoms (boolean_atoms x) ps)
-      ⊎ (StandsAt atoms i (positive (kind_is (variable x) Kind.Kind)) × CloseEach vars atoms (kind_value_atoms x) ps))
-  Closes vars atoms (parts_apart i) = (ts : PureTerms) × ((us : PureTerms) × (IsListEquality atoms i ts us × ¬ HaveOneLength ts us))
+  Closes vars atoms (values_at i ps) = IsSomeAnd (value_atoms (kind_fact_at atoms i)) (λ more. CloseEach vars atoms more ps)
+  Closes vars atoms (parts_apart i) = IsSomeAnd (equal_lists_at atoms i) (λ lists. ¬ HaveOneLength lists.left lists.right)
   Closes vars atoms (parts_at i p) =
-      (ts : PureTerms) × ((us : PureTerms) × (IsListEquality atoms i ts us × HaveOneLength ts us × Closes vars (atoms ++ element_equalities ts us) p))
+      IsSomeAnd (equal_lists_at atoms i) (λ lists. HaveOneLength lists.left lists.right × Closes vars (atoms ++ element_equalities lists.left lists.right) p)
   Closes vars atoms (differ_at i ps) =
-      (ts : PureTerms) × ((us : PureTerms) × (IsListDisequality atoms i ts us × HaveOneLength ts us × CloseEach vars atoms (element_disequalities ts us) ps))
+      IsSomeAnd (different_lists_at atoms i) (λ lists. HaveOneLength lists.left lists.right × CloseEach vars atoms (element_disequalities lists.left lists.right) ps)
   Closes vars atoms (split_on t p q) =
       IsOver vars t × IsTrue (may_split t) × Closes vars (atoms ++ positive t ∷ []) p × Closes vars (atoms ++ negative t ∷ []) q
-  Closes vars atoms (meet_at i j k) = MeetCloses atoms i j k
+  Closes vars atoms (meet_at i j k) = IsTrue (meet (at_most_at atoms i) (at_most_at atoms j) (disequality_at atoms k))
 
   -- there is one proof for each of these atoms, and closes the list with that atom appended
   pub CloseEach : List Sort → List PureAtom → List PureAtom → PureProofs → Type 0

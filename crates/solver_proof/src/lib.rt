@@ -2,6 +2,7 @@
 #![tactic(auto)]
 
 mod chains;
+
 mod facts;
 mod laws;
 mod lists;

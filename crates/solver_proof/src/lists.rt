@@ -24,6 +24,7 @@ pub(crate) enum Fact<'a> {
 }
 
 /// Atoms that were given, and those that were appended.
+#[derive(Clone, Copy)]
 pub(crate) enum AtomList<'a> {
     Given(&'a Atoms),
     /// One atom more.
