@@ -62,12 +62,12 @@ listed-map f [] i x is = cc
 listed-map f (y ∷ xs) zero x is = let same : y ≡ x = cc in ap (λ z. Some (f z)) same
 listed-map f (y ∷ xs) (suc i) x is = listed-map f xs i x is
 
-some_kind : (v : List PureValue) (x : Var) (w : PureValue) → value v (variable x) ≡ Some w → SomeTrue v (kind_atoms x)
+some_kind : (v : List PureValue) (x : Var) (w : PureValue) → value v (variable x) ≡ Some w → SomeTrue v (kind_atoms (variable x))
 some_kind v x w has =
     let (i, is) = kind-listed w in
     (i, (positive (kind_is (variable x) (kind_of w)), (listed-map (λ k. positive (kind_is (variable x) k)) kinds_of_values i (kind_of w) is, kind_is-true v (variable x) w has)))
 
-some_boolean : (v : List PureValue) (x : Var) (w : PureValue) → value v (variable x) ≡ Some w → kind_of w ≡ Kind.Bool → SomeTrue v (boolean_atoms x)
+some_boolean : (v : List PureValue) (x : Var) (w : PureValue) → value v (variable x) ≡ Some w → kind_of w ≡ Kind.Bool → SomeTrue v (boolean_atoms (variable x))
 some_boolean v x (boolean true) has is = (0, (positive (equals (variable x) (truth_term true)), (refl, equality_true v (variable x) (truth_term true) (boolean true) has refl)))
 some_boolean v x (boolean false) has is = (1, (positive (equals (variable x) (truth_term false)), (refl, equality_true v (variable x) (truth_term false) (boolean false) has refl)))
 some_boolean v x (integer n) has is = cc
@@ -77,7 +77,7 @@ some_boolean v x (kind k) has is = cc
 some_boolean v x (procedure name) has is = cc
 some_boolean v x (list vs) has is = cc
 
-some_kind_value : (v : List PureValue) (x : Var) (w : PureValue) → value v (variable x) ≡ Some w → kind_of w ≡ Kind.Kind → SomeTrue v (kind_value_atoms x)
+some_kind_value : (v : List PureValue) (x : Var) (w : PureValue) → value v (variable x) ≡ Some w → kind_of w ≡ Kind.Kind → SomeTrue v (kind_value_atoms (variable x))
 some_kind_value v x (kind k) has is =
     let (i, at) = all-listed k in
     (i, (positive (equals (variable x) (literal (Literal.Kind k))), (listed-map (λ l. positive (equals (variable x) (literal (Literal.Kind l)))) all_kinds i k at, equality_true v (variable x) (literal (Literal.Kind k)) (kind k) has refl)))
@@ -111,7 +111,7 @@ over_kind_values vars x [] over = over_nil vars
 over_kind_values vars x (k ∷ ks) over =
     over_cons vars (positive (equals (variable x) (literal (Literal.Kind k)))) (map (λ l. positive (equals (variable x) (literal (Literal.Kind l)))) ks) (over_value vars x (Literal.Kind k) over) (over_kind_values vars x ks over)
 
-over_booleans : (vars : List Sort) (x : Var) → IsOver vars (variable x) → AreOver vars (boolean_atoms x)
+over_booleans : (vars : List Sort) (x : Var) → IsOver vars (variable x) → AreOver vars (boolean_atoms (variable x))
 over_booleans vars x over =
     over_cons vars (positive (equals (variable x) (truth_term true))) (positive (equals (variable x) (truth_term false)) ∷ []) (over_value vars x (Literal.Bool true) over)
     (over_cons vars (positive (equals (variable x) (truth_term false))) [] (over_value vars x (Literal.Bool false) over) (over_nil vars))
@@ -294,11 +294,11 @@ module _ (vars : List Sort) (v : List PureValue) (proper : IsProper vars v) wher
   abbrev Exhausts : List PureAtom → Type 0
   Exhausts more = SomeTrue v more × AreOver vars more
 
-  of_kind : (x : Var) (k : Kind) (w : PureValue) (more : List PureAtom) → atoms_of_kind x k ≡ Some more → IsOver vars (variable x) → value v (variable x) ≡ Some w → kind_of w ≡ k → Exhausts more
+  of_kind : (x : Var) (k : Kind) (w : PureValue) (more : List PureAtom) → atoms_of_kind (variable x) k ≡ Some more → IsOver vars (variable x) → value v (variable x) ≡ Some w → kind_of w ≡ k → Exhausts more
   of_kind x Kind.Bool w more is over has said =
-      let same : boolean_atoms x ≡ more = cc in subst Exhausts same (some_boolean v x w has said, over_booleans vars x over)
+      let same : boolean_atoms (variable x) ≡ more = cc in subst Exhausts same (some_boolean v x w has said, over_booleans vars x over)
   of_kind x Kind.Kind w more is over has said =
-      let same : kind_value_atoms x ≡ more = cc in subst Exhausts same (some_kind_value v x w has said, over_kind_values vars x all_kinds over)
+      let same : kind_value_atoms (variable x) ≡ more = cc in subst Exhausts same (some_kind_value v x w has said, over_kind_values vars x all_kinds over)
   of_kind x k w more is over has said = cc
 
   of_subject : (t : PureTerm) (k : Kind) (w : PureValue) (more : List PureAtom) → atoms_of_subject t k ≡ Some more → IsOver vars t → value v t ≡ Some w → kind_of w ≡ k → Exhausts more
@@ -368,10 +368,14 @@ module _ (vars : List Sort) (v : List PureValue) (proper : IsProper vars v) wher
     sound atoms (sum_of fs) over all closes = sum-closes vars v proper atoms over all fs closes
     sound atoms (false_at i) over all closes = false-closes atoms i (slice_get atoms i) refl all closes
     sound atoms (chain is end) over all (s, (t, (leads, closes))) = chain-closes vars v proper atoms over all is end s t leads closes
-    sound atoms (cases_of x ps) over all (over_x, each) =
+    sound atoms (cases_of (variable x) ps) over all (over_x, is_var, each) =
         let (w, has) = variable-has_value vars v x proper over_x in
         let (i, (a, (at, is_true))) = some_kind v x w has in
-        sound_each atoms (kind_atoms x) ps over (over_kind_atoms vars x kinds_of_values over_x) all each i a at is_true
+        sound_each atoms (kind_atoms (variable x)) ps over (over_kind_atoms vars x kinds_of_values over_x) all each i a at is_true
+    sound atoms (cases_of (literal l) ps) over all (over_t, is_var, each) = false≢true is_var
+    sound atoms (cases_of (list_of ts) ps) over all (over_t, is_var, each) = false≢true is_var
+    sound atoms (cases_of (unary_of op t) ps) over all (over_t, is_var, each) = false≢true is_var
+    sound atoms (cases_of (binary_of op s t) ps) over all (over_t, is_var, each) = false≢true is_var
     sound atoms (values_at i ps) over all closes = each_value atoms i ps (λ more over_more each j a at is_true. sound_each atoms more ps over over_more all each j a at is_true) over all (value_atoms (kind_fact_at atoms i)) refl closes
     sound atoms (parts_apart i) over all closes = lists_apart atoms i all (equal_lists_at atoms i) refl closes
     sound atoms (parts_at i p) over all closes = lists_parted atoms i p (λ more over_more all_more closes_more. sound (atoms ++ more) p over_more all_more closes_more) over all (equal_lists_at atoms i) refl closes

@@ -41,6 +41,10 @@ is_false_comparison None = false
 abbrev pub may_split : PureTerm → Bool
 may_split t = is_variable_of Sort.Bool t || (is_simple_equality t || is_comparison t)
 
+abbrev pub is_variable : PureTerm → Bool
+is_variable (variable x) = true
+is_variable t = false
+
 -- the kinds that values have, in their order
 abbrev pub kinds_of_values : List Kind
 kinds_of_values = Kind.Int ∷ Kind.Bool ∷ Kind.Str ∷ Kind.Sym ∷ Kind.Kind ∷ Kind.Proc ∷ Kind.List ∷ []
@@ -49,14 +53,14 @@ kinds_of_values = Kind.Int ∷ Kind.Bool ∷ Kind.Str ∷ Kind.Sym ∷ Kind.Kind
 abbrev pub all_kinds : List Kind
 all_kinds = Kind.Int ∷ Kind.Bool ∷ Kind.Str ∷ Kind.Sym ∷ Kind.Kind ∷ Kind.Proc ∷ Kind.List ∷ Kind.Undef ∷ Kind.Null ∷ []
 
-abbrev pub kind_atoms : Var → List PureAtom
-kind_atoms x = map (λ k. positive (kind_is (variable x) k)) kinds_of_values
+abbrev pub kind_atoms : PureTerm → List PureAtom
+kind_atoms t = map (λ k. positive (kind_is t k)) kinds_of_values
 
-abbrev pub boolean_atoms : Var → List PureAtom
-boolean_atoms x = positive (equals (variable x) (truth_term true)) ∷ positive (equals (variable x) (truth_term false)) ∷ []
+abbrev pub boolean_atoms : PureTerm → List PureAtom
+boolean_atoms t = positive (equals t (truth_term true)) ∷ positive (equals t (truth_term false)) ∷ []
 
-abbrev pub kind_value_atoms : Var → List PureAtom
-kind_value_atoms x = map (λ k. positive (equals (variable x) (literal (Literal.Kind k)))) all_kinds
+abbrev pub kind_value_atoms : PureTerm → List PureAtom
+kind_value_atoms t = map (λ k. positive (equals t (literal (Literal.Kind k)))) all_kinds
 
 -- the equalities, and the disequalities, of the elements of two list terms
 abbrev pub element_equalities : PureTerms → PureTerms → List PureAtom
@@ -95,13 +99,13 @@ abbrev pub different_lists_at : List PureAtom → ℕ → Option Lists
 different_lists_at atoms i = lists_of (disequality_at atoms i)
 
 -- the atoms of a variable and each value of the kind that is said of it, which is Bool or Kind
-abbrev pub atoms_of_kind : Var → Kind → Option (List PureAtom)
-atoms_of_kind x Kind.Bool = Some (boolean_atoms x)
-atoms_of_kind x Kind.Kind = Some (kind_value_atoms x)
-atoms_of_kind x k = None
+abbrev pub atoms_of_kind : PureTerm → Kind → Option (List PureAtom)
+atoms_of_kind t Kind.Bool = Some (boolean_atoms t)
+atoms_of_kind t Kind.Kind = Some (kind_value_atoms t)
+atoms_of_kind t k = None
 
 abbrev pub atoms_of_subject : PureTerm → Kind → Option (List PureAtom)
-atoms_of_subject (variable x) k = atoms_of_kind x k
+atoms_of_subject (variable x) k = atoms_of_kind (variable x) k
 atoms_of_subject t k = None
 
 abbrev pub value_atoms : Option KindFact → Option (List PureAtom)
@@ -135,7 +139,7 @@ abbrev mutual
   Closes vars atoms (sum_of fs) = SumCloses atoms fs
   Closes vars atoms (false_at i) = IsTrue (is_false_comparison (slice_get atoms i))
   Closes vars atoms (chain is end) = ChainCloses atoms is end
-  Closes vars atoms (cases_of x ps) = IsOver vars (variable x) × CloseEach vars atoms (kind_atoms x) ps
+  Closes vars atoms (cases_of t ps) = IsOver vars t × IsTrue (is_variable t) × CloseEach vars atoms (kind_atoms t) ps
   Closes vars atoms (values_at i ps) = IsSomeAnd (value_atoms (kind_fact_at atoms i)) (λ more. CloseEach vars atoms more ps)
   Closes vars atoms (parts_apart i) = IsSomeAnd (equal_lists_at atoms i) (λ lists. ¬ HaveOneLength lists.left lists.right)
   Closes vars atoms (parts_at i p) =

@@ -1,6 +1,5 @@
 -- Proofs as pure data, without addresses and capacities.
 use Rattle.std.specs.Prelude.{ℕ, List, [], ◌∷◌}
-use Rattle.pure_terms.specs.declared.variables.Var.{Var}
 use Rattle.pure_terms.specs.Pure.{PureTerm}
 use Rattle.solver_proof.specs.declared.proofs.ChainEnd.{ChainEnd}
 use Rattle.solver_proof.specs.declared.proofs.Factor.{Factor}
@@ -11,7 +10,7 @@ mutual
     sum_of : List Factor → PureProof
     false_at : ℕ → PureProof
     chain : List ℕ → ChainEnd → PureProof
-    cases_of : Var → PureProofs → PureProof
+    cases_of : PureTerm → PureProofs → PureProof
     values_at : ℕ → PureProofs → PureProof
     parts_apart : ℕ → PureProof
     parts_at : ℕ → PureProof → PureProof

@@ -11,7 +11,7 @@ abbrev pub proof_step : Proof-F PureProof (List PureProof) → PureProof
 proof_step (Proof-F.Sum fs) = sum_of fs
 proof_step (Proof-F.False i) = false_at i
 proof_step (Proof-F.Chain is end) = chain is end
-proof_step (Proof-F.Cases x ps) = cases_of x (from_list ps)
+proof_step (Proof-F.Cases t ps) = cases_of (term_view t) (from_list ps)
 proof_step (Proof-F.Values i ps) = values_at i (from_list ps)
 proof_step (Proof-F.Parts i None) = parts_apart i
 proof_step (Proof-F.Parts i (Some p)) = parts_at i p.value

@@ -4,7 +4,7 @@ ghost use Rattle.std.specs.Option.{option_map};
 ghost use Rattle.std.specs.Slice.Iter.{iter_rest};
 ghost use Rattle.solver_proof.specs.View.{proof_view, proofs_view};
 
-use pure_terms::{Term, Var};
+use pure_terms::Term;
 use sequence::Sequence;
 use std::alloc::{AllocError, Global};
 use std::slice::Iter;
@@ -49,8 +49,8 @@ pub enum Proof {
     False(usize),
     /// Equalities lead from a term to another, which can't be equal.
     Chain(Places, ChainEnd),
-    /// A proof for each kind that the variable's value may have.
-    Cases(Var, Proofs),
+    /// A proof for each kind that the value of the term, which is a variable, may have.
+    Cases(Term, Proofs),
     /// A proof for each value of the kind that the atom at this place says of a variable.
     Values(usize, Proofs),
     /// The equality of list terms at this place: of other lengths, or with a proof from the equalities of the elements.
