@@ -7,12 +7,13 @@ use Rattle.solver_proof.specs.declared.lists.Fact.{Fact}
 use Rattle.solver_proof.specs.declared.lists.Found.{Found}
 use Rattle.solver_proof.specs.declared.lists.AtomList.{AtomList, fold-AtomList}
 use Rattle.solver_proof.specs.declared.lists.AtomList.TheOpen.{AtomList-F}
+use Rattle.solver_proof.specs.declared.comparing.ListPair.{ListPair}
 use Rattle.solver_proof.specs.declared.facts.Pair.{Pair}
 use Rattle.solver_proof.specs.declared.facts.Said.{Said}
 use Rattle.solver_proof.specs.declared.facts.Side.{Side}
 use Rattle.solver_proof.specs.declared.facts.Link.{Link}
 use Rattle.solver_proof.specs.Chains.{equals, truth_term, kind_is, Sides, KindFact}
-use Rattle.solver_proof.specs.Closing.{element_equalities}
+use Rattle.solver_proof.specs.Closing.{element_equalities, Lists}
 
 abbrev pub fact_view : Fact → PureAtom
 fact_view (Fact.Holds t) = positive (term_view t.now)
@@ -47,3 +48,6 @@ side_view (Side.Truth b) = truth_term b
 
 abbrev pub link_view : Link → Sides
 link_view l = record { left = side_view l.left; right = side_view l.right }
+
+abbrev pub lists_view : ListPair → Lists
+lists_view l = record { left = from_list (terms_view l.left.now); right = from_list (terms_view l.right.now) }

@@ -200,7 +200,8 @@ fn is_fresh_over(s: &Term, t: &Term) -> bool
     }
 }
 
-fn are_sides(sides: Option<Pair<'_>>, s: &Term, t: &Term) -> bool
+/// Whether two terms are these sides, either way round.
+pub(crate) fn are_sides(sides: Option<Pair<'_>>, s: &Term, t: &Term) -> bool
     ensures { result ≡ are_sides (option_map pair_view sides.entry) (term_view s.now) (term_view t.now) }
 {
     match sides {

@@ -3,6 +3,7 @@
 
 mod chains;
 
+mod comparing;
 mod facts;
 mod laws;
 mod lists;
