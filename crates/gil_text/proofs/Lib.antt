@@ -1,3 +1,4 @@
 pub mod BlockLoop
 pub mod BodyLoop
 pub mod ItemLoop
+pub mod RefusalLemmas

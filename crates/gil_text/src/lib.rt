@@ -9,4 +9,8 @@ mod located;
 mod nesting;
 mod programs;
 mod reading;
+mod refused;
+mod texts;
 mod vocabulary;
+
+pub use refused::{Refused, RefusedKind};

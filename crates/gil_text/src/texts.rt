@@ -1,0 +1,78 @@
+//! Reading whole texts.
+ghost use Rattle.std.specs.Prelude.{◌≡◌, List, All, IfOk, IfErr};
+ghost use Rattle.gil_lexer.specs.Texts.{AreTokensOf, IsSlice};
+ghost use Rattle.gil_grammar.specs.Texts.{PlacedItem, Spell};
+ghost use Rattle.gil_text.specs.Located.{located_of, located_view};
+ghost use Rattle.gil_text.specs.Refusals.{IsRefused, lexical};
+
+use crate::located::Located;
+use crate::nesting::nesting_fault;
+use crate::reading::{byte_before, program_at};
+use crate::refused::{Refused, RefusedKind};
+use gil_lexemes::{Cursor, Stop};
+use gil_lexer::{LexKind, Token, Tokens, lex};
+use std::alloc::Global;
+
+/// The kind of refusal of a text with this fault.
+fn lexical(kind: LexKind) -> RefusedKind
+    ensures { result ≡ lexical kind }
+{
+    match kind {
+        LexKind::Memory => RefusedKind::Memory,
+        _ => RefusedKind::Lex,
+    }
+}
+
+/// The tokens of a text.
+fn tokens_of(alloc: Global, bytes: &[u8]) -> Result<Tokens, Refused>
+    ensures tokens { IfOk result (λ tokens. AreTokensOf tokens bytes.now) }
+    ensures slices { IfOk result (λ tokens. All (IsSlice bytes.now) tokens) }
+    ensures refused { IfErr result (IsRefused bytes.now) }
+{
+    match lex(alloc, bytes) {
+        Ok(tokens) => Ok(tokens),
+        Err(fault) => Err(Refused {
+            at: fault.at,
+            kind: lexical(fault.kind),
+        }),
+    }
+}
+
+/// The byte at which the last tokens of the text begin, so many of them, or its length where there are none.
+fn place_of(bytes: &[u8], tokens: &[Token], left: usize) -> usize {
+    if left == 0 {
+        bytes.len()
+    } else {
+        byte_before(tokens, left)
+    }
+}
+
+/// The items of the program that the text spells.
+pub(crate) fn read_located(alloc: Global, bytes: &[u8]) -> Result<Located, Refused>
+    ensures ok { IfOk result (λ located. (items : List PlacedItem) × Spell bytes.now items × (located_view located ≡ located_of items)) }
+    ensures refused { IfErr result (IsRefused bytes.now) }
+{
+    let tokens = tokens_of(alloc, bytes)?;
+    let cursor = Cursor::new(bytes, tokens.as_slice());
+    if let Some(left) = nesting_fault(cursor.copy()) {
+        let at = place_of(bytes, tokens.as_slice(), left);
+        return Err(Refused {
+            at,
+            kind: RefusedKind::Nesting,
+        });
+    }
+    match program_at(alloc, tokens.as_slice(), cursor) {
+        Ok(located) => Ok(located),
+        Err(Stop::Syntax(left)) => {
+            let at = place_of(bytes, tokens.as_slice(), left);
+            Err(Refused {
+                at,
+                kind: RefusedKind::Syntax,
+            })
+        }
+        Err(Stop::Memory) => Err(Refused {
+            at: bytes.len(),
+            kind: RefusedKind::Memory,
+        }),
+    }
+}
