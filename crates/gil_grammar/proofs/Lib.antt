@@ -4,6 +4,7 @@ pub mod CommandLaws
 pub mod CommandReads
 pub mod ExpressionLaws
 pub mod ListLaws
+pub mod MadeLaws
 pub mod NestingLaws
 pub mod ProgramLaws
 pub mod TextLaws
