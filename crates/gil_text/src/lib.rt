@@ -7,6 +7,7 @@ mod commands;
 mod expressions;
 mod located;
 mod nesting;
+mod places;
 mod programs;
 mod reading;
 mod refused;
@@ -14,3 +15,4 @@ mod texts;
 mod vocabulary;
 
 pub use refused::{Refused, RefusedKind};
+pub use texts::read_prog;

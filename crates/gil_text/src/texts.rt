@@ -1,16 +1,23 @@
 //! Reading whole texts.
-ghost use Rattle.std.specs.Prelude.{◌≡◌, List, All, IfOk, IfErr};
+ghost use Rattle.std.specs.Prelude.{◌≡◌, List, All, IfOk, IfErr, MatchResult};
 ghost use Rattle.gil_lexer.specs.Texts.{AreTokensOf, IsSlice};
-ghost use Rattle.gil_grammar.specs.Texts.{PlacedItem, Spell};
+ghost use Rattle.gil_syntax.specs.Pure.{PureParts};
+ghost use Rattle.gil_syntax.specs.Valid.{IsValid};
+ghost use Rattle.gil_program.specs.Program.{prog_view};
+ghost use Rattle.gil_grammar.specs.Texts.{PlacedItem, Spell, SpellProgram};
+ghost use Rattle.gil_text.specs.declared.refused.RefusedKind.TheVariants.{Memory};
 ghost use Rattle.gil_text.specs.Located.{located_of, located_view};
 ghost use Rattle.gil_text.specs.Refusals.{IsRefused, lexical};
 
 use crate::located::Located;
 use crate::nesting::nesting_fault;
+use crate::places::place_at;
 use crate::reading::{byte_before, program_at};
 use crate::refused::{Refused, RefusedKind};
 use gil_lexemes::{Cursor, Stop};
 use gil_lexer::{LexKind, Token, Tokens, lex};
+use gil_program::Prog;
+use gil_syntax::InvalidKind;
 use std::alloc::Global;
 
 /// The kind of refusal of a text with this fault.
@@ -74,5 +81,42 @@ pub(crate) fn read_located(alloc: Global, bytes: &[u8]) -> Result<Located, Refus
             at: bytes.len(),
             kind: RefusedKind::Memory,
         }),
+    }
+}
+
+/// The program that the bytes spell. A refusal names the first kind that applies, and for `Invalid` the byte at which the
+/// item begins.
+pub fn read_prog(alloc: Global, bytes: &[u8]) -> Result<Prog, Refused>
+    // What is read is the program of the text, and is valid.
+    ensures ok { IfOk result (λ prog. SpellProgram bytes.now (prog_view prog)) }
+    ensures valid { IfOk result (λ prog. IsValid (prog_view prog)) }
+    // A text of a valid program is accepted, as that program.
+    ensures only { (program : PureParts) → SpellProgram bytes.now program → IsValid program
+        → MatchResult result (λ prog. prog_view prog ≡ program) (λ refused. refused.kind ≡ Memory) }
+    // The refusal is the first that applies.
+    ensures refused { IfErr result (IsRefused bytes.now) }
+{
+    let Located {
+        parts,
+        procs_at,
+        specs_at,
+        preds_at,
+    } = read_located(alloc, bytes)?;
+    let invalid = match Prog::new(alloc, parts) {
+        Ok(prog) => return Ok(prog),
+        Err(invalid) => invalid,
+    };
+    if invalid.kind == InvalidKind::Memory {
+        return Err(Refused {
+            at: bytes.len(),
+            kind: RefusedKind::Memory,
+        });
+    }
+    match place_at(&procs_at, &specs_at, &preds_at, invalid.item) {
+        Some(at) => Err(Refused {
+            at,
+            kind: RefusedKind::Invalid(invalid.kind),
+        }),
+        None => unreachable!(),
     }
 }
