@@ -1,9 +1,8 @@
 -- Heaps given by their entries, for rows that are computed.
-use Rattle.std.proofs.Common.{◌≡◌, ℕ, nat_eq, Bool, true, false, cond, not, ◌&&◌, ◌||◌, List, [], ◌∷◌, ◌++◌, map, Option, Some, None, is_some, refl, sym, ap, subst, ◌∙◌, true≢false}
+use Rattle.std.proofs.Common.{◌≡◌, ℕ, nat_eq, Bool, true, false, cond, not, ◌&&◌, List, [], ◌∷◌, ◌++◌, map, Option, Some, None, is_some, refl, sym, ap, ◌∙◌, true≢false}
 use Rattle.std.proofs.lemmas.Bool.{and_parts}
 use Rattle.std.specs.Option.{option_or}
 use Rattle.std.specs.List.{list_all, filter, find as find_first}
-use Rattle.std.specs.Ordering.{eq_by_cmp}
 use Rattle.std.specs.FinMap.{find, get, insert, remove, get-from_entries, get-remove}
 use Rattle.gil_values.specs.Pure.{PureValue, boolean}
 use Rattle.gil_values.specs.Equality.{same_value}
@@ -12,7 +11,7 @@ use Rattle.mem_model.specs.declared.keys.Key.{Key}
 use Rattle.mem_model.specs.declared.keys.Sub.TheVariants.{Gone}
 use Rattle.mem_model.specs.Keys.{key, key_cmp}
 use Rattle.mem_model.specs.KeyOrder.{key_cmp-total, key_eq}
-use Rattle.mem_model.specs.Heaps.{Heap, joined}
+use Rattle.mem_model.specs.Heaps.{joined}
 use Rattle.mem_model.specs.Rows.{Entries, heap_of}
 use Rattle.mem_model.specs.Actions.{ActionResult}
 use Rattle.mem_model.specs.Tables.{found_or, at, does, first_missing, missed_or, dispose_whole, disposed, created}

@@ -1,12 +1,11 @@
 -- The keys of the names of a list.
-use Rattle.std.proofs.Common.{◌≡◌, ◌⊎◌, ⊎_elim, inl, inr, ℕ, Bool, true, false, ◌||◌, List, [], ◌∷◌, IsTrue, refl, sym, ap, subst, ◌∙◌, true≢false}
+use Rattle.std.proofs.Common.{◌≡◌, ◌⊎◌, ⊎_elim, inl, inr, ℕ, Bool, true, false, ◌||◌, List, [], ◌∷◌, IsTrue, refl, sym, subst, true≢false}
 use Rattle.std.specs.List.{list_any}
-use Rattle.gil_values.specs.Pure.{PureValue, PureValues, integer, boolean, text, symbol, kind, procedure, list, to_list}
+use Rattle.gil_values.specs.Pure.{PureValue, integer, boolean, text, symbol, kind, procedure, list, to_list}
 use Rattle.gil_values.specs.Equality.{same_value}
 use Rattle.gil_values.specs.EqualityLaws.{same_value-Decides}
 use Rattle.mem_model.specs.declared.keys.Key.{Key}
-use Rattle.mem_model.specs.declared.keys.Sub.{Sub}
-use Rattle.mem_model.specs.declared.keys.Sub.TheVariants.{Name, Shape, Gone}
+use Rattle.mem_model.specs.declared.keys.Sub.TheVariants.{Name}
 use Rattle.mem_model.specs.Keys.{key}
 use Rattle.mem_model.specs.KeyOrder.{key_eq}
 use Rattle.mem_model.specs.Names.{lists_name}
