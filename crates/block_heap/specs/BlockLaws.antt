@@ -1,13 +1,13 @@
 -- The actions of blocks keep the laws of memories.
-use Rattle.std.proofs.Common.{◌≡◌, ◌⊎◌, ⊎_elim, inl, inr, ℕ, ℤ, pos, negsuc, ◌≤ℤ◌, ◌<ℤ◌, Bool, true, false, ◌&&◌, ◌||◌, if◌then◌else◌, T, List, [], ◌∷◌, Option, Some, None, Result, Ok, Err, IsTrue, IsSome, refl, sym, ap, subst, ◌∙◌, true≢false, arith, append-nil}
+use Rattle.std.proofs.Common.{◌≡◌, ◌⊎◌, ⊎_elim, inl, inr, ℕ, ℤ, pos, negsuc, ◌≤ℤ◌, ◌<ℤ◌, Bool, true, false, ◌&&◌, ◌||◌, if◌then◌else◌, T, List, [], ◌∷◌, Option, Some, None, Result, Ok, refl, sym, ap, subst, ◌∙◌, true≢false, arith, append-nil}
 use Rattle.std.proofs.lemmas.Int.{ints}
 use Rattle.std.proofs.lemmas.Bool.{and_parts, and_from}
 use Rattle.std.proofs.lemmas.List.Elements.{Contains-append_left}
 use Rattle.std.specs.List.{Contains}
 use Rattle.std.specs.Int.Signed.{le_z, lt_z}
 use Rattle.std.specs.Ordering.{int_eq}
-use Rattle.std.specs.FinMap.{get, insert}
-use Rattle.gil_values.specs.Pure.{PureValue, PureValues, no_values, value_and, integer, symbol, boolean, list, to_list}
+use Rattle.std.specs.FinMap.{insert}
+use Rattle.gil_values.specs.Pure.{PureValue, PureValues, no_values, value_and, integer, list}
 use Rattle.gil_values.specs.Symbols.{symbols, symbols_of_elements, OccursIn, OccursAmong}
 use Rattle.mem_model.specs.declared.keys.Key.{Key}
 use Rattle.mem_model.specs.declared.keys.Sub.TheVariants.{At, Bound, Gone}
@@ -25,11 +25,11 @@ use Rattle.mem_model.proofs.Formed.{overwritten_heap, overwritten_well_formed}
 use Rattle.mem_model.proofs.ArgumentSymbols.{then_ok, same_ok, one_symbols, first_symbols, second_symbols, symbol_alone, symbol_is, symbol_itself}
 use Rattle.mem_model.proofs.Making.{new_location, keeps_creates, same_creates}
 use Rattle.mem_model.proofs.Disposing.{keeps_disposes, changes_disposes, same_disposes}
-use Rattle.mem_model.proofs.Cases.{Keeps, IsAllowed, ChangesWhenDone, IsSameWhenSettled, at_cases, read_cases, at_both, read_both, keeps_fails, keeps_misses, keeps_tells, keeps_does, allowed_held, allowed_in, same_fails, same_tells, same_misses, same_does, none_contained, in_union, rest_in_union, held_in_union, gone_there}
+use Rattle.mem_model.proofs.Cases.{Keeps, IsAllowed, ChangesWhenDone, IsSameWhenSettled, at_cases, read_cases, at_both, read_both, keeps_fails, keeps_misses, keeps_tells, keeps_does, allowed_held, allowed_in, same_fails, same_tells, same_misses, same_does, none_contained, in_union, held_in_union, gone_there}
 use Rattle.block_heap.specs.declared.actions.BlockAction.{BlockAction}
 use Rattle.block_heap.specs.declared.actions.BlockAction.TheVariants.{Alloc, Load, Store, Free}
 use Rattle.block_heap.specs.Names.{action_of}
-use Rattle.block_heap.specs.Table.{number_of, address, address_parts, address_of, number_in, address_in, address_and_value_in, cell_keys, count_of, is_size, is_outside, allocated, alloc_block, bounded, load, store, free, act_of, block_actions}
+use Rattle.block_heap.specs.Table.{number_of, address, address_of, number_in, address_in, address_and_value_in, cell_keys, count_of, is_size, is_outside, allocated, alloc_block, bounded, load, store, free, act_of, block_actions}
 use Rattle.block_heap.specs.Rows.{SizesAreGiven, OtherSizesFail}
 use Rattle.block_heap.specs.Cells.{cells_fit, cells_own, block_whole}
 
@@ -107,10 +107,10 @@ module _ (fresh : Option ℕ) (args : List PureValue) (h : Heap) (is : IsHeapOf 
       by_symbol None none = keeps_failed Failure.Action
       by_symbol (Some l) some = subst (λ m. Kept (does (address l (pos 0)) (created (key l Bound) (integer m) (cell_keys l (count_of (integer n))) (integer (pos 0)) h))) (sym (size_is n size))
           (keeps_creates l Bound (integer (pos (count_of (integer n)))) (cell_keys l (count_of (integer n))) (integer (pos 0)) (pos (count_of (integer n)), refl) (cells_fit l (count_of (integer n))) Block fresh args h (address l (pos 0)) refl (cells_own l (count_of (integer n)))
-              (new_location fresh l h some is_new) is (inl some)
-              (λ m occurs. absurd (none_contained m occurs))
-              (λ m occurs. absurd (none_contained m occurs))
-              (λ m occurs. inl (some ∙ ap Some (address_alone l m (pos 0) occurs))))
+          (new_location fresh l h some is_new) is (inl some)
+          (λ m occurs. absurd (none_contained m occurs))
+          (λ m occurs. absurd (none_contained m occurs))
+          (λ m occurs. inl (some ∙ ap Some (address_alone l m (pos 0) occurs))))
 
   keeps_alloc : (n : ℤ) → IsNew fresh h → Kept (alloc_block fresh n h)
   keeps_alloc n is_new = if_cases Kept (is_size n) (allocated fresh n h) (fails Failure.Size h) (keeps_allocated n is_new) (λ other. keeps_failed Failure.Size)
@@ -119,31 +119,31 @@ module _ (fresh : Option ℕ) (args : List PureValue) (h : Heap) (is : IsHeapOf 
   keeps_load l i occurs = at_cases Kept h (key l Gone) (λ _. fails Failure.Gone h) (bounded h l i (at h (key l (At i)) (λ v. does v h) (misses (key l (At i)) h)))
       (λ v gone. keeps_failed Failure.Gone)
       (λ there. bounded_cases Kept h l i (at h (key l (At i)) (λ v. does v h) (misses (key l (At i)) h)) (λ d held outside. keeps_failed Failure.Bound)
-          (at_cases Kept h (key l (At i)) (λ v. does v h) (misses (key l (At i)) h)
-              (λ v held. keeps_tells Block fresh args h v is (allowed_held Block fresh args h (key l (At i)) v held))
-              (λ lacks. keeps_misses Block fresh args h (key l (At i)) is (among_arguments l occurs) lacks refl)))
+      (at_cases Kept h (key l (At i)) (λ v. does v h) (misses (key l (At i)) h)
+      (λ v held. keeps_tells Block fresh args h v is (allowed_held Block fresh args h (key l (At i)) v held))
+      (λ lacks. keeps_misses Block fresh args h (key l (At i)) is (among_arguments l occurs) lacks refl)))
 
   keeps_store : (l : ℕ) (i : ℤ) (v : PureValue) → OccursAmong l args → ((n : ℕ) → OccursIn n v → OccursAmong n args) → Kept (store l i v h)
   keeps_store l i v occurs of_value = at_cases Kept h (key l Gone) (λ _. fails Failure.Gone h) (bounded h l i (at h (key l (At i)) (λ _. does v (insert h (key l (At i)) v)) (misses (key l (At i)) h)))
       (λ w gone. keeps_failed Failure.Gone)
       (λ there. bounded_cases Kept h l i (at h (key l (At i)) (λ _. does v (insert h (key l (At i)) v)) (misses (key l (At i)) h)) (λ d held outside. keeps_failed Failure.Bound)
-          (at_cases Kept h (key l (At i)) (λ _. does v (insert h (key l (At i)) v)) (misses (key l (At i)) h)
-              (λ w held. keeps_does Block fresh args h v (insert h (key l (At i)) v)
-                  (overwritten_heap Block h (key l (At i)) v tt (has_key h (key l (At i)) w held) is)
-                  (λ n in_value. among_arguments n (of_value n in_value))
-                  (allowed_in Block fresh args h (insert h (key l (At i)) v) (λ q u at_q. ⊎_elim
-                      (λ put. inr (subst (λ (k : Key). IsAllowed fresh args h k.loc) (sym put.0) (among_arguments l occurs), λ n in_value. among_arguments n (of_value n (subst (OccursIn n) put.1 in_value))))
-                      (λ kept. inl kept.1)
-                      (held_inserted h (key l (At i)) q v u at_q))))
-              (λ lacks. keeps_misses Block fresh args h (key l (At i)) is (among_arguments l occurs) lacks refl)))
+      (at_cases Kept h (key l (At i)) (λ _. does v (insert h (key l (At i)) v)) (misses (key l (At i)) h)
+      (λ w held. keeps_does Block fresh args h v (insert h (key l (At i)) v)
+      (overwritten_heap Block h (key l (At i)) v tt (has_key h (key l (At i)) w held) is)
+      (λ n in_value. among_arguments n (of_value n in_value))
+      (allowed_in Block fresh args h (insert h (key l (At i)) v) (λ q u at_q. ⊎_elim
+      (λ put. inr (subst (λ (k : Key). IsAllowed fresh args h k.loc) (sym put.0) (among_arguments l occurs), λ n in_value. among_arguments n (of_value n (subst (OccursIn n) put.1 in_value))))
+      (λ kept. inl kept.1)
+      (held_inserted h (key l (At i)) q v u at_q))))
+      (λ lacks. keeps_misses Block fresh args h (key l (At i)) is (among_arguments l occurs) lacks refl)))
 
   keeps_free : (l : ℕ) (i : ℤ) → OccursAmong l args → Kept (free l i h)
   keeps_free l i occurs = if_cases Kept (int_eq i (pos 0)) (at h (key l Gone) (λ _. fails Failure.Gone h) (at h (key l Bound) (λ n. dispose_whole l (cell_keys l (count_of n)) h) (misses (key l Bound) h))) (fails Failure.Free h)
       (λ first. at_cases Kept h (key l Gone) (λ _. fails Failure.Gone h) (at h (key l Bound) (λ n. dispose_whole l (cell_keys l (count_of n)) h) (misses (key l Bound) h))
-          (λ v gone. keeps_failed Failure.Gone)
-          (λ there. at_cases Kept h (key l Bound) (λ n. dispose_whole l (cell_keys l (count_of n)) h) (misses (key l Bound) h)
-              (λ d held. keeps_disposes l (key l Bound) (cell_keys l (count_of d)) Block fresh args h d refl (cells_own l (count_of d)) is (among_arguments l occurs) (block_whole h l d is held))
-              (λ lacks. keeps_misses Block fresh args h (key l Bound) is (among_arguments l occurs) lacks refl)))
+      (λ v gone. keeps_failed Failure.Gone)
+      (λ there. at_cases Kept h (key l Bound) (λ n. dispose_whole l (cell_keys l (count_of n)) h) (misses (key l Bound) h)
+      (λ d held. keeps_disposes l (key l Bound) (cell_keys l (count_of d)) Block fresh args h d refl (cells_own l (count_of d)) is (among_arguments l occurs) (block_whole h l d is held))
+      (λ lacks. keeps_misses Block fresh args h (key l Bound) is (among_arguments l occurs) lacks refl)))
       (λ other. keeps_failed Failure.Free)
 
   pub keeps_act : (a : Option BlockAction) → IsNew fresh h → Kept (act_of a fresh args h)
@@ -246,16 +246,16 @@ module _ (h rest : Heap) (compatible : IsCompatible h rest) (is : IsHeapOf Block
         (λ d held. both_if (is_outside d i) (fails Failure.Bound h) small_cell (fails Failure.Bound whole) large_cell (λ outside. same_fails Failure.Bound h rest compatible) (λ within. same_cell))
         (λ no no_there. same_cell)
         (λ d no bound. at_cases (λ r. Same r (if is_outside d i then fails Failure.Bound whole else large_cell)) h (key l (At i)) f (misses (key l (At i)) h)
-            (λ v held. subst (λ b. Same (f v) (if b then fails Failure.Bound whole else large_cell)) (sym (not_outside l i d v bound held)) (subst (λ o. Same (f v) (found_or o g (misses (key l (At i)) whole))) (sym (held_in_union h rest compatible (key l (At i)) v held)) (found v held)))
-            (λ lacks. same_misses (key l (At i)) h rest (if is_outside d i then fails Failure.Bound whole else large_cell)))
+        (λ v held. subst (λ b. Same (f v) (if b then fails Failure.Bound whole else large_cell)) (sym (not_outside l i d v bound held)) (subst (λ o. Same (f v) (found_or o g (misses (key l (At i)) whole))) (sym (held_in_union h rest compatible (key l (At i)) v held)) (found v held)))
+        (λ lacks. same_misses (key l (At i)) h rest (if is_outside d i then fails Failure.Bound whole else large_cell)))
 
     -- where the rest has the key of a location that is gone
     same_bounded_gone : (large : ActionResult) → HasKey rest (key l Gone) → Same (bounded h l i small_cell) large
     same_bounded_gone large gone = at_cases (λ r. Same r large) h (key l Bound) (λ n. if is_outside n i then fails Failure.Bound h else small_cell) small_cell
         (λ d held. absurd (gone_there h rest compatible l Bound gone (has_key h (key l Bound) d held)))
         (λ no. at_cases (λ r. Same r large) h (key l (At i)) f (misses (key l (At i)) h)
-            (λ v held. absurd (gone_there h rest compatible l (At i) gone (has_key h (key l (At i)) v held)))
-            (λ lacks. same_misses (key l (At i)) h rest large))
+        (λ v held. absurd (gone_there h rest compatible l (At i) gone (has_key h (key l (At i)) v held)))
+        (λ lacks. same_misses (key l (At i)) h rest large))
 
     pub same_guarded : Same (at h (key l Gone) (λ _. fails Failure.Gone h) (bounded h l i small_cell)) (at whole (key l Gone) (λ _. fails Failure.Gone whole) (bounded whole l i large_cell))
     same_guarded = at_both Same h rest (key l Gone) (λ _. fails Failure.Gone h) (bounded h l i small_cell) (λ _. fails Failure.Gone whole) (bounded whole l i large_cell)
@@ -277,14 +277,14 @@ module _ (h rest : Heap) (compatible : IsCompatible h rest) (is : IsHeapOf Block
   same_free : (l : ℕ) (i : ℤ) → Same (free l i h) (free l i whole)
   same_free l i = both_if (int_eq i (pos 0)) _ (fails Failure.Free h) _ (fails Failure.Free whole)
       (λ first. at_both Same h rest (key l Gone) (λ _. fails Failure.Gone h) (at h (key l Bound) (λ n. dispose_whole l (cell_keys l (count_of n)) h) (misses (key l Bound) h)) (λ _. fails Failure.Gone whole) (at whole (key l Bound) (λ n. dispose_whole l (cell_keys l (count_of n)) whole) (misses (key l Bound) whole))
-          (λ v gone. same_fails Failure.Gone h rest compatible)
-          (λ no no_there. at_both Same h rest (key l Bound) (λ n. dispose_whole l (cell_keys l (count_of n)) h) (misses (key l Bound) h) (λ n. dispose_whole l (cell_keys l (count_of n)) whole) (misses (key l Bound) whole)
-              (λ d held. same_disposes l (key l Bound) (cell_keys l (count_of d)) h rest compatible (has_key h (key l Bound) d held) (block_whole whole l d is (held_in_union h rest compatible (key l Bound) d held)))
-              (λ lacks lacks_there. same_misses (key l Bound) h rest (misses (key l Bound) whole))
-              (λ d lacks there. same_misses (key l Bound) h rest _))
-          (λ v no gone. at_cases (λ r. Same r (fails Failure.Gone whole)) h (key l Bound) _ (misses (key l Bound) h)
-              (λ d held. absurd (gone_there h rest compatible l Bound (has_key rest (key l Gone) v gone) (has_key h (key l Bound) d held)))
-              (λ lacks. same_misses (key l Bound) h rest (fails Failure.Gone whole))))
+      (λ v gone. same_fails Failure.Gone h rest compatible)
+      (λ no no_there. at_both Same h rest (key l Bound) (λ n. dispose_whole l (cell_keys l (count_of n)) h) (misses (key l Bound) h) (λ n. dispose_whole l (cell_keys l (count_of n)) whole) (misses (key l Bound) whole)
+      (λ d held. same_disposes l (key l Bound) (cell_keys l (count_of d)) h rest compatible (has_key h (key l Bound) d held) (block_whole whole l d is (held_in_union h rest compatible (key l Bound) d held)))
+      (λ lacks lacks_there. same_misses (key l Bound) h rest (misses (key l Bound) whole))
+      (λ d lacks there. same_misses (key l Bound) h rest _))
+      (λ v no gone. at_cases (λ r. Same r (fails Failure.Gone whole)) h (key l Bound) _ (misses (key l Bound) h)
+      (λ d held. absurd (gone_there h rest compatible l Bound (has_key rest (key l Gone) v gone) (has_key h (key l Bound) d held)))
+      (λ lacks. same_misses (key l Bound) h rest (fails Failure.Gone whole))))
       (λ other. same_fails Failure.Free h rest compatible)
 
   pub same_act : (a : Option BlockAction) (fresh : Option ℕ) (args : List PureValue) → IsNew fresh whole → Same (act_of a fresh args h) (act_of a fresh args whole)

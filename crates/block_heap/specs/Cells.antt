@@ -1,5 +1,5 @@
 -- The keys of a block: `Bound`, and those of its cells.
-use Rattle.std.proofs.Common.{◌≡◌, ◌⊎◌, ⊎_elim, inl, inr, ℕ, zero, suc, ◌+◌, ◌-◌, ◌<◌, ◌≤◌, ℤ, pos, negsuc, ◌≤ℤ◌, ◌<ℤ◌, nat_eq, Bool, true, false, ◌&&◌, ◌||◌, List, [], ◌∷◌, ◌++◌, Some, not, cond, IsTrue, refl, sym, ap, subst, ◌∙◌, true≢false, arith, append_assoc}
+use Rattle.std.proofs.Common.{◌≡◌, ⊎_elim, ℕ, zero, suc, ◌+◌, ◌-◌, ◌<◌, ◌≤◌, ℤ, pos, negsuc, ◌≤ℤ◌, ◌<ℤ◌, nat_eq, Bool, true, false, List, [], ◌∷◌, ◌++◌, Some, not, cond, IsTrue, refl, sym, ap, subst, ◌∙◌, true≢false, arith, append_assoc}
 use Rattle.std.proofs.lemmas.Int.{ints}
 use Rattle.std.proofs.lemmas.Bool.Decides.{Decides-eqb}
 use Rattle.std.specs.FinMap.{contains_key}

@@ -1,6 +1,6 @@
 -- The heaps of the rows that show what the actions do. The block stands at the location 3, the symbol 4 is another.
-use Rattle.std.specs.Prelude.{◌≡◌, ◌⊎◌, ℕ, ℤ, pos, negsuc, ◌≤ℤ◌, ◌<ℤ◌, List, [], ◌∷◌, true, Option, Some, codes}
-use Rattle.gil_values.specs.Pure.{PureValue, integer, boolean, text, symbol}
+use Rattle.std.specs.Prelude.{◌≡◌, ◌⊎◌, ℕ, ℤ, pos, ◌≤ℤ◌, ◌<ℤ◌, List, [], ◌∷◌, true, Option, Some, codes}
+use Rattle.gil_values.specs.Pure.{PureValue, integer, boolean, text}
 use Rattle.mem_model.specs.declared.keys.Sub.TheVariants.{At, Bound, Gone}
 use Rattle.mem_model.specs.Keys.{key}
 use Rattle.mem_model.specs.Pure.{PureOutcome, done, failed}

@@ -1,10 +1,10 @@
 -- The actions of blocks. l is a location, i an offset, n the number at `Bound`; an address is a list of l and i. Cases are
 -- tried in the order given.
-use Rattle.std.specs.Prelude.{ℕ, zero, suc, ◌+◌, ℤ, pos, List, [], ◌∷◌, Bool, false, true, ◌&&◌, ◌||◌, Option, Some, None, Result, Ok, Err, if◌then◌else◌}
+use Rattle.std.specs.Prelude.{ℕ, zero, suc, ◌+◌, ℤ, pos, List, [], ◌∷◌, Bool, false, ◌&&◌, ◌||◌, Option, Some, None, Result, Ok, Err, if◌then◌else◌}
 use Rattle.std.specs.Int.Signed.{le_z, lt_z}
 use Rattle.std.specs.Ordering.{int_eq}
 use Rattle.std.specs.FinMap.{insert}
-use Rattle.gil_values.specs.Pure.{PureValue, integer, boolean, symbol, list, from_list, to_list}
+use Rattle.gil_values.specs.Pure.{PureValue, integer, symbol, list, from_list, to_list}
 use Rattle.mem_model.specs.declared.keys.Key.{Key}
 use Rattle.mem_model.specs.declared.keys.Sub.TheVariants.{At, Bound, Gone}
 use Rattle.mem_model.specs.declared.failures.Failure.{Failure}
@@ -106,8 +106,8 @@ abbrev pub free : ℕ → ℤ → Heap → ActionResult
 free l i h =
     if int_eq i (pos 0)
     then at h (key l Gone) (λ _. fails Failure.Gone h)
-         (at h (key l Bound) (λ n. dispose_whole l (cell_keys l (count_of n)) h)
-         (misses (key l Bound) h))
+    (at h (key l Bound) (λ n. dispose_whole l (cell_keys l (count_of n)) h)
+    (misses (key l Bound) h))
     else fails Failure.Free h
 
 -- each action by its arguments, which are read before the heap is looked at

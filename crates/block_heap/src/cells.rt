@@ -34,13 +34,7 @@ pub fn number_of_cells(bound: &Value) -> u128
     ensures small { result < 2 ^ 127 }
 {
     match bound {
-        Value::Int(cells) => {
-            if *cells > 0 {
-                *cells as u128
-            } else {
-                0
-            }
-        }
+        Value::Int(cells) => { if *cells > 0 { *cells as u128 } else { 0 } }
         _ => 0,
     }
 }

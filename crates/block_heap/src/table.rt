@@ -65,7 +65,13 @@ fn make(
     let mut address = Values::new(alloc);
     address.push(Value::Sym(location))?;
     address.push(Value::Int(0))?;
-    heap.create(alloc, key_at(location, Sub::Bound), bound, &keys, &Value::Int(0))?;
+    heap.create(
+        alloc,
+        key_at(location, Sub::Bound),
+        bound,
+        &keys,
+        &Value::Int(0),
+    )?;
     Ok(Outcome::Done(Value::List(address)))
 }
 
@@ -104,11 +110,7 @@ fn value_of(
 }
 
 /// `store`.
-pub fn act_store(
-    heap: &mut StoredHeap,
-    alloc: Global,
-    args: &Values,
-) -> Result<Outcome, AllocError>
+pub fn act_store(heap: &mut StoredHeap, alloc: Global, args: &Values) -> Result<Outcome, AllocError>
     ensures { Answers result (stored_heap_view heap.old) (stored_heap_view heap.new) (read_or_fail (address_and_value_in (values_view args.now)) (λ (l, i, v). store l i v (stored_heap_view heap.old)) (stored_heap_view heap.old)) }
 {
     match address_and_value_arguments(args) {
@@ -145,11 +147,7 @@ fn assign(
 }
 
 /// `free`.
-pub fn act_free(
-    heap: &mut StoredHeap,
-    alloc: Global,
-    args: &Values,
-) -> Result<Outcome, AllocError>
+pub fn act_free(heap: &mut StoredHeap, alloc: Global, args: &Values) -> Result<Outcome, AllocError>
     requires { IsHeapOf Block (stored_heap_view heap.old) }
     ensures { Answers result (stored_heap_view heap.old) (stored_heap_view heap.new) (read_or_fail (address_in (values_view args.now)) (λ (l, i). free l i (stored_heap_view heap.old)) (stored_heap_view heap.old)) }
 {

@@ -1,10 +1,10 @@
 -- Lists of names, where a name is added at the end or taken out.
-use Rattle.std.proofs.Common.{◌≡◌, ◌⊎◌, ⊎_elim, inl, inr, ℕ, Bool, true, false, not, cond, ◌&&◌, ◌||◌, List, [], ◌∷◌, ◌++◌, IsTrue, refl, sym, ap, subst, ◌∙◌, true≢false}
+use Rattle.std.proofs.Common.{◌≡◌, ⊎_elim, ℕ, Bool, true, false, not, cond, ◌&&◌, ◌||◌, List, [], ◌∷◌, ◌++◌, IsTrue, refl, sym, ap, subst, ◌∙◌, true≢false}
 use Rattle.std.proofs.lemmas.Bool.{and_from, and_parts}
 use Rattle.std.proofs.lemmas.List.Folds.{list_any-append}
 use Rattle.std.specs.Prelude.{filter}
 use Rattle.std.specs.List.{list_any, Contains}
-use Rattle.gil_values.specs.Pure.{PureValue, PureValues, integer, boolean, text, symbol, kind, procedure, list, from_list, to_list, to_list-from_list, from_list-to_list}
+use Rattle.gil_values.specs.Pure.{PureValue, text, list, from_list, to_list, to_list-from_list, from_list-to_list}
 use Rattle.gil_values.specs.Symbols.{symbols_of_elements, OccursIn}
 use Rattle.gil_values.specs.Equality.{same_value}
 use Rattle.gil_values.specs.EqualityLaws.{same_value-Decides, same_value-equivalence}

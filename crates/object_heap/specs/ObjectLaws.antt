@@ -1,9 +1,8 @@
 -- The actions of objects keep the laws of memories.
-use Rattle.std.proofs.Common.{◌≡◌, ◌⊎◌, ⊎_elim, inl, inr, ℕ, Bool, true, false, ◌||◌, if◌then◌else◌, List, [], ◌∷◌, Option, Some, None, Result, Ok, Err, IsTrue, IsSome, refl, sym, ap, subst, ◌∙◌, true≢false}
+use Rattle.std.proofs.Common.{◌≡◌, ⊎_elim, inl, inr, ℕ, Bool, true, false, if◌then◌else◌, List, [], ◌∷◌, Option, Some, None, Ok, IsTrue, refl, sym, ap, subst, ◌∙◌, true≢false}
 use Rattle.std.specs.FinMap.{insert, remove}
 use Rattle.gil_values.specs.Pure.{PureValue, symbol, kind, boolean, list, no_values}
 use Rattle.gil_values.specs.Symbols.{OccursIn, OccursAmong}
-use Rattle.gil_values.specs.declared.kinds.Kind.{Kind}
 use Rattle.gil_values.specs.declared.kinds.Kind.TheVariants.{Undef, Null}
 use Rattle.mem_model.specs.declared.keys.Key.{Key}
 use Rattle.mem_model.specs.declared.keys.Sub.{Sub}
@@ -14,9 +13,9 @@ use Rattle.mem_model.specs.Keys.{key, has_subkey}
 use Rattle.mem_model.specs.KeyOrder.{key_eq}
 use Rattle.mem_model.specs.Names.{lists_name}
 use Rattle.mem_model.specs.Heaps.{Heap, Holds, HasKey, IsWellFormed, IsHeapOf, IsCompatible, joined, OccursInHeap}
-use Rattle.mem_model.specs.Actions.{ActionResult, IsMemory, MissesWhatLacks, IsSameBeside}
+use Rattle.mem_model.specs.Actions.{ActionResult, IsMemory, MissesWhatLacks}
 use Rattle.mem_model.specs.Arguments.{one_of, two_of, symbol_of, location_in, property_in, property_and_value_in}
-use Rattle.mem_model.specs.Tables.{does, fails, misses, at, unlisted_at, is_among}
+use Rattle.mem_model.specs.Tables.{does, misses, at, unlisted_at, is_among}
 use Rattle.mem_model.proofs.Joins.{value_at, has_key}
 use Rattle.mem_model.proofs.Compatible.{join_is_heap, first_part}
 use Rattle.mem_model.proofs.Parts.{part_well_formed}
@@ -25,7 +24,7 @@ use Rattle.mem_model.proofs.Formed.{PartFits, IsPlain, overwritten_heap, overwri
 use Rattle.mem_model.proofs.NameKeys.{or_of}
 use Rattle.mem_model.proofs.ArgumentSymbols.{then_ok, same_ok, one_symbols, first_symbols, second_symbols, location_occurs, property_occurs, property_and_value_occur, symbol_alone, symbol_is, symbol_itself}
 use Rattle.mem_model.proofs.Making.{new_location, keeps_creates, same_creates}
-use Rattle.mem_model.proofs.Cases.{Keeps, IsAllowed, ChangesWhenDone, IsSameWhenSettled, at_cases, unlisted_cases, read_cases, at_both, unlisted_both, read_both, keeps_fails, keeps_misses, keeps_tells, keeps_does, allowed_held, allowed_in, allowed_key, same_fails, same_tells, same_misses, same_does, none_contained, in_union, rest_in_union, held_in_union}
+use Rattle.mem_model.proofs.Cases.{Keeps, IsAllowed, ChangesWhenDone, IsSameWhenSettled, at_cases, unlisted_cases, read_cases, at_both, unlisted_both, read_both, keeps_fails, keeps_misses, keeps_tells, keeps_does, allowed_held, allowed_in, same_fails, same_tells, same_misses, same_does, none_contained, in_union, rest_in_union, held_in_union}
 use Rattle.object_heap.specs.declared.actions.ObjectAction.{ObjectAction}
 use Rattle.object_heap.specs.declared.actions.ObjectAction.TheVariants.{New, Get, Set, Delete, Has, GetProto, SetProto}
 use Rattle.object_heap.specs.Names.{action_of}

@@ -5,7 +5,7 @@ use Rattle.std.specs.FinMap.{insert, remove}
 use Rattle.gil_values.specs.Pure.{PureValue, integer}
 use Rattle.mem_model.specs.declared.keys.Key.{Key}
 use Rattle.mem_model.specs.declared.keys.Sub.{Sub}
-use Rattle.mem_model.specs.declared.keys.Sub.TheVariants.{Name, At, Shape, Bound, Dom, Proto, Gone}
+use Rattle.mem_model.specs.declared.keys.Sub.TheVariants.{Name, At, Shape, Bound, Dom, Gone}
 use Rattle.mem_model.specs.Keys.{key}
 use Rattle.mem_model.specs.KeyOrder.{key_eq}
 use Rattle.mem_model.specs.Names.{is_name_list, lists_name}

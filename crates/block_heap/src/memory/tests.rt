@@ -27,12 +27,7 @@ fn one_number(alloc: Global, number: i128) -> Result<Values, Fail>
 }
 
 // An action that takes no symbol.
-fn ask(
-    memory: &mut BlockHeap,
-    alloc: Global,
-    action: &str,
-    args: &Values,
-) -> Result<Outcome, Fail>
+fn ask(memory: &mut BlockHeap, alloc: Global, action: &str, args: &Values) -> Result<Outcome, Fail>
     requires of_memory { IsHeapOf Block (stored_heap_view memory.old.heap) }
     requires no_symbol { takes_symbol_of (action_of action.now) ≡ false }
     ensures { IsHeapOf Block (stored_heap_view memory.new.heap) }

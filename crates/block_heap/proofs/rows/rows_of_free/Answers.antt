@@ -1,5 +1,5 @@
 use Rattle.std.proofs.Common.{◌∙◌}
-use Rattle.mem_model.specs.declared.keys.Sub.TheVariants.{At, Bound, Gone}
+use Rattle.mem_model.specs.declared.keys.Sub.TheVariants.{Bound, Gone}
 use Rattle.mem_model.specs.Keys.{key}
 use Rattle.mem_model.proofs.EntryLists.{at_entries, dispose_whole-entries}
 use Rattle.block_heap.specs.Rows.{none, without_one, bare, alone, gone, two}

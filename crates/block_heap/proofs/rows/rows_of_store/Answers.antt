@@ -1,4 +1,4 @@
-use Rattle.std.proofs.Common.{◌∷◌, pos, negsuc, refl, ap, ◌∙◌}
+use Rattle.std.proofs.Common.{◌∷◌, pos, refl, ap, ◌∙◌}
 use Rattle.mem_model.specs.declared.keys.Sub.TheVariants.{At, Bound, Gone}
 use Rattle.mem_model.specs.Keys.{key}
 use Rattle.mem_model.specs.Rows.{number}

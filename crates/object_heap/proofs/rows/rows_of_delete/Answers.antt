@@ -1,13 +1,13 @@
-use Rattle.std.proofs.Common.{[], ◌∷◌, true, refl, ap, ◌∙◌}
+use Rattle.std.proofs.Common.{◌∷◌, true, refl, ap, ◌∙◌}
 use Rattle.std.specs.Prelude.{codes}
-use Rattle.mem_model.specs.declared.keys.Sub.TheVariants.{Name, Dom, Proto}
+use Rattle.mem_model.specs.declared.keys.Sub.TheVariants.{Name, Dom}
 use Rattle.mem_model.specs.Keys.{key}
 use Rattle.gil_values.specs.Pure.{boolean}
 use Rattle.mem_model.specs.Tables.{does}
 use Rattle.mem_model.proofs.EntryLists.{at_entries, same_entries, removed-entries, without_key}
-use Rattle.object_heap.specs.Rows.{name, names, with_both, with_b, without_b, alone}
+use Rattle.object_heap.specs.Rows.{with_both, with_b, without_b, alone}
 use Rattle.object_heap.specs.Table.{without_name}
-use Rattle.mem_model.specs.Rows.{a_and_b, heap_of}
+use Rattle.mem_model.specs.Rows.{a_and_b}
 use Rattle.std.specs.FinMap.{insert}
 use Rattle.object_heap.proofs.rows.rows_of_delete.Goals as goal
 

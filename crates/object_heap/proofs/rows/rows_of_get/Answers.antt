@@ -1,6 +1,6 @@
 use Rattle.std.proofs.Common.{◌∙◌}
 use Rattle.std.specs.Prelude.{codes}
-use Rattle.mem_model.specs.declared.keys.Sub.TheVariants.{Name, Dom, Proto}
+use Rattle.mem_model.specs.declared.keys.Sub.TheVariants.{Name, Dom}
 use Rattle.mem_model.specs.Keys.{key}
 use Rattle.mem_model.proofs.EntryLists.{at_entries}
 use Rattle.object_heap.specs.Rows.{with_both, without_b, alone}

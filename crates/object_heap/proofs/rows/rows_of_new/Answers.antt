@@ -1,6 +1,5 @@
-use Rattle.std.proofs.Common.{[], ◌∷◌, refl, ap, ◌∙◌}
-use Rattle.std.specs.Prelude.{codes}
-use Rattle.mem_model.specs.declared.keys.Sub.TheVariants.{Name, Dom, Proto}
+use Rattle.std.proofs.Common.{[], ◌∷◌, ap}
+use Rattle.mem_model.specs.declared.keys.Sub.TheVariants.{Dom, Proto}
 use Rattle.mem_model.specs.Keys.{key}
 use Rattle.gil_values.specs.Pure.{list, no_values, symbol}
 use Rattle.mem_model.specs.Tables.{does}

@@ -1,6 +1,5 @@
 use Rattle.std.proofs.Common.{◌∷◌, refl, ap, ◌∙◌}
-use Rattle.std.specs.Prelude.{codes}
-use Rattle.mem_model.specs.declared.keys.Sub.TheVariants.{Name, Dom, Proto}
+use Rattle.mem_model.specs.declared.keys.Sub.TheVariants.{Proto}
 use Rattle.mem_model.specs.Keys.{key}
 use Rattle.mem_model.specs.Tables.{does}
 use Rattle.mem_model.proofs.EntryLists.{at_entries, same_entries}

@@ -1,6 +1,6 @@
 use Rattle.std.proofs.Common.{[], ◌∷◌, pos, refl, ap, ◌∙◌}
 use Rattle.std.specs.Prelude.{codes}
-use Rattle.mem_model.specs.declared.keys.Sub.TheVariants.{Name, Dom, Proto}
+use Rattle.mem_model.specs.declared.keys.Sub.TheVariants.{Name, Dom}
 use Rattle.mem_model.specs.Keys.{key}
 use Rattle.mem_model.specs.Rows.{a_and_b, number}
 use Rattle.mem_model.specs.Tables.{does}

@@ -1,5 +1,4 @@
 use Rattle.std.proofs.Common.{is_some, sym, ap, subst}
-use Rattle.gil_values.specs.View.{value_view}
 use Rattle.mem_model.specs.Heaps.{HasKey}
 use Rattle.mem_model.specs.Stored.{stored_heap_view}
 use Rattle.mem_model.proofs.Holding.{has_inserted}

@@ -1,8 +1,7 @@
-use Rattle.std.proofs.Common.{◌≡◌, Some, true, sym, ap, subst}
+use Rattle.std.proofs.Common.{Some, sym, ap, subst}
 use Rattle.gil_values.specs.Symbols.{OccursAmong}
 use Rattle.gil_values.specs.View.{values_view}
 use Rattle.mem_model.specs.declared.keys.MemoryName.TheVariants.{Block}
-use Rattle.mem_model.specs.Actions.{MayAct}
 use Rattle.mem_model.specs.Heaps.{IsHeapOf}
 use Rattle.mem_model.specs.Stored.{stored_heap_view}
 use Rattle.mem_model.proofs.Parts.{empty_is_heap, may_on_empty}
