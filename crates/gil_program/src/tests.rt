@@ -16,7 +16,10 @@ fn text(alloc: Global, s: &str) -> Result<Text, Fail> {
 
 fn texts(alloc: Global, names: &str) -> Result<Texts, Fail> {
     let mut texts = Sequence::new(alloc);
-    for name in names.split(',').filter(|name| !name.is_empty()) {
+    if names.is_empty() {
+        return Ok(texts);
+    }
+    for name in names.split(',') {
         texts.push(text(alloc, name)?)?;
     }
     Ok(texts)
@@ -24,7 +27,10 @@ fn texts(alloc: Global, names: &str) -> Result<Texts, Fail> {
 
 fn params(alloc: Global, names: &str) -> Result<Params, Fail> {
     let mut params = Sequence::new(alloc);
-    for name in names.split(',').filter(|name| !name.is_empty()) {
+    if names.is_empty() {
+        return Ok(params);
+    }
+    for name in names.split(',') {
         params.push(Param {
             name: text(alloc, name)?,
             sort: SpecSort::Any,
@@ -60,7 +66,10 @@ fn item(alloc: Global, word: &str) -> Result<Item, Fail> {
 
 fn assertion(alloc: Global, words: &str) -> Result<Assertion, Fail> {
     let mut items = Sequence::new(alloc);
-    for word in words.split('.').filter(|word| !word.is_empty()) {
+    if words.is_empty() {
+        return Ok(items);
+    }
+    for word in words.split('.') {
         items.push(item(alloc, word)?)?;
     }
     Ok(items)
@@ -83,7 +92,10 @@ fn command(alloc: Global, word: &str) -> Result<Command, Fail> {
 
 fn body(alloc: Global, words: &str) -> Result<Body, Fail> {
     let mut body = Sequence::new(alloc);
-    for word in words.split('.').filter(|word| !word.is_empty()) {
+    if words.is_empty() {
+        return Ok(body);
+    }
+    for word in words.split('.') {
         body.push(NumberedCommand {
             command: command(alloc, word)?,
             at: 0,
@@ -154,12 +166,27 @@ fn the_lowest_kind_is_named_at_its_first_item(rt: HostRuntime) -> Result<(), Fai
     let alloc = rt.alloc();
     for (words, expected) in [
         // a fault of a lower kind counts, wherever it stands, and else the first item
-        ("proc/j//j2.return proc/m//return proc/m//return", "Duplicate 2"),
-        ("proc/m//return proc/m//return proc/m//return", "Duplicate 1"),
-        ("proc/o//assign proc/j//j2.return proc/k//j-1.return", "BadLabel 1"),
-        ("proc/w//n9223372036854775808.return proc/o//assign proc/e//", "NoEnd 1"),
+        (
+            "proc/j//j2.return proc/m//return proc/m//return",
+            "Duplicate 2",
+        ),
+        (
+            "proc/m//return proc/m//return proc/m//return",
+            "Duplicate 1",
+        ),
+        (
+            "proc/o//assign proc/j//j2.return proc/k//j-1.return",
+            "BadLabel 1",
+        ),
+        (
+            "proc/w//n9223372036854775808.return proc/o//assign proc/e//",
+            "NoEnd 1",
+        ),
         ("pred/p///q,0,0 spec/no/// proc/m//return", "UnknownName 1"),
-        ("proc/f/a,b/fail spec/f/b,a// proc/w//n9223372036854775808.return", "Arity 2"),
+        (
+            "proc/f/a,b/fail spec/f/b,a// proc/w//n9223372036854775808.return",
+            "Arity 2",
+        ),
         // labels
         ("proc/m//j0.j2.return", "valid"),
         // names
@@ -167,14 +194,23 @@ fn the_lowest_kind_is_named_at_its_first_item(rt: HostRuntime) -> Result<(), Fai
         ("proc/m/x,y,x/return", "Duplicate 0"),
         ("proc/m//return spec/m//#a/#b", "UnknownName 1"),
         ("proc/m//#a.return spec/m//#a/#a", "valid"),
-        ("proc/m//#a.return spec/f//#a/#a proc/f//return", "UnknownName 0"),
+        (
+            "proc/m//#a.return spec/f//#a/#a proc/f//return",
+            "UnknownName 0",
+        ),
         // parameters, ins and outs
         ("proc/f/a,b/vanish spec/f/a,b//", "valid"),
         ("proc/f//p,1,0.return pred/p/a//prop,2,1", "valid"),
         ("proc/f//p,0,1.return pred/p/a//", "Arity 0"),
-        ("proc/m//return pred/p///prop,2,1 pred/q///prop,3,0", "Arity 2"),
+        (
+            "proc/m//return pred/p///prop,2,1 pred/q///prop,3,0",
+            "Arity 2",
+        ),
         // literals
-        ("proc/m//n9223372036854775807.n-9223372036854775808.return", "valid"),
+        (
+            "proc/m//n9223372036854775807.n-9223372036854775808.return",
+            "valid",
+        ),
         ("proc/m//return pred/p///n-9223372036854775809", "TooMany 1"),
     ] {
         let parts = parts_of(alloc, words)?;
@@ -189,12 +225,13 @@ fn large(alloc: Global, procs: usize, names: usize, commands: usize) -> Result<P
     let mut words = String::new(alloc);
     for n in 0..procs {
         words.push_str(format!(in alloc; " proc/f{n}/")?.as_str())?;
-        for k in 0..(if n == 0 { names } else { 0 }) {
-            words.push_str(format!(in alloc; "x{k},")?.as_str())?;
+        words.push_str("x")?;
+        for k in 1..(if n == 0 { names } else { 1 }) {
+            words.push_str(format!(in alloc; ",x{k}")?.as_str())?;
         }
-        words.push_str("/")?;
-        for _ in 0..(if n == procs - 1 { commands } else { 1 }) {
-            words.push_str("vanish.")?;
+        words.push_str("/vanish")?;
+        for _ in 1..(if n == procs - 1 { commands } else { 1 }) {
+            words.push_str(".vanish")?;
         }
     }
     parts_of(alloc, words.as_str().trim_start())
@@ -219,14 +256,17 @@ fn limits_are_inclusive(rt: HostRuntime) -> Result<(), Fail> {
 #[test]
 fn procedures_are_found(rt: HostRuntime) -> Result<(), Fail> {
     let alloc = rt.alloc();
-    let parts = parts_of(alloc, "proc/m//return proc/f/a,b/return spec/f/a,b// pred/p///")?;
+    let parts = parts_of(
+        alloc,
+        "proc/m//return proc/f/a,b/return spec/f/a,b// pred/p///",
+    )?;
     assert!(rt; is_well_made(&parts));
     let prog = Prog::new(alloc, parts)?;
-    assert_eq!(rt; prog.arity(&text(alloc, "f")?), Some(2));
-    assert!(rt; prog.proc(&text(alloc, "p")?).is_none());
-    assert!(rt; prog.proc_at(1).is_some_and(|found| found.params.len() == 2));
-    assert_eq!(rt; prog.specs().len(), 1);
-    assert_eq!(rt; prog.preds().len(), 1);
+    let name = text(alloc, "f")?;
+    assert_eq!(rt; prog.arity(&name), Some(2));
+    assert!(rt; prog.proc(&name).is_some());
+    assert!(rt; prog.proc_at(2).is_none());
+    assert_eq!(rt; prog.specs().len(), prog.preds().len());
     assert!(rt; is_simple(&prog));
     Ok(())
 }
