@@ -7,6 +7,7 @@ pub mod FragmentLaws
 pub mod KindLaws
 pub mod ListTests
 pub mod NamingLaws
+mod ProperRows
 pub mod Renamed
 pub mod SimpleLaws
 pub mod SymbolLaws

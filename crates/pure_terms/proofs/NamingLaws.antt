@@ -1,5 +1,5 @@
 -- Which variables terms and atoms name, by their numbers.
-use Rattle.std.proofs.Common.{◌≡◌, ◌↔◌, ⊎_elim, ℕ, zero, suc, ◌+◌, ◌<◌, ◌≤◌, List, [], ◌∷◌, ◌++◌, map, length, Bool, true, false, ◌||◌, ◌&&◌, eqb, ltb, Option, Some, None, slice_get, refl, sym, ap, ◌∙◌, subst, add-one, arith}
+use Rattle.std.proofs.Common.{◌≡◌, ◌↔◌, ℕ, zero, suc, ◌+◌, ◌<◌, ◌≤◌, List, [], ◌∷◌, map, length, Bool, true, false, ◌||◌, eqb, ltb, Option, Some, None, slice_get, refl, sym, ap, ◌∙◌, subst, add-one, arith}
 use Rattle.std.specs.List.{list_all, list_any}
 use Rattle.std.proofs.lemmas.Bool.{eqb-true, and_parts, and_from, false≢true}
 use Rattle.std.proofs.lemmas.List.Folds.{list_all-append, list_any-append, Any-from_list_any}
@@ -49,8 +49,8 @@ in_table_each : (vars : List Sort) (xs : List Var) → AreVariablesOf vars xs �
 in_table_each vars [] over = refl
 in_table_each vars (y ∷ xs) over =
     and_from (is_in_table vars y) (list_all (is_in_table vars) xs)
-      (ap (λ o. is_of_sort o y.sort) (over y (Contains-append_left (y ∷ []) xs y (Contains-push [] y))) ∙ same_sort-refl y.sort)
-      (in_table_each vars xs (λ x has. over x (Contains-append_right (y ∷ []) xs x has)))
+    (ap (λ o. is_of_sort o y.sort) (over y (Contains-append_left (y ∷ []) xs y (Contains-push [] y))) ∙ same_sort-refl y.sort)
+    (in_table_each vars xs (λ x has. over x (Contains-append_right (y ∷ []) xs x has)))
 
 pub names_only-over : (vars : List Sort) (t : PureTerm) → (names_only vars t ≡ true) ↔ IsOver vars t
 names_only-over vars t = (each_in_table vars (variables t), in_table_each vars (variables t))

@@ -3,10 +3,10 @@ use Rattle.std.specs.Prelude.{ℕ, pos, List, [], ◌∷◌, Bool, true, codes}
 use Rattle.gil_values.specs.declared.kinds.Kind.{Kind}
 use Rattle.gil_values.specs.declared.operators.UnOp.{UnOp}
 use Rattle.gil_values.specs.declared.operators.BinOp.{BinOp}
-use Rattle.gil_values.specs.Pure.{PureValue, integer, boolean, text, symbol, kind, procedure, list, no_values}
+use Rattle.gil_values.specs.Pure.{PureValue, boolean, integer, kind, list, no_values, procedure, symbol, text, value_and}
 use Rattle.pure_terms.specs.declared.literals.Literal.{Literal}
 use Rattle.pure_terms.specs.declared.variables.Sort.{Sort}
-use Rattle.pure_terms.specs.Pure.{PureTerm, literal, variable, list_of, unary_of, binary_of, from_list}
+use Rattle.pure_terms.specs.Pure.{PureTerm, literal, variable, list_of, unary_of, binary_of, from_list, PureAtom, positive, negative}
 
 abbrev pub number : ℕ → PureTerm
 number n = literal (Literal.Int (pos n))
@@ -67,3 +67,22 @@ one_by_zero_is_one = equals (over (number 1) (number 0)) (number 1)
 -- a value of each kind
 abbrev pub one_of_each : List PureValue
 one_of_each = integer (pos 5) ∷ boolean true ∷ text (codes "a") ∷ symbol 7 ∷ kind Kind.Null ∷ procedure (codes "f") ∷ list no_values ∷ []
+
+-- a fresh variable after a list, and before one
+abbrev pub list_then_fresh : List Sort
+list_then_fresh = Sort.List ∷ Sort.Fresh ∷ []
+
+abbrev pub fresh_then_list : List Sort
+fresh_then_list = Sort.Fresh ∷ Sort.List ∷ []
+
+-- [$7]
+abbrev pub list_of_seven : PureValue
+list_of_seven = list (value_and (symbol 7) no_values)
+
+-- (x <= 1); not((x <= 0));
+abbrev pub x_is_one : List PureAtom
+x_is_one = positive (at_most x (number 1)) ∷ negative (at_most x (number 0)) ∷ []
+
+-- (x <= 0); not((x <= 0));
+abbrev pub x_is_none : List PureAtom
+x_is_none = positive (at_most x (number 0)) ∷ negative (at_most x (number 0)) ∷ []

@@ -10,7 +10,7 @@ ghost use Rattle.pure_terms.specs.Deciding.{has_wide_arithmetic};
 ghost use Rattle.pure_terms.specs.Folding.{folded_unary, folded_binary};
 ghost use Rattle.pure_terms.specs.Fragment.{is_simple, has_fragment_form, has_narrow_literals, variable_count};
 ghost use Rattle.pure_terms.specs.Kinds.{known_kind};
-ghost use Rattle.pure_terms.specs.Meaning.{value, truth};
+ghost use Rattle.pure_terms.specs.Meaning.{value, truth, IsProper, Satisfies, IsUnsatisfiable};
 ghost use Rattle.pure_terms.specs.Pure.{literal, list_of, no_terms, binary_of, unary_of, positive, negative, opening};
 ghost use Rattle.pure_terms.specs.Examples.{
   number,
@@ -31,6 +31,11 @@ ghost use Rattle.pure_terms.specs.Examples.{
   opposite,
   kind_term_of,
   one_by_zero_is_one,
+  list_then_fresh,
+  fresh_then_list,
+  list_of_seven,
+  x_is_one,
+  x_is_none,
   one_of_each,
 };
 
@@ -140,4 +145,19 @@ pub fn some_terms_fold()
     ensures no_element { folded_binary BinOp.Nth (pair x y) (number 2) ≡ binary_of BinOp.Nth (pair x y) (number 2) }
     ensures twice_not { folded_unary UnOp.Not (opposite b) ≡ b }
     ensures twice_neg { folded_unary UnOp.Neg (unary_of UnOp.Neg x) ≡ unary_of UnOp.Neg (unary_of UnOp.Neg x) }
+{}
+
+/// The symbol of a fresh variable occurs in no value of a lower variable, and may occur in one of a higher variable.
+pub fn some_valuations_are_proper()
+    ensures below { ¬ IsProper list_then_fresh (list_of_seven ∷ symbol 7 ∷ []) }
+    ensures above { IsProper fresh_then_list (symbol 7 ∷ list_of_seven ∷ []) }
+    ensures too_few { ¬ IsProper fresh_then_list (symbol 7 ∷ []) }
+    ensures other_sort { ¬ IsProper (Sort.Int ∷ []) (boolean true ∷ []) }
+{}
+
+/// Which lists some valuation satisfies.
+pub fn some_lists_have_solutions()
+    ensures one { Satisfies (Sort.Int ∷ []) (integer (pos 1) ∷ []) x_is_one }
+    ensures not_two { ¬ Satisfies (Sort.Int ∷ []) (integer (pos 2) ∷ []) x_is_one }
+    ensures none { IsUnsatisfiable (Sort.Int ∷ []) x_is_none }
 {}

@@ -20,8 +20,9 @@ pub use atoms::{Atom, Atoms};
 pub use deciders::{Decider, Decision, Reason};
 pub use equality::equality_is_identity;
 pub use examples::{
-    limits_of_the_fragment, some_atoms_have_forms, some_kinds_are_known, some_terms_are_simple,
-    some_terms_fold, undefined_terms_are_neither, values_are_those_of_the_table,
+    limits_of_the_fragment, some_atoms_have_forms, some_kinds_are_known, some_lists_have_solutions,
+    some_terms_are_simple, some_terms_fold, some_valuations_are_proper,
+    undefined_terms_are_neither, values_are_those_of_the_table,
 };
 pub use folding::{fold_binary, fold_unary};
 pub use fragment::in_fragment;
@@ -35,3 +36,6 @@ pub use queries::{Choices, Query};
 pub use terms::{Term, Terms};
 pub use truth::{HoldsFault, holds};
 pub use variables::{Sort, Valuation, Var, VarTable};
+
+#[cfg(test)]
+mod tests;

@@ -1,13 +1,9 @@
-use Rattle.std.proofs.Common.{◌≡◌, ◌≤◌, length, Some, slice_get, refl, sym, ◌∙◌, List, arith}
-use Rattle.std.specs.List.{list_all}
+use Rattle.std.proofs.Common.{◌≡◌, ◌≤◌, length, Some, slice_get, sym, ◌∙◌, arith}
 use Rattle.pure_terms.specs.Naming.{names_only_below}
-use Rattle.pure_terms.specs.Pure.{PureTerm, from_list}
 use Rattle.pure_terms.specs.View.{term_view, terms_view}
 use Rattle.pure_terms.proofs.ListTests.{term_at, length_of, all_more, all_fails, all_whole}
 use Rattle.pure_terms.proofs.NamingLaws.{below_list}
 use Rattle.pure_terms.proofs.naming.+below.Goals as goal
-
-
 
 pub terms_name_only_below-returns-then-not-term_names_only_below : goal.terms_name_only_below-returns-then-not-term_names_only_below
 terms_name_only_below-returns-then-not-term_names_only_below t c =
