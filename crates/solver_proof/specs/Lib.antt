@@ -3,6 +3,7 @@ pub mod Closing
 pub mod Lists
 pub mod Pure
 pub mod Refuting
+pub mod Rows
 pub mod Sums
 pub mod View
 pub mod Walks

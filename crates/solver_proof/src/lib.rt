@@ -9,6 +9,7 @@ mod laws;
 mod lists;
 mod proofs;
 mod refuters;
+mod rows;
 
 pub use laws::closed_lists_have_no_solution;
 pub use proofs::{ChainEnd, Factor, Factors, Places, Proof, Proofs};
