@@ -23,7 +23,7 @@ use Rattle.pure_terms.specs.Numbers.{is_held}
 use Rattle.pure_terms.specs.Pure.{PureTerm, literal, variable, list_of, unary_of, binary_of, PureAtom, positive, negative, opening, term_of}
 use Rattle.pure_terms.proofs.KindLaws.{known_kinds_are_right}
 use Rattle.solver_proof.specs.declared.proofs.Factor.{Factor}
-use Rattle.solver_proof.specs.Sums.{Side, integer_variable, integer_of, shifted_side, opposite_of, variable_side, side_of, Row, difference, row_where_true, row_where_false, row_of, row_at, of_row, total, one_if_variable, coefficient, is_factor_of, are_factors, SumCloses}
+use Rattle.solver_proof.specs.Sums.{Side, integer_variable, integer_of, shifted_side, opposite_of, variable_side, side_of, Row, difference, row_where_true, row_where_false, row_of, row_at, of_row, total, one_if_variable, coefficient, is_held_row, is_factor_of, are_factors, SumCloses}
 use Rattle.solver_proof.proofs.Truths.{true_at, over_at, over_sides, false_is, SameValues, true_equality, false_equality}
 
 -- ---- whole numbers
@@ -461,7 +461,7 @@ module _ (vars : List Sort) (v : List PureValue) (proper : IsProper vars v) wher
     from_factor f row holds (inr above) = times-not_positive f (row_value row) (omega (arith, ints, above)) holds.0
 
     part_not_positive : (f : ℤ) (i : ℕ) (o : Option Row) → row_at atoms i ≡ o → is_factor_of f o ≡ true → of_row row_value f o ≤ℤ pos 0
-    part_not_positive f i (Some row) is allowed = from_factor f row (row_holds_at i row is) (or_cases row.is_equal (int_lt (pos 0) f) allowed)
+    part_not_positive f i (Some row) is allowed = from_factor f row (row_holds_at i row is) (or_cases row.is_equal (int_lt (pos 0) f) (and_parts (is_held_row row) (row.is_equal || int_lt (pos 0) f) allowed).1)
     part_not_positive f i None is allowed = absurd (false≢true allowed)
 
     sum_not_positive : (a b : ℤ) → a ≤ℤ pos 0 → b ≤ℤ pos 0 → (a +ℤ b) ≤ℤ pos 0

@@ -96,9 +96,13 @@ one_if_variable x None = pos 0
 abbrev pub coefficient : ℕ → Row → ℤ
 coefficient x row = one_if_variable x row.plus -ℤ one_if_variable x row.minus
 
--- the factor may be that of the atom's row: it is positive, or the row an equality
+-- the code can hold the constant of a row, and its opposite
+abbrev pub is_held_row : Row → Bool
+is_held_row row = is_held row.constant && is_held (neg_ℤ row.constant)
+
+-- the factor may be that of the atom's row: it is positive, or the row an equality; and the code can hold the row
 abbrev pub is_factor_of : ℤ → Option Row → Bool
-is_factor_of f (Some row) = row.is_equal || int_lt (pos 0) f
+is_factor_of f (Some row) = is_held_row row && (row.is_equal || int_lt (pos 0) f)
 is_factor_of f None = false
 
 abbrev pub are_factors : List PureAtom → List Factor → Bool
@@ -118,14 +122,6 @@ abbrev pub is_held_total : List PureAtom → (Row → ℤ) → List Factor → B
 is_held_total atoms part [] = true
 is_held_total atoms part (f ∷ fs) = is_held (of_row part f.factor (row_at atoms f.atom)) && (is_held (total atoms part (f ∷ fs)) && is_held_total atoms part fs)
 
--- the code can hold the constants of the rows
-abbrev pub is_held_row : Option Row → Bool
-is_held_row (Some row) = is_held row.constant
-is_held_row None = true
-
-abbrev pub are_held_rows : List PureAtom → List Factor → Bool
-are_held_rows atoms fs = list_all (λ f. is_held_row (row_at atoms f.atom)) fs
-
 -- the rows of different atoms times their factors add to a positive constant without variables; no number above 1 divides
 -- each factor; and the code can hold the numbers on the way
 pub record SumCloses (atoms : List PureAtom) (fs : List Factor) : Type 0 where
@@ -134,6 +130,5 @@ pub record SumCloses (atoms : List PureAtom) (fs : List Factor) : Type 0 where
   pub constant : pos 0 <ℤ total atoms (λ row. row.constant) fs
   pub variables : (x : ℕ) → total atoms (coefficient x) fs ≡ pos 0
   pub no_divisor : (d : ℕ) → DividesEach d fs → d ≡ 1
-  pub held_rows : IsTrue (are_held_rows atoms fs)
   pub held_constant : IsTrue (is_held_total atoms (λ row. row.constant) fs)
   pub held_variables : (x : ℕ) → IsTrue (is_held_total atoms (coefficient x) fs)
