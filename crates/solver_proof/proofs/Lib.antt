@@ -1,5 +1,6 @@
 pub mod ChainSound
 pub mod Growing
+pub mod HeldRows
 mod Sound
 pub mod SumSound
 pub mod Truths

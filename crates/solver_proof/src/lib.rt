@@ -10,6 +10,7 @@ mod lists;
 mod proofs;
 mod refuters;
 mod rows;
+mod sums;
 
 pub use laws::closed_lists_have_no_solution;
 pub use proofs::{ChainEnd, Factor, Factors, Places, Proof, Proofs};
