@@ -1,6 +1,6 @@
 -- Rows, as the checker has them.
-use Rattle.std.specs.Prelude.{ℕ, ℤ, pos, neg_ℤ, ◌+ℤ◌, ◌*ℤ◌, List, [], ◌∷◌, Bool, true, ◌&&◌, if◌then◌else◌, Option, Some, None}
-use Rattle.std.specs.List.{list_all}
+use Rattle.std.specs.Int.{IsGcd}
+use Rattle.std.specs.Prelude.{◌≡◌, unsigned_abs, ℕ, ℤ, pos, neg_ℤ, ◌+ℤ◌, ◌*ℤ◌, int_lt, List, [], ◌∷◌, Bool, true, false, ◌&&◌, if◌then◌else◌, Option, Some, None}
 use Rattle.std.specs.Ordering.{int_eq}
 use Rattle.pure_terms.specs.Pure.{PureAtom}
 use Rattle.solver_proof.specs.declared.proofs.Factor.{Factor}
@@ -8,7 +8,7 @@ use Rattle.solver_proof.specs.declared.sums.Part.{Part}
 use Rattle.pure_terms.specs.Numbers.{is_held}
 use Rattle.solver_proof.specs.declared.rows.Offset.{Offset}
 use Rattle.solver_proof.specs.declared.rows.Row.{Row as HeldRow}
-use Rattle.solver_proof.specs.Sums.{Side, Row, is_held_row, row_at, total, coefficient, is_held_total}
+use Rattle.solver_proof.specs.Sums.{Side, Row, is_held_row, row_at, coefficient}
 
 abbrev pub offset_view : Offset → Side
 offset_view o = record { of = o.of; plus = o.plus }
@@ -45,22 +45,29 @@ abbrev pub sum_of_rows : List PureAtom → (Row → ℤ) → List Factor → Opt
 sum_of_rows atoms part [] = Some (pos 0)
 sum_of_rows atoms part (f ∷ fs) = held_sum (row_product part f.factor (held_row (row_at atoms f.atom))) (sum_of_rows atoms part fs)
 
--- the sum, where the code can hold the numbers on the way
-abbrev pub held_total : List PureAtom → (Row → ℤ) → List Factor → Option ℤ
-held_total atoms part fs = if is_held_total atoms part fs then Some (total atoms part fs) else None
+abbrev pub is_zero : Option ℤ → Bool
+is_zero (Some n) = int_eq n (pos 0)
+is_zero None = false
+
+abbrev pub is_positive : Option ℤ → Bool
+is_positive (Some n) = int_lt (pos 0) n
+is_positive None = false
 
 -- the coefficient of the variable vanishes
-abbrev pub vanishes : List PureAtom → List Factor → ℕ → Bool
-vanishes atoms fs x = is_held_total atoms (coefficient x) fs && int_eq (total atoms (coefficient x) fs) (pos 0)
+abbrev pub variable_cancels : List PureAtom → List Factor → Option ℕ → Bool
+variable_cancels atoms fs (Some x) = is_zero (sum_of_rows atoms (part_of (Part.Coefficient x)) fs)
+variable_cancels atoms fs None = true
 
-abbrev pub variable_vanishes : List PureAtom → List Factor → Option ℕ → Bool
-variable_vanishes atoms fs (Some x) = vanishes atoms fs x
-variable_vanishes atoms fs None = true
-
-abbrev pub row_vanishes : List PureAtom → List Factor → Option Row → Bool
-row_vanishes atoms fs (Some row) = variable_vanishes atoms fs row.plus && variable_vanishes atoms fs row.minus
-row_vanishes atoms fs None = true
+abbrev pub row_cancels : List PureAtom → List Factor → Option Row → Bool
+row_cancels atoms fs (Some row) = variable_cancels atoms fs row.plus && variable_cancels atoms fs row.minus
+row_cancels atoms fs None = true
 
 -- the coefficient of each variable of these rows vanishes
-abbrev pub cancel_each : List PureAtom → List Factor → List Factor → Bool
-cancel_each atoms fs some = list_all (λ f. row_vanishes atoms fs (row_at atoms f.atom)) some
+abbrev pub cancel_rows : List PureAtom → List Factor → List Factor → Bool
+cancel_rows atoms fs [] = true
+cancel_rows atoms fs (f ∷ some) = row_cancels atoms fs (held_row (row_at atoms f.atom)) && cancel_rows atoms fs some
+
+-- g is the greatest common divisor of the factors, and 0 where there are none
+abbrev pub IsCommonDivisor : List Factor → ℕ → Type 0
+IsCommonDivisor [] g = g ≡ 0
+IsCommonDivisor (f ∷ fs) g = (h : ℕ) × (IsCommonDivisor fs h × IsGcd (unsigned_abs f.factor) h g)

@@ -1,12 +1,13 @@
 //! Whether rows times their factors add to a positive constant without variables.
-ghost use Rattle.std.specs.Prelude.{◌≡◌, ◌*ℤ◌, ◌≤ℤ◌, pos, map, nat_eq};
+ghost use Rattle.std.specs.Prelude.{◌≡◌, ◌↔◌, ◌*ℤ◌, ◌≤ℤ◌, pos, map, nat_eq, unsigned_abs, IsTrue};
+ghost use Rattle.std.specs.Int.{IsGcd};
 ghost use Rattle.std.specs.List.{list_any};
 ghost use Rattle.solver_proof.specs.Lists.{list_view};
-ghost use Rattle.solver_proof.specs.Rows.{row_view, part_of, held_row, held_number, held_sum, row_product, sum_of_rows};
-ghost use Rattle.solver_proof.specs.Sums.{row_at, one_if_variable, is_factor_of, are_factors, are_apart};
+ghost use Rattle.solver_proof.specs.Rows.{row_view, part_of, held_row, held_number, held_sum, row_product, sum_of_rows, is_zero, is_positive, variable_cancels, row_cancels, cancel_rows, IsCommonDivisor};
+ghost use Rattle.solver_proof.specs.Sums.{row_at, one_if_variable, is_factor_of, are_factors, are_apart, SumCloses};
 
 use crate::lists::AtomList;
-use crate::proofs::Factor;
+use crate::proofs::{Factor, Factors};
 use crate::rows::{Row, find_row};
 
 /// What of a row is added up.
@@ -118,4 +119,101 @@ fn sum_of(first: Option<i128>, rest: Option<i128>) -> Option<i128>
         },
         None => None,
     }
+}
+
+/// Whether the coefficient of each variable of these rows vanishes in the sum.
+fn cancel(list: &AtomList<'_>, factors: &[Factor], some: &[Factor]) -> bool
+    ensures { result ≡ cancel_rows (list_view list.now) factors.now some.now }
+{
+    match some {
+        [] => true,
+        [first, rest @ ..] => row_cancels(list, factors, first) && cancel(list, factors, rest),
+    }
+}
+
+fn row_cancels(list: &AtomList<'_>, factors: &[Factor], factor: &Factor) -> bool
+    ensures { result ≡ row_cancels (list_view list.now) factors.now (held_row (row_at (list_view list.now) factor.now.atom)) }
+{
+    match find_row(list, factor.atom) {
+        Some(row) => {
+            variable_cancels(list, factors, row.plus) && variable_cancels(list, factors, row.minus)
+        }
+        None => true,
+    }
+}
+
+fn variable_cancels(list: &AtomList<'_>, factors: &[Factor], variable: Option<u64>) -> bool
+    ensures { result ≡ variable_cancels (list_view list.now) factors.now variable }
+{
+    match variable {
+        Some(number) => is_zero(total(list, factors, Part::Coefficient(number))),
+        None => true,
+    }
+}
+
+fn is_zero(number: Option<i128>) -> bool
+    ensures { result ≡ is_zero number }
+{
+    match number {
+        Some(n) => n == 0,
+        None => false,
+    }
+}
+
+fn is_positive(number: Option<i128>) -> bool
+    ensures { result ≡ is_positive number }
+{
+    match number {
+        Some(n) => 0 < n,
+        None => false,
+    }
+}
+
+/// The factor without its sign.
+fn size(factor: &Factor) -> u128
+    ensures { result ≡ unsigned_abs factor.now.factor }
+{
+    factor.factor.unsigned_abs()
+}
+
+/// The greatest number that divides each factor.
+fn common_divisor(factors: &[Factor]) -> u128
+    ensures { IsCommonDivisor factors.now result }
+{
+    match factors {
+        [] => 0,
+        [first, rest @ ..] => {
+            greatest_common_divisor(size(first), common_divisor(rest))
+        }
+    }
+}
+
+/// Euclid's algorithm.
+fn greatest_common_divisor(m: u128, n: u128) -> u128
+    ensures { IsGcd m n result }
+{
+    if n == 0 {
+        return m;
+    }
+    greatest_common_divisor(n, m % n)
+}
+
+/// Whether the rows of different atoms times their factors add to a positive constant without variables.
+pub(crate) fn sum_closes(list: &AtomList<'_>, factors: &Factors) -> bool
+    ensures { IsTrue result ↔ SumCloses (list_view list.now) factors.now }
+{
+    let factors = factors.as_slice();
+    if !are_apart(factors) {
+        return false;
+    }
+    if !are_factors(list, factors) {
+        return false;
+    }
+    if !is_positive(total(list, factors, Part::Constant)) {
+        return false;
+    }
+    if !cancel(list, factors, factors) {
+        return false;
+    }
+    common_divisor(factors) == 1
 }
