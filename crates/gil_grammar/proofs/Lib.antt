@@ -1,3 +1,4 @@
+pub mod AnnotationLaws
 pub mod AssertionLaws
 pub mod AssertionReads
 pub mod CommandLaws
@@ -7,5 +8,6 @@ pub mod ListLaws
 pub mod MadeLaws
 pub mod NestingLaws
 pub mod ProgramLaws
+pub mod RestLaws
 pub mod TextLaws
 pub mod VocabularyLaws

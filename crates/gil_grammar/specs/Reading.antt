@@ -6,3 +6,4 @@ pub mod Assertions
 pub mod Commands
 pub mod Programs
 pub mod Texts
+pub mod Annotations

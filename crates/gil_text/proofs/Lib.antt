@@ -2,3 +2,4 @@ pub mod BlockLoop
 pub mod BodyLoop
 pub mod ItemLoop
 pub mod RefusalLemmas
+pub mod AnnotationLemmas

@@ -1,3 +1,4 @@
+pub mod Annotated
 pub mod Blocks
 pub mod Brackets
 pub mod Located

@@ -1,6 +1,7 @@
 //! GIL texts: the programs that they spell are read, exactly.
 #![tactic(auto)]
 
+mod annotations;
 mod assertions;
 mod blocks;
 mod commands;
@@ -14,5 +15,6 @@ mod refused;
 mod texts;
 mod vocabulary;
 
+pub use annotations::{Annotation, annotation_at, read_assertions};
 pub use refused::{Refused, RefusedKind};
 pub use texts::read_prog;

@@ -46,7 +46,7 @@ fn tokens_of(alloc: Global, bytes: &[u8]) -> Result<Tokens, Refused>
 }
 
 /// The byte at which the last tokens of the text begin, so many of them, or its length where there are none.
-fn place_of(bytes: &[u8], tokens: &[Token], left: usize) -> usize {
+pub(crate) fn place_of(bytes: &[u8], tokens: &[Token], left: usize) -> usize {
     if left == 0 {
         bytes.len()
     } else {
