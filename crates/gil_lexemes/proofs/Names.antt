@@ -8,7 +8,6 @@ use Rattle.std.proofs.lemmas.Str.{IsUtf8-from_ascii}
 use Rattle.gil_values.specs.Characters.{IsTextCharacter, IsText}
 use Rattle.gil_lexer.specs.Bytes.{hash, at_sign, is_name_byte}
 use Rattle.gil_lexer.specs.Spelling.{IsName, IsMarkedName}
-
 use Rattle.std.proofs.lemmas.List.Elements.{All-cons, All-nil, All-tail}
 
 name_byte_character : (b : ℕ) → is_name_byte b ≡ true → (32 ≤ b) × (b ≤ 126)

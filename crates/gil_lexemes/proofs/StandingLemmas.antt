@@ -44,4 +44,3 @@ stand_once bytes (t ∷ tokens) (l ∷ ls) (k ∷ ks) h g =
     let first = stands_once t.form _ l k h.0 g.0 in
     let rest = stand_once bytes tokens ls ks h.1 g.1 in
     rw (first, rest) refl
-

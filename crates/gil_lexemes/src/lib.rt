@@ -4,6 +4,8 @@
 mod cursor;
 mod standing;
 mod stops;
+#[cfg(test)]
+mod tests;
 
 pub use cursor::Cursor;
 pub use standing::{Lexeme, lexemes};

@@ -39,10 +39,10 @@ numbered_more body count c h =
     let last : one ≡ record { command = c; at = 0 + length (commands_of body) } = ap (λ k. record { command = c; at = k }) place in
     record {
       numbered =
-        ap (λ (front : List PureNumberedCommand). front ++ one ∷ []) h.numbered
-        ∙ ap (λ (d : PureNumberedCommand). numbered_from 0 (commands_of body) ++ d ∷ []) last
-        ∙ sym (numbered_push 0 (commands_of body) c)
-        ∙ ap (numbered_from 0) (sym (commands_push body one));
+          ap (λ (front : List PureNumberedCommand). front ++ one ∷ []) h.numbered
+          ∙ ap (λ (d : PureNumberedCommand). numbered_from 0 (commands_of body) ++ d ∷ []) last
+          ∙ sym (numbered_push 0 (commands_of body) c)
+          ∙ ap (numbered_from 0) (sym (commands_push body one));
       count_is = length-append body (one ∷ []) ∙ omega (arith, h.count_is);
     }
 

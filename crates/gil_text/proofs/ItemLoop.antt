@@ -25,9 +25,14 @@ kept_push f xs x = filter_map-append f xs (x ∷ []) ∙ ap (λ ys. filter_map f
 -- the lists with one item more
 pub located_push : (items : List PlacedItem) (i : PlacedItem) → located_of (items ++ i ∷ []) ≡ with_item (located_of items) i
 located_push items i =
-    rw (kept_push (λ (j : PlacedItem). as_proc j.item) items i, kept_push (λ (j : PlacedItem). as_spec j.item) items i, kept_push (λ (j : PlacedItem). as_pred j.item) items i,
-      kept_push (λ (j : PlacedItem). place_if j.at (as_proc j.item)) items i, kept_push (λ (j : PlacedItem). place_if j.at (as_spec j.item)) items i,
-      kept_push (λ (j : PlacedItem). place_if j.at (as_pred j.item)) items i) refl
+    rw (
+      kept_push (λ (j : PlacedItem). as_proc j.item) items i,
+      kept_push (λ (j : PlacedItem). as_spec j.item) items i,
+      kept_push (λ (j : PlacedItem). as_pred j.item) items i,
+      kept_push (λ (j : PlacedItem). place_if j.at (as_proc j.item)) items i,
+      kept_push (λ (j : PlacedItem). place_if j.at (as_spec j.item)) items i,
+      kept_push (λ (j : PlacedItem). place_if j.at (as_pred j.item)) items i,
+    ) refl
 
 -- some items were read, whose lists these are, and of the lexemes that are left at most n more are read
 pub record ItemsSoFar (tokens : List Token) (n : ℕ) (ls : List Lexeme) (located : PureLocated) (total : Option (List PlacedItem)) : Type 0 where
@@ -48,7 +53,7 @@ items_go_on tokens n i (l ∷ ls) after item located total lt some read h =
     let one : PlacedItem = record { item = item; at = byte_before tokens (length (l ∷ ls)) } in
     let k : n - i ≡ suc (n - (i + 1)) = omega arith in
     let step : with_items h.front (items_at tokens (n - i) (l ∷ ls)) ≡ with_items (h.front ++ one ∷ []) (items_at tokens (n - (i + 1)) after) =
-      rw (k, read) (regroup h.front one (items_at tokens (n - (i + 1)) after)) in
+    rw (k, read) (regroup h.front one (items_at tokens (n - (i + 1)) after)) in
     record {
       front = h.front ++ one ∷ [];
       lists = ap (λ (p : PureLocated). with_item p one) h.lists ∙ sym (located_push h.front one);

@@ -55,9 +55,13 @@ nesting_refusal bytes tokens ls at text stand deep = (tokens, ls, record { text 
 pub syntax_refusal : (bytes : List ℕ) (tokens : List Token) (ls : List Lexeme) (at : ℕ) → AreTokensOf tokens bytes → StandForAll bytes tokens ls → IsNested ls
     → option_map located_of (program_at tokens ls) ≡ None → IsRefusedFor bytes at refusals.Syntax
 syntax_refusal bytes tokens ls at text stand nested e =
-    let none = map_none located_of (program_at tokens ls) e in
-    (tokens, ls, record { text = text; stand = stand }, nested,
-      λ items spells first. let some = program_again tokens ls items (nested_whole ls nested) spells first in cc (none, some))
+    let none = map_none located_of (program_at tokens ls) e in (
+      tokens,
+      ls,
+      record { text = text; stand = stand },
+      nested,
+      λ items spells first. let some = program_again tokens ls items (nested_whole ls nested) spells first in cc (none, some),
+    )
 
 -- ---- what excludes what
 
@@ -94,10 +98,16 @@ item_count items =
     let specs_at = filter_map (λ (i : PlacedItem). place_if i.at (as_spec i.item)) items in
     let preds_at = filter_map (λ (i : PlacedItem). place_if i.at (as_pred i.item)) items in
     let left : length (procs_at ++ specs_at ++ preds_at) ≡ length procs_at + length specs_at + length preds_at =
-      omega (arith, length-append (procs_at ++ specs_at) preds_at, length-append procs_at specs_at) in
+    omega (arith, length-append (procs_at ++ specs_at) preds_at, length-append procs_at specs_at) in
     let right : length (map a_proc p.procs ++ map a_spec p.specs ++ map a_pred p.preds) ≡ length p.procs + length p.specs + length p.preds =
-      omega (arith, length-append (map a_proc p.procs ++ map a_spec p.specs) (map a_pred p.preds), length-append (map a_proc p.procs) (map a_spec p.specs),
-        length-map p.procs a_proc, length-map p.specs a_spec, length-map p.preds a_pred) in
+    omega (
+      arith,
+      length-append (map a_proc p.procs ++ map a_spec p.specs) (map a_pred p.preds),
+      length-append (map a_proc p.procs) (map a_spec p.specs),
+      length-map p.procs a_proc,
+      length-map p.specs a_spec,
+      length-map p.preds a_pred,
+    ) in
     omega (arith, left, right, places_count PureProc as_proc items, places_count PureSpec as_spec items, places_count PurePredDef as_pred items)
 
 at_fault_within : (p : PureParts) (kind : InvalidKind) (i : ℕ) (o : Option ProgramItem) → slice_get (items_of p) i ≡ o → IsAtFault p kind i → i < length (items_of p)

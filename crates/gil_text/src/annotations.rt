@@ -51,7 +51,11 @@ fn predicate_at<'a>(alloc: Global, cursor: Cursor<'a>) -> Result<(Annotation, Cu
 }
 
 /// The logic command at the front, which begins with this reserved word.
-fn logic_annotation<'a>(alloc: Global, word: Word, cursor: Cursor<'a>) -> Result<(Annotation, Cursor<'a>), Stop>
+fn logic_annotation<'a>(
+    alloc: Global,
+    word: Word,
+    cursor: Cursor<'a>,
+) -> Result<(Annotation, Cursor<'a>), Stop>
     ensures { Gives (λ found. (annotation_view found.0, found.1)) result (read.logic_at word cursor.entry) }
 {
     let (command, cursor) = logic_at(alloc, word, cursor)?;

@@ -147,17 +147,19 @@ pub(crate) fn expressions_at<'a>(
 
 /// `name(e, ..; e, ..)`
 #[tactic(auto, unfolding(gil_grammar::specs::Reading::Assertions::use_at))]
-pub(crate) fn use_at<'a>(
-    alloc: Global,
-    cursor: Cursor<'a>,
-) -> Result<(PredUse, Cursor<'a>), Stop>
+pub(crate) fn use_at<'a>(alloc: Global, cursor: Cursor<'a>) -> Result<(PredUse, Cursor<'a>), Stop>
     ensures { Gives (λ found. (pred_use_view found.0, found.1)) result (read.use_at cursor.entry) }
 {
     let (pred, cursor) = named_at(alloc, Position::Predicate, cursor)?;
     let cursor = cursor.sign(Sign::LeftParenthesis)?;
     let (ins, cursor) = expressions_at(alloc, Position::Assertion, Sign::Semicolon, cursor)?;
     let cursor = cursor.sign(Sign::Semicolon)?;
-    let (outs, cursor) = expressions_at(alloc, Position::Assertion, Sign::RightParenthesis, cursor)?;
+    let (outs, cursor) = expressions_at(
+        alloc,
+        Position::Assertion,
+        Sign::RightParenthesis,
+        cursor,
+    )?;
     let cursor = cursor.sign(Sign::RightParenthesis)?;
     Ok((PredUse { pred, ins, outs }, cursor))
 }

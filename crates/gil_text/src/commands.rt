@@ -17,7 +17,11 @@ use sequence::Sequence;
 use std::alloc::Global;
 
 /// `e`, which is assigned to the variable.
-fn assign_at<'a>(alloc: Global, variable: Text, cursor: Cursor<'a>) -> Result<(Command, Cursor<'a>), Stop>
+fn assign_at<'a>(
+    alloc: Global,
+    variable: Text,
+    cursor: Cursor<'a>,
+) -> Result<(Command, Cursor<'a>), Stop>
     ensures { Gives (λ found. (command_view found.0, found.1)) result (read.assign_at variable cursor.entry) }
 {
     let (value, cursor) = expression_at(alloc, Position::Command, cursor)?;
@@ -26,24 +30,42 @@ fn assign_at<'a>(alloc: Global, variable: Text, cursor: Cursor<'a>) -> Result<(C
 
 /// `e(e, ..)`, behind `call`.
 #[tactic(auto, unfolding(gil_grammar::specs::Reading::Commands::call_at))]
-fn call_at<'a>(alloc: Global, variable: Text, cursor: Cursor<'a>) -> Result<(Command, Cursor<'a>), Stop>
+fn call_at<'a>(
+    alloc: Global,
+    variable: Text,
+    cursor: Cursor<'a>,
+) -> Result<(Command, Cursor<'a>), Stop>
     ensures { Gives (λ found. (command_view found.0, found.1)) result (read.call_at variable cursor.entry) }
 {
     let (callee, cursor) = expression_at(alloc, Position::Command, cursor)?;
     let cursor = cursor.sign(Sign::LeftParenthesis)?;
-    let (arguments, cursor) = expressions_at(alloc, Position::Command, Sign::RightParenthesis, cursor)?;
+    let (arguments, cursor) = expressions_at(
+        alloc,
+        Position::Command,
+        Sign::RightParenthesis,
+        cursor,
+    )?;
     let cursor = cursor.sign(Sign::RightParenthesis)?;
     Ok((Command::Call(variable, callee, arguments), cursor))
 }
 
 /// `action(e, ..)`, behind `do`.
 #[tactic(auto, unfolding(gil_grammar::specs::Reading::Commands::act_at))]
-fn act_at<'a>(alloc: Global, variable: Text, cursor: Cursor<'a>) -> Result<(Command, Cursor<'a>), Stop>
+fn act_at<'a>(
+    alloc: Global,
+    variable: Text,
+    cursor: Cursor<'a>,
+) -> Result<(Command, Cursor<'a>), Stop>
     ensures { Gives (λ found. (command_view found.0, found.1)) result (read.act_at variable cursor.entry) }
 {
     let (action, cursor) = named_at(alloc, Position::Action, cursor)?;
     let cursor = cursor.sign(Sign::LeftParenthesis)?;
-    let (arguments, cursor) = expressions_at(alloc, Position::Command, Sign::RightParenthesis, cursor)?;
+    let (arguments, cursor) = expressions_at(
+        alloc,
+        Position::Command,
+        Sign::RightParenthesis,
+        cursor,
+    )?;
     let cursor = cursor.sign(Sign::RightParenthesis)?;
     Ok((Command::Act(variable, action, arguments), cursor))
 }
@@ -63,7 +85,11 @@ fn isym_at<'a>(variable: Text, cursor: Cursor<'a>) -> Result<(Command, Cursor<'a
 }
 
 /// What is assigned to the variable, behind `:=`.
-fn assigned_at<'a>(alloc: Global, variable: Text, cursor: Cursor<'a>) -> Result<(Command, Cursor<'a>), Stop>
+fn assigned_at<'a>(
+    alloc: Global,
+    variable: Text,
+    cursor: Cursor<'a>,
+) -> Result<(Command, Cursor<'a>), Stop>
     ensures { Gives (λ found. (command_view found.0, found.1)) result (read.assigned_at variable cursor.entry) }
 {
     match cursor.first() {
@@ -153,7 +179,11 @@ pub(crate) fn names_at<'a>(
 }
 
 /// The names of the list, and those at the front that stand behind a comma each.
-fn more_names<'a>(alloc: Global, list: Texts, cursor: Cursor<'a>) -> Result<(Texts, Cursor<'a>), Stop>
+fn more_names<'a>(
+    alloc: Global,
+    list: Texts,
+    cursor: Cursor<'a>,
+) -> Result<(Texts, Cursor<'a>), Stop>
     ensures { Gives (λ found. (found.0, found.1)) result
         (with_front list (more_at name_at (length cursor.entry) signs.Comma cursor.entry)) }
 {
@@ -186,7 +216,11 @@ fn invariant_at<'a>(alloc: Global, cursor: Cursor<'a>) -> Result<(Command, Curso
 }
 
 /// The command of which assertions are made, which begins with this reserved word.
-pub(crate) fn logic_at<'a>(alloc: Global, word: Word, cursor: Cursor<'a>) -> Result<(Command, Cursor<'a>), Stop>
+pub(crate) fn logic_at<'a>(
+    alloc: Global,
+    word: Word,
+    cursor: Cursor<'a>,
+) -> Result<(Command, Cursor<'a>), Stop>
     ensures { Gives (λ found. (command_view found.0, found.1)) result (read.logic_by word cursor.entry) }
 {
     match word {
@@ -199,7 +233,11 @@ pub(crate) fn logic_at<'a>(alloc: Global, word: Word, cursor: Cursor<'a>) -> Res
 }
 
 /// The command that begins with this reserved word.
-fn worded_at<'a>(alloc: Global, word: Word, cursor: Cursor<'a>) -> Result<(Command, Cursor<'a>), Stop>
+fn worded_at<'a>(
+    alloc: Global,
+    word: Word,
+    cursor: Cursor<'a>,
+) -> Result<(Command, Cursor<'a>), Stop>
     ensures { Gives (λ found. (command_view found.0, found.1)) result (read.worded_by word cursor.entry) }
 {
     match word {
@@ -225,7 +263,10 @@ fn command_at<'a>(alloc: Global, cursor: Cursor<'a>) -> Result<(Command, Cursor<
 
 /// The command at the front, and its `;`.
 #[tactic(auto, unfolding(gil_grammar::specs::Reading::Commands::statement_at))]
-pub(crate) fn statement_at<'a>(alloc: Global, cursor: Cursor<'a>) -> Result<(Command, Cursor<'a>), Stop>
+pub(crate) fn statement_at<'a>(
+    alloc: Global,
+    cursor: Cursor<'a>,
+) -> Result<(Command, Cursor<'a>), Stop>
     ensures { Gives (λ found. (command_view found.0, found.1)) result (read.statement_at cursor.entry) }
 {
     let (command, cursor) = command_at(alloc, cursor)?;

@@ -12,6 +12,8 @@ mod places;
 mod programs;
 mod reading;
 mod refused;
+#[cfg(test)]
+mod tests;
 mod texts;
 mod vocabulary;
 

@@ -57,7 +57,11 @@ fn proc_at<'a>(alloc: Global, cursor: Cursor<'a>) -> Result<(Proc, Cursor<'a>), 
 
 /// `name(x : sort, ..) [#x : sort, ..] { precondition } { postcondition } ..`, behind `spec`.
 #[tactic(auto, unfolding(gil_grammar::specs::Reading::Programs::spec_at))]
-pub(crate) fn spec_at<'a>(alloc: Global, extent: Extent, cursor: Cursor<'a>) -> Result<(Spec, Cursor<'a>), Stop>
+pub(crate) fn spec_at<'a>(
+    alloc: Global,
+    extent: Extent,
+    cursor: Cursor<'a>,
+) -> Result<(Spec, Cursor<'a>), Stop>
     ensures { Gives (λ found. (spec_view found.0, found.1)) result (read.spec_at extent cursor.entry) }
 {
     let (name, cursor) = cursor.name(alloc)?;
@@ -79,7 +83,11 @@ pub(crate) fn spec_at<'a>(alloc: Global, extent: Extent, cursor: Cursor<'a>) -> 
 
 /// `name(x : sort, ..; x : sort, ..) [#x : sort, ..] { case } ..`, behind `pred`.
 #[tactic(auto, unfolding(gil_grammar::specs::Reading::Programs::pred_at))]
-pub(crate) fn pred_at<'a>(alloc: Global, extent: Extent, cursor: Cursor<'a>) -> Result<(PredDef, Cursor<'a>), Stop>
+pub(crate) fn pred_at<'a>(
+    alloc: Global,
+    extent: Extent,
+    cursor: Cursor<'a>,
+) -> Result<(PredDef, Cursor<'a>), Stop>
     ensures { Gives (λ found. (pred_def_view found.0, found.1)) result (read.pred_at extent cursor.entry) }
 {
     let (name, cursor) = named_at(alloc, Position::Predicate, cursor)?;

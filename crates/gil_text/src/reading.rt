@@ -47,7 +47,11 @@ fn items_at(alloc: Global, tokens: &[Token], cursor: Cursor<'_>) -> Result<Locat
 
 /// The items of the program of which the text consists.
 #[tactic(auto, unfolding(gil_grammar::specs::Reading::Texts::program_at))]
-pub(crate) fn program_at(alloc: Global, tokens: &[Token], cursor: Cursor<'_>) -> Result<Located, Stop>
+pub(crate) fn program_at(
+    alloc: Global,
+    tokens: &[Token],
+    cursor: Cursor<'_>,
+) -> Result<Located, Stop>
     ensures { Gives located_view result (option_map located_of (read.program_at tokens.now cursor.entry)) }
 {
     if !cursor.is_at_word(Word::Proc) {

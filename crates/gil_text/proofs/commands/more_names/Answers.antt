@@ -15,13 +15,13 @@ pub returns-in_err-name : goal.returns-in_err-name
 returns-in_err-name c =
     let p = err_from_is_err_and c.from_residual.result c.from_residual.ensures.1 in
     rw (p.1, p.2) (more_stops name_at c.loop.list c.left-most.result c.loop.counter signs.Comma c.loop.rest _
-      c.in_err-name.field-0.0 c.loop-test.true (sym c.is_at.ensures ∙ c.if-not-is_at.false) (rw c.behind.ensures at c.in_err-name.ensures) c.loop.invariant)
+    c.in_err-name.field-0.0 c.loop-test.true (sym c.is_at.ensures ∙ c.if-not-is_at.false) (rw c.behind.ensures at c.in_err-name.ensures) c.loop.invariant)
 
 pub loop-preserved : goal.loop-preserved
 loop-preserved c =
     let e : c.push.new.self ≡ c.loop.list ++ c.in_ok-name.name ∷ [] = c.in_ok-push.ensures.ok in
     rw e (more_goes_on name_at c.loop.list c.left-most.result c.loop.counter signs.Comma c.loop.rest _
-      c.in_ok-name.name c.in_ok-name.behind c.loop-test.true (sym c.is_at.ensures ∙ c.if-not-is_at.false) (rw c.behind.ensures at c.in_ok-name.ensures) c.loop.invariant)
+    c.in_ok-name.name c.in_ok-name.behind c.loop-test.true (sym c.is_at.ensures ∙ c.if-not-is_at.false) (rw c.behind.ensures at c.in_ok-name.ensures) c.loop.invariant)
 
 pub returns : goal.returns
 returns c = more_is_done name_at c.loop.list c.left-most.result c.loop.counter signs.Comma c.loop.rest _ c.loop-test.false c.loop.invariant

@@ -15,14 +15,14 @@ pub more_exprs-returns-in_err-expression : goal.more_exprs-returns-in_err-expres
 more_exprs-returns-in_err-expression t c =
     let p = err_from_is_err_and c.from_residual.result c.from_residual.ensures.1 in
     rw (p.1, p.2) (more_stops (read.expr_at c.args.inner c.args.position) (exprs_view c.loop.list) c.left-most.result c.loop.counter signs.Comma c.loop.rest _
-      c.in_err-expression.field-0.0 c.loop-test.true (sym c.is_at.ensures ∙ c.if-not-is_at.false) (rw c.behind.ensures at c.in_err-expression.ensures) c.loop.invariant)
+    c.in_err-expression.field-0.0 c.loop-test.true (sym c.is_at.ensures ∙ c.if-not-is_at.false) (rw c.behind.ensures at c.in_err-expression.ensures) c.loop.invariant)
 
 pub more_exprs-loop-preserved : goal.more_exprs-loop-preserved
 more_exprs-loop-preserved t c =
     let e : exprs_view c.push.new.self ≡ exprs_view c.loop.list ++ expr_view c.in_ok-expression.expression ∷ [] = c.in_ok-push.ensures.ok in
     rw e (more_goes_on (read.expr_at c.args.inner c.args.position) (exprs_view c.loop.list) c.left-most.result c.loop.counter signs.Comma c.loop.rest _
-      (expr_view c.in_ok-expression.expression) c.in_ok-expression.behind c.loop-test.true (sym c.is_at.ensures ∙ c.if-not-is_at.false)
-      (rw c.behind.ensures at c.in_ok-expression.ensures) c.loop.invariant)
+    (expr_view c.in_ok-expression.expression) c.in_ok-expression.behind c.loop-test.true (sym c.is_at.ensures ∙ c.if-not-is_at.false)
+    (rw c.behind.ensures at c.in_ok-expression.ensures) c.loop.invariant)
 
 pub more_exprs-returns : goal.more_exprs-returns
 more_exprs-returns t c =

@@ -15,14 +15,14 @@ returns-then-is_at c =
     let body = map numbered_command_view c.loop-index.list in
     body_read c.args.cursor c.loop-index.rest body c.loop-index.index c.loop-index.invariant.numbered
     (each_ends statement_at (commands_of body) c.left-most.result c.loop-index.index RightBrace c.loop-index.rest _
-      c.loop-index-test.true (sym c.is_at.ensures ∙ c.if-is_at.true) c.loop-index.invariant.so_far)
+    c.loop-index-test.true (sym c.is_at.ensures ∙ c.if-is_at.true) c.loop-index.invariant.so_far)
 
 pub returns-in_err-command : goal.returns-in_err-command
 returns-in_err-command c =
     let p = err_from_is_err_and c.from_residual.result c.from_residual.ensures.1 in
     rw (p.1, p.2) (body_stops c.in_err-command.field-0.0 c.args.cursor
-      (each_stops statement_at (commands_of (map numbered_command_view c.loop-index.list)) c.left-most.result c.loop-index.index RightBrace c.loop-index.rest _
-        c.in_err-command.field-0.0 c.loop-index-test.true (sym c.is_at.ensures ∙ c.if-is_at.false) c.in_err-command.ensures c.loop-index.invariant.so_far))
+    (each_stops statement_at (commands_of (map numbered_command_view c.loop-index.list)) c.left-most.result c.loop-index.index RightBrace c.loop-index.rest _
+    c.in_err-command.field-0.0 c.loop-index-test.true (sym c.is_at.ensures ∙ c.if-is_at.false) c.in_err-command.ensures c.loop-index.invariant.so_far))
 
 pub loop-index-preserved : goal.loop-index-preserved
 loop-index-preserved c =
@@ -31,7 +31,7 @@ loop-index-preserved c =
     let e : map numbered_command_view c.push.new.self ≡ body ++ one ∷ [] = rw (c.in_ok-push.ensures.ok, c.in-Ok.ensures.1) (map_push numbered_command_view c.loop-index.list _) in
     rw e (record {
       so_far = rw (commands_push body one) (each_goes_on statement_at (commands_of body) c.left-most.result c.loop-index.index RightBrace c.loop-index.rest _
-        one.command c.in_ok-command.behind c.loop-index-test.true (sym c.is_at.ensures ∙ c.if-is_at.false) c.in_ok-command.ensures c.loop-index.invariant.so_far);
+          one.command c.in_ok-command.behind c.loop-index-test.true (sym c.is_at.ensures ∙ c.if-is_at.false) c.in_ok-command.ensures c.loop-index.invariant.so_far);
       numbered = numbered_more body c.loop-index.index one.command c.loop-index.invariant.numbered;
     })
 

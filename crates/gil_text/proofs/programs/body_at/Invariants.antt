@@ -10,7 +10,7 @@ use Rattle.gil_text.proofs.programs.body_at.Given as goal
 abbrev pub invariant-loop-index : goal.invariant-loop-index
 invariant-loop-index l = record {
   so_far :
-    with_front (commands_of (map numbered_command_view l.list)) (each_until statement_at (l.most - l.index) RightBrace l.rest)
-    ≡ each_until statement_at (length l.fn.cursor) RightBrace l.fn.cursor;
+      with_front (commands_of (map numbered_command_view l.list)) (each_until statement_at (l.most - l.index) RightBrace l.rest)
+      ≡ each_until statement_at (length l.fn.cursor) RightBrace l.fn.cursor;
   numbered : AreNumbered (map numbered_command_view l.list) l.index;
 }
