@@ -37,145 +37,147 @@ fn expect_refused(rt: &(impl Abort + AllocGlobal), text: &str, at: usize, kind: 
     }
 }
 
+// Texts, the byte at which each is refused, and why.
+const REFUSED: [(&str, usize, RefusedKind); 33] = [
+    ("", 0, RefusedKind::Syntax),
+    ("proc main() {", 13, RefusedKind::Syntax),
+    (
+        "proc main() {\nreturn 9223372036854775808;",
+        21,
+        RefusedKind::Lex,
+    ),
+    (
+        "proc main() {\nreturn [[[[[[[[[[[[[[[[[[[[[[[[[[[[[[[[[[[[[[[[[[[[[[[[[[[[[[[[[[[[[[[[",
+        84,
+        RefusedKind::Nesting,
+    ),
+    (
+        "x(((((((((((((((((((((((((((((((((((((((((((((((((((((((((((((((((",
+        65,
+        RefusedKind::Nesting,
+    ),
+    (
+        "([{([{([{([{([{([{([{([{([{([{([{([{([{([{([{([{([{([{([{([{([{((",
+        64,
+        RefusedKind::Nesting,
+    ),
+    (
+        "(((((((((((((((((((((((((((((((((((((((((((((((((((((((((((((((((?",
+        65,
+        RefusedKind::Lex,
+    ),
+    (
+        "))((((((((((((((((((((((((((((((((((((((((((((((((((((((((((((((((",
+        0,
+        RefusedKind::Syntax,
+    ),
+    ("spec f() [] { emp } { emp }", 0, RefusedKind::Syntax),
+    ("proc main() { vanish; } x", 24, RefusedKind::Syntax),
+    ("proc main() { x := #y; vanish; }", 19, RefusedKind::Syntax),
+    ("proc main() { return ret; }", 21, RefusedKind::Syntax),
+    (
+        "proc main() { list := 1; vanish; }",
+        14,
+        RefusedKind::Syntax,
+    ),
+    ("proc main() { return (1 nth 2); }", 24, RefusedKind::Syntax),
+    ("proc main() { vanish }", 21, RefusedKind::Syntax),
+    (
+        "proc main() { vanish; } spec main() [] { emp } { (ret -1) }",
+        54,
+        RefusedKind::Syntax,
+    ),
+    (
+        "proc main() { vanish; } spec main() [] { emp } { emp } { emp",
+        60,
+        RefusedKind::Syntax,
+    ),
+    (
+        "proc main() { vanish; } pred \"p\"(;) [] { emp }",
+        29,
+        RefusedKind::Syntax,
+    ),
+    (
+        "proc a() { vanish; } proc a() { vanish; }",
+        21,
+        RefusedKind::Invalid(InvalidKind::Duplicate),
+    ),
+    (
+        "proc a(x, x) { vanish; } proc b(x, x) { vanish; }",
+        0,
+        RefusedKind::Invalid(InvalidKind::Duplicate),
+    ),
+    (
+        "proc a() { ifgoto true 9; vanish; } proc b(x, x) { vanish; }",
+        36,
+        RefusedKind::Invalid(InvalidKind::Duplicate),
+    ),
+    (
+        "proc a() { vanish; } spec a() [] { emp } { emp } spec a() [] { emp } { emp }",
+        49,
+        RefusedKind::Invalid(InvalidKind::Duplicate),
+    ),
+    (
+        "proc a() { vanish; } pred cell(x; y) [] { emp }",
+        21,
+        RefusedKind::Invalid(InvalidKind::Duplicate),
+    ),
+    (
+        "proc main() { ifgoto true 2; return 0; }",
+        0,
+        RefusedKind::Invalid(InvalidKind::BadLabel),
+    ),
+    (
+        "proc main() { ifgoto true -1; return 0; }",
+        0,
+        RefusedKind::Invalid(InvalidKind::BadLabel),
+    ),
+    (
+        "proc main() { vanish; } proc a() { }",
+        24,
+        RefusedKind::Invalid(InvalidKind::NoEnd),
+    ),
+    (
+        "proc main() { x := 1; }",
+        0,
+        RefusedKind::Invalid(InvalidKind::NoEnd),
+    ),
+    (
+        "pred p(;) [] { emp } proc a() { vanish; }",
+        0,
+        RefusedKind::Syntax,
+    ),
+    (
+        "proc a() { vanish; } spec g() [] { emp } { emp }",
+        21,
+        RefusedKind::Invalid(InvalidKind::UnknownName),
+    ),
+    (
+        "proc a() { vanish; } pred p(;) [] { q(;) }",
+        21,
+        RefusedKind::Invalid(InvalidKind::UnknownName),
+    ),
+    (
+        "proc a() { assert { (#x = 1) }; vanish; }",
+        0,
+        RefusedKind::Invalid(InvalidKind::UnknownName),
+    ),
+    (
+        "proc a(x) { vanish; } spec a(y) [] { emp } { emp }",
+        22,
+        RefusedKind::Invalid(InvalidKind::Arity),
+    ),
+    (
+        "proc a() { fold prop(1; 2); vanish; }",
+        0,
+        RefusedKind::Invalid(InvalidKind::Arity),
+    ),
+];
+
 #[test]
 fn texts_are_refused_for_the_first_reason(rt: HostRuntime) {
-    let texts = [
-        ("", 0, RefusedKind::Syntax),
-        ("proc main() {", 13, RefusedKind::Syntax),
-        (
-            "proc main() {\nreturn 9223372036854775808;",
-            21,
-            RefusedKind::Lex,
-        ),
-        (
-            "proc main() {\nreturn [[[[[[[[[[[[[[[[[[[[[[[[[[[[[[[[[[[[[[[[[[[[[[[[[[[[[[[[[[[[[[[[",
-            84,
-            RefusedKind::Nesting,
-        ),
-        (
-            "x(((((((((((((((((((((((((((((((((((((((((((((((((((((((((((((((((",
-            65,
-            RefusedKind::Nesting,
-        ),
-        (
-            "([{([{([{([{([{([{([{([{([{([{([{([{([{([{([{([{([{([{([{([{([{((",
-            64,
-            RefusedKind::Nesting,
-        ),
-        (
-            "(((((((((((((((((((((((((((((((((((((((((((((((((((((((((((((((((?",
-            65,
-            RefusedKind::Lex,
-        ),
-        (
-            "))((((((((((((((((((((((((((((((((((((((((((((((((((((((((((((((((",
-            0,
-            RefusedKind::Syntax,
-        ),
-        ("spec f() [] { emp } { emp }", 0, RefusedKind::Syntax),
-        ("proc main() { vanish; } x", 24, RefusedKind::Syntax),
-        ("proc main() { x := #y; vanish; }", 19, RefusedKind::Syntax),
-        ("proc main() { return ret; }", 21, RefusedKind::Syntax),
-        (
-            "proc main() { list := 1; vanish; }",
-            14,
-            RefusedKind::Syntax,
-        ),
-        ("proc main() { return (1 nth 2); }", 24, RefusedKind::Syntax),
-        ("proc main() { vanish }", 21, RefusedKind::Syntax),
-        (
-            "proc main() { vanish; } spec main() [] { emp } { (ret -1) }",
-            54,
-            RefusedKind::Syntax,
-        ),
-        (
-            "proc main() { vanish; } spec main() [] { emp } { emp } { emp",
-            60,
-            RefusedKind::Syntax,
-        ),
-        (
-            "proc main() { vanish; } pred \"p\"(;) [] { emp }",
-            29,
-            RefusedKind::Syntax,
-        ),
-        (
-            "proc a() { vanish; } proc a() { vanish; }",
-            21,
-            RefusedKind::Invalid(InvalidKind::Duplicate),
-        ),
-        (
-            "proc a(x, x) { vanish; } proc b(x, x) { vanish; }",
-            0,
-            RefusedKind::Invalid(InvalidKind::Duplicate),
-        ),
-        (
-            "proc a() { ifgoto true 9; vanish; } proc b(x, x) { vanish; }",
-            36,
-            RefusedKind::Invalid(InvalidKind::Duplicate),
-        ),
-        (
-            "proc a() { vanish; } spec a() [] { emp } { emp } spec a() [] { emp } { emp }",
-            49,
-            RefusedKind::Invalid(InvalidKind::Duplicate),
-        ),
-        (
-            "proc a() { vanish; } pred cell(x; y) [] { emp }",
-            21,
-            RefusedKind::Invalid(InvalidKind::Duplicate),
-        ),
-        (
-            "proc main() { ifgoto true 2; return 0; }",
-            0,
-            RefusedKind::Invalid(InvalidKind::BadLabel),
-        ),
-        (
-            "proc main() { ifgoto true -1; return 0; }",
-            0,
-            RefusedKind::Invalid(InvalidKind::BadLabel),
-        ),
-        (
-            "proc main() { vanish; } proc a() { }",
-            24,
-            RefusedKind::Invalid(InvalidKind::NoEnd),
-        ),
-        (
-            "proc main() { x := 1; }",
-            0,
-            RefusedKind::Invalid(InvalidKind::NoEnd),
-        ),
-        (
-            "pred p(;) [] { emp } proc a() { vanish; }",
-            0,
-            RefusedKind::Syntax,
-        ),
-        (
-            "proc a() { vanish; } spec g() [] { emp } { emp }",
-            21,
-            RefusedKind::Invalid(InvalidKind::UnknownName),
-        ),
-        (
-            "proc a() { vanish; } pred p(;) [] { q(;) }",
-            21,
-            RefusedKind::Invalid(InvalidKind::UnknownName),
-        ),
-        (
-            "proc a() { assert { (#x = 1) }; vanish; }",
-            0,
-            RefusedKind::Invalid(InvalidKind::UnknownName),
-        ),
-        (
-            "proc a(x) { vanish; } spec a(y) [] { emp } { emp }",
-            22,
-            RefusedKind::Invalid(InvalidKind::Arity),
-        ),
-        (
-            "proc a() { fold prop(1; 2); vanish; }",
-            0,
-            RefusedKind::Invalid(InvalidKind::Arity),
-        ),
-    ];
-    for (text, at, kind) in texts {
-        expect_refused(&rt, text, at, kind);
+    for (text, at, kind) in &REFUSED {
+        expect_refused(&rt, text, *at, *kind);
     }
 }
 
