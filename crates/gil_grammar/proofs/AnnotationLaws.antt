@@ -1,6 +1,5 @@
 -- What texts of other languages hold of GIL: what is read is spelled so, and is the longest that is.
-use Rattle.std.proofs.Common.{◌≡◌, ◌≤◌, ◌<◌, ℕ, zero, suc, Bool, true, false, List, [], ◌∷◌, length, Option, Some, None, refl, sym, ap, ◌∙◌, subst, arith, inl, inr}
-use Rattle.std.specs.Prelude.{IsTrue}
+use Rattle.std.proofs.Common.{◌≡◌, ◌≤◌, ℕ, zero, suc, true, false, List, [], ◌∷◌, length, Some, None, refl, sym, ap, ◌∙◌, subst, arith, inl, inr}
 use Rattle.gil_values.specs.declared.kinds.Kind.TheVariants as kinds
 use Rattle.gil_values.specs.Pure.{PureValue, integer, boolean, text, symbol, kind, procedure, list}
 use Rattle.gil_values.specs.declared.operators.UnOp.TheVariants as unary
@@ -10,16 +9,15 @@ use Rattle.gil_lexer.specs.declared.words.Word.TheVariants as words
 use Rattle.gil_lexer.specs.declared.signs.Sign.TheVariants as signs
 use Rattle.gil_lexemes.specs.declared.standing.Lexeme.{Lexeme}
 use Rattle.gil_lexemes.specs.declared.standing.Lexeme.TheVariants as lexemes
-use Rattle.gil_lexemes.specs.Lists.{with_front}
-use Rattle.gil_lexemes.specs.Reading.{Reading, ◌>>=◌, behind, first_form, is_sign, sign_at}
+use Rattle.gil_lexemes.specs.Reading.{Reading, behind, first_form, is_sign, sign_at}
 use Rattle.gil_lexemes.proofs.ReadingLaws.{bind_some, same_sign-refl}
-use Rattle.gil_syntax.specs.Pure.{PureExpr, literal, name, logical, list_of, unary_of, binary_of, PureItem, PureCommand, assign, call, act, usym, isym, ifgoto, return, fail, vanish, fold_use, unfold_use, assert_that, loop_invariant, PureSpec, PurePredDef}
+use Rattle.gil_syntax.specs.Pure.{PureExpr, literal, name, logical, list_of, unary_of, binary_of, PureItem, PureCommand, fold_use, unfold_use, assert_that, loop_invariant, PureSpec, PurePredDef}
 use Rattle.gil_grammar.specs.declared.positions.Position.TheVariants.{Command, Predicate}
 use Rattle.gil_grammar.specs.declared.positions.Naming.TheVariants.{Program}
 use Rattle.gil_grammar.specs.declared.positions.Extent.TheVariants.{Longest}
 use Rattle.gil_grammar.specs.Annotations.{PureAnnotation, specification, predicate, logic, expression, SpellsAnnotation}
 use Rattle.gil_grammar.specs.Assertions.{SpellsBlock, SpellsBlocks}
-use Rattle.gil_grammar.specs.Commands.{SpellsCommand, is_logic}
+use Rattle.gil_grammar.specs.Commands.{is_logic}
 use Rattle.gil_grammar.specs.Expressions.{SpellsExpr}
 use Rattle.gil_grammar.specs.Lists.{SpellsEach}
 use Rattle.gil_grammar.specs.Programs.{SpellsSpec, SpellsPred}
@@ -155,12 +153,15 @@ spec_past s ls left p (params, variables, pre, posts, is, a, b, c, d) =
     let ps = params_again Program signs.RightParenthesis parenthesis_closes s.params params variables (nested_tail _ params (nested_tail _ _ under)) a in
     let vs = variables_again s.logicals variables pre (nested_tail _ variables ps.under) b in
     let pre' = block_again s.pre pre posts vs.under c in
-    let posts' = blocks_past s.posts posts left pre'.under d in
-    (inner, is, record {
-      found = (record { name = s.name; params = s.params; logicals = s.logicals; pre = s.pre; posts = posts'.found.0 }, posts'.found.1);
-      is = rw (same_sign-refl signs.LeftParenthesis, ps.is, same_sign-refl signs.RightParenthesis, vs.is, pre'.is, posts'.is) refl;
-      past = posts'.past;
-    })
+    let posts' = blocks_past s.posts posts left pre'.under d in (
+      inner,
+      is,
+      record {
+        found = (record { name = s.name; params = s.params; logicals = s.logicals; pre = s.pre; posts = posts'.found.0 }, posts'.found.1);
+        is = rw (same_sign-refl signs.LeftParenthesis, ps.is, same_sign-refl signs.RightParenthesis, vs.is, pre'.is, posts'.is) refl;
+        past = posts'.past;
+      },
+    )
 
 pred_past : (d : PurePredDef) (ls left : List Lexeme) → Nested ls → SpellsPred d ls left → (inner : List Lexeme) × (ls ≡ lexemes.Word words.Pred ∷ inner) × ReadsPast (pred_at Longest) inner left
 unfolding pred_at
@@ -170,12 +171,15 @@ pred_past d ls left p (lexeme, ins, outs, variables, cases, named, is, a, b, v, 
     let given = params_again Program signs.Semicolon semicolon_closes d.ins ins outs (nested_tail _ ins (nested_tail _ _ under)) a in
     let gives = params_again Program signs.RightParenthesis parenthesis_closes d.outs outs variables (nested_tail _ outs given.under) b in
     let vs = variables_again d.logicals variables cases (nested_tail _ variables gives.under) v in
-    let cases' = blocks_past d.cases cases left vs.under c in
-    (inner, is, record {
-      found = (record { name = d.name; ins = d.ins; outs = d.outs; logicals = d.logicals; cases = cases'.found.0 }, cases'.found.1);
-      is = rw (named_again Predicate d.name lexeme _ named, same_sign-refl signs.LeftParenthesis, given.is, same_sign-refl signs.Semicolon, gives.is, same_sign-refl signs.RightParenthesis, vs.is, cases'.is) refl;
-      past = cases'.past;
-    })
+    let cases' = blocks_past d.cases cases left vs.under c in (
+      inner,
+      is,
+      record {
+        found = (record { name = d.name; ins = d.ins; outs = d.outs; logicals = d.logicals; cases = cases'.found.0 }, cases'.found.1);
+        is = rw (named_again Predicate d.name lexeme _ named, same_sign-refl signs.LeftParenthesis, given.is, same_sign-refl signs.Semicolon, gives.is, same_sign-refl signs.RightParenthesis, vs.is, cases'.is) refl;
+        past = cases'.past;
+      },
+    )
 
 -- ---- the longest is read
 

@@ -1,8 +1,6 @@
 -- What is read as parameters and assertions is spelled so, and what is spelled so is read.
-use Rattle.std.proofs.Common.{◌≡◌, ◌≤◌, ◌<◌, ◌⊎◌, ℕ, zero, suc, Bool, true, false, cond, List, [], ◌∷◌, ◌++◌, length, Option, Some, None, refl, sym, ap, ◌∙◌, subst, arith, inl, inr}
-use Rattle.gil_values.specs.declared.operators.UnOp.{UnOp}
+use Rattle.std.proofs.Common.{◌≡◌, ◌⊎◌, ℕ, true, false, List, [], ◌∷◌, length, Some, None, refl, sym, ap, ◌∙◌, subst, inl, inr}
 use Rattle.gil_values.specs.declared.operators.UnOp.TheVariants as unary
-use Rattle.gil_values.specs.declared.operators.BinOp.{BinOp}
 use Rattle.gil_values.specs.declared.operators.BinOp.TheVariants as binary
 use Rattle.gil_values.specs.Pure.{PureValue, integer, boolean, text, symbol, kind, procedure, list}
 use Rattle.gil_values.specs.declared.kinds.Kind.TheVariants as kinds
@@ -12,31 +10,27 @@ use Rattle.gil_lexer.specs.declared.signs.Sign.{Sign}
 use Rattle.gil_lexer.specs.declared.signs.Sign.TheVariants as signs
 use Rattle.gil_lexemes.specs.declared.standing.Lexeme.{Lexeme}
 use Rattle.gil_lexemes.specs.declared.standing.Lexeme.TheVariants as lexemes
-use Rattle.gil_lexemes.specs.Lists.{with_front, more_at, separated_at}
-use Rattle.gil_lexemes.specs.Reading.{Reading, ◌>>=◌, behind, first_form, same_sign, is_sign, is_word, sign_at, name_at, logical_at}
-use Rattle.gil_lexemes.proofs.ReadingLaws.{bind_some, sign_takes, at_sign_is, at_word_is, name_takes, logical_takes, same_sign-refl, same_word-refl}
-use Rattle.gil_syntax.specs.declared.assertions.Param.{Param}
+use Rattle.gil_lexemes.specs.Lists.{more_at}
+use Rattle.gil_lexemes.specs.Reading.{◌>>=◌, behind, first_form, is_sign, is_word, sign_at}
+use Rattle.gil_lexemes.proofs.ReadingLaws.{bind_some, sign_takes, at_sign_is, at_word_is, name_takes, logical_takes}
 use Rattle.gil_syntax.specs.declared.assertions.SpecSort.{SpecSort}
 use Rattle.gil_syntax.specs.declared.assertions.SpecSort.TheVariants.{Any}
-use Rattle.gil_syntax.specs.Pure.{PureExpr, literal, name, logical, list_of, unary_of, binary_of, PurePredUse, PureItem, pure, uses}
+use Rattle.gil_syntax.specs.Pure.{PureExpr, literal, name, logical, list_of, unary_of, binary_of, PureItem, pure, uses}
 use Rattle.gil_grammar.specs.declared.positions.Position.{Position}
 use Rattle.gil_grammar.specs.declared.positions.Position.TheVariants.{Assertion, Predicate}
 use Rattle.gil_grammar.specs.declared.positions.Naming.{Naming}
 use Rattle.gil_grammar.specs.declared.positions.Naming.TheVariants.{Program, Logical}
-use Rattle.gil_grammar.specs.declared.positions.Extent.{Extent}
-use Rattle.gil_grammar.specs.declared.positions.Extent.TheVariants.{Whole, Longest}
-use Rattle.gil_grammar.specs.Assertions.{SpellsParam, SpellsVariables, SpellsUse, may_be_item, SpellsItem, SpellsAssertion, SpellsBlock, SpellsBlocks}
+use Rattle.gil_grammar.specs.Assertions.{SpellsParam, SpellsVariables, SpellsUse, may_be_item, SpellsItem, SpellsAssertion, SpellsBlock}
 use Rattle.gil_grammar.specs.Expressions.{SpellsExpr, SpellsExprs}
-use Rattle.gil_grammar.specs.Lists.{SpellsEach, SpellsMore, SpellsSeparated}
-use Rattle.gil_grammar.specs.Vocabulary.{literal_lexeme, unary_word, before_operands, comma, sort_word, word_name, IsNameAt}
+use Rattle.gil_grammar.specs.Lists.{SpellsSeparated}
+use Rattle.gil_grammar.specs.Vocabulary.{literal_lexeme, comma, sort_word, word_name, IsNameAt}
 use Rattle.gil_grammar.specs.Reading.Vocabulary.{sort_of_word, word_of, named_at}
 use Rattle.gil_grammar.specs.Reading.Expressions.{expr_at}
-use Rattle.gil_grammar.specs.Reading.Assertions.{variable_at, sort_at, param_at, params_at, variables_at, expression_at, expressions_at, use_at, item_at, assertion_at, block_at, without_block, more_blocks, blocks_at}
+use Rattle.gil_grammar.specs.Reading.Assertions.{variable_at, sort_at, param_at, params_at, variables_at, expression_at, expressions_at, use_at, item_at, assertion_at, block_at}
 use Rattle.gil_grammar.specs.Nesting.{most_open}
-use Rattle.gil_grammar.proofs.ListLaws.{Takes, Again, Reads, ReadsList, NeverBegins, found_is, cond_cases, more_takes, separated_takes, more_again, separated_again}
-use Rattle.gil_grammar.proofs.VocabularyLaws.{sort_takes, sort_again, named_takes, named_again}
-use Rattle.gil_grammar.proofs.ExpressionLaws.{expr_takes, expr_never}
-use Rattle.gil_grammar.proofs.NestingLaws.{Nested, nested_tail, expression_again}
+use Rattle.gil_grammar.proofs.ListLaws.{Takes, found_is, cond_cases, more_takes, separated_takes}
+use Rattle.gil_grammar.proofs.VocabularyLaws.{sort_takes, named_takes}
+use Rattle.gil_grammar.proofs.ExpressionLaws.{expr_takes}
 
 -- ---- what is read is spelled
 
@@ -68,12 +62,12 @@ unfolding sort_at
 sort_at_takes ls found e =
     cond_cases (is_sign signs.Colon (first_form ls)) _ _ found e
     (λ test named.
-      let word = bind_some (word_of (first_form (behind ls))) _ found named in
-      let sort = bind_some (sort_of_word word.0) _ found word.2 in
-      in_place IsSort ls sort.0 (behind (behind ls)) found sort.2
-      (inl (at_sign_is signs.Colon ls test
-        ∙ ap (λ (l : List Lexeme). lexemes.Sign signs.Colon ∷ l) (word_of_takes (behind ls) word.0 word.1)
-        ∙ ap (λ w. lexemes.Sign signs.Colon ∷ lexemes.Word w ∷ behind (behind ls)) (sym (sort_takes word.0 sort.0 sort.1)))))
+    let word = bind_some (word_of (first_form (behind ls))) _ found named in
+    let sort = bind_some (sort_of_word word.0) _ found word.2 in
+    in_place IsSort ls sort.0 (behind (behind ls)) found sort.2
+    (inl (at_sign_is signs.Colon ls test
+    ∙ ap (λ (l : List Lexeme). lexemes.Sign signs.Colon ∷ l) (word_of_takes (behind ls) word.0 word.1)
+    ∙ ap (λ w. lexemes.Sign signs.Colon ∷ lexemes.Word w ∷ behind (behind ls)) (sym (sort_takes word.0 sort.0 sort.1)))))
     (λ test any. in_place IsSort ls Any ls found any (inr (refl, refl)))
 
 param_of : (naming : Naming) (x : List ℕ) (sort : SpecSort) (ls after rest : List Lexeme) → ls ≡ named_as naming x ∷ after → IsSort sort after rest
@@ -98,9 +92,11 @@ variables_take ls found e =
     let a = bind_some (sign_at signs.LeftBracket ls) _ found e in
     let ps = bind_some (params_at Logical signs.RightBracket a.0) _ found a.2 in
     let r = bind_some (sign_at signs.RightBracket ps.0.1) _ found ps.2 in
-    in_place SpellsVariables ls ps.0.0 r.0 found r.2
-    (a.0, sign_takes signs.LeftBracket ls a.0 a.1,
-      subst (SpellsSeparated (SpellsParam (named_as Logical)) comma ps.0.0 a.0) (sign_takes signs.RightBracket ps.0.1 r.0 r.1) (params_take Logical signs.RightBracket a.0 ps.0 ps.1))
+    in_place SpellsVariables ls ps.0.0 r.0 found r.2 (
+      a.0,
+      sign_takes signs.LeftBracket ls a.0 a.1,
+      subst (SpellsSeparated (SpellsParam (named_as Logical)) comma ps.0.0 a.0) (sign_takes signs.RightBracket ps.0.1 r.0 r.1) (params_take Logical signs.RightBracket a.0 ps.0 ps.1),
+    )
 
 pub expression_takes : (position : Position) → Takes (SpellsExpr position) (expression_at position)
 expression_takes position = expr_takes most_open position
@@ -118,10 +114,15 @@ use_takes ls found e =
     let outs = bind_some (expressions_at Assertion signs.RightParenthesis b.0) _ found b.2 in
     let r = bind_some (sign_at signs.RightParenthesis outs.0.1) _ found outs.2 in
     let says = named_takes Predicate ls x.0 x.1 in
-    in_place SpellsUse ls (record { pred = x.0.0; ins = ins.0.0; outs = outs.0.0 }) r.0 found r.2
-    (says.0, a.0, b.0, says.1, says.2 ∙ ap (λ (l : List Lexeme). says.0 ∷ l) (sign_takes signs.LeftParenthesis x.0.1 a.0 a.1),
+    in_place SpellsUse ls (record { pred = x.0.0; ins = ins.0.0; outs = outs.0.0 }) r.0 found r.2 (
+      says.0,
+      a.0,
+      b.0,
+      says.1,
+      says.2 ∙ ap (λ (l : List Lexeme). says.0 ∷ l) (sign_takes signs.LeftParenthesis x.0.1 a.0 a.1),
       subst (SpellsExprs Assertion ins.0.0 a.0) (sign_takes signs.Semicolon ins.0.1 b.0 b.1) (expressions_take Assertion signs.Semicolon a.0 ins.0 ins.1),
-      subst (SpellsExprs Assertion outs.0.0 b.0) (sign_takes signs.RightParenthesis outs.0.1 r.0 r.1) (expressions_take Assertion signs.RightParenthesis b.0 outs.0 outs.1))
+      subst (SpellsExprs Assertion outs.0.0 b.0) (sign_takes signs.RightParenthesis outs.0.1 r.0 r.1) (expressions_take Assertion signs.RightParenthesis b.0 outs.0 outs.1),
+    )
 
 -- ---- which expressions are items
 
@@ -210,10 +211,10 @@ assertion_takes ls found e =
     cond_cases (is_word words.Emp (first_form ls)) _ _ found e
     (λ test empty. in_place SpellsAssertion ls [] (behind ls) found empty (at_word_is words.Emp ls test))
     (λ test some.
-      let item = bind_some (item_at ls) _ found some in
-      let items = bind_some (more_at item_at (length item.0.1) signs.Star item.0.1) _ found item.2 in
-      in_place SpellsAssertion ls (item.0.0 ∷ items.0.0) items.0.1 found items.2
-      (item.0.1, item_takes ls item.0 item.1, more_takes SpellsItem item_at item_takes (length item.0.1) signs.Star item.0.1 items.0 items.1))
+    let item = bind_some (item_at ls) _ found some in
+    let items = bind_some (more_at item_at (length item.0.1) signs.Star item.0.1) _ found item.2 in
+    in_place SpellsAssertion ls (item.0.0 ∷ items.0.0) items.0.1 found items.2
+    (item.0.1, item_takes ls item.0 item.1, more_takes SpellsItem item_at item_takes (length item.0.1) signs.Star item.0.1 items.0 items.1))
 
 pub block_takes : Takes SpellsBlock block_at
 unfolding block_at

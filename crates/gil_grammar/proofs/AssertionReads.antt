@@ -1,5 +1,5 @@
 -- What is spelled as parameters and assertions is read so, where no more brackets are open than may be.
-use Rattle.std.proofs.Common.{◌≡◌, ◌≤◌, ◌<◌, ℕ, zero, suc, Bool, true, false, List, [], ◌∷◌, ◌++◌, length, Option, Some, None, refl, sym, ap, ◌∙◌, subst, arith, inl, inr}
+use Rattle.std.proofs.Common.{◌≡◌, ◌≤◌, ℕ, zero, suc, true, false, List, [], ◌∷◌, length, Some, None, refl, sym, ap, ◌∙◌, subst, arith, inl, inr}
 use Rattle.gil_values.specs.declared.operators.UnOp.TheVariants as unary
 use Rattle.gil_values.specs.declared.operators.BinOp.TheVariants as binary
 use Rattle.gil_lexer.specs.declared.forms.Form.TheVariants as forms
@@ -9,11 +9,10 @@ use Rattle.gil_lexer.specs.declared.signs.Sign.{Sign}
 use Rattle.gil_lexer.specs.declared.signs.Sign.TheVariants as signs
 use Rattle.gil_lexemes.specs.declared.standing.Lexeme.{Lexeme}
 use Rattle.gil_lexemes.specs.declared.standing.Lexeme.TheVariants as lexemes
-use Rattle.gil_lexemes.specs.Lists.{with_front}
-use Rattle.gil_lexemes.specs.Reading.{Reading, ◌>>=◌, behind, first_form, same_sign, is_sign, same_word, is_word}
+use Rattle.gil_lexemes.specs.Reading.{Reading, first_form, same_sign, is_sign, same_word, is_word}
 use Rattle.gil_lexemes.proofs.ReadingLaws.{bind_some, same_sign-refl, same_word-refl}
 use Rattle.gil_syntax.specs.declared.assertions.Param.{Param}
-use Rattle.gil_syntax.specs.Pure.{PureExpr, literal, name, logical, list_of, unary_of, binary_of, PurePredUse, PureItem, pure, uses}
+use Rattle.gil_syntax.specs.Pure.{PureExpr, unary_of, binary_of, PureItem, pure, uses}
 use Rattle.gil_grammar.specs.declared.positions.Position.{Position}
 use Rattle.gil_grammar.specs.declared.positions.Position.TheVariants.{Assertion, Predicate}
 use Rattle.gil_grammar.specs.declared.positions.Naming.{Naming}
@@ -26,8 +25,8 @@ use Rattle.gil_grammar.specs.Lists.{SpellsEach, SpellsMore, SpellsSeparated}
 use Rattle.gil_grammar.specs.Nesting.{most_open}
 use Rattle.gil_grammar.specs.Vocabulary.{comma, word_name, IsNameAt}
 use Rattle.gil_grammar.specs.Reading.Expressions.{expr_at}
-use Rattle.gil_grammar.specs.Reading.Assertions.{variable_at, sort_at, param_at, params_at, variables_at, expression_at, expressions_at, use_at, pure_at, uses_at, item_by, item_at, assertion_at, block_at, without_block, block_and, more_blocks, blocks_at}
-use Rattle.gil_grammar.proofs.ListLaws.{Takes, Again, Reads, ReadsList, NeverBegins, found_is, cond_cases, more_again, separated_again}
+use Rattle.gil_grammar.specs.Reading.Assertions.{variable_at, sort_at, param_at, params_at, variables_at, expressions_at, use_at, pure_at, uses_at, item_by, item_at, assertion_at, block_at, block_and, more_blocks, blocks_at}
+use Rattle.gil_grammar.proofs.ListLaws.{Takes, Again, Reads, ReadsList, NeverBegins, cond_cases, more_again, separated_again}
 use Rattle.gil_grammar.proofs.VocabularyLaws.{sort_again, named_again}
 use Rattle.gil_grammar.proofs.ExpressionLaws.{expr_never}
 use Rattle.gil_grammar.proofs.NestingLaws.{Nested, nested_tail, expression_again}

@@ -1,34 +1,24 @@
 -- What is read as a command is spelled so, and what is spelled so is read.
-use Rattle.std.proofs.Common.{◌≡◌, ◌≤◌, ◌<◌, ℕ, zero, suc, Bool, true, false, List, [], ◌∷◌, length, Option, Some, None, refl, sym, ap, ◌∙◌, subst, arith, inl, inr}
-use Rattle.gil_values.specs.declared.kinds.Kind.{Kind}
-use Rattle.gil_values.specs.declared.kinds.Kind.TheVariants as kinds
-use Rattle.gil_values.specs.Pure.{PureValue, integer, boolean, text, symbol, kind, procedure, list}
-use Rattle.gil_values.specs.declared.operators.UnOp.TheVariants as unary
-use Rattle.gil_values.specs.declared.operators.BinOp.TheVariants as binary
-use Rattle.gil_lexer.specs.declared.forms.Form.{Form}
-use Rattle.gil_lexer.specs.declared.forms.Form.TheVariants as forms
+use Rattle.std.proofs.Common.{◌≡◌, ℕ, List, [], ◌∷◌, Some, refl, sym, ap, ◌∙◌, subst}
 use Rattle.gil_lexer.specs.declared.words.Word.{Word}
 use Rattle.gil_lexer.specs.declared.words.Word.TheVariants as words
 use Rattle.gil_lexer.specs.declared.signs.Sign.{Sign}
 use Rattle.gil_lexer.specs.declared.signs.Sign.TheVariants as signs
 use Rattle.gil_lexemes.specs.declared.standing.Lexeme.{Lexeme}
 use Rattle.gil_lexemes.specs.declared.standing.Lexeme.TheVariants as lexemes
-use Rattle.gil_lexemes.specs.Reading.{Reading, ◌>>=◌, behind, first_form, same_sign, is_sign, sign_at, name_at, number_at}
-use Rattle.gil_lexemes.proofs.ReadingLaws.{bind_some, sign_takes, name_takes, number_takes, same_sign-refl}
-use Rattle.gil_syntax.specs.Pure.{PureExpr, literal, name, logical, list_of, unary_of, binary_of, PureCommand, assign, call, act, usym, isym, ifgoto, return, fail, vanish, fold_use, unfold_use, assert_that, loop_invariant}
+use Rattle.gil_lexemes.specs.Reading.{◌>>=◌, behind, first_form, sign_at, name_at, number_at}
+use Rattle.gil_lexemes.proofs.ReadingLaws.{bind_some, sign_takes, name_takes, number_takes}
+use Rattle.gil_syntax.specs.Pure.{PureCommand, assign, call, act, usym, isym, ifgoto, return, fail, vanish, fold_use, unfold_use, assert_that, loop_invariant}
 use Rattle.gil_grammar.specs.declared.positions.Position.TheVariants.{Command, Action}
-use Rattle.gil_grammar.specs.Assertions.{SpellsBlock, SpellsUse, SpellsVariables}
-use Rattle.gil_grammar.specs.Commands.{SpellsName, SpellsNames, SpellsCommand, SpellsStatement, is_logic}
+use Rattle.gil_grammar.specs.Commands.{SpellsName, SpellsNames, SpellsCommand, SpellsStatement}
 use Rattle.gil_grammar.specs.Expressions.{SpellsExpr, SpellsExprs}
-use Rattle.gil_grammar.specs.Vocabulary.{literal_lexeme, becomes, input_word, word_name, IsNameAt}
+use Rattle.gil_grammar.specs.Vocabulary.{becomes}
 use Rattle.gil_grammar.specs.Reading.Vocabulary.{input_of_word, word_of, named_at}
 use Rattle.gil_grammar.specs.Reading.Assertions.{expression_at, expressions_at, use_at, block_at, variables_at}
-use Rattle.gil_grammar.specs.Reading.Commands.{call_at, act_at, isym_at, assigned_by, assigned_at, assignment_at, ifgoto_at, names_at, invariant_at, logic_by, worded_by, command_by, command_at, statement_at}
-use Rattle.gil_grammar.proofs.ListLaws.{Takes, Again, Reads, ReadsList, NeverBegins, separated_takes, separated_again}
-use Rattle.gil_grammar.proofs.VocabularyLaws.{input_takes, input_again, named_takes, named_again}
-use Rattle.gil_grammar.proofs.NestingLaws.{Nested, nested_tail, expression_again}
+use Rattle.gil_grammar.specs.Reading.Commands.{call_at, act_at, isym_at, assigned_at, assignment_at, ifgoto_at, names_at, invariant_at, logic_by, worded_by, command_at, statement_at}
+use Rattle.gil_grammar.proofs.ListLaws.{Takes, separated_takes}
+use Rattle.gil_grammar.proofs.VocabularyLaws.{input_takes, named_takes}
 use Rattle.gil_grammar.proofs.AssertionLaws.{in_place, word_of_takes, expression_takes, expressions_take, use_takes, block_takes, variables_take}
-use Rattle.gil_grammar.proofs.AssertionReads.{IsClosing, parenthesis_closes, expressions_again, use_again, block_again, variables_again}
 
 -- ---- what is read is spelled
 
@@ -56,9 +46,13 @@ call_takes x ls found e =
     let a = bind_some (sign_at signs.LeftParenthesis d.0.1) _ found d.2 in
     let es = bind_some (expressions_at Command signs.RightParenthesis a.0) _ found a.2 in
     let r = bind_some (sign_at signs.RightParenthesis es.0.1) _ found es.2 in
-    in_place (Assigned x) _ (call x d.0.0 es.0.0) r.0 found r.2
-    (ls, a.0, refl, subst (SpellsExpr Command d.0.0 ls) (sign_takes signs.LeftParenthesis d.0.1 a.0 a.1) (expression_takes Command ls d.0 d.1),
-      subst (SpellsExprs Command es.0.0 a.0) (sign_takes signs.RightParenthesis es.0.1 r.0 r.1) (expressions_take Command signs.RightParenthesis a.0 es.0 es.1))
+    in_place (Assigned x) _ (call x d.0.0 es.0.0) r.0 found r.2 (
+      ls,
+      a.0,
+      refl,
+      subst (SpellsExpr Command d.0.0 ls) (sign_takes signs.LeftParenthesis d.0.1 a.0 a.1) (expression_takes Command ls d.0 d.1),
+      subst (SpellsExprs Command es.0.0 a.0) (sign_takes signs.RightParenthesis es.0.1 r.0 r.1) (expressions_take Command signs.RightParenthesis a.0 es.0 es.1),
+    )
 
 act_takes : (x : List ℕ) (ls : List Lexeme) (found : PureCommand × List Lexeme) → act_at x ls ≡ Some found → Assigned x found.0 (lexemes.Word words.Do ∷ ls) found.1
 unfolding act_at
@@ -69,9 +63,13 @@ act_takes x ls found e =
     let r = bind_some (sign_at signs.RightParenthesis es.0.1) _ found es.2 in
     let says = named_takes Action ls action.0 action.1 in
     let is : ls ≡ says.0 ∷ lexemes.Sign signs.LeftParenthesis ∷ a.0 = says.2 ∙ ap (λ (l : List Lexeme). says.0 ∷ l) (sign_takes signs.LeftParenthesis action.0.1 a.0 a.1) in
-    in_place (Assigned x) _ (act x action.0.0 es.0.0) r.0 found r.2
-    (says.0, a.0, says.1, ap (λ (l : List Lexeme). lexemes.Name x ∷ becomes ∷ lexemes.Word words.Do ∷ l) is,
-      subst (SpellsExprs Command es.0.0 a.0) (sign_takes signs.RightParenthesis es.0.1 r.0 r.1) (expressions_take Command signs.RightParenthesis a.0 es.0 es.1))
+    in_place (Assigned x) _ (act x action.0.0 es.0.0) r.0 found r.2 (
+      says.0,
+      a.0,
+      says.1,
+      ap (λ (l : List Lexeme). lexemes.Name x ∷ becomes ∷ lexemes.Word words.Do ∷ l) is,
+      subst (SpellsExprs Command es.0.0 a.0) (sign_takes signs.RightParenthesis es.0.1 r.0 r.1) (expressions_take Command signs.RightParenthesis a.0 es.0 es.1),
+    )
 
 isym_takes : (x : List ℕ) (ls : List Lexeme) (found : PureCommand × List Lexeme) → isym_at x ls ≡ Some found → Assigned x found.0 (lexemes.Word words.Isym ∷ ls) found.1
 unfolding isym_at
@@ -141,10 +139,15 @@ invariant_takes ls found e =
     let b = bind_some (sign_at signs.RightParenthesis xs.0.1) _ found xs.2 in
     let ps = bind_some (variables_at b.0) _ found b.2 in
     let items = bind_some (block_at ps.0.1) _ found ps.2 in
-    in_place (Worded words.Invariant) ls (loop_invariant xs.0.0 ps.0.0 items.0.0) items.0.1 found items.2
-    (a.0, b.0, ps.0.1, ap (λ (l : List Lexeme). lexemes.Word words.Invariant ∷ l) (sign_takes signs.LeftParenthesis ls a.0 a.1),
+    in_place (Worded words.Invariant) ls (loop_invariant xs.0.0 ps.0.0 items.0.0) items.0.1 found items.2 (
+      a.0,
+      b.0,
+      ps.0.1,
+      ap (λ (l : List Lexeme). lexemes.Word words.Invariant ∷ l) (sign_takes signs.LeftParenthesis ls a.0 a.1),
       subst (SpellsNames xs.0.0 a.0) (sign_takes signs.RightParenthesis xs.0.1 b.0 b.1) (names_take signs.RightParenthesis a.0 xs.0 xs.1),
-      variables_take b.0 ps.0 ps.1, block_takes ps.0.1 items.0 items.1)
+      variables_take b.0 ps.0 ps.1,
+      block_takes ps.0.1 items.0 items.1,
+    )
 
 -- a logic command is one, and is spelled so
 pub logic_takes : (word : Word) (ls : List Lexeme) (found : PureCommand × List Lexeme) → logic_by word (lexemes.Word word ∷ ls) ≡ Some found → Worded word found.0 ls found.1

@@ -1,5 +1,5 @@
 -- What is spelled as a command is read so, where no more brackets are open than may be.
-use Rattle.std.proofs.Common.{◌≡◌, ◌≤◌, ◌<◌, ℕ, Bool, true, false, List, [], ◌∷◌, length, Option, Some, None, refl, sym, ap, ◌∙◌, subst, arith, inl, inr}
+use Rattle.std.proofs.Common.{◌≡◌, ℕ, true, false, List, ◌∷◌, length, Some, refl, sym, ap, ◌∙◌, subst, arith, inl, inr}
 use Rattle.gil_values.specs.declared.kinds.Kind.{Kind}
 use Rattle.gil_values.specs.declared.kinds.Kind.TheVariants as kinds
 use Rattle.gil_values.specs.Pure.{PureValue, integer, boolean, text, symbol, kind, procedure, list}
@@ -11,7 +11,7 @@ use Rattle.gil_lexer.specs.declared.signs.Sign.{Sign}
 use Rattle.gil_lexer.specs.declared.signs.Sign.TheVariants as signs
 use Rattle.gil_lexemes.specs.declared.standing.Lexeme.{Lexeme}
 use Rattle.gil_lexemes.specs.declared.standing.Lexeme.TheVariants as lexemes
-use Rattle.gil_lexemes.specs.Reading.{Reading, ◌>>=◌, behind, first_form, same_sign, is_sign, name_at}
+use Rattle.gil_lexemes.specs.Reading.{first_form, name_at}
 use Rattle.gil_lexemes.proofs.ReadingLaws.{same_sign-refl}
 use Rattle.gil_syntax.specs.Pure.{PureExpr, literal, name, logical, list_of, unary_of, binary_of, PureCommand, assign, call, act, usym, isym, ifgoto, return, fail, vanish, fold_use, unfold_use, assert_that, loop_invariant}
 use Rattle.gil_grammar.specs.declared.positions.Position.TheVariants.{Command, Action}

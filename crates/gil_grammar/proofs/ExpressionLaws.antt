@@ -1,5 +1,5 @@
 -- What is read as an expression is spelled so, and what is spelled so is read.
-use Rattle.std.proofs.Common.{◌≡◌, ◌≤◌, ◌<◌, ◌+◌, ◌-◌, max, ℕ, zero, suc, Bool, true, false, cond, List, [], ◌∷◌, length, Option, Some, None, refl, sym, ap, ◌∙◌, subst, arith, inl, inr}
+use Rattle.std.proofs.Common.{◌≡◌, ◌≤◌, ◌<◌, max, ℕ, zero, suc, true, false, List, [], ◌∷◌, length, Some, refl, sym, ap, ◌∙◌, subst, arith, inl, inr}
 use Rattle.std.specs.Prelude.{is_some}
 use Rattle.gil_values.specs.declared.kinds.Kind.TheVariants as kinds
 use Rattle.gil_values.specs.declared.operators.UnOp.{UnOp}
@@ -14,18 +14,18 @@ use Rattle.gil_lexer.specs.declared.signs.Sign.TheVariants as signs
 use Rattle.gil_lexemes.specs.declared.standing.Lexeme.{Lexeme}
 use Rattle.gil_lexemes.specs.declared.standing.Lexeme.TheVariants as lexemes
 use Rattle.gil_lexemes.specs.Lists.{separated_at}
-use Rattle.gil_lexemes.specs.Reading.{Reading, ◌>>=◌, behind, first_form, same_sign, is_sign, sign_at, logical_at, procedure_at, number_at, characters_at}
-use Rattle.gil_lexemes.proofs.ReadingLaws.{bind_some, sign_takes, sign_again, logical_takes, procedure_takes, number_takes, characters_take, same_sign-refl}
+use Rattle.gil_lexemes.specs.Reading.{Reading, ◌>>=◌, behind, first_form, same_sign, is_sign, sign_at}
+use Rattle.gil_lexemes.proofs.ReadingLaws.{bind_some, sign_takes, same_sign-refl}
 use Rattle.gil_syntax.specs.Pure.{PureExpr, literal, name, logical, list_of, unary_of, binary_of, PureExprs, no_exprs, expr_and, from_list, to_list}
 use Rattle.gil_grammar.specs.declared.positions.Position.{Position}
 use Rattle.gil_grammar.specs.declared.positions.Position.TheVariants as positions
 use Rattle.gil_grammar.specs.Expressions.{SpellsExpr, SpellsElements, SpellsMoreElements, SpellsExprs}
 use Rattle.gil_grammar.specs.Lists.{SpellsMore, SpellsSeparated}
-use Rattle.gil_grammar.specs.Vocabulary.{between_operands, before_operands, literal_lexeme, unary_word, closing_parenthesis, comma, word_name, IsNameAt}
+use Rattle.gil_grammar.specs.Vocabulary.{between_operands, before_operands, literal_lexeme, unary_word, closing_parenthesis, comma, IsNameAt}
 use Rattle.gil_grammar.specs.Reading.Vocabulary.{operator_of, word_value, unary_of_word, named_at}
-use Rattle.gil_grammar.specs.Reading.Expressions.{word_leaf, logical_leaf, leaf_at, infix_at, nth_at, unary_at, list_at, word_bracketed, bracketed_by, bracketed_at, word_opens, opens, expr_at}
-use Rattle.gil_grammar.proofs.ListLaws.{Takes, Again, Reads, NeverBegins, found_is, cond_cases, separated_takes, separated_again}
-use Rattle.gil_grammar.proofs.VocabularyLaws.{word_value_takes, unary_takes, unary_again, operator_takes, named_takes, named_again, serving_word}
+use Rattle.gil_grammar.specs.Reading.Expressions.{word_leaf, leaf_at, infix_at, nth_at, unary_at, list_at, bracketed_at, opens, expr_at}
+use Rattle.gil_grammar.proofs.ListLaws.{Takes, Again, NeverBegins, found_is, cond_cases, separated_takes, separated_again}
+use Rattle.gil_grammar.proofs.VocabularyLaws.{word_value_takes, unary_takes, operator_takes, named_takes, serving_word}
 
 -- ---- what is read is spelled
 
@@ -43,10 +43,13 @@ infix_takes position inner sound ls found e =
     let f = bind_some (inner (behind d.0.1)) _ found op.2 in
     let r = bind_some (sign_at signs.RightParenthesis f.0.1) _ found f.2 in
     let says = operator_takes d.0.1 op.0 op.1 in
-    in_found position ls (binary_of op.0 d.0.0 f.0.0) r.0 found r.2
-    (a.0, behind d.0.1, sign_takes signs.LeftParenthesis ls a.0 a.1 ∙ sym (says.1 a.0),
+    in_found position ls (binary_of op.0 d.0.0 f.0.0) r.0 found r.2 (
+      a.0,
+      behind d.0.1,
+      sign_takes signs.LeftParenthesis ls a.0 a.1 ∙ sym (says.1 a.0),
       subst (SpellsExpr position d.0.0 a.0) says.0 (sound a.0 d.0 d.1),
-      subst (SpellsExpr position f.0.0 (behind d.0.1)) (sign_takes signs.RightParenthesis f.0.1 r.0 r.1) (sound (behind d.0.1) f.0 f.1))
+      subst (SpellsExpr position f.0.0 (behind d.0.1)) (sign_takes signs.RightParenthesis f.0.1 r.0 r.1) (sound (behind d.0.1) f.0 f.1),
+    )
 
 nth_takes : (position : Position) (inner : List Lexeme → Reading PureExpr) → Takes (SpellsExpr position) inner
     → (ls : List Lexeme) (found : PureExpr × List Lexeme) → nth_at inner (lexemes.Word words.Nth ∷ ls) ≡ Some found → SpellsExpr position found.0 (lexemes.Word words.Nth ∷ ls) found.1
@@ -57,10 +60,13 @@ nth_takes position inner sound ls found e =
     let b = bind_some (sign_at signs.Comma d.0.1) _ found d.2 in
     let f = bind_some (inner b.0) _ found b.2 in
     let r = bind_some (sign_at signs.RightParenthesis f.0.1) _ found f.2 in
-    in_found position _ (binary_of binary.Nth d.0.0 f.0.0) r.0 found r.2
-    (a.0, b.0, ap (λ (l : List Lexeme). lexemes.Word words.Nth ∷ l) (sign_takes signs.LeftParenthesis ls a.0 a.1),
+    in_found position _ (binary_of binary.Nth d.0.0 f.0.0) r.0 found r.2 (
+      a.0,
+      b.0,
+      ap (λ (l : List Lexeme). lexemes.Word words.Nth ∷ l) (sign_takes signs.LeftParenthesis ls a.0 a.1),
       subst (SpellsExpr position d.0.0 a.0) (sign_takes signs.Comma d.0.1 b.0 b.1) (sound a.0 d.0 d.1),
-      subst (SpellsExpr position f.0.0 b.0) (sign_takes signs.RightParenthesis f.0.1 r.0 r.1) (sound b.0 f.0 f.1))
+      subst (SpellsExpr position f.0.0 b.0) (sign_takes signs.RightParenthesis f.0.1 r.0 r.1) (sound b.0 f.0 f.1),
+    )
 
 unary_at_takes : (position : Position) (inner : List Lexeme → Reading PureExpr) → Takes (SpellsExpr position) inner → (op : UnOp) (ls : List Lexeme) (found : PureExpr × List Lexeme)
     → unary_at op inner (lexemes.Word (unary_word op) ∷ ls) ≡ Some found → SpellsExpr position found.0 (lexemes.Word (unary_word op) ∷ ls) found.1
@@ -69,9 +75,11 @@ unary_at_takes position inner sound op ls found e =
     let a = bind_some (sign_at signs.LeftParenthesis ls) _ found e in
     let d = bind_some (inner a.0) _ found a.2 in
     let r = bind_some (sign_at signs.RightParenthesis d.0.1) _ found d.2 in
-    in_found position _ (unary_of op d.0.0) r.0 found r.2
-    (a.0, ap (λ (l : List Lexeme). lexemes.Word (unary_word op) ∷ l) (sign_takes signs.LeftParenthesis ls a.0 a.1),
-      subst (SpellsExpr position d.0.0 a.0) (sign_takes signs.RightParenthesis d.0.1 r.0 r.1) (sound a.0 d.0 d.1))
+    in_found position _ (unary_of op d.0.0) r.0 found r.2 (
+      a.0,
+      ap (λ (l : List Lexeme). lexemes.Word (unary_word op) ∷ l) (sign_takes signs.LeftParenthesis ls a.0 a.1),
+      subst (SpellsExpr position d.0.0 a.0) (sign_takes signs.RightParenthesis d.0.1 r.0 r.1) (sound a.0 d.0 d.1),
+    )
 
 -- the elements of a list as a list, and back
 more_elements : (position : Position) (es : List PureExpr) (ls rest : List Lexeme) → SpellsMore (SpellsExpr position) comma es ls rest → SpellsMoreElements position (from_list es) ls rest
@@ -89,9 +97,11 @@ list_takes position inner sound ls found e =
     let es = bind_some (separated_at inner signs.RightBracket signs.Comma a.0) _ found a.2 in
     let r = bind_some (sign_at signs.RightBracket es.0.1) _ found es.2 in
     let spelled = separated_takes (SpellsExpr position) inner sound signs.RightBracket signs.Comma a.0 es.0 es.1 in
-    in_found position ls (list_of (from_list es.0.0)) r.0 found r.2
-    (a.0, sign_takes signs.LeftBracket ls a.0 a.1,
-      elements position es.0.0 a.0 _ (subst (SpellsExprs position es.0.0 a.0) (sign_takes signs.RightBracket es.0.1 r.0 r.1) spelled))
+    in_found position ls (list_of (from_list es.0.0)) r.0 found r.2 (
+      a.0,
+      sign_takes signs.LeftBracket ls a.0 a.1,
+      elements position es.0.0 a.0 _ (subst (SpellsExprs position es.0.0 a.0) (sign_takes signs.RightBracket es.0.1 r.0 r.1) spelled),
+    )
 
 word_bracketed_takes : (position : Position) (inner : List Lexeme → Reading PureExpr) → Takes (SpellsExpr position) inner → (word : Word) (ls : List Lexeme) (found : PureExpr × List Lexeme)
     → (unary_of_word word >>= λ op. unary_at op inner (lexemes.Word word ∷ ls)) ≡ Some found → SpellsExpr position found.0 (lexemes.Word word ∷ ls) found.1
@@ -116,11 +126,11 @@ word_leaf_takes : (position : Position) (word : Word) (ls : List Lexeme) (found 
 word_leaf_takes position word ls found e =
     cond_cases (is_some (word_value word)) _ _ found e
     (λ test value.
-      let v = bind_some (word_value word) _ found value in
-      in_found position _ (literal v.0) ls found v.2 (lexemes.Word word, word_value_takes word v.0 v.1, refl))
+    let v = bind_some (word_value word) _ found value in
+    in_found position _ (literal v.0) ls found v.2 (lexemes.Word word, word_value_takes word v.0 v.1, refl))
     (λ test named.
-      let x = bind_some (named_at position (lexemes.Word word ∷ ls)) _ found named in
-      in_found position _ (name x.0.0) x.0.1 found x.2 (named_takes position _ x.0 x.1))
+    let x = bind_some (named_at position (lexemes.Word word ∷ ls)) _ found named in
+    in_found position _ (name x.0.0) x.0.1 found x.2 (named_takes position _ x.0 x.1))
 
 leaf_takes : (position : Position) → Takes (SpellsExpr position) (leaf_at position)
 leaf_takes position [] found e = absurd cc
@@ -305,7 +315,7 @@ unfolding list_at
 list_read n position again es inner rest deep h =
     let never : NeverBegins (SpellsWithin n position) signs.RightBracket = λ e ls after k. expr_never position signs.RightBracket parenthesis_is_no_bracket bracket_is_no_bracket e ls after k.1 in
     let read = separated_again Anything (λ l ls p. p) (SpellsWithin n position) (expr_at n position) again signs.RightBracket signs.Comma never
-      (to_list es) inner (lexemes.Sign signs.RightBracket ∷ rest) tt (within n position es inner _ deep h) (same_sign-refl signs.RightBracket) bracket_is_no_comma in
+    (to_list es) inner (lexemes.Sign signs.RightBracket ∷ rest) tt (within n position es inner _ deep h) (same_sign-refl signs.RightBracket) bracket_is_no_comma in
     rw (same_sign-refl signs.LeftBracket, read.is, same_sign-refl signs.RightBracket, from_list-to_list es) refl
 
 -- what is spelled as an expression is read so

@@ -1,11 +1,10 @@
 -- What reading things one after another gives is spelled so, and what is spelled so is read.
-use Rattle.std.proofs.Common.{◌≡◌, ◌≤◌, ◌<◌, ℕ, zero, suc, Bool, true, false, cond, List, [], ◌∷◌, ◌++◌, length, Option, Some, None, refl, sym, ap, ◌∙◌, subst, arith, inl, inr}
-use Rattle.std.proofs.lemmas.Bool.{cases_Bool}
+use Rattle.std.proofs.Common.{◌≡◌, ◌≤◌, ◌<◌, ℕ, zero, suc, Bool, true, false, cond, List, [], ◌∷◌, length, Option, Some, refl, ap, subst, arith}
 use Rattle.gil_lexer.specs.declared.signs.Sign.{Sign}
 use Rattle.gil_lexemes.specs.declared.standing.Lexeme.{Lexeme}
 use Rattle.gil_lexemes.specs.declared.standing.Lexeme.TheVariants as lexemes
-use Rattle.gil_lexemes.specs.Lists.{with_front, more_at, separated_at, each_until}
-use Rattle.gil_lexemes.specs.Reading.{Reading, ◌>>=◌, behind, first_form, is_sign}
+use Rattle.gil_lexemes.specs.Lists.{more_at, separated_at, each_until}
+use Rattle.gil_lexemes.specs.Reading.{Reading, behind, first_form, is_sign}
 use Rattle.gil_lexemes.proofs.ReadingLaws.{bind_some, at_sign_is, same_sign-refl}
 use Rattle.gil_grammar.specs.Lists.{SpellsEach, SpellsMore, SpellsSeparated}
 
@@ -43,10 +42,10 @@ module _ {X : Type 0} (spells : X → List Lexeme → List Lexeme → Type 0) (r
   more_takes (suc n) separator ls found e =
       cond_cases (is_sign separator (first_form ls)) _ _ found e
       (λ test read_more.
-        let x = bind_some (read (behind ls)) _ found read_more in
-        let xs = bind_some (more_at read n separator x.0.1) _ found x.2 in
-        subst (λ (f : List X × List Lexeme). SpellsMore spells (lexemes.Sign separator) f.0 ls f.1) (found_is (x.0.0 ∷ xs.0.0, xs.0.1) found xs.2)
-        (behind ls, x.0.1, at_sign_is separator ls test, takes (behind ls) x.0 x.1, more_takes n separator x.0.1 xs.0 xs.1))
+      let x = bind_some (read (behind ls)) _ found read_more in
+      let xs = bind_some (more_at read n separator x.0.1) _ found x.2 in
+      subst (λ (f : List X × List Lexeme). SpellsMore spells (lexemes.Sign separator) f.0 ls f.1) (found_is (x.0.0 ∷ xs.0.0, xs.0.1) found xs.2)
+      (behind ls, x.0.1, at_sign_is separator ls test, takes (behind ls) x.0 x.1, more_takes n separator x.0.1 xs.0 xs.1))
       (λ test ends. subst (λ (f : List X × List Lexeme). SpellsMore spells (lexemes.Sign separator) f.0 ls f.1) (found_is ([], ls) found ends) refl)
 
   pub separated_takes : (closing separator : Sign) → Takes (SpellsSeparated spells (lexemes.Sign separator)) (separated_at read closing separator)
@@ -54,10 +53,10 @@ module _ {X : Type 0} (spells : X → List Lexeme → List Lexeme → Type 0) (r
       cond_cases (is_sign closing (first_form ls)) _ _ found e
       (λ test ends. subst (λ (f : List X × List Lexeme). SpellsSeparated spells (lexemes.Sign separator) f.0 ls f.1) (found_is ([], ls) found ends) refl)
       (λ test read_some.
-        let x = bind_some (read ls) _ found read_some in
-        let xs = bind_some (more_at read (length x.0.1) separator x.0.1) _ found x.2 in
-        subst (λ (f : List X × List Lexeme). SpellsSeparated spells (lexemes.Sign separator) f.0 ls f.1) (found_is (x.0.0 ∷ xs.0.0, xs.0.1) found xs.2)
-        (x.0.1, takes ls x.0 x.1, more_takes (length x.0.1) separator x.0.1 xs.0 xs.1))
+      let x = bind_some (read ls) _ found read_some in
+      let xs = bind_some (more_at read (length x.0.1) separator x.0.1) _ found x.2 in
+      subst (λ (f : List X × List Lexeme). SpellsSeparated spells (lexemes.Sign separator) f.0 ls f.1) (found_is (x.0.0 ∷ xs.0.0, xs.0.1) found xs.2)
+      (x.0.1, takes ls x.0 x.1, more_takes (length x.0.1) separator x.0.1 xs.0 xs.1))
 
   pub each_takes : (n : ℕ) (closing : Sign) → Takes (SpellsEach spells) (each_until read n closing)
   unfolding each_until
@@ -66,10 +65,10 @@ module _ {X : Type 0} (spells : X → List Lexeme → List Lexeme → Type 0) (r
       cond_cases (is_sign closing (first_form ls)) _ _ found e
       (λ test ends. subst (λ (f : List X × List Lexeme). SpellsEach spells f.0 ls f.1) (found_is ([], ls) found ends) refl)
       (λ test read_some.
-        let x = bind_some (read ls) _ found read_some in
-        let xs = bind_some (each_until read n closing x.0.1) _ found x.2 in
-        subst (λ (f : List X × List Lexeme). SpellsEach spells f.0 ls f.1) (found_is (x.0.0 ∷ xs.0.0, xs.0.1) found xs.2)
-        (x.0.1, takes ls x.0 x.1, each_takes n closing x.0.1 xs.0 xs.1))
+      let x = bind_some (read ls) _ found read_some in
+      let xs = bind_some (each_until read n closing x.0.1) _ found x.2 in
+      subst (λ (f : List X × List Lexeme). SpellsEach spells f.0 ls f.1) (found_is (x.0.0 ∷ xs.0.0, xs.0.1) found xs.2)
+      (x.0.1, takes ls x.0 x.1, each_takes n closing x.0.1 xs.0 xs.1))
 
 -- x is read from the lexemes ls, of which rest are left
 pub record ReadsList {X : Type 0} (P : List Lexeme → Type 0) (read : List Lexeme → Reading X) (x : X) (ls rest : List Lexeme) : Type 0 where
@@ -78,7 +77,7 @@ pub record ReadsList {X : Type 0} (P : List Lexeme → Type 0) (read : List Lexe
   pub shorter : length rest ≤ length ls
 
 module _ {X : Type 0} (P : List Lexeme → Type 0) (tails : (l : Lexeme) (ls : List Lexeme) → P (l ∷ ls) → P ls)
-  (spells : X → List Lexeme → List Lexeme → Type 0) (read : List Lexeme → Reading X) (again : Again P spells read) where
+    (spells : X → List Lexeme → List Lexeme → Type 0) (read : List Lexeme → Reading X) (again : Again P spells read) where
   pub more_again : (n : ℕ) (separator : Sign) (xs : List X) (ls rest : List Lexeme) → length ls ≤ n → P ls → SpellsMore spells (lexemes.Sign separator) xs ls rest
       → is_sign separator (first_form rest) ≡ false → ReadsList P (more_at read n separator) xs ls rest
   unfolding more_at

@@ -1,6 +1,6 @@
 -- What a text spells is well made: a name begins with no `#`, a logical name begins with one, and no literal is a symbol
 -- or a list.
-use Rattle.std.proofs.Common.{◌≡◌, ℕ, Bool, true, false, not, ◌&&◌, List, [], ◌∷◌, ◌++◌, map, Option, Some, None, refl, sym, ap, ◌∙◌, subst, inl, inr, ◌+◌}
+use Rattle.std.proofs.Common.{◌≡◌, ℕ, Bool, true, false, ◌&&◌, List, [], ◌∷◌, ◌++◌, Some, refl, sym, ◌∙◌, subst, inl, inr}
 use Rattle.std.specs.List.{list_all, flat_map, filter_map, cons_option, All}
 use Rattle.std.proofs.lemmas.Bool.{and_from, and_parts, not_from_false}
 use Rattle.std.proofs.lemmas.List.Folds.{list_all-append}
@@ -10,7 +10,6 @@ use Rattle.gil_values.specs.declared.kinds.Kind.TheVariants as kinds
 use Rattle.gil_values.specs.declared.operators.BinOp.{BinOp}
 use Rattle.gil_values.specs.declared.operators.BinOp.TheVariants as binary
 use Rattle.gil_values.specs.Pure.{PureValue, integer, boolean, text, symbol, kind, procedure, list}
-use Rattle.gil_lexer.specs.Bytes.{hash, begins, is_name_start}
 use Rattle.gil_lexer.specs.Spelling.{Spells, IsName}
 use Rattle.gil_lexer.specs.Texts.{AreTokensOf, IsSlice}
 use Rattle.gil_lexer.specs.declared.words.Word.{Word}
@@ -24,10 +23,10 @@ use Rattle.gil_lexemes.specs.declared.standing.Lexeme.{Lexeme}
 use Rattle.gil_lexemes.specs.declared.standing.Lexeme.TheVariants as lexemes
 use Rattle.gil_lexemes.specs.Lexemes.{StandsFor, StandForAll}
 use Rattle.gil_syntax.specs.declared.assertions.Param.{Param}
-use Rattle.gil_syntax.specs.Pure.{PureExpr, literal, name, logical, list_of, unary_of, binary_of, PureExprs, no_exprs, expr_and, PurePredUse, PureItem, pure, uses, PureCommand, assign, call, act, usym, isym, ifgoto, return, fail, vanish, fold_use, unfold_use, assert_that, loop_invariant, PureNumberedCommand, PureProc, PureSpec, PurePredDef, PureParts}
-use Rattle.gil_syntax.specs.Subexpressions.{subexpressions, subexpressions_of_all, exprs_of_use, exprs_of_item, exprs_of}
+use Rattle.gil_syntax.specs.Pure.{PureExpr, literal, name, logical, list_of, unary_of, binary_of, PureExprs, no_exprs, expr_and, PureItem, pure, uses, assign, call, act, usym, isym, ifgoto, return, fail, vanish, fold_use, unfold_use, assert_that, loop_invariant, PureNumberedCommand, PureProc, PureSpec, PurePredDef, PureParts}
+use Rattle.gil_syntax.specs.Subexpressions.{subexpressions, subexpressions_of_all, exprs_of_use, exprs_of_item}
 use Rattle.gil_syntax.specs.Valid.{ProgramItem, a_proc, a_spec, a_pred}
-use Rattle.gil_syntax.specs.WellMade.{is_spellable, is_drawable, has_hash, is_program_name, is_well_made_node, is_well_made_expr, are_logical, are_program_names, has_well_made_names, is_well_made_command, is_well_made_assertion, is_well_made_proc, is_well_made_spec, is_well_made_pred, is_well_made}
+use Rattle.gil_syntax.specs.WellMade.{is_spellable, is_drawable, has_hash, is_program_name, is_well_made_node, is_well_made_expr, are_logical, are_program_names, is_well_made_command, is_well_made_assertion, is_well_made_proc, is_well_made_spec, is_well_made_pred, is_well_made}
 use Rattle.gil_grammar.specs.declared.positions.Position.{Position}
 use Rattle.gil_grammar.specs.declared.positions.Position.TheVariants as positions
 use Rattle.gil_grammar.specs.Vocabulary.{literal_lexeme, before_operands, comma, input_word, word_name, IsNameAt}

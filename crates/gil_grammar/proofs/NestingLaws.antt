@@ -1,18 +1,17 @@
 -- Brackets that are open within expressions, and expressions that are read where no more are open than may be.
-use Rattle.std.proofs.Common.{◌≡◌, ◌≤◌, ◌<◌, ◌+◌, ◌-◌, max, ℕ, zero, suc, Bool, true, false, List, [], ◌∷◌, length, Option, Some, None, refl, sym, ap, ◌∙◌, subst, arith, inl, inr}
+use Rattle.std.proofs.Common.{◌≡◌, ◌≤◌, ◌+◌, ◌-◌, ℕ, List, ◌∷◌, Some, refl, ◌∙◌, subst, arith, inl, inr}
 use Rattle.gil_values.specs.declared.operators.BinOp.{BinOp}
 use Rattle.gil_values.specs.declared.operators.BinOp.TheVariants as binary
 use Rattle.gil_values.specs.Pure.{PureValue, integer, boolean, text, symbol, kind, procedure, list}
-use Rattle.gil_lexer.specs.declared.signs.Sign.TheVariants as signs
 use Rattle.gil_lexemes.specs.declared.standing.Lexeme.{Lexeme}
 use Rattle.gil_lexemes.specs.declared.standing.Lexeme.TheVariants as lexemes
 use Rattle.gil_syntax.specs.Pure.{PureExpr, literal, name, logical, list_of, unary_of, binary_of, PureExprs, no_exprs, expr_and}
 use Rattle.gil_grammar.specs.declared.positions.Position.{Position}
 use Rattle.gil_grammar.specs.Expressions.{SpellsExpr, SpellsElements, SpellsMoreElements}
-use Rattle.gil_grammar.specs.Nesting.{most_open, open_behind, IsNestedFrom, IsNested}
+use Rattle.gil_grammar.specs.Nesting.{most_open, open_behind, IsNestedFrom}
 use Rattle.gil_grammar.specs.Vocabulary.{between_operands, before_operands, literal_lexeme, closing_parenthesis, closing_bracket, IsNameAt}
 use Rattle.gil_grammar.specs.Reading.Assertions.{expression_at}
-use Rattle.gil_grammar.proofs.ListLaws.{Again, Reads, found_is}
+use Rattle.gil_grammar.proofs.ListLaws.{Again, found_is}
 use Rattle.gil_grammar.proofs.ExpressionLaws.{depth, depths, expr_again, expr_shortens}
 
 -- in these lexemes no more brackets are open than may be, where some number of them were open before

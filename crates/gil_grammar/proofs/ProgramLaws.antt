@@ -1,12 +1,12 @@
 -- What is read as procedures, specifications and predicates is spelled so, and what is spelled so is read.
-use Rattle.std.proofs.Common.{◌≡◌, ◌+◌, ◌≤◌, ◌<◌, ℕ, zero, suc, Bool, true, false, List, [], ◌∷◌, length, map, Option, Some, None, refl, sym, ap, ◌∙◌, subst, arith, inl, inr}
+use Rattle.std.proofs.Common.{◌≡◌, ◌+◌, ℕ, false, List, [], ◌∷◌, length, Some, refl, sym, ap, ◌∙◌, subst, arith}
 use Rattle.gil_lexer.specs.declared.words.Word.{Word}
 use Rattle.gil_lexer.specs.declared.words.Word.TheVariants as words
 use Rattle.gil_lexer.specs.declared.signs.Sign.TheVariants as signs
 use Rattle.gil_lexemes.specs.declared.standing.Lexeme.{Lexeme}
 use Rattle.gil_lexemes.specs.declared.standing.Lexeme.TheVariants as lexemes
 use Rattle.gil_lexemes.specs.Lists.{each_until}
-use Rattle.gil_lexemes.specs.Reading.{Reading, ◌>>=◌, behind, first_form, same_sign, is_sign, sign_at, name_at}
+use Rattle.gil_lexemes.specs.Reading.{first_form, is_sign, sign_at, name_at}
 use Rattle.gil_lexemes.proofs.ReadingLaws.{bind_some, sign_takes, name_takes, same_sign-refl}
 use Rattle.gil_syntax.specs.Pure.{PureCommand, PureNumberedCommand, PureProc, PureSpec, PurePredDef}
 use Rattle.gil_syntax.specs.Programs.{numbered_from}
@@ -19,14 +19,14 @@ use Rattle.gil_grammar.specs.Assertions.{SpellsParams}
 use Rattle.gil_grammar.specs.Commands.{SpellsNames, SpellsStatement}
 use Rattle.gil_grammar.specs.Lists.{SpellsEach}
 use Rattle.gil_grammar.specs.Programs.{commands_of, SpellsProc, SpellsSpec, SpellsPred, SpellsProgramItem}
-use Rattle.gil_grammar.specs.Reading.Vocabulary.{word_of, named_at}
+use Rattle.gil_grammar.specs.Reading.Vocabulary.{named_at}
 use Rattle.gil_grammar.specs.Reading.Assertions.{params_at, variables_at, block_at, blocks_at}
 use Rattle.gil_grammar.specs.Reading.Commands.{names_at, statement_at}
 use Rattle.gil_grammar.specs.Reading.Programs.{body_at, proc_at, spec_at, pred_at, item_by, item_at}
-use Rattle.gil_grammar.proofs.ListLaws.{Takes, Again, Reads, ReadsList, found_is, each_takes, each_again}
+use Rattle.gil_grammar.proofs.ListLaws.{Takes, Reads, ReadsList, each_takes, each_again}
 use Rattle.gil_grammar.proofs.VocabularyLaws.{named_takes, named_again}
 use Rattle.gil_grammar.proofs.NestingLaws.{Nested, nested_tail}
-use Rattle.gil_grammar.proofs.AssertionLaws.{in_place, word_of_takes, params_take, block_takes, variables_take}
+use Rattle.gil_grammar.proofs.AssertionLaws.{in_place, params_take, block_takes, variables_take}
 use Rattle.gil_grammar.proofs.AssertionReads.{parenthesis_closes, semicolon_closes, params_again, block_again, variables_again, blocks_take, blocks_again}
 use Rattle.gil_grammar.proofs.CommandLaws.{names_take, statement_takes}
 use Rattle.gil_grammar.proofs.CommandReads.{names_again, statement_again, statement_never}
@@ -70,11 +70,14 @@ proc_takes ls found e =
     let says = body_takes c.0 body.0 body.1 in
     let head : ls ≡ lexemes.Name x.0.0 ∷ lexemes.Sign signs.LeftParenthesis ∷ a.0 = name_takes ls x.0 x.1 ∙ ap (λ (l : List Lexeme). lexemes.Name x.0.0 ∷ l) (sign_takes signs.LeftParenthesis x.0.1 a.0 a.1) in
     let closed : xs.0.1 ≡ lexemes.Sign signs.RightParenthesis ∷ lexemes.Sign signs.LeftBrace ∷ c.0 = sign_takes signs.RightParenthesis xs.0.1 b.0 b.1 ∙ ap (λ (l : List Lexeme). lexemes.Sign signs.RightParenthesis ∷ l) (sign_takes signs.LeftBrace b.0 c.0 c.1) in
-    in_place SpellsProc _ (record { name = x.0.0; params = xs.0.0; body = body.0.0 }) r.0 found r.2
-    (a.0, c.0, ap (λ (l : List Lexeme). lexemes.Word words.Proc ∷ l) head,
+    in_place SpellsProc _ (record { name = x.0.0; params = xs.0.0; body = body.0.0 }) r.0 found r.2 (
+      a.0,
+      c.0,
+      ap (λ (l : List Lexeme). lexemes.Word words.Proc ∷ l) head,
       subst (SpellsNames xs.0.0 a.0) closed (names_take signs.RightParenthesis a.0 xs.0 xs.1),
       subst (SpellsEach SpellsStatement (commands_of body.0.0) c.0) (sign_takes signs.RightBrace body.0.1 r.0 r.1) says.0,
-      says.1)
+      says.1,
+    )
 
 pub spec_takes : (extent : Extent) (ls : List Lexeme) (found : PureSpec × List Lexeme) → spec_at extent ls ≡ Some found → SpellsSpec found.0 (lexemes.Word words.Spec ∷ ls) found.1
 unfolding spec_at
@@ -87,10 +90,17 @@ spec_takes extent ls found e =
     let pre = bind_some (block_at vs.0.1) _ found vs.2 in
     let posts = bind_some (blocks_at extent pre.0.1) _ found pre.2 in
     let head : ls ≡ lexemes.Name x.0.0 ∷ lexemes.Sign signs.LeftParenthesis ∷ a.0 = name_takes ls x.0 x.1 ∙ ap (λ (l : List Lexeme). lexemes.Name x.0.0 ∷ l) (sign_takes signs.LeftParenthesis x.0.1 a.0 a.1) in
-    in_place SpellsSpec _ (record { name = x.0.0; params = ps.0.0; logicals = vs.0.0; pre = pre.0.0; posts = posts.0.0 }) posts.0.1 found posts.2
-    (a.0, b.0, vs.0.1, pre.0.1, ap (λ (l : List Lexeme). lexemes.Word words.Spec ∷ l) head,
+    in_place SpellsSpec _ (record { name = x.0.0; params = ps.0.0; logicals = vs.0.0; pre = pre.0.0; posts = posts.0.0 }) posts.0.1 found posts.2 (
+      a.0,
+      b.0,
+      vs.0.1,
+      pre.0.1,
+      ap (λ (l : List Lexeme). lexemes.Word words.Spec ∷ l) head,
       subst (SpellsParams ps.0.0 a.0) (sign_takes signs.RightParenthesis ps.0.1 b.0 b.1) (params_take Program signs.RightParenthesis a.0 ps.0 ps.1),
-      variables_take b.0 vs.0 vs.1, block_takes vs.0.1 pre.0 pre.1, blocks_take extent pre.0.1 posts.0 posts.1)
+      variables_take b.0 vs.0 vs.1,
+      block_takes vs.0.1 pre.0 pre.1,
+      blocks_take extent pre.0.1 posts.0 posts.1,
+    )
 
 pub pred_takes : (extent : Extent) (ls : List Lexeme) (found : PurePredDef × List Lexeme) → pred_at extent ls ≡ Some found → SpellsPred found.0 (lexemes.Word words.Pred ∷ ls) found.1
 unfolding pred_at
@@ -105,11 +115,19 @@ pred_takes extent ls found e =
     let cases = bind_some (blocks_at extent vs.0.1) _ found vs.2 in
     let says = named_takes Predicate ls x.0 x.1 in
     let head : ls ≡ says.0 ∷ lexemes.Sign signs.LeftParenthesis ∷ a.0 = says.2 ∙ ap (λ (l : List Lexeme). says.0 ∷ l) (sign_takes signs.LeftParenthesis x.0.1 a.0 a.1) in
-    in_place SpellsPred _ (record { name = x.0.0; ins = ins.0.0; outs = outs.0.0; logicals = vs.0.0; cases = cases.0.0 }) cases.0.1 found cases.2
-    (says.0, a.0, b.0, c.0, vs.0.1, says.1, ap (λ (l : List Lexeme). lexemes.Word words.Pred ∷ l) head,
+    in_place SpellsPred _ (record { name = x.0.0; ins = ins.0.0; outs = outs.0.0; logicals = vs.0.0; cases = cases.0.0 }) cases.0.1 found cases.2 (
+      says.0,
+      a.0,
+      b.0,
+      c.0,
+      vs.0.1,
+      says.1,
+      ap (λ (l : List Lexeme). lexemes.Word words.Pred ∷ l) head,
       subst (SpellsParams ins.0.0 a.0) (sign_takes signs.Semicolon ins.0.1 b.0 b.1) (params_take Program signs.Semicolon a.0 ins.0 ins.1),
       subst (SpellsParams outs.0.0 b.0) (sign_takes signs.RightParenthesis outs.0.1 c.0 c.1) (params_take Program signs.RightParenthesis b.0 outs.0 outs.1),
-      variables_take c.0 vs.0 vs.1, blocks_take extent vs.0.1 cases.0 cases.1)
+      variables_take c.0 vs.0 vs.1,
+      blocks_take extent vs.0.1 cases.0 cases.1,
+    )
 
 item_by_takes : (word : Word) (ls : List Lexeme) (found : ProgramItem × List Lexeme) → item_by word (lexemes.Word word ∷ ls) ≡ Some found → SpellsProgramItem found.0 (lexemes.Word word ∷ ls) found.1
 item_by_takes words.Proc ls found e =
@@ -136,12 +154,15 @@ proc_again q ls rest p (params, body, is, a, b, numbered) =
     let inner : List Lexeme = lexemes.Name q.name ∷ lexemes.Sign signs.LeftParenthesis ∷ params in
     let under : Nested inner = nested_tail _ inner (subst Nested is p) in
     let xs = names_again signs.RightParenthesis parenthesis_closes q.params params _ (nested_tail _ params (nested_tail _ _ under)) a in
-    let body' = body_again q.body body rest (nested_tail _ body (nested_tail _ _ xs.under)) (b, numbered) in
-    (inner, is, record {
-      is = rw (same_sign-refl signs.LeftParenthesis, xs.is, same_sign-refl signs.RightParenthesis, same_sign-refl signs.LeftBrace, body'.is, same_sign-refl signs.RightBrace) refl;
-      under = nested_tail _ rest body'.under;
-      shorter = omega (arith, xs.shorter, body'.shorter);
-    })
+    let body' = body_again q.body body rest (nested_tail _ body (nested_tail _ _ xs.under)) (b, numbered) in (
+      inner,
+      is,
+      record {
+        is = rw (same_sign-refl signs.LeftParenthesis, xs.is, same_sign-refl signs.RightParenthesis, same_sign-refl signs.LeftBrace, body'.is, same_sign-refl signs.RightBrace) refl;
+        under = nested_tail _ rest body'.under;
+        shorter = omega (arith, xs.shorter, body'.shorter);
+      },
+    )
 
 -- a specification behind which no opening brace follows
 pub spec_again : (extent : Extent) (s : PureSpec) (ls rest : List Lexeme) → Nested ls → SpellsSpec s ls rest → is_sign signs.LeftBrace (first_form rest) ≡ false
@@ -153,12 +174,15 @@ spec_again extent s ls rest p (params, variables, pre, posts, is, a, b, c, d) en
     let ps = params_again Program signs.RightParenthesis parenthesis_closes s.params params variables (nested_tail _ params (nested_tail _ _ under)) a in
     let vs = variables_again s.logicals variables pre (nested_tail _ variables ps.under) b in
     let pre' = block_again s.pre pre posts vs.under c in
-    let posts' = blocks_again extent s.posts posts rest pre'.under d ends in
-    (inner, is, record {
-      is = rw (same_sign-refl signs.LeftParenthesis, ps.is, same_sign-refl signs.RightParenthesis, vs.is, pre'.is, posts'.is) refl;
-      under = posts'.under;
-      shorter = omega (arith, ps.shorter, vs.shorter, pre'.shorter, posts'.shorter);
-    })
+    let posts' = blocks_again extent s.posts posts rest pre'.under d ends in (
+      inner,
+      is,
+      record {
+        is = rw (same_sign-refl signs.LeftParenthesis, ps.is, same_sign-refl signs.RightParenthesis, vs.is, pre'.is, posts'.is) refl;
+        under = posts'.under;
+        shorter = omega (arith, ps.shorter, vs.shorter, pre'.shorter, posts'.shorter);
+      },
+    )
 
 -- a predicate behind which no opening brace follows
 pub pred_again : (extent : Extent) (d : PurePredDef) (ls rest : List Lexeme) → Nested ls → SpellsPred d ls rest → is_sign signs.LeftBrace (first_form rest) ≡ false
@@ -170,12 +194,15 @@ pred_again extent d ls rest p (lexeme, ins, outs, variables, cases, named, is, a
     let given = params_again Program signs.Semicolon semicolon_closes d.ins ins outs (nested_tail _ ins (nested_tail _ _ under)) a in
     let gives = params_again Program signs.RightParenthesis parenthesis_closes d.outs outs variables (nested_tail _ outs given.under) b in
     let vs = variables_again d.logicals variables cases (nested_tail _ variables gives.under) v in
-    let cases' = blocks_again extent d.cases cases rest vs.under c ends in
-    (inner, is, record {
-      is = rw (named_again Predicate d.name lexeme _ named, same_sign-refl signs.LeftParenthesis, given.is, same_sign-refl signs.Semicolon, gives.is, same_sign-refl signs.RightParenthesis, vs.is, cases'.is) refl;
-      under = cases'.under;
-      shorter = omega (arith, given.shorter, gives.shorter, vs.shorter, cases'.shorter);
-    })
+    let cases' = blocks_again extent d.cases cases rest vs.under c ends in (
+      inner,
+      is,
+      record {
+        is = rw (named_again Predicate d.name lexeme _ named, same_sign-refl signs.LeftParenthesis, given.is, same_sign-refl signs.Semicolon, gives.is, same_sign-refl signs.RightParenthesis, vs.is, cases'.is) refl;
+        under = cases'.under;
+        shorter = omega (arith, given.shorter, gives.shorter, vs.shorter, cases'.shorter);
+      },
+    )
 
 -- an item behind which no opening brace follows
 pub item_again : (item : ProgramItem) (ls rest : List Lexeme) → Nested ls → SpellsProgramItem item ls rest → is_sign signs.LeftBrace (first_form rest) ≡ false → Reads Nested item_at item ls rest

@@ -1,18 +1,17 @@
 -- What follows an annotation is the rest of the lexemes.
-use Rattle.std.proofs.Common.{◌≡◌, ◌≤◌, ◌-◌, ◌+◌, ℕ, List, [], ◌∷◌, ◌++◌, length, drop, refl, sym, ap, ◌∙◌, subst, append_assoc, length-append, arith, inl, inr}
+use Rattle.std.proofs.Common.{◌≡◌, ◌≤◌, ◌-◌, ℕ, List, [], ◌∷◌, ◌++◌, length, drop, refl, sym, ap, ◌∙◌, append_assoc, length-append, arith, inl, inr}
 use Rattle.std.proofs.lemmas.List.{drop_at}
 use Rattle.gil_values.specs.declared.operators.BinOp.{BinOp}
 use Rattle.gil_values.specs.declared.operators.BinOp.TheVariants as binary
 use Rattle.gil_lexemes.specs.declared.standing.Lexeme.{Lexeme}
-use Rattle.gil_syntax.specs.declared.assertions.Param.{Param}
-use Rattle.gil_syntax.specs.Pure.{PureExpr, literal, name, logical, list_of, unary_of, binary_of, PureExprs, no_exprs, expr_and, PurePredUse, PureItem, pure, uses, PureCommand, assign, call, act, usym, isym, ifgoto, return, fail, vanish, fold_use, unfold_use, assert_that, loop_invariant, PureSpec, PurePredDef}
+use Rattle.gil_syntax.specs.Pure.{PureExpr, literal, name, logical, list_of, unary_of, binary_of, PureExprs, no_exprs, expr_and, PureItem, pure, uses, PureCommand, fold_use, unfold_use, assert_that, loop_invariant}
 use Rattle.gil_grammar.specs.declared.positions.Position.{Position}
 use Rattle.gil_grammar.specs.declared.positions.Position.TheVariants as positions
-use Rattle.gil_grammar.specs.Annotations.{PureAnnotation, specification, predicate, logic, expression, SpellsAnnotation}
+use Rattle.gil_grammar.specs.Annotations.{specification, predicate, logic, expression, SpellsAnnotation}
 use Rattle.gil_grammar.specs.Lists.{SpellsEach, SpellsMore, SpellsSeparated}
 use Rattle.gil_grammar.specs.Expressions.{SpellsExpr, SpellsElements, SpellsMoreElements}
 use Rattle.gil_grammar.specs.Assertions.{SpellsParam, SpellsVariables, SpellsUse, SpellsItem, SpellsAssertion, SpellsBlock, SpellsBlocks}
-use Rattle.gil_grammar.specs.Commands.{SpellsName, SpellsCommand}
+use Rattle.gil_grammar.specs.Commands.{SpellsName}
 use Rattle.gil_grammar.specs.Programs.{SpellsSpec, SpellsPred}
 use Rattle.gil_grammar.specs.Vocabulary.{before_operands}
 
@@ -85,8 +84,8 @@ variables_leave qs ls rest (inner, is, h) = step _ ls inner rest is (past _ inne
 use_leaves : Leaves SpellsUse
 use_leaves u ls rest (l, ins, outs, named, is, a, b) =
     step l ls _ rest is (step _ _ ins rest refl (join ins outs rest
-      (past _ ins outs (separated_leave _ (expr_leaves positions.Assertion) _ u.ins ins _ a))
-      (past _ outs rest (separated_leave _ (expr_leaves positions.Assertion) _ u.outs outs _ b))))
+    (past _ ins outs (separated_leave _ (expr_leaves positions.Assertion) _ u.ins ins _ a))
+    (past _ outs rest (separated_leave _ (expr_leaves positions.Assertion) _ u.outs outs _ b))))
 
 item_leaves : Leaves SpellsItem
 item_leaves (pure e) ls rest (may, h) = expr_leaves positions.Assertion e ls rest h
@@ -115,19 +114,19 @@ logic_leaves (unfold_use u) ls rest (test, (inner, is, h)) = step _ ls inner res
 logic_leaves (assert_that items) ls rest (test, (block, is, h)) = step _ ls block rest is (block_leaves items block rest h)
 logic_leaves (loop_invariant xs ps items) ls rest (test, (names, variables, block, is, a, b, d)) =
     step _ ls _ rest is (step _ _ names rest refl (join names variables rest (past _ names variables (separated_leave SpellsName name_leaves _ xs names _ a))
-      (join variables block rest (variables_leave ps variables block b) (block_leaves items block rest d))))
+    (join variables block rest (variables_leave ps variables block b) (block_leaves items block rest d))))
 logic_leaves _ ls rest (test, h) = absurd (cc test)
 
 spec_leaves : Leaves SpellsSpec
 spec_leaves s ls rest (params, variables, pre, posts, is, a, b, c, d) =
     step _ ls _ rest is (step _ _ _ rest refl (step _ _ params rest refl (join params variables rest (past _ params variables (separated_leave _ (param_leaves _) _ s.params params _ a))
-      (join variables pre rest (variables_leave s.logicals variables pre b) (join pre posts rest (block_leaves s.pre pre posts c) (some_blocks s.posts posts rest d))))))
+    (join variables pre rest (variables_leave s.logicals variables pre b) (join pre posts rest (block_leaves s.pre pre posts c) (some_blocks s.posts posts rest d))))))
 
 pred_leaves : Leaves SpellsPred
 pred_leaves d ls rest (l, ins, outs, variables, cases, named, is, a, b, v, c) =
     step _ ls _ rest is (step l _ _ rest refl (step _ _ ins rest refl (join ins outs rest (past _ ins outs (separated_leave _ (param_leaves _) _ d.ins ins _ a))
-      (join outs variables rest (past _ outs variables (separated_leave _ (param_leaves _) _ d.outs outs _ b))
-        (join variables cases rest (variables_leave d.logicals variables cases v) (some_blocks d.cases cases rest c))))))
+    (join outs variables rest (past _ outs variables (separated_leave _ (param_leaves _) _ d.outs outs _ b))
+    (join variables cases rest (variables_leave d.logicals variables cases v) (some_blocks d.cases cases rest c))))))
 
 pub annotation_leaves : Leaves SpellsAnnotation
 annotation_leaves (specification s) ls rest h = spec_leaves s ls rest h

@@ -1,5 +1,5 @@
 -- What is read as a text's items is spelled so, and what is spelled so is read; so one text has one reading.
-use Rattle.std.proofs.Common.{◌≡◌, ◌+◌, ◌≤◌, ◌<◌, max, ℕ, zero, suc, Bool, true, false, List, [], ◌∷◌, ◌++◌, length, map, Option, Some, None, refl, sym, ap, ◌∙◌, subst, arith, inl, inr}
+use Rattle.std.proofs.Common.{◌≡◌, ◌≤◌, max, ℕ, zero, suc, true, false, List, [], ◌∷◌, length, Some, refl, sym, ap, ◌∙◌, subst, arith}
 use Rattle.gil_lexer.specs.declared.forms.Token.{Token}
 use Rattle.gil_lexer.specs.declared.words.Word.TheVariants as words
 use Rattle.gil_lexer.specs.declared.signs.Sign.TheVariants as signs
@@ -8,7 +8,7 @@ use Rattle.gil_lexer.proofs.TextLaws.{one_list}
 use Rattle.gil_lexemes.specs.declared.standing.Lexeme.{Lexeme}
 use Rattle.gil_lexemes.specs.declared.standing.Lexeme.TheVariants as lexemes
 use Rattle.gil_lexemes.specs.Lexemes.{StandForAll}
-use Rattle.gil_lexemes.specs.Reading.{Reading, ◌>>=◌, behind, first_form, same_sign, is_sign, is_word}
+use Rattle.gil_lexemes.specs.Reading.{◌>>=◌, behind, first_form, is_sign, is_word}
 use Rattle.gil_lexemes.proofs.ReadingLaws.{bind_some, if_some, at_word_is, same_word-refl}
 use Rattle.gil_lexemes.proofs.StandingLemmas.{stand_once}
 use Rattle.gil_syntax.specs.Pure.{PureExpr, PureProc, PureParts}
@@ -17,10 +17,9 @@ use Rattle.gil_grammar.specs.declared.positions.Position.{Position}
 use Rattle.gil_grammar.specs.Expressions.{SpellsExpr}
 use Rattle.gil_grammar.specs.Nesting.{IsNested}
 use Rattle.gil_grammar.specs.Programs.{SpellsProgramItem}
-use Rattle.gil_grammar.specs.Texts.{PlacedItem, byte_before, SpellsItems, BeginsWithProc, Spell, parts_of, SpellProgram}
-use Rattle.gil_grammar.specs.Reading.Expressions.{expr_at}
+use Rattle.gil_grammar.specs.Texts.{PlacedItem, SpellsItems, BeginsWithProc, Spell, parts_of, SpellProgram}
 use Rattle.gil_grammar.specs.Reading.Programs.{proc_at, item_at}
-use Rattle.gil_grammar.specs.Reading.Texts.{with_items, items_at, program_at}
+use Rattle.gil_grammar.specs.Reading.Texts.{items_at, program_at}
 use Rattle.gil_grammar.proofs.ListLaws.{found_is}
 use Rattle.gil_grammar.proofs.ExpressionLaws.{depth, expr_again}
 use Rattle.gil_grammar.proofs.NestingLaws.{Nested}

@@ -1,12 +1,10 @@
 -- Words, signs and names that are read are spelled so, and the other way round.
-use Rattle.std.proofs.Common.{◌≡◌, ℕ, Bool, true, false, List, [], ◌∷◌, Option, Some, None, refl, sym, ap, ◌∙◌, subst, inl, inr}
-use Rattle.std.specs.Prelude.{is_some}
+use Rattle.std.proofs.Common.{◌≡◌, ℕ, false, List, [], ◌∷◌, Some, None, refl, sym, ap, subst, inl, inr}
 use Rattle.gil_values.specs.declared.kinds.Kind.{Kind}
 use Rattle.gil_values.specs.declared.kinds.Kind.TheVariants as kinds
 use Rattle.gil_values.specs.declared.operators.UnOp.{UnOp}
 use Rattle.gil_values.specs.declared.operators.UnOp.TheVariants as unary
 use Rattle.gil_values.specs.declared.operators.BinOp.{BinOp}
-use Rattle.gil_values.specs.declared.operators.BinOp.TheVariants as binary
 use Rattle.gil_values.specs.Pure.{PureValue}
 use Rattle.gil_lexer.specs.declared.words.Word.{Word}
 use Rattle.gil_lexer.specs.declared.words.Word.TheVariants as words
@@ -14,14 +12,14 @@ use Rattle.gil_lexer.specs.declared.signs.Sign.{Sign}
 use Rattle.gil_lexer.specs.declared.signs.Sign.TheVariants as signs
 use Rattle.gil_lexemes.specs.declared.standing.Lexeme.{Lexeme}
 use Rattle.gil_lexemes.specs.declared.standing.Lexeme.TheVariants as lexemes
-use Rattle.gil_lexemes.specs.Reading.{Reading, ◌>>=◌, behind, first_form, name_at}
+use Rattle.gil_lexemes.specs.Reading.{behind, first_form}
 use Rattle.gil_lexemes.proofs.ReadingLaws.{bind_some, name_takes}
 use Rattle.gil_syntax.specs.declared.assertions.SpecSort.{SpecSort}
 use Rattle.gil_syntax.specs.declared.assertions.SpecSort.TheVariants as sorts
 use Rattle.gil_grammar.specs.declared.positions.Position.{Position}
 use Rattle.gil_grammar.specs.declared.positions.Position.TheVariants as positions
-use Rattle.gil_grammar.specs.Vocabulary.{literal_lexeme, kind_word, boolean_word, unary_word, between_operands, before_operands, sort_word, input_word, word_name, IsNameAt}
-use Rattle.gil_grammar.specs.Reading.Vocabulary.{word_value, unary_of_word, operator_of_sign, operator_of_word, operator_of, sort_of_word, input_of_word, named_by, named_at}
+use Rattle.gil_grammar.specs.Vocabulary.{literal_lexeme, unary_word, between_operands, before_operands, sort_word, input_word, word_name, IsNameAt}
+use Rattle.gil_grammar.specs.Reading.Vocabulary.{word_value, unary_of_word, operator_of_sign, operator_of_word, operator_of, sort_of_word, input_of_word, named_at}
 use Rattle.gil_grammar.specs.Reading.Expressions.{word_opens}
 use Rattle.gil_grammar.proofs.ListLaws.{found_is}
 

@@ -1,14 +1,11 @@
 -- What a cursor's tokens stand for, token by token.
-use Rattle.std.proofs.Common.{◌≡◌, ◌+◌, ◌-◌, ◌≤◌, ◌<◌, ℕ, ℤ, pos, suc, Bool, true, false, List, [], ◌∷◌, ◌++◌, length, Option, Some, None, refl, sym, ap, ◌∙◌, arith, get_or, length-append}
+use Rattle.std.proofs.Common.{◌≡◌, ◌-◌, ◌≤◌, ℕ, List, [], ◌∷◌, ◌++◌, length, Some, refl, ap, arith, get_or, length-append}
 use Rattle.std.proofs.Math.Seq.{take-append_seam}
-use Rattle.std.specs.Prelude.{FitsSigned}
-use Rattle.std.specs.Int.{w64}
 use Rattle.std.specs.List.{All, slice_range}
 use Rattle.std.proofs.lemmas.List.Elements.{All-head, All-tail}
 use Rattle.gil_lexer.specs.Bytes.{quote}
-use Rattle.gil_lexer.specs.Spelling.{Spells, SpellsNumber, SpellsText, characters_bytes}
+use Rattle.gil_lexer.specs.Spelling.{Spells, characters_bytes}
 use Rattle.gil_lexer.specs.Texts.{IsSlice}
-use Rattle.gil_lexer.specs.Reading.{number_value, unescaped}
 use Rattle.gil_lexer.specs.declared.forms.Form.{Form}
 use Rattle.gil_lexer.specs.declared.forms.Form.TheVariants as forms
 use Rattle.gil_lexer.specs.declared.forms.Token.{Token}

@@ -1,12 +1,12 @@
 -- Reading things one after another, as a loop does.
-use Rattle.std.proofs.Common.{◌≡◌, ℕ, suc, ◌-◌, ◌+◌, ◌≤◌, ◌<◌, true, false, List, [], ◌∷◌, ◌++◌, Option, Some, None, refl, sym, ap, ◌∙◌, append_assoc, arith}
+use Rattle.std.proofs.Common.{◌≡◌, ℕ, suc, ◌-◌, ◌+◌, ◌≤◌, ◌<◌, true, false, List, [], ◌∷◌, ◌++◌, Some, None, refl, sym, ap, ◌∙◌, append_assoc, arith}
 use Rattle.std.proofs.lemmas.List.{append-nil}
 use Rattle.gil_lexer.specs.declared.signs.Sign.{Sign}
 use Rattle.gil_lexemes.specs.declared.standing.Lexeme.{Lexeme}
 use Rattle.gil_lexemes.specs.declared.stops.Stop.{Stop}
 use Rattle.gil_lexemes.specs.declared.stops.Stop.TheVariants as stops
 use Rattle.gil_lexemes.specs.Lists.{with_front, more_at, each_until}
-use Rattle.gil_lexemes.specs.Reading.{Reading, ◌>>=◌, Fails, behind, first_form, is_sign}
+use Rattle.gil_lexemes.specs.Reading.{Reading, Fails, behind, first_form, is_sign}
 
 pub regroup : {X : Type 0} (front : List X) (x : X) (read : Reading (List X)) → with_front front (with_front (x ∷ []) read) ≡ with_front (front ++ x ∷ []) read
 regroup front x (Some xs) = ap (λ ys. Some (ys, xs.1)) (simp append_assoc)

@@ -1,12 +1,12 @@
 -- Names are texts, and texts are ASCII.
-use Rattle.std.proofs.Common.{◌≡◌, ◌<◌, ◌≤◌, ◌⊎◌, ℕ, zero, suc, List, [], ◌∷◌, Bool, true, false, ◌&&◌, ◌||◌, get_or, arith, refl, lit<, lit≤, inl, inr}
+use Rattle.std.proofs.Common.{◌≡◌, ◌<◌, ◌≤◌, ℕ, zero, suc, List, [], ◌∷◌, true, get_or, arith, lit<, lit≤, inl, inr}
 use Rattle.std.proofs.lemmas.Bool.Decides.{nat_tests}
 use Rattle.std.proofs.lemmas.Bool.{and_parts}
 use Rattle.std.specs.List.{list_all}
 use Rattle.std.specs.Str.{IsUtf8}
 use Rattle.std.proofs.lemmas.Str.{IsUtf8-from_ascii}
 use Rattle.gil_values.specs.Characters.{IsTextCharacter, IsText}
-use Rattle.gil_lexer.specs.Bytes.{hash, at_sign, is_name_byte}
+use Rattle.gil_lexer.specs.Bytes.{hash, is_name_byte}
 use Rattle.gil_lexer.specs.Spelling.{IsName, IsMarkedName}
 use Rattle.std.proofs.lemmas.List.Elements.{All-cons, All-nil, All-tail}
 

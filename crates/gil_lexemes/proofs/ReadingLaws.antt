@@ -1,15 +1,13 @@
 -- What a step of reading gives says of the lexemes, and the other way round.
-use Rattle.std.proofs.Common.{◌≡◌, ℕ, ℤ, Bool, true, false, cond, List, [], ◌∷◌, Option, Some, None, refl, sym, ap, ◌∙◌, rules}
+use Rattle.std.proofs.Common.{◌≡◌, ℕ, ℤ, Bool, true, false, cond, List, [], ◌∷◌, Option, Some, None, refl, ap, ◌∙◌}
 use denote.Enum.Bare.{same_true, true_same}
-use Rattle.gil_lexer.specs.declared.forms.Form.{Form}
-use Rattle.gil_lexer.specs.declared.forms.Form.TheVariants as forms
 use Rattle.gil_lexer.specs.declared.signs.Sign.{Sign}
 use Rattle.gil_lexer.specs.declared.words.Word.{Word}
 use Rattle.gil_lexer.specs.contracts.signs.Sign.{the_type as sign_type}
 use Rattle.gil_lexer.specs.contracts.words.Word.{the_type as word_type}
 use Rattle.gil_lexemes.specs.declared.standing.Lexeme.{Lexeme}
 use Rattle.gil_lexemes.specs.declared.standing.Lexeme.TheVariants as lexemes
-use Rattle.gil_lexemes.specs.Reading.{Reading, ◌>>=◌, behind, form_of, first_form, same_sign, is_sign, same_word, is_word, sign_at, word_at, name_at, logical_at, procedure_at, number_at, characters_at}
+use Rattle.gil_lexemes.specs.Reading.{◌>>=◌, behind, first_form, same_sign, is_sign, same_word, is_word, sign_at, word_at, name_at, logical_at, procedure_at, number_at, characters_at}
 
 -- the value of a step that gave something
 pub bind_some : {A B : Type 0} (r : Option A) (f : A → Option B) (y : B) → (r >>= f) ≡ Some y → (x : A) × (r ≡ Some x) × (f x ≡ Some y)

@@ -1,5 +1,5 @@
 -- Reading things one after another, each by the same function.
-use Rattle.std.specs.Prelude.{ℕ, zero, suc, List, [], ◌∷◌, ◌++◌, length, Option, Some, None, if◌then◌else◌}
+use Rattle.std.specs.Prelude.{ℕ, zero, suc, List, [], ◌∷◌, ◌++◌, length, Some, if◌then◌else◌}
 use Rattle.gil_lexer.specs.declared.signs.Sign.{Sign}
 use Rattle.gil_lexemes.specs.declared.standing.Lexeme.{Lexeme}
 use Rattle.gil_lexemes.specs.Reading.{Reading, ◌>>=◌, is_sign, first_form, behind}

@@ -1,5 +1,5 @@
 -- Reading what texts of other languages hold of GIL.
-use Rattle.std.specs.Prelude.{List, Option, Some, None}
+use Rattle.std.specs.Prelude.{List, Option, Some}
 use Rattle.gil_lexer.specs.declared.forms.Form.{Form}
 use Rattle.gil_lexer.specs.declared.forms.Form.TheVariants as forms
 use Rattle.gil_lexer.specs.declared.words.Word.{Word}

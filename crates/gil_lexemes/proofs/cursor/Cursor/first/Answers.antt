@@ -1,4 +1,4 @@
-use Rattle.std.proofs.Common.{◌∙◌, sym, ap, arith}
+use Rattle.std.proofs.Common.{◌∙◌, sym, ap}
 use Rattle.gil_lexemes.specs.Reading.{first_form}
 use Rattle.gil_lexemes.proofs.CursorLemmas.{first_form_is}
 use Rattle.gil_lexemes.proofs.cursor.Cursor.first.Goals as goal

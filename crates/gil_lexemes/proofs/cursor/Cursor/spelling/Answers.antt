@@ -1,4 +1,4 @@
-use Rattle.std.proofs.Common.{subst, rules}
+use Rattle.std.proofs.Common.{subst}
 use Rattle.gil_lexemes.specs.Standing.{FirstStands}
 use Rattle.gil_lexemes.proofs.CursorLemmas.{first_stands}
 use Rattle.gil_lexemes.proofs.cursor.Cursor.spelling.Goals as goal
