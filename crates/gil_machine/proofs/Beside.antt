@@ -19,10 +19,10 @@ use Rattle.mem_model.specs.declared.keys.MemoryName.{MemoryName}
 use Rattle.mem_model.specs.Heaps.{Heap, joined, IsCompatible, IsHeapOf}
 use Rattle.mem_model.specs.Pure.{PureOutcome, done, failed as action_failed, miss}
 use Rattle.mem_model.specs.Actions.{Actions, ActionResult, IsMemory, IsSettled, IsSameBeside, MayAct}
-use Rattle.gil_machine.specs.Beside.{beside, step_beside, IsSameStepBeside}
+use Rattle.gil_machine.specs.Beside.{beside, IsSameStepBeside}
 use Rattle.gil_machine.specs.Choices.{of_values, missed_key, outcome_choice, result_of, choice_of}
 use Rattle.gil_machine.specs.State.{Frame, State, End, failed, bad_input, Step, goes_on, ends, end_at}
-use Rattle.gil_machine.specs.Step.{action_result, counted, command_at, to_label, assigned, fails_with, with_value, with_values, enter, enter_found, enter_value, leave, after_action, acted, do_action, draw, branch, do_command, step_at, step}
+use Rattle.gil_machine.specs.Step.{action_result, counted, command_at, to_label, assigned, fails_with, with_value, with_values, enter, enter_found, enter_value, leave, after_action, acted, do_action, draw, branch, do_command, step_at}
 use Rattle.gil_machine.specs.Proper.{IsProperState}
 use Rattle.gil_machine.specs.Laws.{handed, StepsAreLocal, MissesFail}
 use Rattle.gil_machine.proofs.Proper.{MadeCommand, command_made, find_made, may_act_where_reached}

@@ -7,5 +7,6 @@ pub mod Placed
 pub mod Proper
 pub mod Runs
 pub mod Sizes
+pub mod Standings
 pub mod Steps
 pub mod Tests

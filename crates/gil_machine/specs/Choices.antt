@@ -1,9 +1,9 @@
 -- What is chosen at a step: the side that a guard takes, and what an action comes to.
-use Rattle.std.specs.Prelude.{ℕ, zero, suc, List, [], ◌∷◌, Bool, true, false, Option, Some, None, Ok, Err}
+use Rattle.std.specs.Prelude.{ℕ, zero, suc, List, [], ◌∷◌, true, false, Option, Some, None, Ok, Err}
 use Rattle.std.specs.Option.{option_and_then, option_map}
 use Rattle.gil_values.specs.Pure.{PureValue, boolean}
 use Rattle.gil_values.specs.Operators.{Outcome}
-use Rattle.gil_syntax.specs.Pure.{PureCommand, act, ifgoto, PureNumberedCommand, PureParts}
+use Rattle.gil_syntax.specs.Pure.{PureCommand, act, ifgoto, PureParts}
 use Rattle.gil_syntax.specs.Evaluation.{Outcomes, evaluate, evaluate_all}
 use Rattle.mem_model.specs.declared.keys.Key.{Key}
 use Rattle.mem_model.specs.Pure.{PureOutcome, done, failed, miss}

@@ -8,6 +8,7 @@ pub mod Laws
 pub mod Placed
 pub mod Proper
 pub mod Run
+pub mod Standing
 pub mod State
 pub mod Step
 pub mod StoreView

@@ -2,6 +2,8 @@
 //! have no code, and their contracts are what is proved of the definitions.
 #![tactic(auto)]
 
+mod control;
+mod endings;
 mod evaluation;
 mod examples;
 mod faults;

@@ -1,5 +1,5 @@
 -- The loop has the values of the first expressions.
-use Rattle.std.proofs.Common.{◌≡◌, ◌≤◌, ◌+◌, ◌<◌, Some, slice_get, length, ap, sym, ◌∙◌, subst, arith}
+use Rattle.std.proofs.Common.{◌≡◌, ◌≤◌, ◌+◌, Some, slice_get, sym, subst, arith}
 use Rattle.gil_values.proofs.Lists.{slice_get-read}
 use Rattle.gil_values.specs.View.{value_view, values_view}
 use Rattle.gil_syntax.specs.Pure.{from_list}

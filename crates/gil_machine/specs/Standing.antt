@@ -1,0 +1,83 @@
+-- What the code's machine stands for: a state, up to how its stores are kept.
+use Rattle.std.specs.Prelude.{◌≡◌, ◌+◌, ◌≤◌, List, [], ◌∷◌, reverse, Option, Some, None}
+use Rattle.std.specs.Option.{option_map}
+use Rattle.gil_values.specs.declared.places.Place.{Place}
+use Rattle.gil_values.specs.Pure.{text}
+use Rattle.gil_values.specs.Operators.{wrong_kind, zero_divisor, out_of_range, unset_variable, fault_text}
+use Rattle.gil_values.specs.View.{value_view}
+use Rattle.gil_syntax.specs.Pure.{PureParts}
+use Rattle.gil_syntax.specs.Programs.{find_proc}
+use Rattle.gil_syntax.specs.View.{proc_view}
+use Rattle.mem_model.specs.declared.keys.MemoryName.{MemoryName}
+use Rattle.mem_model.specs.Heaps.{Heap}
+use Rattle.gil_machine.specs.declared.control.Control.{Control}
+use Rattle.gil_machine.specs.declared.control.Frame.{Frame as KeptFrame}
+use Rattle.gil_machine.specs.declared.endings.Ending.{Ending as KeptEnding}
+use Rattle.gil_machine.specs.declared.endings.Ending.TheVariants as kept
+use Rattle.gil_machine.specs.declared.faults.EvaluationFault.{EvaluationFault}
+use Rattle.gil_machine.specs.declared.faults.EvaluationFault.TheVariants as faults
+use Rattle.gil_machine.specs.Kept.{Keeps}
+use Rattle.gil_machine.specs.StoreView.{store_view}
+use Rattle.gil_machine.specs.State.{Frame, State, Ending, returned, failed, vanished, no_input, bad_input, Step, goes_on, ends}
+use Rattle.gil_machine.specs.Proper.{IsProperState}
+
+-- the frame is a call of its procedure, at the same command, whose store keeps the same values
+pub record FrameStands (p : PureParts) (f : KeptFrame) (g : Frame) : Type 0 where
+  pub name : g.procedure ≡ f.proc.now.name
+  pub procedure : find_proc p.procs g.procedure ≡ Some (proc_view f.proc.now)
+  pub next : g.next ≡ f.next
+  pub store : Keeps (store_view f.store) g.store
+  pub waits : g.waits ≡ option_map (λ x. x.now) f.waits
+
+-- frame for frame
+abbrev pub FramesStand : PureParts → List KeptFrame → List Frame → Type 0
+FramesStand p [] [] = Unit {0}
+FramesStand p (f ∷ fs) (g ∷ gs) = FrameStands p f g × FramesStand p fs gs
+FramesStand p _ _ = ⊥
+
+-- All but the heap. The code's callers stand with the latest last.
+pub record Stands (p : PureParts) (c : Control) (s : State) : Type 0 where
+  pub current : FrameStands p c.current s.current
+  pub callers : FramesStand p (reverse c.callers.items) s.callers
+  pub counter : s.counter ≡ c.counter
+  pub draws : s.draws ≡ c.draws
+
+-- a state for which the code's machine and a heap of this memory stand, and which is proper
+pub record IsStanding (p : PureParts) (memory : MemoryName) (c : Control) (h : Heap) : Type 0 where
+  pub state : State
+  pub stands : Stands p c state
+  pub heap : state.heap ≡ h
+  pub proper : IsProperState memory state
+
+-- the code's ending is that of a run
+abbrev pub EndsAs : KeptEnding → Ending → Type 0
+EndsAs (kept.Returned v) e = e ≡ returned (value_view v)
+EndsAs (kept.Failed v place) e = e ≡ failed (value_view v) place
+EndsAs kept.Vanished e = e ≡ vanished
+EndsAs (kept.NoInput k) e = e ≡ no_input k
+EndsAs (kept.BadInput k) e = e ≡ bad_input k
+EndsAs (kept.Number place) e = ⊥
+
+-- What the code comes to with a command, where the command leads to this step and a number that can't be held may stand
+-- there: that number, the next state, or the end, and this heap.
+abbrev pub Comes : PureParts → Option Place → Step → Option KeptEnding → Control → Heap → Type 0
+Comes p (Some place) step (Some (kept.Number other)) c h = other ≡ place
+Comes p (Some place) step _ c h = ⊥
+Comes p None (goes_on s) None c h = Stands p c s × (s.heap ≡ h)
+Comes p None (goes_on s) (Some ending) c h = ⊥
+Comes p None (ends e) None c h = ⊥
+Comes p None (ends e) (Some ending) c h = EndsAs ending e.ending × (e.heap ≡ h) × (e.counter ≡ c.counter) × (e.draws ≡ c.draws)
+
+-- how a run ends at a fault of evaluation at this place
+abbrev pub FaultEnds : EvaluationFault → Place → KeptEnding → Type 0
+FaultEnds faults.WrongKind place ending = EndsAs ending (failed (text (fault_text wrong_kind)) place)
+FaultEnds faults.Zero place ending = EndsAs ending (failed (text (fault_text zero_divisor)) place)
+FaultEnds faults.Range place ending = EndsAs ending (failed (text (fault_text out_of_range)) place)
+FaultEnds faults.Unset place ending = EndsAs ending (failed (text (fault_text unset_variable)) place)
+FaultEnds faults.Number place ending = ending ≡ kept.Number place
+FaultEnds faults.Memory place ending = ⊥
+
+-- at most one symbol was taken, and one draw made
+pub record GrowsByOne (old new : Control) : Type 0 where
+  pub counter : new.counter ≤ old.counter + 1
+  pub draws : new.draws ≤ old.draws + 1

@@ -1,0 +1,167 @@
+//! The calls in progress, the next symbol and the draws made: a state of the machine without its heap.
+ghost use Rattle.std.specs.Prelude.{◌≡◌, ◌+◌, ◌^◌, ◌<◌, slice_get, length, pos, Some, None, IfOk, IfSome, OnOk};
+ghost use Rattle.std.specs.Option.{option_map};
+ghost use Rattle.gil_values.specs.View.{value_view, values_view};
+ghost use Rattle.gil_syntax.specs.Programs.{find_proc};
+ghost use Rattle.gil_syntax.specs.Pure.{PureParts};
+ghost use Rattle.gil_syntax.specs.View.{numbered_command_view, proc_view};
+ghost use Rattle.gil_machine.specs.Kept.{Keeps};
+ghost use Rattle.gil_machine.specs.Standing.{Comes, FrameStands, GrowsByOne, Stands};
+ghost use Rattle.gil_machine.specs.State.{Frame as PureFrame, State};
+ghost use Rattle.gil_machine.specs.Step.{assigned, bind_all, enter, leave, resumed, to_label, to_next};
+ghost use Rattle.gil_machine.specs.StoreView.{store_view};
+
+use crate::endings::Ending;
+use crate::store::Store;
+use gil_syntax::{NumberedCommand, Proc};
+use gil_values::{Place, Text, Value, Values};
+use std::alloc::{AllocError, Global};
+use std::mem;
+
+/// A call in progress.
+#[derive(Drop)]
+pub(crate) struct Frame<'p> {
+    pub(crate) proc: &'p Proc,
+    /// The index of the command at which the call stands.
+    pub(crate) next: usize,
+    pub(crate) store: Store,
+    /// The variable that waits for the result of the call that this one made.
+    pub(crate) waits: Option<&'p Text>,
+}
+
+/// The call that runs, those that wait for it, the latest last, the number of the next new symbol, and how many draws
+/// were made.
+#[derive(Drop)]
+pub(crate) struct Control<'p> {
+    pub(crate) current: Frame<'p>,
+    pub(crate) callers: Vec<Frame<'p>>,
+    pub(crate) counter: u64,
+    pub(crate) draws: u32,
+}
+
+impl<'p> Control<'p> {
+    /// The command at which the run stands.
+    pub(crate) fn command(&self) -> Option<&'p NumberedCommand>
+        ensures command { option_map (λ c. numbered_command_view c.now) result ≡ slice_get (proc_view self.now.current.proc.now).body self.now.current.next }
+        ensures below { IfSome result (λ _. self.now.current.next + 1 < 2 ^ 64) }
+    {
+        let body = &self.current.proc.body;
+        let _len = body.len();
+        body.get(self.current.next)
+    }
+
+    /// The place of a command of the current call.
+    pub(crate) fn place(&self, alloc: Global, at: u32) -> Result<Place, AllocError>
+        ensures { IfOk result (λ place. place ≡ record { proc = self.now.current.proc.now.name; at = at }) }
+    {
+        let proc = self.current.proc.name.copy(alloc)?;
+        Ok(Place { proc, at })
+    }
+
+    /// Goes to the next command.
+    pub(crate) fn go_on(&mut self)
+        requires { self.old.current.next + 1 < 2 ^ 64 }
+        ensures goes { (p : PureParts) (s : State) → Stands p self.old s → Comes p None (to_next s) None self.new s.heap }
+        ensures grows { GrowsByOne self.old self.new }
+    {
+        self.current.next += 1;
+    }
+
+    /// Gives a variable a value, and goes to the next command.
+    pub(crate) fn assign(
+        &mut self,
+        alloc: Global,
+        name: &Text,
+        value: Value,
+    ) -> Result<(), AllocError>
+        requires { self.old.current.next + 1 < 2 ^ 64 }
+        ensures goes { OnOk result ((p : PureParts) (s : State) → Stands p self.old s → Comes p None (assigned name.now (value_view value) s) None self.new s.heap) }
+        ensures grows { OnOk result (GrowsByOne self.old self.new) }
+    {
+        self.current.store.set(alloc, name, value)?;
+        self.current.next += 1;
+        Ok(())
+    }
+
+    /// Goes to the command with an index; to none where the label is below 0.
+    pub(crate) fn jump(&mut self, label: i64)
+        ensures goes { (p : PureParts) (s : State) → Stands p self.old s → Comes p None (to_label label s) None self.new s.heap }
+        ensures grows { GrowsByOne self.old self.new }
+    {
+        if let Ok(next) = usize::try_from(label) {
+            self.current.next = next;
+        }
+    }
+
+    /// Begins a call of a procedure, whose result a variable waits for.
+    pub(crate) fn enter(
+        &mut self,
+        alloc: Global,
+        name: &'p Text,
+        proc: &'p Proc,
+        args: &Values,
+    ) -> Result<(), AllocError>
+        requires next { self.old.current.next + 1 < 2 ^ 64 }
+        requires arity { length (values_view args.now) ≡ length proc.now.params }
+        ensures goes { OnOk result ((p : PureParts) (s : State) → Stands p self.old s → find_proc p.procs proc.now.name ≡ Some (proc_view proc.now)
+            → Comes p None (enter (proc_view proc.now) name.now (values_view args.now) s) None self.new s.heap) }
+        ensures grows { OnOk result (GrowsByOne self.old self.new) }
+    {
+        let store = store_of(alloc, proc, args)?;
+        let first = Frame {
+            proc,
+            next: 0,
+            store,
+            waits: None,
+        };
+        let mut caller = mem::replace(&mut self.current, first);
+        caller.next += 1;
+        caller.waits = Some(name);
+        self.callers.push(caller)?;
+        Ok(())
+    }
+
+    /// Ends a call with its value: the variable that waits gets it, and the entry's return ends the run.
+    pub(crate) fn leave(
+        &mut self,
+        alloc: Global,
+        value: Value,
+    ) -> Result<Option<Ending>, AllocError>
+        ensures goes { IfOk result (λ end. (p : PureParts) (s : State) → Stands p self.old s → Comes p None (leave s.callers (value_view value) s) end self.new s.heap) }
+        ensures grows { OnOk result (GrowsByOne self.old self.new) }
+    {
+        match self.callers.pop() {
+            None => Ok(Some(Ending::Returned(value))),
+            Some(caller) => {
+                self.current = resume(alloc, caller, value)?;
+                Ok(None)
+            }
+        }
+    }
+}
+
+/// The frame that waits gets the value.
+fn resume(alloc: Global, mut caller: Frame, value: Value) -> Result<Frame, AllocError>
+    ensures { IfOk result (λ frame. (p : PureParts) (g : PureFrame) → FrameStands p caller.entry g → FrameStands p frame (resumed g.waits (value_view value) g)) }
+{
+    if let Some(name) = caller.waits {
+        caller.store.set(alloc, name, value)?;
+        caller.waits = None;
+    }
+    Ok(caller)
+}
+
+/// The store of a call that begins: the parameters with their arguments.
+fn store_of(alloc: Global, proc: &Proc, args: &Values) -> Result<Store, AllocError>
+    requires { length (values_view args.now) ≡ length proc.now.params }
+    ensures { IfOk result (λ store. Keeps (store_view store) (bind_all proc.now.params (values_view args.now))) }
+{
+    let mut store = Store::new(alloc);
+    let params = proc.params.as_slice();
+    let values = args.as_slice();
+    for i in (0..values.len()).rev() {
+        let value = values[i].copy(alloc)?;
+        store.set(alloc, &params[i], value)?;
+    }
+    Ok(store)
+}
