@@ -3,6 +3,7 @@ pub mod Evaluated
 pub mod HeldRuns
 pub mod HeldValues
 pub mod KeptValues
+pub mod Outcomes
 pub mod Placed
 pub mod Proper
 pub mod Runs
@@ -10,3 +11,4 @@ pub mod Sizes
 pub mod Standings
 pub mod Steps
 pub mod Tests
+pub mod UnderWay

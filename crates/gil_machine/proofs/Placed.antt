@@ -75,7 +75,7 @@ named_choice true r q f o e is later = ap (λ x. x.name) (sym (same_some r q is)
 named_choice false r q f o e is later = later is
 
 -- a procedure that is found has the name that was looked for
-found_name : (qs : List PureProc) (f : List ℕ) (q : PureProc) → find_proc qs f ≡ Some q → q.name ≡ f
+pub found_name : (qs : List PureProc) (f : List ℕ) (q : PureProc) → find_proc qs f ≡ Some q → q.name ≡ f
 found_name [] f q is = absurd (true≢false (sym (ap is_some is)))
 found_name (r ∷ qs) f q is = named_choice (bytes_eq r.name f) r q f _ refl is (found_name qs f q)
 

@@ -16,7 +16,7 @@ use Rattle.gil_syntax.specs.Pure.{PureExpr, PureCommand, assign, call, act, usym
 use Rattle.gil_syntax.specs.Programs.{find_proc}
 use Rattle.gil_syntax.specs.Subexpressions.{exprs_of}
 use Rattle.gil_syntax.specs.Evaluation.{Store, bind, value_of, Outcomes, evaluate, evaluate_all}
-use Rattle.gil_syntax.specs.WellMade.{is_program_name, is_drawable, is_well_made_expr, has_well_made_names, is_well_made_command, is_well_made_proc, is_well_made_pred}
+use Rattle.gil_syntax.specs.WellMade.{is_well_made, is_program_name, is_drawable, is_well_made_expr, has_well_made_names, is_well_made_command, is_well_made_proc, is_well_made_pred}
 use Rattle.gil_syntax.proofs.Symbols.{HoldsOfAll, HoldsIfValue, HoldsIfValues, none_contained, each-nil, evaluate-holds, evaluate_all-holds, each_of_all, all_of_each}
 use Rattle.mem_model.specs.declared.keys.MemoryName.{MemoryName}
 use Rattle.mem_model.specs.Heaps.{Heap, IsHeapBelow, OccursInHeap}
@@ -313,9 +313,12 @@ module _ (memory : MemoryName) where
       step_at_proper (Some c) s made h = do_command_proper c.command _ s (first_so _ _ made) (second_so (has_well_made_names c.command) _ made) h
       step_at_proper None s made h = h
 
+pub procs_made : (p : PureParts) → is_well_made p ≡ true → list_all is_well_made_proc p.procs ≡ true
+procs_made p made = first_so _ _ (first_so _ (list_all is_well_made_pred p.preds) made)
+
 pub stays_proper : StaysProper
 stays_proper p memory m inputs s made laws h =
-    let procs : list_all is_well_made_proc p.procs ≡ true = first_so _ _ (first_so _ (list_all is_well_made_pred p.preds) made) in
+    let procs : list_all is_well_made_proc p.procs ≡ true = procs_made p made in
     step_at_proper memory m laws p inputs (command_at p s.current) s (command_made (find_proc p.procs s.current.procedure) s.current.next (find_made p.procs s.current.procedure procs)) h
 
 pub starts_proper : StartsProper

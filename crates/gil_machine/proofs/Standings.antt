@@ -64,10 +64,12 @@ pub enter_comes : (p : PureParts) (s : State) (q : PureProc) (x : List ℕ) (arg
     → new.counter ≡ old.counter → new.draws ≡ old.draws
     → Comes p None (enter q x args s) None new s.heap
 enter_comes p s q x args old new caller rest stands first waiting counter draws =
-    let frames : reverse new.callers.items ≡ caller ∷ reverse old.callers.items = ap reverse rest ∙ reverse-append old.callers.items (caller ∷ []) in
-    (record {
-      current = first;
-      callers = subst (λ fs. FramesStand p fs (record s.current { next = s.current.next + 1; waits = Some x } ∷ s.callers)) (sym frames) (waiting, stands.callers);
-      counter = stands.counter ∙ sym counter;
-      draws = stands.draws ∙ sym draws;
-    }, refl)
+    let frames : reverse new.callers.items ≡ caller ∷ reverse old.callers.items = ap reverse rest ∙ reverse-append old.callers.items (caller ∷ []) in (
+      record {
+        current = first;
+        callers = subst (λ fs. FramesStand p fs (record s.current { next = s.current.next + 1; waits = Some x } ∷ s.callers)) (sym frames) (waiting, stands.callers);
+        counter = stands.counter ∙ sym counter;
+        draws = stands.draws ∙ sym draws;
+      },
+      refl,
+    )

@@ -1,24 +1,29 @@
 -- What the code's machine stands for: a state, up to how its stores are kept.
-use Rattle.std.specs.Prelude.{◌≡◌, ◌+◌, ◌≤◌, List, [], ◌∷◌, reverse, Option, Some, None}
+use Rattle.std.specs.Prelude.{◌≡◌, ℕ, ◌+◌, ◌≤◌, List, [], ◌∷◌, reverse, if◌then◌else◌, Option, Some, None, ⊤}
 use Rattle.std.specs.Option.{option_map}
 use Rattle.gil_values.specs.declared.places.Place.{Place}
-use Rattle.gil_values.specs.Pure.{text}
+use Rattle.gil_values.specs.Pure.{PureValue, text}
 use Rattle.gil_values.specs.Operators.{wrong_kind, zero_divisor, out_of_range, unset_variable, fault_text}
 use Rattle.gil_values.specs.View.{value_view}
-use Rattle.gil_syntax.specs.Pure.{PureParts}
+use Rattle.gil_syntax.specs.Pure.{PureCommand, PureParts}
 use Rattle.gil_syntax.specs.Programs.{find_proc}
 use Rattle.gil_syntax.specs.View.{proc_view}
 use Rattle.mem_model.specs.declared.keys.MemoryName.{MemoryName}
 use Rattle.mem_model.specs.Heaps.{Heap}
+use Rattle.mem_model.specs.Actions.{Actions}
 use Rattle.gil_machine.specs.declared.control.Control.{Control}
 use Rattle.gil_machine.specs.declared.control.Frame.{Frame as KeptFrame}
 use Rattle.gil_machine.specs.declared.endings.Ending.{Ending as KeptEnding}
 use Rattle.gil_machine.specs.declared.endings.Ending.TheVariants as kept
 use Rattle.gil_machine.specs.declared.faults.EvaluationFault.{EvaluationFault}
 use Rattle.gil_machine.specs.declared.faults.EvaluationFault.TheVariants as faults
+use Rattle.gil_machine.specs.declared.running.End.{End as KeptEnd}
+use Rattle.gil_machine.specs.declared.running.End.TheVariants.{Returned, Failed, Vanished, Cut, NoInput, BadInput, Number, Memory}
+use Rattle.gil_machine.specs.Held.{evaluate_all_held, is_too_wide, evaluated_by, HeldEnd, ended, number, held_run}
 use Rattle.gil_machine.specs.Kept.{Keeps}
 use Rattle.gil_machine.specs.StoreView.{store_view}
-use Rattle.gil_machine.specs.State.{Frame, State, Ending, returned, failed, vanished, no_input, bad_input, Step, goes_on, ends}
+use Rattle.gil_machine.specs.State.{Frame, State, Ending, returned, failed, vanished, no_input, bad_input, cut, End, Step, goes_on, ends}
+use Rattle.gil_machine.specs.Step.{do_command}
 use Rattle.gil_machine.specs.Proper.{IsProperState}
 
 -- the frame is a call of its procedure, at the same command, whose store keeps the same values
@@ -81,3 +86,47 @@ FaultEnds faults.Memory place ending = ⊥
 pub record GrowsByOne (old new : Control) : Type 0 where
   pub counter : new.counter ≤ old.counter + 1
   pub draws : new.draws ≤ old.draws + 1
+
+-- the place, where the first fault of the expressions that a command evaluates is a result that leaves 128 bits
+abbrev pub number_here : PureCommand → Place → State → Option Place
+number_here command here s = if is_too_wide (evaluate_all_held (evaluated_by command) s.current.store) then Some here else None
+
+-- what the code comes to with a command at a place, from every state for which the calls and the heap before it stand
+abbrev pub Does : PureParts → Actions → List PureValue → PureCommand → Place → Control → Heap → Option KeptEnding → Control → Heap → Type 0
+Does p m inputs command here old before end new after =
+    (s : State) → Stands p old s → s.heap ≡ before → Comes p (number_here command here s) (do_command p m inputs command here s) end new after
+
+-- the same where the heap stays
+abbrev pub DoesBeside : PureParts → Actions → List PureValue → PureCommand → Place → Control → Option KeptEnding → Control → Type 0
+DoesBeside p m inputs command here old end new = (h : Heap) → Does p m inputs command here old h end new h
+
+-- a result left 128 bits
+abbrev pub IsAtNumber : Option KeptEnding → Type 0
+IsAtNumber (Some (kept.Number place)) = ⊤
+IsAtNumber _ = ⊥
+
+-- A run under way: the code stands for a proper state, from which so many steps lead to this end.
+pub record IsUnderWay (p : PureParts) (memory : MemoryName) (m : Actions) (inputs : List PureValue) (c : Control) (h : Heap) (steps : ℕ) (end : HeldEnd) : Type 0 where
+  pub standing : IsStanding p memory c h
+  pub rest : held_run p m inputs steps standing.state ≡ end
+
+-- the run ended so, with this heap
+abbrev pub EndedAs : Ending → Heap → HeldEnd → Type 0
+EndedAs ending h (ended e) = (e.ending ≡ ending) × (e.heap ≡ h)
+EndedAs ending h (number place g) = ⊥
+
+-- an answer is the end of the run; want of memory says nothing of it
+abbrev pub IsEndOf : {M : Type 0} → (M → Heap) → KeptEnd M → HeldEnd → Type 0
+IsEndOf heap (Returned v m) e = EndedAs (returned (value_view v)) (heap m) e
+IsEndOf heap (Failed v place m) e = EndedAs (failed (value_view v) place) (heap m) e
+IsEndOf heap (Vanished m) e = EndedAs vanished (heap m) e
+IsEndOf heap (Cut m) e = EndedAs cut (heap m) e
+IsEndOf heap (NoInput k m) e = EndedAs (no_input k) (heap m) e
+IsEndOf heap (BadInput k m) e = EndedAs (bad_input k) (heap m) e
+IsEndOf heap (Number place m) e = e ≡ number place (heap m)
+IsEndOf heap Memory e = ⊤
+
+-- an ending and the memory that stands then: whatever run ends as the ending says, with that heap, has this answer
+abbrev pub HasMemory : {M : Type 0} → (M → Heap) → KeptEnding → M → KeptEnd M → Type 0
+HasMemory heap (kept.Number place) m answer = IsEndOf heap answer (number place (heap m))
+HasMemory heap ending m answer = (e : End) → EndsAs ending e.ending → e.heap ≡ heap m → IsEndOf heap answer (ended e)

@@ -76,7 +76,8 @@ impl<'p> Control<'p> {
     ) -> Result<(), AllocError>
         requires { self.old.current.next + 1 < 2 ^ 64 }
         ensures goes { OnOk result ((p : PureParts) (s : State) → Stands p self.old s → Comes p None (assigned name.now (value_view value) s) None self.new s.heap) }
-        ensures grows { OnOk result (GrowsByOne self.old self.new) }
+        ensures counter { self.new.counter ≡ self.old.counter }
+        ensures draws { self.new.draws ≡ self.old.draws }
     {
         self.current.store.set(alloc, name, value)?;
         self.current.next += 1;
@@ -84,11 +85,11 @@ impl<'p> Control<'p> {
     }
 
     /// Goes to the command with an index; to none where the label is below 0.
-    pub(crate) fn jump(&mut self, label: i64)
-        ensures goes { (p : PureParts) (s : State) → Stands p self.old s → Comes p None (to_label label s) None self.new s.heap }
+    pub(crate) fn jump(&mut self, label: &i64)
+        ensures goes { (p : PureParts) (s : State) → Stands p self.old s → Comes p None (to_label label.now s) None self.new s.heap }
         ensures grows { GrowsByOne self.old self.new }
     {
-        if let Ok(next) = usize::try_from(label) {
+        if let Ok(next) = usize::try_from(*label) {
             self.current.next = next;
         }
     }
@@ -152,7 +153,7 @@ fn resume(alloc: Global, mut caller: Frame, value: Value) -> Result<Frame, Alloc
 }
 
 /// The store of a call that begins: the parameters with their arguments.
-fn store_of(alloc: Global, proc: &Proc, args: &Values) -> Result<Store, AllocError>
+pub(crate) fn store_of(alloc: Global, proc: &Proc, args: &Values) -> Result<Store, AllocError>
     requires { length (values_view args.now) ≡ length proc.now.params }
     ensures { IfOk result (λ store. Keeps (store_view store) (bind_all proc.now.params (values_view args.now))) }
 {

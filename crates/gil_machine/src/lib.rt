@@ -2,25 +2,29 @@
 //! have no code, and their contracts are what is proved of the definitions.
 #![tactic(auto)]
 
+mod actions;
+mod commands;
 mod control;
 mod endings;
 mod evaluation;
 mod examples;
 mod faults;
 mod laws;
+mod running;
 mod store;
 
+pub use evaluation::{evaluate, evaluate_all};
 pub use examples::{
     a_bound_cuts, a_call_returns, a_draw_needs_its_input, a_fault_fails, an_action_may_miss,
     choices_stand_in_order, division_truncates, each_command_is_a_step, failures_have_their_places,
     numbers_have_128_bits, one_input_fails, some_inputs_return, symbols_are_new,
 };
-pub use evaluation::{evaluate, evaluate_all};
 pub use faults::EvaluationFault;
-pub use store::Store;
 pub use laws::{
     bounds_cut, bugs_stay, clean_has_no_bug, clean_is_clean_below, drawn_inputs_decide,
     ends_are_proper, held_runs_are_runs, misses_fail, numbers_are_first, runs_stay_over,
     starts_are_placed, starts_are_proper, states_stay_placed, states_stay_proper, steps_are_local,
     tests_start_properly, the_counter_is_new,
 };
+pub use running::{End, run};
+pub use store::Store;

@@ -19,8 +19,8 @@ loop-i-preserved c =
     = subst (λ xs. slice_get xs (c.loop-i.i - 1) ≡ Some c.index-params-i.result) c.as_slice-params.ensures (slice_get_read c.as_slice-params.result.now _ (c.loop-i.i - 1) c.index-params-i.result refl (omega (arith, long, wide)) c.index-params-i.is) in
     let value : slice_get (values_view c.args.args.now) (c.loop-i.i - 1) ≡ Some (value_view c.in_ok-value.value)
     = subst (λ vs. slice_get vs (c.loop-i.i - 1) ≡ Some (value_view c.in_ok-value.value)) c.as_slice-values.ensures
-        (slice_get-read value_view c.as_slice-values.result.now (c.loop-i.i - 1) c.index-values-i.result (omega arith) c.index-values-i.is ∙ ap Some (sym c.in_ok-value.ensures)) in
+    (slice_get-read value_view c.as_slice-values.result.now (c.loop-i.i - 1) c.index-values-i.result (omega arith) c.index-values-i.is ∙ ap Some (sym c.in_ok-value.ensures)) in
     let one = bind_one c.args.proc.now.params (values_view c.args.args.now) (c.loop-i.i - 1) c.index-params-i.result (value_view c.in_ok-value.value) name value in
     subst (Keeps (store_view c.set.new.self)) (sym one)
-      (sets_keeps (store_view c.loop-i.store) (store_view c.set.new.self) _ c.index-params-i.result (value_view c.in_ok-value.value) c.in_ok-set.ensures.ok
-        (subst (λ n. Keeps (store_view c.loop-i.store) (bind_all (drop n c.args.proc.now.params) (drop n (values_view c.args.args.now)))) (sym next) c.loop-i.invariant))
+    (sets_keeps (store_view c.loop-i.store) (store_view c.set.new.self) _ c.index-params-i.result (value_view c.in_ok-value.value) c.in_ok-set.ensures.ok
+    (subst (λ n. Keeps (store_view c.loop-i.store) (bind_all (drop n c.args.proc.now.params) (drop n (values_view c.args.args.now)))) (sym next) c.loop-i.invariant))

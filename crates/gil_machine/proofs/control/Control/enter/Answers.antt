@@ -11,7 +11,7 @@ pub returns-clause-goes : goal.returns-clause-goes
 returns-clause-goes c = λ p s stands found.
     let first : FrameStands p c.replace-caller.new.dest (first_frame c.args.proc.now.name c.args.proc.now.params (values_view c.args.args.now))
     = subst (λ f. FrameStands p f (first_frame c.args.proc.now.name c.args.proc.now.params (values_view c.args.args.now))) (sym c.replace-caller.ensures.after)
-        (record { name = refl; procedure = found; next = refl; store = c.in_ok-store.ensures; waits = refl }) in
+    (record { name = refl; procedure = found; next = refl; store = c.in_ok-store.ensures; waits = refl }) in
     let caller : FrameStands p c.replace-caller.result s.current = subst (λ f. FrameStands p f s.current) (sym c.replace-caller.ensures.value) stands.current in
     enter_comes p s (proc_view c.args.proc.now) c.args.name.now (values_view c.args.args.now) c.args.self.now (record { current = c.replace-caller.new.dest; callers = c.push.new.self; counter = c.args.self.now.counter; draws = c.args.self.now.draws }) _ c.in_ok-push.ensures.items stands first
-      (record { name = caller.name; procedure = caller.procedure; next = ap (λ n. n + 1) caller.next; store = caller.store; waits = refl }) refl refl
+    (record { name = caller.name; procedure = caller.procedure; next = ap (λ n. n + 1) caller.next; store = caller.store; waits = refl }) refl refl

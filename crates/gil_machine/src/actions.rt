@@ -1,0 +1,90 @@
+//! What an action does with the calls in progress and the memory.
+ghost use Rattle.std.specs.Prelude.{◌≡◌, ◌+◌, ◌≤◌, ◌^◌, ◌<◌, List, None, IfOk, OnOk, IsTrue};
+ghost use Rattle.std.specs.List.{list_all};
+ghost use Rattle.gil_values.specs.Pure.{PureValue};
+ghost use Rattle.gil_syntax.specs.Pure.{PureParts, act as pure_act};
+ghost use Rattle.gil_syntax.specs.View.{exprs_view};
+ghost use Rattle.gil_syntax.specs.WellMade.{is_well_made_expr};
+ghost use Rattle.mem_model.specs.View.{outcome_view};
+ghost use Rattle.gil_machine.specs.Laws.{handed};
+ghost use Rattle.gil_machine.specs.Standing.{Comes, Does, GrowsByOne, IsAtNumber, IsStanding, Stands};
+ghost use Rattle.gil_machine.specs.State.{State};
+ghost use Rattle.gil_machine.specs.Step.{after_action, counted};
+
+use crate::control::Control;
+use crate::endings::{Ending, failure, fault_ending};
+use crate::evaluation::evaluate_all;
+use gil_syntax::Exprs;
+use gil_values::{Place, Text};
+use mem_model::{LocalMemory, Outcome};
+use std::alloc::{AllocError, Global};
+
+impl<'p> Control<'p> {
+    /// `x := a(es)`: the action on the values of its arguments, with the counter's symbol where it takes one.
+    pub(crate) fn do_act<M: LocalMemory>(
+        &mut self,
+        alloc: Global,
+        memory: &mut M,
+        name: &Text,
+        action: &Text,
+        expressions: &Exprs,
+        place: Place,
+    ) -> Result<Option<Ending>, AllocError>
+        requires next { self.old.current.next + 1 < 2 ^ 64 }
+        requires counter { self.old.counter + 1 < 2 ^ 64 }
+        requires made { IsTrue (list_all is_well_made_expr (exprs_view expressions.now)) }
+        requires standing { (p : PureParts) × IsStanding p M.memory self.old (M.heap memory.old) }
+        ensures does { IfOk result (λ end. (p : PureParts) (inputs : List PureValue) → Does p M.actions inputs (pure_act name.now action.now (exprs_view expressions.now)) place self.old (M.heap memory.old) end self.new (M.heap memory.new)) }
+        ensures at_number { IfOk result (λ end. IsAtNumber end → M.heap memory.new ≡ M.heap memory.old) }
+        ensures grows { OnOk result (GrowsByOne self.old self.new) }
+    {
+        match evaluate_all(alloc, expressions, &self.current.store) {
+            Ok(args) => {
+                let fresh = self.symbol_for::<M>(action);
+                let outcome = memory.act(alloc, action, fresh, &args)?;
+                self.settle(alloc, name, outcome, place)
+            }
+            Err(fault) => Ok(Some(fault_ending(alloc, fault, place)?)),
+        }
+    }
+
+    /// The counter's symbol, which is counted, where the action takes one.
+    fn symbol_for<M: LocalMemory>(&mut self, action: &Text) -> Option<u64>
+        requires { self.old.counter + 1 < 2 ^ 64 }
+        ensures handed { (p : PureParts) (s : State) → Stands p self.old s → result ≡ handed (M.actions.takes_symbol action.now) s }
+        ensures counted { (p : PureParts) (s : State) → Stands p self.old s → Stands p self.new (counted (M.actions.takes_symbol action.now) s) }
+        ensures grows { GrowsByOne self.old self.new }
+        ensures next { self.new.current.next ≡ self.old.current.next }
+    {
+        if M::fresh_for(action) {
+            let symbol = self.counter;
+            self.counter += 1;
+            Some(symbol)
+        } else {
+            None
+        }
+    }
+
+    /// What the outcome of an action leads to.
+    fn settle(
+        &mut self,
+        alloc: Global,
+        name: &Text,
+        outcome: Outcome,
+        place: Place,
+    ) -> Result<Option<Ending>, AllocError>
+        requires { self.old.current.next + 1 < 2 ^ 64 }
+        ensures does { IfOk result (λ end. (p : PureParts) (s : State) → Stands p self.old s → Comes p None (after_action (outcome_view outcome) name.now place s) end self.new s.heap) }
+        ensures counter { self.new.counter ≡ self.old.counter }
+        ensures draws { self.new.draws ≡ self.old.draws }
+    {
+        match outcome {
+            Outcome::Done(value) => {
+                self.assign(alloc, name, value)?;
+                Ok(None)
+            }
+            Outcome::Failed(value) => Ok(Some(Ending::Failed(value, place))),
+            Outcome::Miss(_) => Ok(Some(failure(alloc, "missing", place)?)),
+        }
+    }
+}
