@@ -7,8 +7,8 @@ ghost use Rattle.gillian_core.specs.declared.programs.Command.{Command};
 ghost use Rattle.gillian_core.specs.Grammar.{Spells, head_lexemes, command_lexemes, guard_lexemes, literal_lexeme};
 
 use crate::forward::are_forward;
-use gil_lexemes::Lexeme;
 use crate::programs::{Command, ForwardProgram, Literal};
+use gil_lexemes::Lexeme;
 use gil_lexer::{Sign, Word};
 use gil_values::Text;
 use std::alloc::{AllocError, Global};

@@ -15,7 +15,6 @@ ghost use Rattle.gillian_core.specs.Right.{IsRightAnswer};
 ghost use Rattle.gillian_core.specs.Words.{WordsFit, spelled, test_head};
 
 use crate::decision::decide;
-use gil_lexemes::lexemes;
 use crate::printing::report;
 use crate::programs::ForwardProgram;
 use crate::reading::program_of;
@@ -23,6 +22,7 @@ use crate::status::Status;
 use crate::verdicts::Verdict;
 use crate::words::{USAGE_LINE, fit};
 use gil_io::{ReadEnd, Sink, Source, read_all, write_all};
+use gil_lexemes::lexemes;
 use gil_lexer::{LexKind, lex};
 use std::alloc::{AllocError, Global};
 
