@@ -1,6 +1,8 @@
 pub mod ChainSound
+pub mod CloseLaws
 pub mod Growing
 pub mod HeldRows
+pub mod Sizes
 mod Sound
 pub mod SumLaws
 pub mod SumSound

@@ -251,11 +251,11 @@ module _ (vars : List Sort) (v : List PureValue) (proper : IsProper vars v) wher
   some_different s t atoms k (Some sides) is all h =
       let fails = different_true atoms k sides all is in
       ⊎_elim
-        (λ straight. let parts = and_parts (same_term sides.left s) (same_term sides.right t) straight in
-          inl ((λ j. truth v (negative (equals (sym (same_term-same sides.left s parts.0) j) (sym (same_term-same sides.right t parts.1) j)))) ∙ fails))
-        (λ across. let parts = and_parts (same_term sides.left t) (same_term sides.right s) across in
-          inr ((λ j. truth v (negative (equals (sym (same_term-same sides.left t parts.0) j) (sym (same_term-same sides.right s parts.1) j)))) ∙ fails))
-        (or_cases (same_term sides.left s && same_term sides.right t) (same_term sides.left t && same_term sides.right s) h)
+      (λ straight. let parts = and_parts (same_term sides.left s) (same_term sides.right t) straight in
+      inl ((λ j. truth v (negative (equals (sym (same_term-same sides.left s parts.0) j) (sym (same_term-same sides.right t parts.1) j)))) ∙ fails))
+      (λ across. let parts = and_parts (same_term sides.left t) (same_term sides.right s) across in
+      inr ((λ j. truth v (negative (equals (sym (same_term-same sides.left t parts.0) j) (sym (same_term-same sides.right s parts.1) j)))) ∙ fails))
+      (or_cases (same_term sides.left s && same_term sides.right t) (same_term sides.left t && same_term sides.right s) h)
   some_different s t atoms k None is all h = absurd (false≢true h)
 
   meet-closes : (atoms : List PureAtom) (i j k : ℕ) (o p : Option Sides) → at_most_at atoms i ≡ o → at_most_at atoms j ≡ p → all_true v atoms ≡ true → meet o p (disequality_at atoms k) ≡ true → ⊥
@@ -263,8 +263,8 @@ module _ (vars : List Sort) (v : List PureValue) (proper : IsProper vars v) wher
       let parts = and_parts (same_term up.left down.right && same_term up.right down.left) (are_sides (disequality_at atoms k) up.left up.right) h in
       let turned = and_parts (same_term up.left down.right) (same_term up.right down.left) parts.0 in
       meet_numbers vars v proper up.left up.right (at_most_true atoms i up all is_up)
-        ((λ x. truth v (positive (at_most (same_term-same up.right down.left turned.1 x) (same_term-same up.left down.right turned.0 x)))) ∙ at_most_true atoms j down all is_down)
-        (some_different up.left up.right atoms k (disequality_at atoms k) refl all parts.1)
+      ((λ x. truth v (positive (at_most (same_term-same up.right down.left turned.1 x) (same_term-same up.left down.right turned.0 x)))) ∙ at_most_true atoms j down all is_down)
+      (some_different up.left up.right atoms k (disequality_at atoms k) refl all parts.1)
   meet-closes atoms i j k (Some up) None is_up is_down all h = false≢true h
   meet-closes atoms i j k None p is_up is_down all h = false≢true h
 
@@ -346,8 +346,8 @@ module _ (vars : List Sort) (v : List PureValue) (proper : IsProper vars v) wher
       let (ws, (of_ts, of_us)) = equal_lists v lists.left lists.right (true_equality v (list_of lists.left) (list_of lists.right) (true_at v atoms i _ all here)) in
       let sides = over_sides vars BinOp.Equal (list_of lists.left) (list_of lists.right) (over_at vars atoms i _ over here) in
       refutes (element_equalities lists.left lists.right)
-        (over_more vars atoms (element_equalities lists.left lists.right) over (over_equalities vars lists.left lists.right sides.0 sides.1))
-        (true_more v atoms (element_equalities lists.left lists.right) all (equalities-true v lists.left lists.right ws of_ts of_us)) closes.1
+      (over_more vars atoms (element_equalities lists.left lists.right) over (over_equalities vars lists.left lists.right sides.0 sides.1))
+      (true_more v atoms (element_equalities lists.left lists.right) all (equalities-true v lists.left lists.right ws of_ts of_us)) closes.1
   lists_parted atoms i p refutes over all None is closes = closes
 
   lists_differ : (atoms : List PureAtom) (i : ℕ) (ps : PureProofs) → Refutes atoms ps → AreOver vars atoms → all_true v atoms ≡ true → (o : Option Lists) → different_lists_at atoms i ≡ o

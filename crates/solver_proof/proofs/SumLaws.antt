@@ -1,10 +1,8 @@
 -- The sums of the checker are those of the table.
 use Prim.Native.Nat.{◌∣◌}
-use Rattle.std.proofs.Common.{◌≡◌, ◌↔◌, ⊎_elim, ◌⊎◌, inl, inr, ℕ, zero, suc, ℤ, pos, neg_ℤ, ◌+ℤ◌, ◌-ℤ◌, ◌*ℤ◌, ◌<ℤ◌, List, [], ◌∷◌, Bool, true, false, ◌&&◌, if◌then◌else◌, Option, Some, None, eqb, refl, sym, ap, ◌∙◌, subst, arith, take, drop, length, get_or, ◌-◌, ◌≤◌}
+use Rattle.std.proofs.Common.{◌≡◌, ◌↔◌, ⊎_elim, ◌⊎◌, inl, inr, ℕ, ℤ, pos, ◌+ℤ◌, ◌-ℤ◌, ◌*ℤ◌, ◌<ℤ◌, List, [], ◌∷◌, Bool, true, false, ◌&&◌, if◌then◌else◌, Option, Some, None, eqb, refl, sym, ap, ◌∙◌, subst, arith, take, drop, length, get_or, ◌-◌, ◌≤◌}
 use Rattle.std.specs.Prelude.{int_lt, unsigned_abs}
 use Rattle.std.specs.Int.{IsGcd}
-use Rattle.std.specs.List.{list_all}
-use Rattle.std.specs.Ordering.{int_eq}
 use Rattle.std.proofs.Math.IntN.{*ℤ-zero}
 use Rattle.std.proofs.lemmas.Bool.{false≢true, and_parts, and_from, eqb-true}
 use Rattle.std.proofs.lemmas.Bool.Decides.{Decides-int_eq}
@@ -17,7 +15,7 @@ use Rattle.pure_terms.specs.Pure.{PureAtom}
 use Rattle.solver_proof.specs.declared.proofs.Factor.{Factor}
 use Rattle.solver_proof.specs.declared.sums.Part.{Part}
 use Rattle.solver_proof.specs.Rows.{held_row, part_of, held_number, held_sum, row_product, sum_of_rows, is_zero, is_positive, variable_cancels, row_cancels, cancel_rows, IsCommonDivisor}
-use Rattle.solver_proof.specs.Sums.{Row, row_at, of_row, total, one_if_variable, coefficient, is_held_row, is_factor_of, are_factors, DividesEach, is_held_total, SumCloses}
+use Rattle.solver_proof.specs.Sums.{Row, row_at, of_row, total, one_if_variable, coefficient, is_held_row, is_factor_of, are_factors, DividesEach, is_held_total}
 
 -- ---- divisors
 
@@ -135,10 +133,10 @@ row_or_zero atoms fs x f (Some row) allowed tested =
     let held : is_held_row row ≡ true = (and_parts (is_held_row row) _ allowed).0 in
     let parts = and_parts (variable_cancels atoms fs row.plus) (variable_cancels atoms fs row.minus) (sym (ap (λ (b : Bool). row_cancels atoms fs (if b then Some row else None)) held) ∙ tested) in
     ⊎_elim inl
-      (λ plus. ⊎_elim inl
-        (λ minus. inr (ap (λ z. f *ℤ z) (no_difference _ _ plus minus) ∙ *ℤ-zero f))
-        (one_or_zero atoms fs x row.minus parts.1))
-      (one_or_zero atoms fs x row.plus parts.0)
+    (λ plus. ⊎_elim inl
+    (λ minus. inr (ap (λ z. f *ℤ z) (no_difference _ _ plus minus) ∙ *ℤ-zero f))
+    (one_or_zero atoms fs x row.minus parts.1))
+    (one_or_zero atoms fs x row.plus parts.0)
 row_or_zero atoms fs x f None allowed tested = inr refl
 
 each_or_zero : (atoms : List PureAtom) (fs some : List Factor) (x : ℕ) → are_factors atoms some ≡ true → cancel_rows atoms fs some ≡ true
@@ -148,8 +146,8 @@ each_or_zero atoms fs (f ∷ some) x allowed tested =
     let factors = and_parts (is_factor_of f.factor (row_at atoms f.atom)) (are_factors atoms some) allowed in
     let tests = and_parts (row_cancels atoms fs (held_row (row_at atoms f.atom))) (cancel_rows atoms fs some) tested in
     ⊎_elim inl
-      (λ here. ⊎_elim inl (λ rest. inr (here, rest)) (each_or_zero atoms fs some x factors.1 tests.1))
-      (row_or_zero atoms fs x f.factor (row_at atoms f.atom) factors.0 tests.0)
+    (λ here. ⊎_elim inl (λ rest. inr (here, rest)) (each_or_zero atoms fs some x factors.1 tests.1))
+    (row_or_zero atoms fs x f.factor (row_at atoms f.atom) factors.0 tests.0)
 
 pub cancel_from : (atoms : List PureAtom) (fs : List Factor) (x : ℕ) → are_factors atoms fs ≡ true → cancel_rows atoms fs fs ≡ true → Vanishes atoms fs x
 cancel_from atoms fs x allowed tested =

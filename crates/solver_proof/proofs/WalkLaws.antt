@@ -1,21 +1,14 @@
 -- A walk along equalities finds where they lead.
-use Rattle.std.proofs.Common.{◌≡◌, ◌↔◌, ⊎_elim, ◌⊎◌, inl, inr, ℕ, zero, suc, ◌+◌, ◌≤◌, List, [], ◌∷◌, ◌++◌, take, length, Bool, true, false, not, ◌&&◌, ◌||◌, if◌then◌else◌, Option, Some, None, slice_get, IsTrue, refl, sym, ap, ◌∙◌, subst, add-one, arith}
+use Rattle.std.proofs.Common.{◌≡◌, ◌↔◌, ⊎_elim, ◌⊎◌, inl, inr, ℕ, zero, suc, ◌+◌, List, [], ◌∷◌, ◌++◌, take, Bool, true, false, ◌&&◌, ◌||◌, if◌then◌else◌, Option, Some, None, slice_get, IsTrue, refl, sym, ap, ◌∙◌, add-one}
 use Rattle.std.specs.Option.{option_map, option_and_then}
-use Rattle.std.proofs.lemmas.Bool.{false≢true, and_parts, or_cases, or_left, or_right, cases_Bool}
-use Rattle.std.proofs.lemmas.List.{take_all}
-use Rattle.gil_values.specs.declared.kinds.Kind.{Kind}
-use Rattle.gil_values.specs.Equality.{same_kind}
-use Rattle.gil_values.specs.EqualityLaws.{same_value-refl}
-use Rattle.gil_values.specs.Pure.{kind}
-use Rattle.std.proofs.lemmas.List.Elements.{Contains-push}
-use Rattle.pure_terms.specs.declared.literals.Literal.{Literal}
-use Rattle.pure_terms.specs.Equality.{same_literal, same_term}
-use Rattle.pure_terms.specs.EqualityLaws.{same_literal-refl, same_term-same, same_term-refl}
+use Rattle.std.proofs.lemmas.Bool.{false≢true, and_parts, or_cases, or_left, or_right}
+use Rattle.pure_terms.specs.Equality.{same_term}
+use Rattle.pure_terms.specs.EqualityLaws.{same_term-same, same_term-refl}
 use Rattle.pure_terms.specs.Kinds.{known_kind}
-use Rattle.pure_terms.specs.Pure.{PureTerm, literal, variable, list_of, unary_of, binary_of, PureAtom, variables}
+use Rattle.pure_terms.specs.Pure.{PureTerm, PureAtom}
 use Rattle.pure_terms.proofs.Evaluated.{take-push}
 use Rattle.solver_proof.specs.declared.proofs.ChainEnd.{ChainEnd}
-use Rattle.solver_proof.specs.Chains.{Sides, equality_at, disequality_at, KindFact, kind_fact_at, AreEqualAt, Leads, are_different_literals, are_other_kinds, is_fresh_over, are_sides, is_against, are_against, end_closes}
+use Rattle.solver_proof.specs.Chains.{Sides, equality_at, disequality_at, KindFact, kind_fact_at, AreEqualAt, Leads, are_sides, is_against, are_against, end_closes}
 use Rattle.solver_proof.specs.Closing.{ChainCloses}
 use Rattle.solver_proof.specs.Walks.{other_side, step_from, walk_from, closes_at, closes_from, start_of_end, closes_itself, closes_from_either, closes_chain}
 use Rattle.solver_proof.proofs.ChainSound.{never_different, never_other, never_itself}
@@ -49,7 +42,7 @@ module _ (atoms : List PureAtom) where
   unfolding AreSidesOf
   from_step s u i (Some sides) is e =
       ⊎_elim (λ straight. inl (is ∙ ap Some straight)) (λ across. inr (is ∙ ap Some across))
-        (from_other s u sides (same_term sides.left s) (same_term sides.right s) refl refl e)
+      (from_other s u sides (same_term sides.left s) (same_term sides.right s) refl refl e)
   from_step s u i None is e = cc
 
   to_step : (s u : PureTerm) (i : ℕ) → AreEqualAt atoms i s u → step_from atoms s i ≡ Some u
@@ -150,15 +143,21 @@ module _ (atoms : List PureAtom) where
   to_either i is end s t leads closes =
       let from_s : closes_from atoms (i ∷ is) end s ≡ true = to_closes (i ∷ is) end s t leads closes in
       ⊎_elim
-        (λ straight. ap (closes_from_either atoms (i ∷ is) end) straight ∙ or_left _ _ from_s)
-        (λ across. ap (closes_from_either atoms (i ∷ is) end) across ∙ or_right _ _ from_s)
-        leads.1.0
+      (λ straight. ap (closes_from_either atoms (i ∷ is) end) straight ∙ or_left _ _ from_s)
+      (λ across. ap (closes_from_either atoms (i ∷ is) end) across ∙ or_right _ _ from_s)
+      leads.1.0
 
 pub chain_tested : (atoms : List PureAtom) (is : List ℕ) (end : ChainEnd) → IsTrue (closes_chain atoms is end) ↔ ChainCloses atoms is end
-chain_tested atoms [] end = (from_itself atoms end (start_of_end atoms end), λ closes.
-    let (s, (t, (same, ends))) = closes in
-    let itself : end_closes atoms end s s ≡ true = ap (end_closes atoms end s) same ∙ ends in
-    ap (closes_itself atoms end) (end_tells atoms end s itself) ∙ itself)
-chain_tested atoms (i ∷ is) end = (from_either atoms i is end (equality_at atoms i), λ closes.
-    let (s, (t, (leads, ends))) = closes in
-    to_either atoms i is end s t leads ends)
+chain_tested atoms [] end = (
+  from_itself atoms end (start_of_end atoms end),
+  λ closes.
+      let (s, (t, (same, ends))) = closes in
+      let itself : end_closes atoms end s s ≡ true = ap (end_closes atoms end s) same ∙ ends in
+      ap (closes_itself atoms end) (end_tells atoms end s itself) ∙ itself,
+)
+chain_tested atoms (i ∷ is) end = (
+  from_either atoms i is end (equality_at atoms i),
+  λ closes.
+      let (s, (t, (leads, ends))) = closes in
+      to_either atoms i is end s t leads ends,
+)

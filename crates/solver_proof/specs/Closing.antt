@@ -6,7 +6,6 @@ use Rattle.gil_values.specs.declared.kinds.Kind.{Kind}
 use Rattle.gil_values.specs.declared.operators.BinOp.{BinOp}
 use Rattle.pure_terms.specs.declared.literals.Literal.{Literal}
 use Rattle.pure_terms.specs.declared.variables.Sort.{Sort}
-use Rattle.pure_terms.specs.declared.variables.Var.{Var}
 use Rattle.pure_terms.specs.Fragment.{is_order, is_variable_of, is_simple_equality, is_comparison}
 use Rattle.pure_terms.specs.Meaning.{truth, IsOver}
 use Rattle.pure_terms.specs.Pure.{PureTerm, literal, variable, list_of, binary_of, PureTerms, term_and, to_list, PureAtom, positive, negative, term_of}

@@ -1,10 +1,10 @@
 -- Walks along equalities: where the next equality leads, and where a chain begins.
-use Rattle.std.specs.Prelude.{ℕ, List, [], ◌∷◌, Bool, true, false, ◌||◌, if◌then◌else◌, Option, Some, None}
+use Rattle.std.specs.Prelude.{ℕ, List, [], ◌∷◌, Bool, false, ◌||◌, if◌then◌else◌, Option, Some, None}
 use Rattle.std.specs.Option.{option_map, option_and_then}
 use Rattle.pure_terms.specs.Equality.{same_term}
 use Rattle.pure_terms.specs.Pure.{PureTerm, PureAtom}
 use Rattle.solver_proof.specs.declared.proofs.ChainEnd.{ChainEnd}
-use Rattle.solver_proof.specs.Chains.{Sides, equality_at, disequality_at, KindFact, kind_fact_at, end_closes}
+use Rattle.solver_proof.specs.Chains.{Sides, equality_at, disequality_at, kind_fact_at, end_closes}
 
 -- the side that isn't s, where one is s
 abbrev pub other_side : PureTerm → Sides → Option PureTerm

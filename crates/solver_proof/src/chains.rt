@@ -121,6 +121,10 @@ fn sides_close(list: &AtomList<'_>, end: ChainEnd, s: Side<'_>, t: Side<'_>) -> 
             let literal = Term::Lit(Literal::Bool(truth));
             closes_with(list, end, &literal, t)
         }
+        Side::Kind(kind) => {
+            let literal = Term::Lit(Literal::Kind(kind));
+            closes_with(list, end, &literal, t)
+        }
     }
 }
 
@@ -131,6 +135,10 @@ fn closes_with(list: &AtomList<'_>, end: ChainEnd, s: &Term, t: Side<'_>) -> boo
         Side::Of(term) => end_closes(list, end, s, term),
         Side::Truth(truth) => {
             let literal = Term::Lit(Literal::Bool(truth));
+            end_closes(list, end, s, &literal)
+        }
+        Side::Kind(kind) => {
+            let literal = Term::Lit(Literal::Kind(kind));
             end_closes(list, end, s, &literal)
         }
     }

@@ -59,12 +59,7 @@ fn lists_of<'a>(left: &'a Term, right: &'a Term) -> Option<ListPair<'a>>
 }
 
 /// Whether the atoms at these places say `s <= t`, `t <= s`, and that s and t differ.
-pub(crate) fn meet_closes(
-    list: &AtomList<'_>,
-    first: usize,
-    second: usize,
-    third: usize,
-) -> bool
+pub(crate) fn meet_closes(list: &AtomList<'_>, first: usize, second: usize, third: usize) -> bool
     ensures { result ≡ meet (at_most_at (list_view list.now) first) (at_most_at (list_view list.now) second) (disequality_at (list_view list.now) third) }
 {
     match find_at_most(list, first) {
@@ -123,10 +118,19 @@ fn is_false_comparison(fact: Fact<'_>) -> bool
         Fact::Holds(term) => compares_literals(term) && !is_true(term),
         Fact::Not(term) => compares_literals(term) && !is_false(term),
         Fact::Open(term) => compares_literals(term) && !is_told(term),
-        Fact::Equal(left, right) => are_literals(left, right) && *left != *right,
+        Fact::Equal(left, right) => is_other_literal(left, right),
         Fact::Differ(left, right) => are_literals(left, right) && *left == *right,
         Fact::KindIs(_, _) => false,
+        Fact::IsTruth(term, truth) => is_other_literal(term, &Term::Lit(Literal::Bool(truth))),
+        Fact::IsKind(term, kind) => is_other_literal(term, &Term::Lit(Literal::Kind(kind))),
     }
+}
+
+/// Whether two terms are different literals.
+fn is_other_literal(left: &Term, right: &Term) -> bool
+    ensures { result ≡ is_false_comparison (Some (positive (equals (term_view left.now) (term_view right.now)))) }
+{
+    are_literals(left, right) && *left != *right
 }
 
 fn compares(op: BinOp) -> bool

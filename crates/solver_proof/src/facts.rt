@@ -1,9 +1,11 @@
 //! What the atoms of a list say: equalities, disequalities and kinds.
 ghost use Rattle.std.specs.Prelude.{◌≡◌, true, Some};
 ghost use Rattle.std.specs.Option.{option_map};
+ghost use Rattle.pure_terms.specs.declared.literals.Literal.{Literal};
 ghost use Rattle.pure_terms.specs.Equality.{same_term};
+ghost use Rattle.pure_terms.specs.Pure.{literal};
 ghost use Rattle.pure_terms.specs.View.{term_view};
-ghost use Rattle.solver_proof.specs.Chains.{truth_term, sides_of_equality, sides_of_variable, unless_kind_fact, equality_of, disequality_of, kind_fact, kind_fact_of_term, kind_fact_of, equality_at, disequality_at, kind_fact_at};
+ghost use Rattle.solver_proof.specs.Chains.{sides_of_equality, sides_of_variable, unless_kind_fact, equality_of, disequality_of, kind_fact, kind_fact_of_term, kind_fact_of, equality_at, disequality_at, kind_fact_at};
 ghost use Rattle.solver_proof.specs.Lists.{fact_view, list_view, pair_view, link_view, said_view, side_view};
 
 use crate::lists::{AtomList, Fact, fact_at};
@@ -17,11 +19,12 @@ pub(crate) struct Pair<'a> {
     pub(crate) right: &'a Term,
 }
 
-/// A side of an equality: a term, or true or false.
+/// A side of an equality: a term, or a literal.
 #[derive(Clone, Copy)]
 pub(crate) enum Side<'a> {
     Of(&'a Term),
     Truth(bool),
+    Kind(Kind),
 }
 
 /// Two sides that an atom says to be equal.
@@ -64,34 +67,25 @@ pub(crate) fn are_same(first: Side<'_>, second: Side<'_>) -> bool
     ensures { result ≡ same_term (side_view first.entry) (side_view second.entry) }
 {
     match first {
-        Side::Of(term) => match second {
-            Side::Of(other) => *term == *other,
-            Side::Truth(truth) => is_truth(term, truth),
-        },
-        Side::Truth(truth) => match second {
-            Side::Of(other) => is_truth_first(truth, other),
-            Side::Truth(other) => truth == other,
-        },
+        Side::Of(term) => is_side(term, second),
+        Side::Truth(truth) => {
+            let literal = Term::Lit(Literal::Bool(truth));
+            is_side(&literal, second)
+        }
+        Side::Kind(kind) => {
+            let literal = Term::Lit(Literal::Kind(kind));
+            is_side(&literal, second)
+        }
     }
 }
 
-/// Whether a term is this literal.
-fn is_truth(term: &Term, truth: bool) -> bool
-    ensures { result ≡ same_term (term_view term.now) (truth_term truth) }
+fn is_side(term: &Term, side: Side<'_>) -> bool
+    ensures { result ≡ same_term (term_view term.now) (side_view side.entry) }
 {
-    match term {
-        Term::Lit(Literal::Bool(b)) => *b == truth,
-        _ => false,
-    }
-}
-
-/// Whether a term is this literal, the other way round.
-fn is_truth_first(truth: bool, term: &Term) -> bool
-    ensures { result ≡ same_term (truth_term truth) (term_view term.now) }
-{
-    match term {
-        Term::Lit(Literal::Bool(b)) => truth == *b,
-        _ => false,
+    match side {
+        Side::Of(other) => *term == *other,
+        Side::Truth(truth) => *term == Term::Lit(Literal::Bool(truth)),
+        Side::Kind(kind) => *term == Term::Lit(Literal::Kind(kind)),
     }
 }
 
@@ -118,6 +112,24 @@ fn equality_of<'a>(fact: Fact<'a>) -> Option<Link<'a>>
         Fact::Differ(_, _) => None,
         Fact::Open(_) => None,
         Fact::KindIs(_, _) => None,
+        Fact::IsTruth(term, truth) => Some(Link {
+            left: Side::Of(term),
+            right: Side::Truth(truth),
+        }),
+        Fact::IsKind(term, kind) => kind_link(term, kind),
+    }
+}
+
+/// A term, and a kind that it is said to be, where this is no test of a kind.
+fn kind_link<'a>(term: &'a Term, kind: Kind) -> Option<Link<'a>>
+    ensures { option_map link_view result ≡ unless_kind_fact (kind_fact true (term_view term.now) (literal (Literal.Kind kind))) (Some (record { left = term_view term.now; right = literal (Literal.Kind kind) })) }
+{
+    match term {
+        Term::Op1(UnOp::Kind, _) => None,
+        _ => Some(Link {
+            left: Side::Of(term),
+            right: Side::Kind(kind),
+        }),
     }
 }
 
@@ -172,6 +184,8 @@ fn disequality_of<'a>(fact: Fact<'a>) -> Option<Pair<'a>>
         Fact::Open(_) => None,
         Fact::Equal(_, _) => None,
         Fact::KindIs(_, _) => None,
+        Fact::IsTruth(_, _) => None,
+        Fact::IsKind(_, _) => None,
     }
 }
 
@@ -198,7 +212,23 @@ fn kind_of_fact<'a>(fact: Fact<'a>) -> Option<Said<'a>>
             kind,
             is_so: true,
         }),
+        Fact::IsKind(term, kind) => kind_of_kind(term, kind),
+        Fact::IsTruth(_, _) => None,
         Fact::Open(_) => None,
+    }
+}
+
+/// What is said where a term is a kind: of another term's kind, where it is `kind` of that.
+fn kind_of_kind<'a>(term: &'a Term, kind: Kind) -> Option<Said<'a>>
+    ensures { option_map said_view result ≡ kind_fact true (term_view term.now) (literal (Literal.Kind kind)) }
+{
+    match term {
+        Term::Op1(UnOp::Kind, subject) => Some(Said {
+            subject,
+            kind,
+            is_so: true,
+        }),
+        _ => None,
     }
 }
 

@@ -2,7 +2,7 @@
 #![tactic(auto)]
 
 mod chains;
-
+mod checking;
 mod comparing;
 mod facts;
 mod laws;
@@ -12,6 +12,7 @@ mod refuters;
 mod rows;
 mod sums;
 
+pub use checking::accepts;
 pub use laws::closed_lists_have_no_solution;
 pub use proofs::{ChainEnd, Factor, Factors, Places, Proof, Proofs};
 pub use refuters::Refuter;

@@ -21,6 +21,10 @@ pub(crate) enum Fact<'a> {
     Differ(&'a Term, &'a Term),
     /// The term has this kind.
     KindIs(&'a Term, Kind),
+    /// The term is true, or false.
+    IsTruth(&'a Term, bool),
+    /// The term is this kind.
+    IsKind(&'a Term, Kind),
 }
 
 /// Atoms that were given, and those that were appended.

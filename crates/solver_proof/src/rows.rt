@@ -8,7 +8,6 @@ ghost use Rattle.solver_proof.specs.Sums.{integer_variable, side_of, difference,
 
 use crate::comparing::integer;
 use crate::lists::{AtomList, Fact, fact_at};
-
 use gil_values::BinOp;
 use pure_terms::{Literal, Sort, Term};
 
@@ -103,6 +102,8 @@ fn row_of(fact: Fact<'_>) -> Option<Row>
         Fact::Differ(_, _) => None,
         Fact::Open(_) => None,
         Fact::KindIs(_, _) => None,
+        Fact::IsTruth(_, _) => None,
+        Fact::IsKind(_, _) => None,
     }
 }
 

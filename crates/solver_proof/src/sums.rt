@@ -182,9 +182,7 @@ fn common_divisor(factors: &[Factor]) -> u128
 {
     match factors {
         [] => 0,
-        [first, rest @ ..] => {
-            greatest_common_divisor(size(first), common_divisor(rest))
-        }
+        [first, rest @ ..] => { greatest_common_divisor(size(first), common_divisor(rest)) }
     }
 }
 

@@ -1,5 +1,4 @@
-use Rattle.std.proofs.Common.{◌≡◌, ◌≤◌, Some, None, slice_get, length, sym, ap, ◌∙◌, arith, min}
-use Rattle.std.specs.Option.{option_map}
+use Rattle.std.proofs.Common.{◌≡◌, Some, slice_get, sym, arith}
 use Rattle.pure_terms.specs.View.{term_view, terms_view}
 use Rattle.solver_proof.proofs.Growing.{equality_found, past_left, past_right}
 use Rattle.solver_proof.proofs.lists.find_part.Goals as goal

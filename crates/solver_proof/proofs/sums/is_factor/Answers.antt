@@ -1,4 +1,4 @@
-use Rattle.std.proofs.Common.{◌≡◌, true, FitsSigned, sym, ap, ◌∙◌, rules, ◌||◌, pos}
+use Rattle.std.proofs.Common.{FitsSigned, sym, ap, ◌∙◌, rules, ◌||◌, pos}
 use Rattle.std.specs.Prelude.{int_lt}
 use Rattle.std.proofs.lemmas.Int.{to_z-of_z}
 use Rattle.std.specs.Int.{w128}

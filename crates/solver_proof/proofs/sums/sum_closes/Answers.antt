@@ -1,6 +1,5 @@
-use Rattle.std.proofs.Common.{◌≡◌, true, false, List, sym, ap, ◌∙◌, subst, true≢false}
+use Rattle.std.proofs.Common.{◌≡◌, true, sym, ap, ◌∙◌, subst, true≢false}
 use Rattle.std.proofs.lemmas.Bool.{eqb-true, eq-eqb}
-use Rattle.solver_proof.specs.declared.proofs.Factor.{Factor}
 use Rattle.solver_proof.specs.declared.sums.Part.{Part}
 use Rattle.solver_proof.specs.Lists.{list_view}
 use Rattle.solver_proof.specs.Rows.{part_of, sum_of_rows, is_positive, cancel_rows}
@@ -12,16 +11,16 @@ pub returns-then-not-is_positive : goal.returns-then-not-is_positive
 returns-then-not-is_positive c = (
   λ never. absurd (true≢false (sym never)),
   λ closes.
-    let whole : SumCloses (list_view c.args.list.now) c.as_slice-factors.result.now = subst (SumCloses (list_view c.args.list.now)) (sym c.as_slice-factors.ensures) closes in
-    sym c.if-not-is_positive.true ∙ c.is_positive.ensures ∙ ap is_positive c.total.ensures ∙ positive_to (list_view c.args.list.now) c.as_slice-factors.result.now whole.factors whole.held_constant whole.constant,
+      let whole : SumCloses (list_view c.args.list.now) c.as_slice-factors.result.now = subst (SumCloses (list_view c.args.list.now)) (sym c.as_slice-factors.ensures) closes in
+      sym c.if-not-is_positive.true ∙ c.is_positive.ensures ∙ ap is_positive c.total.ensures ∙ positive_to (list_view c.args.list.now) c.as_slice-factors.result.now whole.factors whole.held_constant whole.constant,
 )
 
 pub returns-then-not-cancel : goal.returns-then-not-cancel
 returns-then-not-cancel c = (
   λ never. absurd (true≢false (sym never)),
   λ closes.
-    let whole : SumCloses (list_view c.args.list.now) c.as_slice-factors.result.now = subst (SumCloses (list_view c.args.list.now)) (sym c.as_slice-factors.ensures) closes in
-    sym c.if-not-cancel.true ∙ c.cancel.ensures ∙ cancel_to (list_view c.args.list.now) c.as_slice-factors.result.now c.as_slice-factors.result.now whole.factors (λ x. (whole.held_variables x, whole.variables x)),
+      let whole : SumCloses (list_view c.args.list.now) c.as_slice-factors.result.now = subst (SumCloses (list_view c.args.list.now)) (sym c.as_slice-factors.ensures) closes in
+      sym c.if-not-cancel.true ∙ c.cancel.ensures ∙ cancel_to (list_view c.args.list.now) c.as_slice-factors.result.now c.as_slice-factors.result.now whole.factors (λ x. (whole.held_variables x, whole.variables x)),
 )
 
 pub returns : goal.returns
@@ -29,8 +28,7 @@ returns c =
     let factors : are_factors (list_view c.args.list.now) c.as_slice-factors.result.now ≡ true = sym c.are_factors.ensures ∙ c.if-not-are_factors.false in
     let tested : cancel_rows (list_view c.args.list.now) c.as_slice-factors.result.now c.as_slice-factors.result.now ≡ true = sym c.cancel.ensures ∙ c.if-not-cancel.false in
     let above : is_positive (sum_of_rows (list_view c.args.list.now) (part_of Part.Constant) c.as_slice-factors.result.now) ≡ true = sym (c.is_positive.ensures ∙ ap is_positive c.total.ensures) ∙ c.if-not-is_positive.false in
-    let constant = positive_from (list_view c.args.list.now) c.as_slice-factors.result.now factors above in
-    (
+    let constant = positive_from (list_view c.args.list.now) c.as_slice-factors.result.now factors above in (
       λ one. subst (SumCloses (list_view c.args.list.now)) c.as_slice-factors.ensures (record {
         apart = sym c.are_apart.ensures ∙ c.if-not-are_apart.false;
         factors = factors;
@@ -41,6 +39,6 @@ returns c =
         held_variables = λ x. (cancel_from (list_view c.args.list.now) c.as_slice-factors.result.now x factors tested).0;
       }),
       λ closes.
-        let whole : SumCloses (list_view c.args.list.now) c.as_slice-factors.result.now = subst (SumCloses (list_view c.args.list.now)) (sym c.as_slice-factors.ensures) closes in
-        eq-eqb c.common_divisor.result 1 (one-no_divisor c.as_slice-factors.result.now c.common_divisor.result c.common_divisor.ensures whole.no_divisor),
+          let whole : SumCloses (list_view c.args.list.now) c.as_slice-factors.result.now = subst (SumCloses (list_view c.args.list.now)) (sym c.as_slice-factors.ensures) closes in
+          eq-eqb c.common_divisor.result 1 (one-no_divisor c.as_slice-factors.result.now c.common_divisor.result c.common_divisor.ensures whole.no_divisor),
     )
