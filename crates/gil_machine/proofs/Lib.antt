@@ -1,4 +1,5 @@
 pub mod Beside
+pub mod Entries
 pub mod Evaluated
 pub mod HeldRuns
 pub mod HeldValues
@@ -10,5 +11,4 @@ pub mod Runs
 pub mod Sizes
 pub mod Standings
 pub mod Steps
-pub mod Tests
 pub mod UnderWay

@@ -26,5 +26,8 @@ pub use laws::{
     starts_are_placed, starts_are_proper, states_stay_placed, states_stay_proper, steps_are_local,
     tests_start_properly, the_counter_is_new,
 };
-pub use running::{End, run};
+pub use running::{End, run, run_entry};
 pub use store::Store;
+
+#[cfg(test)]
+mod tests;

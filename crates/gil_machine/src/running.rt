@@ -1,5 +1,6 @@
 //! Runs of programs.
-ghost use Rattle.std.specs.Prelude.{◌≡◌, ◌+◌, ◌≤◌, ◌^◌, ◌<◌, length, Some, IfOk, OnOk, IsTrue};
+ghost use Rattle.std.specs.Prelude.{◌≡◌, ◌+◌, ◌≤◌, ◌^◌, ◌<◌, length, [], Some, MatchOption, IfOk, OnOk, IsTrue};
+ghost use Rattle.std.specs.FinMap.{empty};
 ghost use Rattle.gil_values.specs.View.{values_view};
 ghost use Rattle.gil_syntax.specs.Programs.{find_proc};
 ghost use Rattle.gil_syntax.specs.Pure.{PureProc};
@@ -8,7 +9,7 @@ ghost use Rattle.gil_syntax.specs.WellMade.{is_well_made_command};
 ghost use Rattle.gil_program.specs.Program.{prog_view};
 ghost use Rattle.mem_model.specs.Heaps.{Heap};
 ghost use Rattle.gil_machine.specs.Held.{held_run_of, number_at};
-ghost use Rattle.gil_machine.specs.Run.{IsProperStart, start};
+ghost use Rattle.gil_machine.specs.Run.{IsEntry, IsProperStart, start};
 ghost use Rattle.gil_machine.specs.Standing.{Comes, Does, GrowsByOne, HasMemory, IsAtNumber, IsEndOf, IsStanding, Stands};
 ghost use Rattle.gil_machine.specs.State.{State};
 ghost use Rattle.gil_machine.specs.Step.{step as pure_step};
@@ -69,6 +70,28 @@ pub fn run<M: LocalMemory>(
         }
     }
     End::Cut(memory)
+}
+
+/// The end of the run of a procedure without parameters from the empty heap, where the procedure is one.
+pub fn run_entry<M: LocalMemory>(
+    alloc: Global,
+    prog: &Prog,
+    entry: &Text,
+    inputs: &Values,
+    bound: u32,
+) -> Option<End<M>>
+    requires { bound ≤ 10000 }
+    ensures { MatchOption result (¬ IsEntry (prog_view prog.now) entry.now)
+        (λ end. IsEntry (prog_view prog.now) entry.now × IsEndOf M.heap end (held_run_of (prog_view prog.now) M.actions entry.now [] empty 0 (values_view inputs.now) bound)) }
+{
+    let Some(0) = prog.arity(entry) else {
+        return None;
+    };
+    let Ok(memory) = M::empty(alloc) else {
+        return Some(End::Memory);
+    };
+    let args = Values::new(alloc);
+    Some(run(alloc, prog, entry, args, memory, 0, inputs, bound))
 }
 
 /// The calls in progress where a run starts.

@@ -1,4 +1,4 @@
-use Rattle.gil_machine.proofs.Tests.{clean_has_no_bug}
+use Rattle.gil_machine.proofs.Entries.{clean_has_no_bug}
 use Rattle.gil_machine.proofs.laws.clean_has_no_bug.Goals as goal
 
 pub returns : goal.returns

@@ -1,4 +1,4 @@
-use Rattle.gil_machine.proofs.Tests.{tests_start_proper}
+use Rattle.gil_machine.proofs.Entries.{tests_start_proper}
 use Rattle.gil_machine.proofs.laws.tests_start_properly.Goals as goal
 
 pub returns : goal.returns

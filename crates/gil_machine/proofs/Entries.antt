@@ -1,13 +1,17 @@
 -- Tests of procedures without parameters.
-use Rattle.std.proofs.Common.{◌≡◌, ℕ, ◌≤◌, List, [], length, subst, sym, ap, ◌∙◌}
+use Rattle.std.proofs.Common.{◌≡◌, ℕ, ◌≤◌, List, [], ◌∷◌, length, Option, Some, None, refl, subst, sym, ap, ◌∙◌, arith}
+use Rattle.std.proofs.lemmas.Option.{same_Some}
+use Rattle.std.specs.Option.{option_map}
 use Rattle.std.specs.FinMap.{empty}
 use Rattle.gil_values.specs.Pure.{PureValue}
-use Rattle.gil_syntax.specs.Pure.{PureParts}
+use Rattle.gil_syntax.specs.Programs.{find_proc}
+use Rattle.gil_syntax.specs.Pure.{PureParts, PureProc}
 use Rattle.gil_syntax.proofs.Symbols.{each-nil}
+use Rattle.mem_model.specs.declared.keys.MemoryName.{MemoryName}
 use Rattle.mem_model.specs.Actions.{Actions}
 use Rattle.mem_model.proofs.Parts.{empty_is_heap, empty_is_below}
 use Rattle.gil_machine.specs.State.{Ending, returned, failed, vanished, no_input, bad_input, cut, IsFailed, IsOver}
-use Rattle.gil_machine.specs.Run.{test_run, start}
+use Rattle.gil_machine.specs.Run.{test_run, start, IsEntry, IsProperStart}
 use Rattle.gil_machine.specs.Laws.{TestsStartProper, BugsStay, CleanIsCleanBelow, CleanHasNoBug}
 use Rattle.gil_machine.proofs.Runs.{stays_over}
 use Rattle.gil_machine.proofs.Proper.{Below}
@@ -44,3 +48,21 @@ clean_is_clean_below p m f n k le clean = record {
 
 pub clean_has_no_bug : CleanHasNoBug
 clean_has_no_bug p m f n inputs v place clean bug = clean.never_fails inputs (subst IsFailed (sym bug.fails) tt)
+
+none_long : (xs : List (List ℕ)) → length xs ≡ 0 → xs ≡ []
+none_long [] is = refl
+none_long (x ∷ xs) is = absurd (omega (arith, is))
+
+entry_by : (p : PureParts) (f : List ℕ) (o : Option PureProc) → find_proc p.procs f ≡ o → option_map (λ q. length q.params) o ≡ Some 0 → IsEntry p f
+entry_by p f None found is = absurd (cc)
+entry_by p f (Some q) found is = (q, (found, none_long q.params (same_Some _ _ is)))
+
+-- a procedure that takes no argument is one without parameters
+pub is_entry : (p : PureParts) (f : List ℕ) → option_map (λ q. length q.params) (find_proc p.procs f) ≡ Some 0 → IsEntry p f
+is_entry p f is = entry_by p f (find_proc p.procs f) refl is
+
+pub no_entry : (p : PureParts) (f : List ℕ) → ¬ (option_map (λ q. length q.params) (find_proc p.procs f) ≡ Some 0) → ¬ IsEntry p f
+no_entry p f differs entry = differs (ap (option_map (λ q. length q.params)) entry.1.0 ∙ ap (λ xs. Some (length xs)) entry.1.1)
+
+pub entry_starts : (p : PureParts) (memory : MemoryName) (f : List ℕ) → IsEntry p f → IsProperStart p memory f [] empty 0
+entry_starts p memory f entry = tests_start_proper p memory f entry.0 entry.1.0 entry.1.1
