@@ -49,6 +49,7 @@ pub fn read_all<S: Source>(alloc: Global, source: &mut S, limit: usize) -> Resul
     ensures taken { Takes (S.left source.old) (S.left source.new)
         (λ taken. IsErrOf result ReadEnd.TooLarge ↔ (limit < length taken)) }
 
+    ensures no_fault { OnOk result (S.faults source.new ≡ S.faults source.old) }
     ensures read_fault { IsErrOf result ReadEnd.ReadFault → FaultRose (S.faults source.old) (S.faults source.new) }
     ensures never_falls { S.faults source.old ≤ S.faults source.new }
 {

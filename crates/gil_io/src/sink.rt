@@ -1,5 +1,5 @@
 //! What bytes are written to.
-ghost use Rattle.std.specs.Prelude.{◌≡◌, ◌<◌, ◌≤◌, List, Option, ℕ, length, take, IfOk, OnErr};
+ghost use Rattle.std.specs.Prelude.{◌≡◌, ◌<◌, ◌≤◌, List, Option, ℕ, length, take, IfOk, OnOk, OnErr};
 ghost use Rattle.std.specs.Io.KnownBytes.{append_known};
 ghost use Rattle.gil_io.specs.Faults.{FaultRose};
 ghost use Rattle.gil_io.specs.Writing.{IsUsedUp};
@@ -29,6 +29,8 @@ pub trait Sink {
         ensures room_stays { room self.new ≡ room self.old }
         ensures used_up { OnErr result (IsUsedUp (room self.new) (taken self.new)) }
 
+        // The count rises in a write that failed, and in no other.
+        ensures no_fault { OnOk result (faults self.new ≡ faults self.old) }
         ensures failed { OnErr result (FaultRose (faults self.old) (faults self.new)) }
         ensures never_falls { faults self.old ≤ faults self.new };
 }

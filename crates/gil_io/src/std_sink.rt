@@ -1,9 +1,10 @@
 //! A sink over a writer of std: the edge at which bytes go out.
-ghost use Rattle.std.specs.Prelude.{◌≡◌, ◌<◌, ◌≤◌, length, None, IfOk, OnOk, OnErr};
+ghost use Rattle.std.specs.Prelude.{◌≡◌, ◌↔◌, ◌⊎◌, ◌<◌, ◌≤◌, length, None, IfOk, OnOk, OnErr, IsErr};
 ghost use Rattle.std.specs.Io.KnownBytes.{WriteAppends};
 ghost use Rattle.gil_io.specs.Faults.{next_count};
 
 use crate::{Failed, Sink};
+use std::io;
 use std::io::Write;
 
 /// A sink over a writer. It doesn't tell its bytes, and counts as a fault each `Err` of the writer, an interrupted call
@@ -46,13 +47,26 @@ impl<W: Write> Sink for StdSink<W> {
         ensures fault { OnErr result (fault_count self.new ≡ next_count (fault_count self.old)) }
         ensures never_falls { fault_count self.old ≤ fault_count self.new }
     {
-        if let Ok(count) = self.writer.write(piece) {
-            if count > 0 || piece.is_empty() {
-                return Ok(count);
-            }
+        let answer = self.writer.write(piece);
+        counted(&mut self.faults, piece.len(), answer)
+    }
+}
+
+/// What a writer's answer comes to, where so many bytes were offered: a fault exactly where it is an `Err`, or takes none of
+/// some bytes, and exactly then the count rises.
+fn counted(faults: &mut u64, offered: usize, answer: io::Result<usize>) -> Result<usize, Failed>
+    ensures failed { IsErr result ↔ (IsErr answer ⊎ ((0 < offered) × (answer ≡ Ok 0))) }
+    ensures given { IfOk result (λ count. answer ≡ Ok count) }
+    ensures no_fault { OnOk result (faults.new ≡ faults.old) }
+    ensures fault { OnErr result (faults.new ≡ next_count faults.old) }
+    ensures never_falls { faults.old ≤ faults.new }
+{
+    match answer {
+        Ok(count) if count > 0 || offered == 0 => Ok(count),
+        _ => {
+            *faults = faults.saturating_add(1);
+            Err(Failed)
         }
-        self.faults = self.faults.saturating_add(1);
-        Err(Failed)
     }
 }
 
@@ -60,22 +74,49 @@ impl<W: Write> Sink for StdSink<W> {
 mod tests {
     use super::*;
     use crate::{WriteFault, write_all};
+    use std::io::ErrorKind;
     use std::test::Fail;
 
-    #[test]
-    fn writes_a_writer_and_counts_what_it_does_not_take(rt: HostRuntime) -> Result<(), Fail> {
-        let mut whole = StdSink::new(Vec::new(rt.alloc()));
-        write_all(&mut whole, b"gillian")?;
-        assert_eq!(rt; whole.writer.as_slice(), b"gillian".as_slice());
-        assert_eq!(rt; whole.faults, 0);
+    const TEXT: &[u8] = &[b'g'; 150];
 
-        // A slice takes nothing once it is full, and says so by `Ok(0)`.
-        let mut room = [0u8; 3];
-        let mut full = StdSink::new(room.as_mut_slice());
-        assert_eq!(rt; write_all(&mut full, b"gillian"), Err(WriteFault));
-        assert_eq!(rt; full.faults, 1);
-        drop(full);
-        assert_eq!(rt; room.as_slice(), b"gil".as_slice());
+    // Is interrupted once, and then takes what fits into its room, and nothing once that is full.
+    #[derive(Drop)]
+    struct Interrupted<'a> {
+        once: bool,
+        room: &'a mut [u8],
+    }
+
+    impl<'a> Write for Interrupted<'a> {
+        fn write(&mut self, piece: &[u8]) -> io::Result<usize> {
+            if self.once {
+                self.once = false;
+                return Err(ErrorKind::Interrupted.into());
+            }
+            self.room.write(piece)
+        }
+
+        fn flush(&mut self) -> io::Result<()> {
+            Ok(())
+        }
+    }
+
+    #[test]
+    fn an_interrupted_write_and_one_that_takes_nothing_are_faults(
+        rt: HostRuntime,
+    ) -> Result<(), Fail> {
+        let mut room = [0u8; 150];
+        let mut sink = StdSink::new(Interrupted {
+            once: true,
+            room: room.as_mut_slice(),
+        });
+        assert_eq!(rt; write_all(&mut sink, TEXT), Err(WriteFault));
+        assert_eq!(rt; sink.faults, 1);
+        write_all(&mut sink, TEXT)?;
+        assert_eq!(rt; sink.faults, 1);
+        assert_eq!(rt; write_all(&mut sink, b"n"), Err(WriteFault));
+        assert_eq!(rt; sink.faults, 2);
+        drop(sink);
+        assert_eq!(rt; room.as_slice(), TEXT);
         Ok(())
     }
 }

@@ -1,9 +1,10 @@
 //! A source over a reader of std: the edge at which bytes come in.
-ghost use Rattle.std.specs.Prelude.{◌≡◌, ◌≤◌, length, drop, None, IfOk, OnOk, OnErr};
+ghost use Rattle.std.specs.Prelude.{◌≡◌, ◌↔◌, ◌≤◌, length, drop, None, IfOk, OnOk, OnErr, IsErr};
 ghost use Rattle.std.specs.Io.KnownBytes.{ReadConsumes};
 ghost use Rattle.gil_io.specs.Faults.{next_count};
 
 use crate::{Failed, Source};
+use std::io;
 use std::io::Read;
 
 // The bytes of one read at most.
@@ -51,15 +52,26 @@ impl<R: Read> Source for StdSource<R> {
         // What a reader writes past its count, or before an `Err`, isn't known, so it writes into bytes of our own.
         let mut chunk = [0u8; CHUNK];
         let room = buf.len().min(CHUNK);
-        match self.reader.read(&mut chunk[..room]) {
-            Ok(count) => {
-                buf[..count].copy_from_slice(&chunk[..count]);
-                Ok(count)
-            }
-            Err(_) => {
-                self.faults = self.faults.saturating_add(1);
-                Err(Failed)
-            }
+        let answer = self.reader.read(&mut chunk[..room]);
+        let count = counted(&mut self.faults, answer)?;
+        buf[..count].copy_from_slice(&chunk[..count]);
+        Ok(count)
+    }
+}
+
+/// What a reader's answer comes to: a fault exactly where it is an `Err`, and exactly then the count rises.
+fn counted(faults: &mut u64, answer: io::Result<usize>) -> Result<usize, Failed>
+    ensures failed { IsErr result ↔ IsErr answer }
+    ensures given { IfOk result (λ count. answer ≡ Ok count) }
+    ensures no_fault { OnOk result (faults.new ≡ faults.old) }
+    ensures fault { OnErr result (faults.new ≡ next_count faults.old) }
+    ensures never_falls { faults.old ≤ faults.new }
+{
+    match answer {
+        Ok(count) => Ok(count),
+        Err(_) => {
+            *faults = faults.saturating_add(1);
+            Err(Failed)
         }
     }
 }
@@ -68,38 +80,40 @@ impl<R: Read> Source for StdSource<R> {
 mod tests {
     use super::*;
     use crate::{ReadEnd, read_all};
-    use std::io;
     use std::io::ErrorKind;
     use std::test::Fail;
 
-    // Gives three bytes, and then is interrupted at each call.
+    const TEXT: &[u8] = &[b'g'; 150];
+
+    // Is interrupted once, and then gives what it has.
     #[derive(Drop)]
-    struct Interrupted {
-        given: bool,
+    struct Interrupted<'a> {
+        once: bool,
+        rest: &'a [u8],
     }
 
-    impl Read for Interrupted {
+    impl<'a> Read for Interrupted<'a> {
         fn read(&mut self, buf: &mut [u8]) -> io::Result<usize> {
-            if self.given || buf.len() < 3 {
+            if self.once {
+                self.once = false;
                 return Err(ErrorKind::Interrupted.into());
             }
-            self.given = true;
-            buf[..3].copy_from_slice(b"gil");
-            Ok(3)
+            self.rest.read(buf)
         }
     }
 
     #[test]
-    fn reads_a_reader_and_counts_its_errors(rt: HostRuntime) -> Result<(), Fail> {
-        let mut whole = StdSource::new(b"gillian".as_slice());
-        let bytes = read_all(rt.alloc(), &mut whole, 7)?;
-        assert_eq!(rt; bytes.as_slice(), b"gillian".as_slice());
-        assert_eq!(rt; whole.faults, 0);
-
-        let mut broken = StdSource::new(Interrupted { given: false });
-        let answer = read_all(rt.alloc(), &mut broken, 7);
+    fn an_interrupted_read_is_a_fault_and_the_next_one_works(rt: HostRuntime) -> Result<(), Fail> {
+        let mut source = StdSource::new(Interrupted {
+            once: true,
+            rest: TEXT,
+        });
+        let answer = read_all(rt.alloc(), &mut source, 150);
         assert_eq!(rt; answer.err(), Some(ReadEnd::ReadFault));
-        assert_eq!(rt; broken.faults, 1);
+        assert_eq!(rt; source.faults, 1);
+        let bytes = read_all(rt.alloc(), &mut source, 150)?;
+        assert_eq!(rt; bytes.as_slice(), TEXT);
+        assert_eq!(rt; source.faults, 1);
         Ok(())
     }
 }

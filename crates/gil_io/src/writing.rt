@@ -21,6 +21,7 @@ impl From<Failed> for WriteFault {
 /// Writes all of the bytes. It offers the whole rest at each call of `write`, and takes no memory.
 pub fn write_all<K: Sink>(sink: &mut K, bytes: &[u8]) -> Result<(), WriteFault>
     ensures ok { OnOk result (K.taken sink.new ≡ append_known (K.taken sink.old) bytes.now) }
+    ensures no_fault { OnOk result (K.faults sink.new ≡ K.faults sink.old) }
     ensures fault { OnErr result (FaultRose (K.faults sink.old) (K.faults sink.new)) }
 
     // After a fault the sink has taken some of the bytes, from their front, and not all.

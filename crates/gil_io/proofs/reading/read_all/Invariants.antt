@@ -3,7 +3,10 @@ use Rattle.std.specs.Io.KnownBytes.{prepend_known}
 use Rattle.gil_io.proofs.reading.read_all.Given as goal
 
 abbrev pub invariant-loop-bytes : goal.invariant-loop-bytes
-invariant-loop-bytes g l = (g.S.Source.left l.fn.source ≡ prepend_known l.bytes.items (g.S.Source.left l.source)) × (length l.bytes.items ≤ l.limit) × (g.S.Source.faults l.fn.source ≤ g.S.Source.faults l.source)
+invariant-loop-bytes g l =
+    (g.S.Source.left l.fn.source ≡ prepend_known l.bytes.items (g.S.Source.left l.source))
+    × (length l.bytes.items ≤ l.limit)
+    × (g.S.Source.faults l.source ≡ g.S.Source.faults l.fn.source)
 
 abbrev pub decreases-loop-bytes : goal.decreases-loop-bytes
 decreases-loop-bytes g l = l.limit - length l.bytes.items

@@ -11,6 +11,6 @@ returns-in_err-count-clause-part g c =
 pub loop-rest-preserved : goal.loop-rest-preserved
 loop-rest-preserved g c = (
   given_more _ _ _ _ _ c.in_ok-count.count _ c.loop-rest.invariant.0 c.in_ok-count.ensures.bytes (omega arith),
-  omega arith,
+  c.in_ok-count.ensures.no_fault ∙ c.loop-rest.invariant.1,
   c.in_ok-count.ensures.room_stays ∙ c.loop-rest.invariant.2,
 )
