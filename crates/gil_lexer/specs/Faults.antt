@@ -25,8 +25,8 @@ pub record BeginsNoToken (bytes : List ℕ) : Type 0 where
   pub procedure : (after : List ℕ) → bytes ≡ at_sign ∷ after → IsFalse (begins is_name_start after)
   pub sign : (sign : Sign) → IsFalse (starts_with nat_eq bytes (sign_bytes sign))
 
--- A quote and characters, and then the text's end or a byte outside 0x20 to 0x7E, such as a line feed: no closing
--- quote stands on the line.
+-- A quote and characters, and then the text's end or a byte outside 0x20 to 0x7E, such as a line feed or a tab: the literal is
+-- left open there, whatever follows.
 abbrev pub IsOpenText : List ℕ → Type 0
 IsOpenText bytes =
     (cs after : List ℕ) × AreCharacters cs × (bytes ≡ quote ∷ (characters_bytes cs ++ after)) × IsFalse (begins is_printable after)

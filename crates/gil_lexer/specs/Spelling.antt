@@ -93,7 +93,8 @@ MayBeginNumber before bytes = IsTrue (begins_negative bytes) → IsTrue (takes_m
 
 -- of the signs that the bytes begin with, none is longer
 abbrev pub IsLongestSign : Sign → List ℕ → Type 0
-IsLongestSign sign bytes = (other : Sign) → IsTrue (starts_with nat_eq bytes (sign_bytes other)) → length (sign_bytes other) ≤ length (sign_bytes sign)
+IsLongestSign sign bytes =
+    (other : Sign) → IsTrue (starts_with nat_eq bytes (sign_bytes other)) → length (sign_bytes other) ≤ length (sign_bytes sign)
 
 -- The token ends where it must: behind one of the form before, a token of this form at the front of the bytes, with
 -- rest behind it, is no part of a longer one. A name takes every name byte and a number every digit; a sign is the

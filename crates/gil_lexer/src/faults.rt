@@ -7,8 +7,9 @@ pub enum LexKind {
     /// The byte begins no token.
     #[error("no token begins here")]
     Byte,
-    /// A text literal has no closing quote on its line: its characters, 0x20 to 0x7E, end before one.
-    #[error("this text has no closing quote on its line")]
+    /// A text literal is left open: a byte that is no character 0x20 to 0x7E, as a line feed or a tab, or the end of the text
+    /// comes before a quote that closes it.
+    #[error("this text literal is left open")]
     Open,
     /// A backslash in a text literal begins none of the escapes `\"`, `\\` and `\n`.
     #[error("this text has a faulty escape")]

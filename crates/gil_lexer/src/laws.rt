@@ -15,17 +15,20 @@ pub fn one_reading()
 
 /// Where a fault stands, no token stands.
 pub fn fault_or_token()
-    ensures { (kind : LexKind) (before : Option Form) (form : Form) (text rest : List ℕ) → kind ≢ kinds.Memory → IsFault kind before (text ++ rest) → IsToken before form text rest → ⊥ }
+    ensures { (kind : LexKind) (before : Option Form) (form : Form) (text rest : List ℕ) → kind ≢ kinds.Memory
+        → IsFault kind before (text ++ rest) → IsToken before form text rest → ⊥ }
 {}
 
 /// A text in which a fault stands has no reading.
 pub fn fault_or_reading()
-    ensures { (kind : LexKind) (at : ℕ) (bytes : List ℕ) (tokens : List Token) → kind ≢ kinds.Memory → StopsAt kind at bytes → AreTokensOf tokens bytes → ⊥ }
+    ensures { (kind : LexKind) (at : ℕ) (bytes : List ℕ) (tokens : List Token) → kind ≢ kinds.Memory → StopsAt kind at bytes
+        → AreTokensOf tokens bytes → ⊥ }
 {}
 
 /// One fault at most stands in a text, want of memory aside.
 pub fn one_fault()
-    ensures { (kind other : LexKind) (at place : ℕ) (bytes : List ℕ) → kind ≢ kinds.Memory → other ≢ kinds.Memory → StopsAt kind at bytes → StopsAt other place bytes → (kind ≡ other) × (at ≡ place) }
+    ensures { (kind other : LexKind) (at place : ℕ) (bytes : List ℕ) → kind ≢ kinds.Memory → other ≢ kinds.Memory
+        → StopsAt kind at bytes → StopsAt other place bytes → (kind ≡ other) × (at ≡ place) }
 {}
 
 /// A text spells one number at most.
