@@ -57,16 +57,16 @@ no_node_in e = list_any-never (subexpressions e)
 
 module _ (p : PureParts) where
   abbrev has_misuse : Piece → Bool
-  has_misuse c = list_any (misuses p) c.used
+  has_misuse c = list_any (misuses (predicates_of p)) c.used
 
-  misuse_piece : (c : Piece) → stands_among no_node (misuses p) c.exprs c.used ≡ has_misuse c
+  misuse_piece : (c : Piece) → stands_among no_node (misuses (predicates_of p)) c.exprs c.used ≡ has_misuse c
   misuse_piece c = (λ j. has_misuse c || (ap (λ (f : PureExpr → Bool). list_any f c.exprs) (λ i e. no_node_in e i) ∙ list_any-never c.exprs) j) ∙ or-false (has_misuse c)
 
-  pub misused_assertions : (ls : List Param) (ass : List (List PureItem)) → list_any (stands_in_assertion no_node (misuses p)) ass ≡ list_any has_misuse (map (piece_of_assertion ls) ass)
+  pub misused_assertions : (ls : List Param) (ass : List (List PureItem)) → list_any (stands_in_assertion no_node (misuses (predicates_of p))) ass ≡ list_any has_misuse (map (piece_of_assertion ls) ass)
   misused_assertions ls ass = (λ j. list_any (λ items. misuse_piece (piece_of_assertion ls items) j) ass) ∙ sym (list_any-map has_misuse (piece_of_assertion ls) ass)
 
   pub misused_commands : (logicals : List (List ℕ)) (cs : List PureNumberedCommand)
-      → list_any (stands_in_command no_node (misuses p)) cs ≡ list_any has_misuse (map (λ c. piece_of_command logicals c.command) cs)
+      → list_any (stands_in_command no_node (misuses (predicates_of p))) cs ≡ list_any has_misuse (map (λ c. piece_of_command logicals c.command) cs)
   misused_commands logicals cs = (λ j. list_any (λ c. misuse_piece (piece_of_command logicals c.command) j) cs) ∙ sym (list_any-map has_misuse (λ c. piece_of_command logicals c.command) cs)
 
 -- ---- one signature for a name
@@ -107,25 +107,25 @@ first_fits u (h ∷ hs) g once found = by (bytes_eq h.name u.pred) refl (first_f
     by false e rest found = ap (λ b. (b && h.ins == length u.ins && h.outs == length u.outs) || list_any (fits u) hs) e ∙ rest alone.1 found
 
 pub misuses-found : (p : PureParts) (u : PurePredUse) (g : Signature) → AreDistinct p → find_signature (predicates_of p) u.pred ≡ Some g
-    → misuses p u ≡ not (g.ins == length u.ins && g.outs == length u.outs)
+    → misuses (predicates_of p) u ≡ not (g.ins == length u.ins && g.outs == length u.outs)
 misuses-found p u g distinct found =
     ap (λ b. b && not (list_any (fits u) (predicates_of p))) (is_named-find (predicates_of p) u.pred ∙ ap is_some found)
     ∙ ap not (first_fits u (predicates_of p) g distinct found)
 
-pub misuses-unknown : (p : PureParts) (u : PurePredUse) → find_signature (predicates_of p) u.pred ≡ None → misuses p u ≡ false
+pub misuses-unknown : (p : PureParts) (u : PurePredUse) → find_signature (predicates_of p) u.pred ≡ None → misuses (predicates_of p) u ≡ false
 misuses-unknown p u none = ap (λ b. b && not (list_any (fits u) (predicates_of p))) (is_named-find (predicates_of p) u.pred ∙ ap is_some none)
 
 pub misuses-shape : (p : PureParts) (u : PurePredUse) (x : List ℕ) (ins outs : ℕ) → AreDistinct p → x ≡ u.pred → Some (ins, outs) ≡ option_map shape (find_signature (predicates_of p) x)
-    → misuses p u ≡ not (ins == length u.ins && outs == length u.outs)
+    → misuses (predicates_of p) u ≡ not (ins == length u.ins && outs == length u.outs)
 misuses-shape p u x ins outs distinct named is = by (find_signature (predicates_of p) u.pred) refl (is ∙ ap (λ y. option_map shape (find_signature (predicates_of p) y)) named)
   where
-    by : (o : Option Signature) → find_signature (predicates_of p) u.pred ≡ o → Some (ins, outs) ≡ option_map shape o → misuses p u ≡ not (ins == length u.ins && outs == length u.outs)
+    by : (o : Option Signature) → find_signature (predicates_of p) u.pred ≡ o → Some (ins, outs) ≡ option_map shape o → misuses (predicates_of p) u ≡ not (ins == length u.ins && outs == length u.outs)
     by None found is = absurd (cc)
     by (Some g) found is =
         let pair : (ins, outs) ≡ (g.ins, g.outs) = cc in
         misuses-found p u g distinct found ∙ ap (λ (q : ℕ × ℕ). not (q.0 == length u.ins && q.1 == length u.outs)) (sym pair)
 
-pub misuses-no_shape : (p : PureParts) (u : PurePredUse) (x : List ℕ) → x ≡ u.pred → None ≡ option_map shape (find_signature (predicates_of p) x) → misuses p u ≡ false
+pub misuses-no_shape : (p : PureParts) (u : PurePredUse) (x : List ℕ) → x ≡ u.pred → None ≡ option_map shape (find_signature (predicates_of p) x) → misuses (predicates_of p) u ≡ false
 misuses-no_shape p u x named is = misuses-unknown p u (no_shape (find_signature (predicates_of p) u.pred) (is ∙ ap (λ y. option_map shape (find_signature (predicates_of p) y)) named))
 
 -- ---- lists of names

@@ -12,7 +12,7 @@ use Rattle.gil_syntax.specs.declared.commands.Command.{Command}
 use Rattle.gil_syntax.specs.Pure.{PureExpr, literal, name, logical, list_of, unary_of, binary_of, PureItem, PureCommand, assign, call, act, usym, isym, ifgoto, return, fail, vanish, fold_use, unfold_use, assert_that, loop_invariant, PureNumberedCommand, PureProc, PureParts}
 use Rattle.gil_syntax.specs.Programs.{find_proc}
 use Rattle.gil_syntax.specs.Subexpressions.{subexpressions, own_logicals, logicals_of}
-use Rattle.gil_syntax.specs.Valid.{param_names, is_among, piece_of_assertion, declared_at, piece_of_command, Piece, names_undeclared, uses_unknown}
+use Rattle.gil_syntax.specs.Valid.{param_names, is_among, piece_of_assertion, declared_at, piece_of_command, Piece, names_undeclared, uses_unknown, predicates_of}
 use Rattle.gil_syntax.specs.View.{command_view}
 use Rattle.gil_program.specs.Found.{stands_in, stands_among, stands_in_assertion, stands_in_command}
 use Rattle.gil_program.specs.Names.{has_name}
@@ -39,17 +39,17 @@ module _ (declared : List ℕ → Bool) where
 
 -- what is unknown in a piece, where these are the names that it declares
 unknown_piece : (p : PureParts) (known : List ℕ → Bool) (c : Piece) → known ≡ is_among c.declared
-    → stands_among (is_undeclared known) (is_unknown_use p) c.exprs c.used ≡ (names_undeclared c || uses_unknown p c)
+    → stands_among (is_undeclared known) (is_unknown_use p) c.exprs c.used ≡ (names_undeclared c || uses_unknown (predicates_of p) c)
 unknown_piece p known c same =
     ap (λ f. stands_among (is_undeclared f) (is_unknown_use p) c.exprs c.used) same
-    ∙ or_comm (uses_unknown p c) (list_any (stands_in (is_undeclared (is_among c.declared))) c.exprs)
-    ∙ ap (λ b. b || uses_unknown p c) (λ j. list_any (λ e. undeclared_in (is_among c.declared) e j) c.exprs)
+    ∙ or_comm (uses_unknown (predicates_of p) c) (list_any (stands_in (is_undeclared (is_among c.declared))) c.exprs)
+    ∙ ap (λ b. b || uses_unknown (predicates_of p) c) (λ j. list_any (λ e. undeclared_in (is_among c.declared) e j) c.exprs)
 
 pub assertions_unknown : (p : PureParts) (known : List ℕ → Bool) (ls : List Param) → known ≡ is_among (param_names ls) → (ass : List (List PureItem))
-    → list_any (stands_in_assertion (is_undeclared known) (is_unknown_use p)) ass ≡ list_any (λ c. names_undeclared c || uses_unknown p c) (map (piece_of_assertion ls) ass)
+    → list_any (stands_in_assertion (is_undeclared known) (is_unknown_use p)) ass ≡ list_any (λ c. names_undeclared c || uses_unknown (predicates_of p) c) (map (piece_of_assertion ls) ass)
 assertions_unknown p known ls same ass =
     (λ j. list_any (λ items. unknown_piece p known (piece_of_assertion ls items) same j) ass)
-    ∙ sym (list_any-map (λ c. names_undeclared c || uses_unknown p c) (piece_of_assertion ls) ass)
+    ∙ sym (list_any-map (λ c. names_undeclared c || uses_unknown (predicates_of p) c) (piece_of_assertion ls) ass)
 
 -- ---- commands
 
@@ -70,10 +70,10 @@ declared_by-among logicals (loop_invariant xs ps items) = λ j x. sym (is_among-
 
 pub commands_unknown : (p : PureParts) (known : List ℕ → Bool) (logicals : List (List ℕ)) → known ≡ is_among logicals → (cs : List PureNumberedCommand)
     → list_any (λ c. stands_in_command (is_undeclared (declared_by known c.command)) (is_unknown_use p) c) cs
-    ≡ list_any (λ c. names_undeclared c || uses_unknown p c) (map (λ c. piece_of_command logicals c.command) cs)
+    ≡ list_any (λ c. names_undeclared c || uses_unknown (predicates_of p) c) (map (λ c. piece_of_command logicals c.command) cs)
 commands_unknown p known logicals same cs =
     (λ j. list_any (λ c. unknown_piece p (declared_by known c.command) (piece_of_command logicals c.command) (ap (λ f. declared_by f c.command) same ∙ declared_by-among logicals c.command) j) cs)
-    ∙ sym (list_any-map (λ c. names_undeclared c || uses_unknown p c) (λ c. piece_of_command logicals c.command) cs)
+    ∙ sym (list_any-map (λ c. names_undeclared c || uses_unknown (predicates_of p) c) (λ c. piece_of_command logicals c.command) cs)
 
 -- ---- sets of declared names
 

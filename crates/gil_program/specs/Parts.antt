@@ -7,4 +7,5 @@ use Rattle.gil_syntax.specs.Pure.{PureParts}
 use Rattle.gil_syntax.specs.View.{proc_view, spec_view, pred_def_view}
 
 abbrev pub parts_seen : List (List ℕ × Proc) → List Spec → List PredDef → PureParts
-parts_seen procs specs preds = record { procs = map (λ e. proc_view e.1) procs; specs = map spec_view specs; preds = map pred_def_view preds }
+parts_seen procs specs preds =
+    record { procs = map (λ e. proc_view e.1) procs; specs = map spec_view specs; preds = map pred_def_view preds }

@@ -24,7 +24,7 @@ impl<'a> Sought for Misuse<'a> {
 
     ghost is_node = { λ s. no_node };
 
-    ghost is_use = { λ s. valid.misuses (parts_of s.program.now) };
+    ghost is_use = { λ s. valid.misuses (valid.predicates_of (parts_of s.program.now)) };
 
     fn tests_node(&self, _expression: &Expr) -> bool {
         false

@@ -90,7 +90,10 @@ impl<'a> PartsByName<'a> {
     /// The arity of the first predicate of a name, the core predicates before the program's own.
     pub(crate) fn arity(&self, name: &str) -> Option<Arity>
         requires { IsIndexed self.now }
-        ensures { option_map (λ a. (a.ins, a.outs)) result ≡ option_map shape (find_signature (predicates_of (parts_of self.now)) name.now) }
+        ensures { option_map (λ a. (
+          a.ins,
+          a.outs,
+        )) result ≡ option_map shape (find_signature (predicates_of (parts_of self.now)) name.now) }
     {
         if let Some(arity) = core_arity(name) {
             return Some(arity);

@@ -29,7 +29,8 @@ fn proc_has_fault(
     requires indexed { IsIndexed program.now }
     requires distinct { kind ≡ InvalidKind.Arity → AreDistinct (parts_of program.now) }
     requires within { place < length (parts_of program.now).procs }
-    ensures { IfOk result (λ b. b ≡ valid.has_fault kind (parts_of program.now) (before_proc (parts_of program.now) place) (a_proc (proc_view proc.now))) }
+    ensures { IfOk result
+        (λ b. b ≡ valid.has_fault kind (parts_of program.now) (before_proc (parts_of program.now) place) (a_proc (proc_view proc.now))) }
 {
     match kind {
         InvalidKind::Duplicate => proc_is_duplicate(alloc, program, place, proc),
@@ -53,7 +54,8 @@ fn spec_has_fault(
     requires indexed { IsIndexed program.now }
     requires distinct { kind ≡ InvalidKind.Arity → AreDistinct (parts_of program.now) }
     requires within { place < length (parts_of program.now).specs }
-    ensures { IfOk result (λ b. b ≡ valid.has_fault kind (parts_of program.now) (before_spec (parts_of program.now) place) (a_spec (spec_view spec.now))) }
+    ensures { IfOk result
+        (λ b. b ≡ valid.has_fault kind (parts_of program.now) (before_spec (parts_of program.now) place) (a_spec (spec_view spec.now))) }
 {
     match kind {
         InvalidKind::Duplicate => spec_is_duplicate(alloc, program, place, spec),
@@ -75,7 +77,9 @@ fn pred_has_fault(
     requires indexed { IsIndexed program.now }
     requires distinct { kind ≡ InvalidKind.Arity → AreDistinct (parts_of program.now) }
     requires within { place < length (parts_of program.now).preds }
-    ensures { IfOk result (λ b. b ≡ valid.has_fault kind (parts_of program.now) (before_pred (parts_of program.now) place) (a_pred (pred_def_view pred.now))) }
+    ensures { IfOk result
+        (λ b. b ≡ valid.has_fault kind (parts_of program.now) (before_pred (parts_of program.now) place)
+        (a_pred (pred_def_view pred.now))) }
 {
     match kind {
         InvalidKind::Duplicate => pred_is_duplicate(alloc, program, place, pred),
@@ -96,7 +100,8 @@ fn has_fault(
     requires indexed { IsIndexed program.now }
     requires distinct { kind ≡ InvalidKind.Arity → AreDistinct (parts_of program.now) }
     requires within { IsWithin (parts_of program.now) item }
-    ensures { IfOk result (λ b. b ≡ valid.has_fault kind (parts_of program.now) (items_before (parts_of program.now) item.entry) (item_of item.entry)) }
+    ensures { IfOk result
+        (λ b. b ≡ valid.has_fault kind (parts_of program.now) (items_before (parts_of program.now) item.entry) (item_of item.entry)) }
 {
     match item {
         ItemRef::Proc(place, proc) => proc_has_fault(alloc, program, kind, place, proc),

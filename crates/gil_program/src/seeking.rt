@@ -62,7 +62,8 @@ pub(crate) fn in_expressions<S: Sought>(sought: &S, expressions: &Exprs) -> bool
 /// Whether what is sought stands in a use of a predicate, or is that use.
 fn in_use<S: Sought>(sought: &S, used: &PredUse) -> bool
     requires { S.is_ready sought.now }
-    ensures { result ≡ stands_among (S.is_node sought.now) (S.is_use sought.now) (exprs_of_use (pred_use_view used.now)) (pred_use_view used.now ∷ []) }
+    ensures { result ≡ stands_among (S.is_node sought.now) (S.is_use sought.now) (exprs_of_use (pred_use_view used.now))
+        (pred_use_view used.now ∷ []) }
 {
     sought.tests_use(used)
         || in_expressions(sought, &used.ins)
@@ -72,7 +73,8 @@ fn in_use<S: Sought>(sought: &S, used: &PredUse) -> bool
 /// Whether it stands in an item.
 fn in_item<S: Sought>(sought: &S, item: &Item) -> bool
     requires { S.is_ready sought.now }
-    ensures { result ≡ stands_among (S.is_node sought.now) (S.is_use sought.now) (exprs_of_item (item_view item.now)) (uses_of_item (item_view item.now)) }
+    ensures { result ≡ stands_among (S.is_node sought.now) (S.is_use sought.now) (exprs_of_item (item_view item.now))
+        (uses_of_item (item_view item.now)) }
 {
     match item {
         Item::Pure(expression) => in_expression(sought, expression),
@@ -96,7 +98,8 @@ pub(crate) fn in_assertion<S: Sought>(sought: &S, items: &Assertion) -> bool
 /// Whether it stands in a command.
 pub(crate) fn in_command<S: Sought>(sought: &S, command: &Command) -> bool
     requires { S.is_ready sought.now }
-    ensures { result ≡ stands_among (S.is_node sought.now) (S.is_use sought.now) (exprs_of (command_view command.now)) (uses_of (command_view command.now)) }
+    ensures { result ≡ stands_among (S.is_node sought.now) (S.is_use sought.now) (exprs_of (command_view command.now))
+        (uses_of (command_view command.now)) }
 {
     match command {
         Command::Assign(_, value) => in_expression(sought, value),

@@ -28,7 +28,8 @@ pub fn is_simple(prog: &Prog) -> bool
 
 /// Whether the procedure at a place has commands of simple form alone.
 fn is_simple_at(prog: &Prog, place: usize) -> bool
-    ensures { result ≡ option_map_or (λ q. list_all (λ c. simple.is_simple_command c.command) q.body) (slice_get (prog_view prog.now).procs place) true }
+    ensures { result ≡ option_map_or (λ q. list_all (λ c. simple.is_simple_command c.command) q.body)
+        (slice_get (prog_view prog.now).procs place) true }
 {
     match prog.proc_at(place) {
         Some(proc) => has_simple_commands(&proc.body),

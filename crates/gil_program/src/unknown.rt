@@ -70,7 +70,9 @@ fn command_has_unknown_name(
     numbered: &NumberedCommand,
 ) -> Result<bool, AllocError>
     requires { IsIndexed program.now }
-    ensures { IfOk result (λ b. b ≡ stands_in_command (is_undeclared (declared_by (has_name declared.now) (command_view numbered.now.command))) (is_unknown_use (parts_of program.now)) (numbered_command_view numbered.now)) }
+    ensures { IfOk result
+        (λ b. b ≡ stands_in_command (is_undeclared (declared_by (has_name declared.now) (command_view numbered.now.command)))
+        (is_unknown_use (parts_of program.now)) (numbered_command_view numbered.now)) }
 {
     let command = &numbered.command;
     let none = HashSet::new(alloc);

@@ -1,6 +1,6 @@
 -- The value of an expression where its names have values: left to right, the value or the first fault.
 -- From Gillian, Part I (PLDI 2020); the operator table is that of gil_values.
-use Rattle.std.specs.Prelude.{ℕ, List, [], ◌∷◌, if◌then◌else◌, Option, Some, None, Result, Ok, Err}
+use Rattle.std.specs.Prelude.{◌≡◌, ℕ, List, [], ◌∷◌, slice_get, if◌then◌else◌, Option, Some, None, Result, Ok, Err}
 use Rattle.std.specs.Str.{bytes_eq}
 use Rattle.gil_values.specs.Pure.{PureValue, list, from_list as list_elements}
 use Rattle.gil_values.specs.Operators.{Fault, unset_variable, Outcome, unary, binary}
@@ -22,6 +22,10 @@ bind x v s = record { name = x; value = v } ∷ s
 abbrev pub value_of : Store → List ℕ → Option PureValue
 value_of [] x = None
 value_of (b ∷ s) x = if bytes_eq b.name x then Some b.value else value_of s x
+
+-- The store gives each of these names its value.
+abbrev pub Agrees : Store → List (List ℕ) → List PureValue → Type 0
+Agrees s xs vs = (i : ℕ) (x : List ℕ) (v : PureValue) → slice_get xs i ≡ Some x → slice_get vs i ≡ Some v → value_of s x ≡ Some v
 
 abbrev pub set_or_fault : Option PureValue → Outcome
 set_or_fault (Some v) = Ok v

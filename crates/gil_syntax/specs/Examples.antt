@@ -63,7 +63,12 @@ ends_open = main_only (assign (codes "x") (number 0) ∷ [])
 
 -- proc main() { return 0; } spec F(PARAMETERS) [] {ITEMS} {emp}
 abbrev pub with_spec : List ℕ → List Param → List PureItem → PureParts
-with_spec f params items = record { procs = returns_zero ∷ []; specs = record { name = f; params = params; logicals = []; pre = items; posts = [] ∷ [] } ∷ []; preds = [] }
+with_spec f params items =
+    record {
+      procs = returns_zero ∷ [];
+      specs = record { name = f; params = params; logicals = []; pre = items; posts = [] ∷ [] } ∷ [];
+      preds = [];
+    }
 
 abbrev pub any_x : Param
 any_x = record { name = codes "x"; sort = Any }
@@ -77,7 +82,12 @@ any_d = record { name = codes "#d"; sort = Any }
 
 -- proc main() { return 0; } spec main() [LOGICALS] {emp} {ITEMS}
 abbrev pub with_post : List Param → List PureItem → PureParts
-with_post logicals items = record { procs = returns_zero ∷ []; specs = record { name = codes "main"; params = []; logicals = logicals; pre = []; posts = items ∷ [] } ∷ []; preds = [] }
+with_post logicals items =
+    record {
+      procs = returns_zero ∷ [];
+      specs = record { name = codes "main"; params = []; logicals = logicals; pre = []; posts = items ∷ [] } ∷ [];
+      preds = [];
+    }
 
 -- proc main(x, y) { return 0; } spec main(PARAMETERS) [] {emp} {emp}
 abbrev pub of_two : List Param → PureParts
@@ -89,7 +99,12 @@ of_two params = record {
 
 -- proc main() { return 0; } pred F(INS; OUTS) [] {ITEMS}
 abbrev pub with_pred : List ℕ → List Param → List Param → List PureItem → PureParts
-with_pred f ins outs items = record { procs = returns_zero ∷ []; specs = []; preds = record { name = f; ins = ins; outs = outs; logicals = []; cases = items ∷ [] } ∷ [] }
+with_pred f ins outs items =
+    record {
+      procs = returns_zero ∷ [];
+      specs = [];
+      preds = record { name = f; ins = ins; outs = outs; logicals = []; cases = items ∷ [] } ∷ [];
+    }
 
 -- proc main() { COMMAND; vanish; }
 abbrev pub main_does : PureCommand → PureParts

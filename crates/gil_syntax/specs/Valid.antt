@@ -85,8 +85,12 @@ abbrev pub is_core_name : ProgramItem → Bool
 is_core_name (a_pred d) = is_named core_predicates d.name
 is_core_name _ = false
 
+-- some list of names has a name twice. One name may stand in two lists: it then has one value.
+abbrev pub some_has_twice : List (List (List ℕ)) → Bool
+some_has_twice lists = list_any has_twice lists
+
 abbrev pub is_duplicate : List ProgramItem → ProgramItem → Bool
-is_duplicate before item = list_any (same_name item) before || is_core_name item || list_any has_twice (name_lists item)
+is_duplicate before item = list_any (same_name item) before || is_core_name item || some_has_twice (name_lists item)
 
 -- ---- labels and last commands
 
@@ -122,7 +126,11 @@ pub record Piece : Type 0 where
   pub used : List PurePredUse
 
 abbrev pub piece_of_assertion : List Param → List PureItem → Piece
-piece_of_assertion logicals items = record { declared = param_names logicals; exprs = flat_map exprs_of_item items; used = flat_map uses_of_item items }
+piece_of_assertion logicals items = record {
+  declared = param_names logicals;
+  exprs = flat_map exprs_of_item items;
+  used = flat_map uses_of_item items;
+}
 
 abbrev pub logicals_of_spec : Option PureSpec → List (List ℕ)
 logicals_of_spec (Some s) = param_names s.logicals
@@ -148,21 +156,30 @@ pieces_of p (a_pred d) = map (piece_of_assertion d.logicals) d.cases
 abbrev pub names_undeclared : Piece → Bool
 names_undeclared c = list_any (λ e. list_any (λ x. not (is_among c.declared x)) (logicals_of e)) c.exprs
 
-abbrev pub uses_unknown : PureParts → Piece → Bool
-uses_unknown p c = list_any (λ u. not (is_named (predicates_of p) u.pred)) c.used
+-- a predicate that none of these is
+abbrev pub uses_unknown : List Signature → Piece → Bool
+uses_unknown gs c = list_any (λ u. not (is_named gs u.pred)) c.used
+
+-- some piece names what stands for nothing, where these are the predicates
+abbrev pub some_names_nothing : List Signature → List Piece → Bool
+some_names_nothing gs pieces = list_any (λ c. names_undeclared c || uses_unknown gs c) pieces
 
 abbrev pub is_of_no_procedure : PureParts → ProgramItem → Bool
 is_of_no_procedure p (a_spec s) = not (is_among (map (λ q. q.name) p.procs) s.name)
 is_of_no_procedure p _ = false
 
 abbrev pub has_unknown_name : PureParts → ProgramItem → Bool
-has_unknown_name p item = is_of_no_procedure p item || list_any (λ c. names_undeclared c || uses_unknown p c) (pieces_of p item)
+has_unknown_name p item = is_of_no_procedure p item || some_names_nothing (predicates_of p) (pieces_of p item)
 
 abbrev pub fits : PurePredUse → Signature → Bool
 fits u g = bytes_eq g.name u.pred && g.ins == length u.ins && g.outs == length u.outs
 
-abbrev pub misuses : PureParts → PurePredUse → Bool
-misuses p u = is_named (predicates_of p) u.pred && not (list_any (fits u) (predicates_of p))
+-- one of these predicates with other numbers of ins and outs
+abbrev pub misuses : List Signature → PurePredUse → Bool
+misuses gs u = is_named gs u.pred && not (list_any (fits u) gs)
+
+abbrev pub some_misuses : List Signature → List Piece → Bool
+some_misuses gs pieces = list_any (λ c. list_any (misuses gs) c.used) pieces
 
 abbrev pub differs_from : Option PureProc → PureSpec → Bool
 differs_from (Some q) s = not (pointwise bytes_eq q.params (param_names s.params))
@@ -173,7 +190,7 @@ has_other_params p (a_spec s) = differs_from (find_proc p.procs s.name) s
 has_other_params p _ = false
 
 abbrev pub has_wrong_arity : PureParts → ProgramItem → Bool
-has_wrong_arity p item = has_other_params p item || list_any (λ c. list_any (misuses p) c.used) (pieces_of p item)
+has_wrong_arity p item = has_other_params p item || some_misuses (predicates_of p) (pieces_of p item)
 
 -- ---- limits
 
@@ -195,13 +212,24 @@ abbrev pub has_many_variables : PureCommand → Bool
 has_many_variables (loop_invariant xs ps items) = nat_lt most_params (length ps)
 has_many_variables _ = false
 
+abbrev pub has_many_commands : ProgramItem → Bool
+has_many_commands (a_proc q) = nat_lt most_items (length q.body)
+has_many_commands _ = false
+
+-- more parameters or more variables than there may be
+abbrev pub has_many_names : ProgramItem → Bool
+has_many_names (a_proc q) = nat_lt most_params (length q.params) || list_any (λ c. has_many_variables c.command) q.body
+has_many_names (a_spec s) = nat_lt most_params (length s.logicals)
+has_many_names (a_pred d) = nat_lt most_params (length d.ins + length d.outs) || nat_lt most_params (length d.logicals)
+
 abbrev pub is_large : ProgramItem → Bool
-is_large (a_proc q) = nat_lt most_items (length q.body) || nat_lt most_params (length q.params) || list_any (λ c. has_many_variables c.command) q.body
-is_large (a_spec s) = nat_lt most_params (length s.logicals)
-is_large (a_pred d) = nat_lt most_params (length d.ins + length d.outs) || nat_lt most_params (length d.logicals)
+is_large item = has_many_commands item || has_many_names item
+
+abbrev pub some_has_wide_literal : List Piece → Bool
+some_has_wide_literal pieces = list_any (λ c. list_any (λ e. list_any is_wide (literals_of e)) c.exprs) pieces
 
 abbrev pub has_wide_literal : PureParts → ProgramItem → Bool
-has_wide_literal p item = list_any (λ c. list_any (λ e. list_any is_wide (literals_of e)) c.exprs) (pieces_of p item)
+has_wide_literal p item = some_has_wide_literal (pieces_of p item)
 
 -- a list of more items than the limit is a fault at the item that is one too many
 abbrev pub is_too_many : PureParts → List ProgramItem → ProgramItem → Bool

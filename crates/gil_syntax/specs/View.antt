@@ -64,7 +64,8 @@ abbrev pub proc_view : Proc → PureProc
 proc_view q = record { name = q.name; params = q.params; body = map numbered_command_view q.body }
 
 abbrev pub spec_view : Spec → PureSpec
-spec_view s = record { name = s.name; params = s.params; logicals = s.logicals; pre = assertion_view s.pre; posts = map assertion_view s.posts }
+spec_view s =
+    record { name = s.name; params = s.params; logicals = s.logicals; pre = assertion_view s.pre; posts = map assertion_view s.posts }
 
 abbrev pub pred_def_view : PredDef → PurePredDef
 pred_def_view d = record { name = d.name; ins = d.ins; outs = d.outs; logicals = d.logicals; cases = map assertion_view d.cases }

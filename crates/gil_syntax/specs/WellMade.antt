@@ -69,7 +69,8 @@ abbrev pub is_well_made_spec : PureSpec → Bool
 is_well_made_spec s = are_program_names s.params && are_logical s.logicals && list_all is_well_made_assertion (s.pre ∷ s.posts)
 
 abbrev pub is_well_made_pred : PurePredDef → Bool
-is_well_made_pred d = are_program_names d.ins && are_program_names d.outs && are_logical d.logicals && list_all is_well_made_assertion d.cases
+is_well_made_pred d =
+    are_program_names d.ins && are_program_names d.outs && are_logical d.logicals && list_all is_well_made_assertion d.cases
 
 abbrev pub is_well_made : PureParts → Bool
 is_well_made p = list_all is_well_made_proc p.procs && list_all is_well_made_spec p.specs && list_all is_well_made_pred p.preds

@@ -88,6 +88,7 @@ pub fn names_stand_once()
     ensures in_and_out { items_at_fault (with_pred (codes "p") (any_x ∷ []) (any_x ∷ []) []) Duplicate ≡ [] }
     ensures logicals { items_at_fault (with_post (any_d ∷ any_d ∷ []) []) Duplicate ≡ 1 ∷ [] }
     ensures variables { items_at_fault (main_does (loop_invariant (codes "x" ∷ codes "x" ∷ []) [] [])) Duplicate ≡ 0 ∷ [] }
+    ensures of_the_specification { items_at_fault (with_variable (loop_invariant [] (any_d ∷ []) [])) Duplicate ≡ [] }
     ensures declared { items_at_fault (main_does (loop_invariant [] (any_d ∷ any_d ∷ []) [])) Duplicate ≡ 0 ∷ [] }
 {}
 

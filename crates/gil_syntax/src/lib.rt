@@ -18,6 +18,9 @@ pub use examples::{
     the_first_fault_counts, the_newest_value_counts,
 };
 pub use expressions::{Expr, Exprs};
-pub use laws::{evaluation_invents_no_symbol, names_decide, one_fault_is_named, valid_or_named};
+pub use laws::{
+    evaluation_invents_no_symbol, names_decide, one_fault_is_named, one_name_has_one_value,
+    valid_or_named,
+};
 pub use parts::{Parts, PredDef, PredDefs, Proc, Procs, Spec, Specs};
 pub use validity::InvalidKind;

@@ -12,7 +12,8 @@ pub struct Proc {
     pub body: Body,
 }
 
-/// A specification of the procedure of that name: a precondition and one or more postconditions.
+/// A specification of the procedure of that name: a precondition and the postconditions, of which a return meets one. A
+/// text has at least one; a specification that is cut has none.
 #[derive(Debug, Drop)]
 pub struct Spec {
     pub name: Text,

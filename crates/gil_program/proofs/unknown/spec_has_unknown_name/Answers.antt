@@ -1,7 +1,7 @@
 use Rattle.std.proofs.Common.{◌≡◌, ℕ, List, true, false, ◌||◌, ◌∷◌, not, map, is_some, sym, ap, ◌∙◌}
 use Rattle.std.specs.List.{list_any}
 use Rattle.gil_syntax.specs.Programs.{find_proc}
-use Rattle.gil_syntax.specs.Valid.{is_among, piece_of_assertion, names_undeclared, uses_unknown}
+use Rattle.gil_syntax.specs.Valid.{is_among, piece_of_assertion, names_undeclared, uses_unknown, predicates_of}
 use Rattle.gil_syntax.specs.View.{proc_view, spec_view}
 use Rattle.gil_program.specs.ByName.{parts_of}
 use Rattle.gil_program.specs.Found.{stands_in_assertion}
@@ -18,7 +18,7 @@ returns-then-is_none c =
     let sp = spec_view c.args.spec.now in
     let found : is_some (find_proc p.procs sp.name) ≡ false =
     ap (λ x. is_some (find_proc p.procs x)) (sym c.as_str.ensures.characters) ∙ ap is_some (sym c.proc.ensures) ∙ is_some-map (λ q. proc_view q.now) c.proc.result ∙ c.if-is_none.ensures in
-    ap (λ b. not b || list_any (λ d. names_undeclared d || uses_unknown p d) (map (piece_of_assertion sp.logicals) (sp.pre ∷ sp.posts))) (sym (is_among-procs p.procs sp.name ∙ found))
+    ap (λ b. not b || list_any (λ d. names_undeclared d || uses_unknown (predicates_of p) d) (map (piece_of_assertion sp.logicals) (sp.pre ∷ sp.posts))) (sym (is_among-procs p.procs sp.name ∙ found))
 
 pub returns : goal.returns
 returns c =
@@ -35,4 +35,4 @@ returns c =
       | else-in_assertion w ↦ w.result-is ∙ w.in_assertions.ensures ∙ ap (λ b. b || list_any test sp.posts) (sym w.if-in_assertion.false ∙ first)
     ] in
     either ∙ assertions_unknown p known c.args.spec.now.logicals declared (sp.pre ∷ sp.posts)
-    ∙ ap (λ b. not b || list_any (λ d. names_undeclared d || uses_unknown p d) (map (piece_of_assertion sp.logicals) (sp.pre ∷ sp.posts))) (sym (is_among-procs p.procs sp.name ∙ found))
+    ∙ ap (λ b. not b || list_any (λ d. names_undeclared d || uses_unknown (predicates_of p) d) (map (piece_of_assertion sp.logicals) (sp.pre ∷ sp.posts))) (sym (is_among-procs p.procs sp.name ∙ found))
