@@ -39,12 +39,15 @@ IsNew fresh h = (n : ℕ) → fresh ≡ Some n → ¬ OccursInHeap n h
 
 -- ---- what is read
 
-first_symbol : (a b : PureValue) (rest : PureValues) (l : ℕ) (i : ℤ) → ◌≡◌ {A = Result (ℕ × ℤ) Failure} (and_then (symbol_of a) (λ m. and_then (number_of b) (λ j. Ok (m, j)))) (Ok (l, i)) → OccursIn l (list (value_and a (value_and b rest)))
+first_symbol : (a b : PureValue) (rest : PureValues) (l : ℕ) (i : ℤ)
+    → ◌≡◌ {A = Result (ℕ × ℤ) Failure} (and_then (symbol_of a) (λ m. and_then (number_of b) (λ j. Ok (m, j)))) (Ok (l, i))
+    → OccursIn l (list (value_and a (value_and b rest)))
 first_symbol a b rest l i is =
     let m = then_ok (symbol_of a) _ (l, i) is in
     let j = then_ok (number_of b) _ (l, i) m.2 in
     let same : m.0 ≡ l = ap (λ (r : ℕ × ℤ). r.0) (same_ok (m.0, j.0) (l, i) j.2) in
-    Contains-append_left (symbols a) (symbols_of_elements (value_and b rest)) l (subst (OccursIn l) (sym (symbol_is a l (m.1 ∙ ap Ok same))) (symbol_itself l))
+    Contains-append_left (symbols a) (symbols_of_elements (value_and b rest)) l (subst (OccursIn l) (sym (symbol_is a l (m.1
+    ∙ ap Ok same))) (symbol_itself l))
 
 address_symbol : (v : PureValue) (l : ℕ) (i : ℤ) → address_of v ≡ Ok (l, i) → OccursIn l v
 address_symbol (list (value_and a (value_and b no_values))) l i is = first_symbol a b no_values l i is
@@ -58,7 +61,8 @@ address_occurs args l i is =
     let a = then_ok (one_of args) address_of (l, i) is in
     one_symbols args a.0 a.1 l (address_symbol a.0 l i a.2)
 
-address_and_value_occur : (args : List PureValue) (l : ℕ) (i : ℤ) (v : PureValue) → address_and_value_in args ≡ Ok (l, i, v) → OccursAmong l args × ((n : ℕ) → OccursIn n v → OccursAmong n args)
+address_and_value_occur : (args : List PureValue) (l : ℕ) (i : ℤ) (v : PureValue) → address_and_value_in args ≡ Ok (l, i, v)
+    → OccursAmong l args × ((n : ℕ) → OccursIn n v → OccursAmong n args)
 address_and_value_occur args l i v is =
     let av = then_ok (two_of args) _ (l, i, v) is in
     let p = then_ok (address_of av.0.0) _ (l, i, v) av.2 in
@@ -83,7 +87,8 @@ if_cases P true r s yes_case no_case = yes_case refl
 if_cases P false r s yes_case no_case = no_case refl
 
 -- by the bound of a location: an offset outside of it, or what follows
-bounded_cases : (P : ActionResult → Type 0) (h : Heap) (l : ℕ) (i : ℤ) (r : ActionResult) → ((d : PureValue) → Holds h (key l Bound) d → is_outside d i ≡ true → P (fails Failure.Bound h)) → P r → P (bounded h l i r)
+bounded_cases : (P : ActionResult → Type 0) (h : Heap) (l : ℕ) (i : ℤ) (r : ActionResult)
+    → ((d : PureValue) → Holds h (key l Bound) d → is_outside d i ≡ true → P (fails Failure.Bound h)) → P r → P (bounded h l i r)
 bounded_cases P h l i r outside otherwise = at_cases P h (key l Bound) (λ n. if is_outside n i then fails Failure.Bound h else r) r
     (λ d held. if_cases P (is_outside d i) (fails Failure.Bound h) r (outside d held) (λ within. otherwise))
     (λ lacks. otherwise)
@@ -105,54 +110,80 @@ module _ (fresh : Option ℕ) (args : List PureValue) (h : Heap) (is : IsHeapOf 
     where
       by_symbol : (f : Option ℕ) → fresh ≡ f → Kept (allocated f n h)
       by_symbol None none = keeps_failed Failure.Action
-      by_symbol (Some l) some = subst (λ m. Kept (does (address l (pos 0)) (created (key l Bound) (integer m) (cell_keys l (count_of (integer n))) (integer (pos 0)) h))) (sym (size_is n size))
-          (keeps_creates l Bound (integer (pos (count_of (integer n)))) (cell_keys l (count_of (integer n))) (integer (pos 0)) (pos (count_of (integer n)), refl) (cells_fit l (count_of (integer n))) Block fresh args h (address l (pos 0)) refl (cells_own l (count_of (integer n)))
+      by_symbol (Some l) some =
+          subst (λ m. Kept
+          (does (address l (pos 0)) (created (key l Bound) (integer m) (cell_keys l (count_of (integer n))) (integer (pos 0)) h)))
+          (sym (size_is n size))
+          (keeps_creates l Bound (integer (pos (count_of (integer n)))) (cell_keys l (count_of (integer n))) (integer (pos 0)) (
+            pos (count_of (integer n)),
+            refl,
+          ) (cells_fit l (count_of (integer n))) Block fresh args h (address l (pos 0)) refl (cells_own l (count_of (integer n)))
           (new_location fresh l h some is_new) is (inl some)
           (λ m occurs. absurd (none_contained m occurs))
           (λ m occurs. absurd (none_contained m occurs))
           (λ m occurs. inl (some ∙ ap Some (address_alone l m (pos 0) occurs))))
 
   keeps_alloc : (n : ℤ) → IsNew fresh h → Kept (alloc_block fresh n h)
-  keeps_alloc n is_new = if_cases Kept (is_size n) (allocated fresh n h) (fails Failure.Size h) (keeps_allocated n is_new) (λ other. keeps_failed Failure.Size)
+  keeps_alloc n is_new =
+      if_cases Kept (is_size n) (allocated fresh n h) (fails Failure.Size h) (keeps_allocated n is_new) (λ other. keeps_failed Failure.Size)
 
   keeps_load : (l : ℕ) (i : ℤ) → OccursAmong l args → Kept (load l i h)
-  keeps_load l i occurs = at_cases Kept h (key l Gone) (λ _. fails Failure.Gone h) (bounded h l i (at h (key l (At i)) (λ v. does v h) (misses (key l (At i)) h)))
+  keeps_load l i occurs =
+      at_cases Kept h (key l Gone) (λ _. fails Failure.Gone h)
+      (bounded h l i (at h (key l (At i)) (λ v. does v h) (misses (key l (At i)) h)))
       (λ v gone. keeps_failed Failure.Gone)
-      (λ there. bounded_cases Kept h l i (at h (key l (At i)) (λ v. does v h) (misses (key l (At i)) h)) (λ d held outside. keeps_failed Failure.Bound)
+      (λ there. bounded_cases Kept h l i (at h (key l (At i)) (λ v. does v h) (misses (key l (At i)) h))
+      (λ d held outside. keeps_failed Failure.Bound)
       (at_cases Kept h (key l (At i)) (λ v. does v h) (misses (key l (At i)) h)
       (λ v held. keeps_tells Block fresh args h v is (allowed_held Block fresh args h (key l (At i)) v held))
       (λ lacks. keeps_misses Block fresh args h (key l (At i)) is (among_arguments l occurs) lacks refl)))
 
   keeps_store : (l : ℕ) (i : ℤ) (v : PureValue) → OccursAmong l args → ((n : ℕ) → OccursIn n v → OccursAmong n args) → Kept (store l i v h)
-  keeps_store l i v occurs of_value = at_cases Kept h (key l Gone) (λ _. fails Failure.Gone h) (bounded h l i (at h (key l (At i)) (λ _. does v (insert h (key l (At i)) v)) (misses (key l (At i)) h)))
+  keeps_store l i v occurs of_value =
+      at_cases Kept h (key l Gone) (λ _. fails Failure.Gone h)
+      (bounded h l i (at h (key l (At i)) (λ _. does v (insert h (key l (At i)) v)) (misses (key l (At i)) h)))
       (λ w gone. keeps_failed Failure.Gone)
-      (λ there. bounded_cases Kept h l i (at h (key l (At i)) (λ _. does v (insert h (key l (At i)) v)) (misses (key l (At i)) h)) (λ d held outside. keeps_failed Failure.Bound)
+      (λ there. bounded_cases Kept h l i (at h (key l (At i)) (λ _. does v (insert h (key l (At i)) v)) (misses (key l (At i)) h))
+      (λ d held outside. keeps_failed Failure.Bound)
       (at_cases Kept h (key l (At i)) (λ _. does v (insert h (key l (At i)) v)) (misses (key l (At i)) h)
       (λ w held. keeps_does Block fresh args h v (insert h (key l (At i)) v)
       (overwritten_heap Block h (key l (At i)) v tt (has_key h (key l (At i)) w held) is)
       (λ n in_value. among_arguments n (of_value n in_value))
       (allowed_in Block fresh args h (insert h (key l (At i)) v) (λ q u at_q. ⊎_elim
-      (λ put. inr (subst (λ (k : Key). IsAllowed fresh args h k.loc) (sym put.0) (among_arguments l occurs), λ n in_value. among_arguments n (of_value n (subst (OccursIn n) put.1 in_value))))
+      (λ put. inr (
+        subst (λ (k : Key). IsAllowed fresh args h k.loc) (sym put.0) (among_arguments l occurs),
+        λ n in_value. among_arguments n (of_value n (subst (OccursIn n) put.1 in_value)),
+      ))
       (λ kept. inl kept.1)
       (held_inserted h (key l (At i)) q v u at_q))))
       (λ lacks. keeps_misses Block fresh args h (key l (At i)) is (among_arguments l occurs) lacks refl)))
 
   keeps_free : (l : ℕ) (i : ℤ) → OccursAmong l args → Kept (free l i h)
-  keeps_free l i occurs = if_cases Kept (int_eq i (pos 0)) (at h (key l Gone) (λ _. fails Failure.Gone h) (at h (key l Bound) (λ n. dispose_whole l (cell_keys l (count_of n)) h) (misses (key l Bound) h))) (fails Failure.Free h)
-      (λ first. at_cases Kept h (key l Gone) (λ _. fails Failure.Gone h) (at h (key l Bound) (λ n. dispose_whole l (cell_keys l (count_of n)) h) (misses (key l Bound) h))
+  keeps_free l i occurs =
+      if_cases Kept (int_eq i (pos 0))
+      (at h (key l Gone) (λ _. fails Failure.Gone h)
+      (at h (key l Bound) (λ n. dispose_whole l (cell_keys l (count_of n)) h) (misses (key l Bound) h))) (fails Failure.Free h)
+      (λ first. at_cases Kept h (key l Gone) (λ _. fails Failure.Gone h)
+      (at h (key l Bound) (λ n. dispose_whole l (cell_keys l (count_of n)) h) (misses (key l Bound) h))
       (λ v gone. keeps_failed Failure.Gone)
       (λ there. at_cases Kept h (key l Bound) (λ n. dispose_whole l (cell_keys l (count_of n)) h) (misses (key l Bound) h)
-      (λ d held. keeps_disposes l (key l Bound) (cell_keys l (count_of d)) Block fresh args h d refl (cells_own l (count_of d)) is (among_arguments l occurs) (block_whole h l d is held))
+      (λ d held. keeps_disposes l (key l Bound) (cell_keys l (count_of d)) Block fresh args h d refl (cells_own l (count_of d)) is
+      (among_arguments l occurs) (block_whole h l d is held))
       (λ lacks. keeps_misses Block fresh args h (key l Bound) is (among_arguments l occurs) lacks refl)))
       (λ other. keeps_failed Failure.Free)
 
   pub keeps_act : (a : Option BlockAction) → IsNew fresh h → Kept (act_of a fresh args h)
   keeps_act None is_new = keeps_failed Failure.Action
-  keeps_act (Some Alloc) is_new = read_cases Kept (number_in args) (λ n. alloc_block fresh n h) h (λ n read. keeps_alloc n is_new) keeps_failed
-  keeps_act (Some Load) is_new = read_cases Kept (address_in args) (λ (l, i). load l i h) h (λ r read. keeps_load r.0 r.1 (address_occurs args r.0 r.1 read)) keeps_failed
+  keeps_act (Some Alloc) is_new =
+      read_cases Kept (number_in args) (λ n. alloc_block fresh n h) h (λ n read. keeps_alloc n is_new) keeps_failed
+  keeps_act (Some Load) is_new =
+      read_cases Kept (address_in args) (λ (l, i). load l i h) h (λ r read. keeps_load r.0 r.1 (address_occurs args r.0 r.1 read))
+      keeps_failed
   keeps_act (Some Store) is_new = read_cases Kept (address_and_value_in args) (λ (l, i, v). store l i v h) h
       (λ r read. let occur = address_and_value_occur args r.0 r.1 r.2 read in keeps_store r.0 r.1 r.2 occur.0 occur.1) keeps_failed
-  keeps_act (Some Free) is_new = read_cases Kept (address_in args) (λ (l, i). free l i h) h (λ r read. keeps_free r.0 r.1 (address_occurs args r.0 r.1 read)) keeps_failed
+  keeps_act (Some Free) is_new =
+      read_cases Kept (address_in args) (λ (l, i). free l i h) h (λ r read. keeps_free r.0 r.1 (address_occurs args r.0 r.1 read))
+      keeps_failed
 
 -- ---- only what is done changes the heap
 
@@ -160,7 +191,8 @@ module _ (fresh : Option ℕ) (args : List PureValue) (h : Heap) where
   abbrev Unchanged : ActionResult → Type 0
   Unchanged = ChangesWhenDone h
 
-  done_or_missed : (k : Key) (f : PureValue → ActionResult) (r : ActionResult) → ((v : PureValue) → Unchanged (f v)) → Unchanged r → Unchanged (at h k f r)
+  done_or_missed : (k : Key) (f : PureValue → ActionResult) (r : ActionResult) → ((v : PureValue) → Unchanged (f v)) → Unchanged r
+      → Unchanged (at h k f r)
   done_or_missed k f r there missing = at_cases Unchanged h k f r (λ v held. there v) (λ lacks. missing)
 
   changes_allocated : (f : Option ℕ) (n : ℤ) → Unchanged (allocated f n h)
@@ -168,22 +200,36 @@ module _ (fresh : Option ℕ) (args : List PureValue) (h : Heap) where
   changes_allocated None n undone = refl
 
   changes_load : (l : ℕ) (i : ℤ) → Unchanged (load l i h)
-  changes_load l i = done_or_missed (key l Gone) _ _ (λ v undone. refl) (bounded_cases Unchanged h l i _ (λ d held outside undone. refl) (done_or_missed (key l (At i)) _ _ (λ v undone. refl) (λ undone. refl)))
+  changes_load l i =
+      done_or_missed (key l Gone) _ _ (λ v undone. refl)
+      (bounded_cases Unchanged h l i _ (λ d held outside undone. refl)
+      (done_or_missed (key l (At i)) _ _ (λ v undone. refl) (λ undone. refl)))
 
   changes_store : (l : ℕ) (i : ℤ) (v : PureValue) → Unchanged (store l i v h)
-  changes_store l i v = done_or_missed (key l Gone) _ _ (λ w undone. refl) (bounded_cases Unchanged h l i _ (λ d held outside undone. refl) (done_or_missed (key l (At i)) _ _ (λ w undone. absurd (undone tt)) (λ undone. refl)))
+  changes_store l i v =
+      done_or_missed (key l Gone) _ _ (λ w undone. refl)
+      (bounded_cases Unchanged h l i _ (λ d held outside undone. refl)
+      (done_or_missed (key l (At i)) _ _ (λ w undone. absurd (undone tt)) (λ undone. refl)))
 
   changes_free : (l : ℕ) (i : ℤ) → Unchanged (free l i h)
   changes_free l i = if_cases Unchanged (int_eq i (pos 0)) _ (fails Failure.Free h)
-      (λ first. done_or_missed (key l Gone) _ _ (λ v undone. refl) (done_or_missed (key l Bound) _ _ (λ d. changes_disposes l (key l Bound) (cell_keys l (count_of d)) h) (λ undone. refl)))
+      (λ first. done_or_missed (key l Gone) _ _ (λ v undone. refl)
+      (done_or_missed (key l Bound) _ _ (λ d. changes_disposes l (key l Bound) (cell_keys l (count_of d)) h) (λ undone. refl)))
       (λ other undone. refl)
 
   pub changes_act : (a : Option BlockAction) → Unchanged (act_of a fresh args h)
   changes_act None = λ undone. refl
-  changes_act (Some Alloc) = read_cases Unchanged (number_in args) (λ n. alloc_block fresh n h) h (λ n read. if_cases Unchanged (is_size n) (allocated fresh n h) (fails Failure.Size h) (λ size. changes_allocated fresh n) (λ other undone. refl)) (λ e undone. refl)
-  changes_act (Some Load) = read_cases Unchanged (address_in args) (λ (l, i). load l i h) h (λ r read. changes_load r.0 r.1) (λ e undone. refl)
-  changes_act (Some Store) = read_cases Unchanged (address_and_value_in args) (λ (l, i, v). store l i v h) h (λ r read. changes_store r.0 r.1 r.2) (λ e undone. refl)
-  changes_act (Some Free) = read_cases Unchanged (address_in args) (λ (l, i). free l i h) h (λ r read. changes_free r.0 r.1) (λ e undone. refl)
+  changes_act (Some Alloc) =
+      read_cases Unchanged (number_in args) (λ n. alloc_block fresh n h) h
+      (λ n read. if_cases Unchanged (is_size n) (allocated fresh n h) (fails Failure.Size h) (λ size. changes_allocated fresh n)
+      (λ other undone. refl)) (λ e undone. refl)
+  changes_act (Some Load) =
+      read_cases Unchanged (address_in args) (λ (l, i). load l i h) h (λ r read. changes_load r.0 r.1) (λ e undone. refl)
+  changes_act (Some Store) =
+      read_cases Unchanged (address_and_value_in args) (λ (l, i, v). store l i v h) h (λ r read. changes_store r.0 r.1 r.2)
+      (λ e undone. refl)
+  changes_act (Some Free) =
+      read_cases Unchanged (address_in args) (λ (l, i). free l i h) h (λ r read. changes_free r.0 r.1) (λ e undone. refl)
 
 -- ---- locality
 
@@ -197,10 +243,17 @@ module _ (h rest : Heap) (compatible : IsCompatible h rest) (is : IsHeapOf Block
   same_allocated : (f : Option ℕ) (n : ℤ) → IsNew f whole → is_size n ≡ true → Same (allocated f n h) (allocated f n whole)
   same_allocated None n is_new size = same_fails Failure.Action h rest compatible
   same_allocated (Some l) n is_new size =
-      subst (λ m. Same (does (address l (pos 0)) (created (key l Bound) (integer m) (cell_keys l (count_of (integer n))) (integer (pos 0)) h)) (does (address l (pos 0)) (created (key l Bound) (integer m) (cell_keys l (count_of (integer n))) (integer (pos 0)) whole))) (sym (size_is n size))
-      (same_creates l Bound (integer (pos (count_of (integer n)))) (cell_keys l (count_of (integer n))) (integer (pos 0)) (pos (count_of (integer n)), refl) (cells_fit l (count_of (integer n))) (address l (pos 0)) h rest compatible (new_location (Some l) l whole refl is_new))
+      subst (λ m. Same
+      (does (address l (pos 0)) (created (key l Bound) (integer m) (cell_keys l (count_of (integer n))) (integer (pos 0)) h))
+      (does (address l (pos 0))
+      (created (key l Bound) (integer m) (cell_keys l (count_of (integer n))) (integer (pos 0)) whole))) (sym (size_is n size))
+      (same_creates l Bound (integer (pos (count_of (integer n)))) (cell_keys l (count_of (integer n))) (integer (pos 0)) (
+        pos (count_of (integer n)),
+        refl,
+      ) (cells_fit l (count_of (integer n))) (address l (pos 0)) h rest compatible (new_location (Some l) l whole refl is_new))
 
-  both_if : (b : Bool) (r s t u : ActionResult) → (b ≡ true → Same r t) → (b ≡ false → Same s u) → Same (if b then r else s) (if b then t else u)
+  both_if : (b : Bool) (r s t u : ActionResult) → (b ≡ true → Same r t) → (b ≡ false → Same s u)
+      → Same (if b then r else s) (if b then t else u)
   both_if true r s t u first second = first refl
   both_if false r s t u first second = second refl
 
@@ -242,23 +295,34 @@ module _ (h rest : Heap) (compatible : IsCompatible h rest) (is : IsHeapOf Block
         (λ v no there. same_misses (key l (At i)) h rest (g v))
 
     same_bounded : Same (bounded h l i small_cell) (bounded whole l i large_cell)
-    same_bounded = at_both Same h rest (key l Bound) (λ n. if is_outside n i then fails Failure.Bound h else small_cell) small_cell (λ n. if is_outside n i then fails Failure.Bound whole else large_cell) large_cell
-        (λ d held. both_if (is_outside d i) (fails Failure.Bound h) small_cell (fails Failure.Bound whole) large_cell (λ outside. same_fails Failure.Bound h rest compatible) (λ within. same_cell))
+    same_bounded =
+        at_both Same h rest (key l Bound) (λ n. if is_outside n i then fails Failure.Bound h else small_cell) small_cell
+        (λ n. if is_outside n i then fails Failure.Bound whole else large_cell) large_cell
+        (λ d held. both_if (is_outside d i) (fails Failure.Bound h) small_cell (fails Failure.Bound whole) large_cell
+        (λ outside. same_fails Failure.Bound h rest compatible) (λ within. same_cell))
         (λ no no_there. same_cell)
-        (λ d no bound. at_cases (λ r. Same r (if is_outside d i then fails Failure.Bound whole else large_cell)) h (key l (At i)) f (misses (key l (At i)) h)
-        (λ v held. subst (λ b. Same (f v) (if b then fails Failure.Bound whole else large_cell)) (sym (not_outside l i d v bound held)) (subst (λ o. Same (f v) (found_or o g (misses (key l (At i)) whole))) (sym (held_in_union h rest compatible (key l (At i)) v held)) (found v held)))
+        (λ d no bound. at_cases (λ r. Same r (if is_outside d i then fails Failure.Bound whole else large_cell)) h (key l (At i))
+        f (misses (key l (At i)) h)
+        (λ v held. subst (λ b. Same (f v) (if b then fails Failure.Bound whole else large_cell))
+        (sym (not_outside l i d v bound held))
+        (subst (λ o. Same (f v) (found_or o g (misses (key l (At i)) whole)))
+        (sym (held_in_union h rest compatible (key l (At i)) v held)) (found v held)))
         (λ lacks. same_misses (key l (At i)) h rest (if is_outside d i then fails Failure.Bound whole else large_cell)))
 
     -- where the rest has the key of a location that is gone
     same_bounded_gone : (large : ActionResult) → HasKey rest (key l Gone) → Same (bounded h l i small_cell) large
-    same_bounded_gone large gone = at_cases (λ r. Same r large) h (key l Bound) (λ n. if is_outside n i then fails Failure.Bound h else small_cell) small_cell
+    same_bounded_gone large gone =
+        at_cases (λ r. Same r large) h (key l Bound) (λ n. if is_outside n i then fails Failure.Bound h else small_cell) small_cell
         (λ d held. absurd (gone_there h rest compatible l Bound gone (has_key h (key l Bound) d held)))
         (λ no. at_cases (λ r. Same r large) h (key l (At i)) f (misses (key l (At i)) h)
         (λ v held. absurd (gone_there h rest compatible l (At i) gone (has_key h (key l (At i)) v held)))
         (λ lacks. same_misses (key l (At i)) h rest large))
 
-    pub same_guarded : Same (at h (key l Gone) (λ _. fails Failure.Gone h) (bounded h l i small_cell)) (at whole (key l Gone) (λ _. fails Failure.Gone whole) (bounded whole l i large_cell))
-    same_guarded = at_both Same h rest (key l Gone) (λ _. fails Failure.Gone h) (bounded h l i small_cell) (λ _. fails Failure.Gone whole) (bounded whole l i large_cell)
+    pub same_guarded : Same (at h (key l Gone) (λ _. fails Failure.Gone h) (bounded h l i small_cell))
+        (at whole (key l Gone) (λ _. fails Failure.Gone whole) (bounded whole l i large_cell))
+    same_guarded =
+        at_both Same h rest (key l Gone) (λ _. fails Failure.Gone h) (bounded h l i small_cell) (λ _. fails Failure.Gone whole)
+        (bounded whole l i large_cell)
         (λ v gone. same_fails Failure.Gone h rest compatible)
         (λ no no_there. same_bounded)
         (λ v no gone. same_bounded_gone (fails Failure.Gone whole) (has_key rest (key l Gone) v gone))
@@ -276,10 +340,15 @@ module _ (h rest : Heap) (compatible : IsCompatible h rest) (is : IsHeapOf Block
 
   same_free : (l : ℕ) (i : ℤ) → Same (free l i h) (free l i whole)
   same_free l i = both_if (int_eq i (pos 0)) _ (fails Failure.Free h) _ (fails Failure.Free whole)
-      (λ first. at_both Same h rest (key l Gone) (λ _. fails Failure.Gone h) (at h (key l Bound) (λ n. dispose_whole l (cell_keys l (count_of n)) h) (misses (key l Bound) h)) (λ _. fails Failure.Gone whole) (at whole (key l Bound) (λ n. dispose_whole l (cell_keys l (count_of n)) whole) (misses (key l Bound) whole))
+      (λ first. at_both Same h rest (key l Gone) (λ _. fails Failure.Gone h)
+      (at h (key l Bound) (λ n. dispose_whole l (cell_keys l (count_of n)) h) (misses (key l Bound) h))
+      (λ _. fails Failure.Gone whole)
+      (at whole (key l Bound) (λ n. dispose_whole l (cell_keys l (count_of n)) whole) (misses (key l Bound) whole))
       (λ v gone. same_fails Failure.Gone h rest compatible)
-      (λ no no_there. at_both Same h rest (key l Bound) (λ n. dispose_whole l (cell_keys l (count_of n)) h) (misses (key l Bound) h) (λ n. dispose_whole l (cell_keys l (count_of n)) whole) (misses (key l Bound) whole)
-      (λ d held. same_disposes l (key l Bound) (cell_keys l (count_of d)) h rest compatible (has_key h (key l Bound) d held) (block_whole whole l d is (held_in_union h rest compatible (key l Bound) d held)))
+      (λ no no_there. at_both Same h rest (key l Bound) (λ n. dispose_whole l (cell_keys l (count_of n)) h)
+      (misses (key l Bound) h) (λ n. dispose_whole l (cell_keys l (count_of n)) whole) (misses (key l Bound) whole)
+      (λ d held. same_disposes l (key l Bound) (cell_keys l (count_of d)) h rest compatible (has_key h (key l Bound) d held)
+      (block_whole whole l d is (held_in_union h rest compatible (key l Bound) d held)))
       (λ lacks lacks_there. same_misses (key l Bound) h rest (misses (key l Bound) whole))
       (λ d lacks there. same_misses (key l Bound) h rest _))
       (λ v no gone. at_cases (λ r. Same r (fails Failure.Gone whole)) h (key l Bound) _ (misses (key l Bound) h)
@@ -287,19 +356,30 @@ module _ (h rest : Heap) (compatible : IsCompatible h rest) (is : IsHeapOf Block
       (λ lacks. same_misses (key l Bound) h rest (fails Failure.Gone whole))))
       (λ other. same_fails Failure.Free h rest compatible)
 
-  pub same_act : (a : Option BlockAction) (fresh : Option ℕ) (args : List PureValue) → IsNew fresh whole → Same (act_of a fresh args h) (act_of a fresh args whole)
+  pub same_act : (a : Option BlockAction) (fresh : Option ℕ) (args : List PureValue) → IsNew fresh whole
+      → Same (act_of a fresh args h) (act_of a fresh args whole)
   same_act None fresh args is_new = same_fails Failure.Action h rest compatible
-  same_act (Some Alloc) fresh args is_new = read_both Same (number_in args) (λ n. alloc_block fresh n h) h (λ n. alloc_block fresh n whole) whole
-      (λ n read. both_if (is_size n) (allocated fresh n h) (fails Failure.Size h) (allocated fresh n whole) (fails Failure.Size whole) (same_allocated fresh n is_new) (λ other. same_fails Failure.Size h rest compatible)) (λ e. same_fails e h rest compatible)
-  same_act (Some Load) fresh args is_new = read_both Same (address_in args) (λ (l, i). load l i h) h (λ (l, i). load l i whole) whole (λ r read. same_load r.0 r.1) (λ e. same_fails e h rest compatible)
-  same_act (Some Store) fresh args is_new = read_both Same (address_and_value_in args) (λ (l, i, v). store l i v h) h (λ (l, i, v). store l i v whole) whole (λ r read. same_store r.0 r.1 r.2) (λ e. same_fails e h rest compatible)
-  same_act (Some Free) fresh args is_new = read_both Same (address_in args) (λ (l, i). free l i h) h (λ (l, i). free l i whole) whole (λ r read. same_free r.0 r.1) (λ e. same_fails e h rest compatible)
+  same_act (Some Alloc) fresh args is_new =
+      read_both Same (number_in args) (λ n. alloc_block fresh n h) h (λ n. alloc_block fresh n whole) whole
+      (λ n read. both_if (is_size n) (allocated fresh n h) (fails Failure.Size h) (allocated fresh n whole)
+      (fails Failure.Size whole) (same_allocated fresh n is_new) (λ other. same_fails Failure.Size h rest compatible))
+      (λ e. same_fails e h rest compatible)
+  same_act (Some Load) fresh args is_new =
+      read_both Same (address_in args) (λ (l, i). load l i h) h (λ (l, i). load l i whole) whole (λ r read. same_load r.0 r.1)
+      (λ e. same_fails e h rest compatible)
+  same_act (Some Store) fresh args is_new =
+      read_both Same (address_and_value_in args) (λ (l, i, v). store l i v h) h (λ (l, i, v). store l i v whole) whole
+      (λ r read. same_store r.0 r.1 r.2) (λ e. same_fails e h rest compatible)
+  same_act (Some Free) fresh args is_new =
+      read_both Same (address_in args) (λ (l, i). free l i h) h (λ (l, i). free l i whole) whole (λ r read. same_free r.0 r.1)
+      (λ e. same_fails e h rest compatible)
 
 -- ---- the laws
 
 pub block_is_memory : IsMemory Block block_actions
 block_is_memory = record {
-  locality = λ action fresh args h rest is is_rest compatible may settled. same_act h rest compatible (join_is_heap Block h rest is is_rest compatible) (action_of action) fresh args may.new_in_heap settled;
+  locality = λ action fresh args h rest is is_rest compatible may settled. same_act h rest compatible
+      (join_is_heap Block h rest is is_rest compatible) (action_of action) fresh args may.new_in_heap settled;
   no_invention = λ action fresh args h is may n occurs. (keeps_act fresh args h is (action_of action) may.new_in_heap).invents n occurs;
   keeps_heaps = λ action fresh args h is may. (keeps_act fresh args h is (action_of action) may.new_in_heap).is_heap;
   changes_only_when_done = λ action fresh args h. changes_act fresh args h (action_of action);
@@ -328,11 +408,16 @@ second_false false c is = refl
 
 pub sizes_are_given : SizesAreGiven
 sizes_are_given l n h low high =
-    ap (λ b. (if b then allocated (Some l) n h else fails Failure.Size h).outcome) (and_from (le_z (pos 0) n) (le_z n (pos 10000)) (test_true (le_z (pos 0) n) low.le) (test_true (le_z n (pos 10000)) high.le))
+    ap (λ b. (if b then allocated (Some l) n h else fails Failure.Size h).outcome)
+    (and_from (le_z (pos 0) n) (le_z n (pos 10000)) (test_true (le_z (pos 0) n) low.le) (test_true (le_z n (pos 10000)) high.le))
 
 pub other_sizes_fail : OtherSizesFail
 other_sizes_fail fresh n h outside = ap (λ b. if b then allocated fresh n h else fails Failure.Size h) (no_size outside)
   where
     no_size : (n <ℤ pos 0) ⊎ (pos 10000 <ℤ n) → is_size n ≡ false
-    no_size (inl low) = first_false (le_z (pos 0) n) (le_z n (pos 10000)) (test_false (le_z (pos 0) n) (λ t. let b : pos 0 ≤ℤ n = record { le = t } in absurd (omega (arith, ints))))
-    no_size (inr high) = second_false (le_z (pos 0) n) (le_z n (pos 10000)) (test_false (le_z n (pos 10000)) (λ t. let b : n ≤ℤ pos 10000 = record { le = t } in absurd (omega (arith, ints))))
+    no_size (inl low) =
+        first_false (le_z (pos 0) n) (le_z n (pos 10000))
+        (test_false (le_z (pos 0) n) (λ t. let b : pos 0 ≤ℤ n = record { le = t } in absurd (omega (arith, ints))))
+    no_size (inr high) =
+        second_false (le_z (pos 0) n) (le_z n (pos 10000))
+        (test_false (le_z n (pos 10000)) (λ t. let b : n ≤ℤ pos 10000 = record { le = t } in absurd (omega (arith, ints))))

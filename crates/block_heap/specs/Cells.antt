@@ -23,7 +23,8 @@ use Rattle.block_heap.specs.Table.{cells_from, cell_keys, count_of}
 cells_left : (l i n : ℕ) → i < n → cells_from l i (n - i) ≡ key l (At (pos i)) ∷ cells_from l (i + 1) (n - (i + 1))
 cells_left l i n below = let more : n - i ≡ suc (n - (i + 1)) = omega arith in ap (cells_from l i) more
 
-pub keys_go_on : (l i n : ℕ) (before after : List Key) (k : Key) → i < n → k ≡ key l (At (pos i)) → after ≡ before ++ k ∷ [] → before ++ cells_from l i (n - i) ≡ cell_keys l n → after ++ cells_from l (i + 1) (n - (i + 1)) ≡ cell_keys l n
+pub keys_go_on : (l i n : ℕ) (before after : List Key) (k : Key) → i < n → k ≡ key l (At (pos i)) → after ≡ before ++ k ∷ []
+    → before ++ cells_from l i (n - i) ≡ cell_keys l n → after ++ cells_from l (i + 1) (n - (i + 1)) ≡ cell_keys l n
 keys_go_on l i n before after k below is pushed so_far =
     ap (λ ks. ks ++ cells_from l (i + 1) (n - (i + 1))) pushed
     ∙ append_assoc before (k ∷ []) (cells_from l (i + 1) (n - (i + 1)))
@@ -31,7 +32,9 @@ keys_go_on l i n before after k below is pushed so_far =
     ∙ ap (λ ks. before ++ ks) (sym (cells_left l i n below))
     ∙ so_far
 
-pub missing_goes_on : (h : Heap) (l i n : ℕ) (k : Key) (b : Bool) → i < n → k ≡ key l (At (pos i)) → b ≡ contains_key h k → b ≡ true → first_missing h (cells_from l i (n - i)) ≡ first_missing h (cell_keys l n) → first_missing h (cells_from l (i + 1) (n - (i + 1))) ≡ first_missing h (cell_keys l n)
+pub missing_goes_on : (h : Heap) (l i n : ℕ) (k : Key) (b : Bool) → i < n → k ≡ key l (At (pos i)) → b ≡ contains_key h k
+    → b ≡ true → first_missing h (cells_from l i (n - i)) ≡ first_missing h (cell_keys l n)
+    → first_missing h (cells_from l (i + 1) (n - (i + 1))) ≡ first_missing h (cell_keys l n)
 missing_goes_on h l i n k b below is has there so_far =
     let present : contains_key h (key l (At (pos i))) ≡ true = ap (contains_key h) (sym is) ∙ sym has ∙ there in
     ap (λ c. cond (not c) (Some (key l (At (pos i)))) (first_missing h (cells_from l (i + 1) (n - (i + 1))))) (sym present)
@@ -44,9 +47,13 @@ among_cells : (l n i j : ℕ) → i ≤ j → j < i + n → IsTrue (is_among (ke
 among_cells l zero i j low high = absurd (omega arith)
 among_cells l (suc n) i j low high = by_offset (nat_eq j i) refl (λ other. among_cells l n (i + 1) j (omega arith) (omega arith))
   where
-    by_offset : (b : Bool) → nat_eq j i ≡ b → (¬ (j ≡ i) → IsTrue (is_among (key l (At (pos j))) (cells_from l (i + 1) n))) → IsTrue (is_among (key l (At (pos j))) (cells_from l i (suc n)))
-    by_offset true same later = or_first (key_eq (key l (At (pos j))) (key l (At (pos i)))) _ (ap (λ m. key_eq (key l (At (pos j))) (key l (At (pos m)))) (sym ((Decides-eqb j i).0 same)) ∙ itself (key l (At (pos j))))
-    by_offset false other later = or_second (key_eq (key l (At (pos j))) (key l (At (pos i)))) _ (later (λ same. true≢false (sym ((Decides-eqb j i).1 same) ∙ other)))
+    by_offset : (b : Bool) → nat_eq j i ≡ b → (¬ (j ≡ i) → IsTrue (is_among (key l (At (pos j))) (cells_from l (i + 1) n)))
+        → IsTrue (is_among (key l (At (pos j))) (cells_from l i (suc n)))
+    by_offset true same later =
+        or_first (key_eq (key l (At (pos j))) (key l (At (pos i)))) _
+        (ap (λ m. key_eq (key l (At (pos j))) (key l (At (pos m)))) (sym ((Decides-eqb j i).0 same)) ∙ itself (key l (At (pos j))))
+    by_offset false other later =
+        or_second (key_eq (key l (At (pos j))) (key l (At (pos i)))) _ (later (λ same. true≢false (sym ((Decides-eqb j i).1 same) ∙ other)))
 
 -- a key of a cell from an offset on
 abbrev pub IsCell : ℕ → ℕ → ℕ → Key → Type 0
@@ -92,9 +99,11 @@ module _ (h : Heap) (l : ℕ) (d : PureValue) (is : IsHeapOf Block h) (at : Hold
   all_keys (At i) has =
       let n = is.well_formed.bound_is_number l d at in
       let within = is.well_formed.cells_in_bound l n.0 i (subst (Holds h (key l Bound)) n.1 at) has in
-      or_second (key_eq (key l (At i)) (key l Bound)) _ (subst (λ v. IsTrue (is_among (key l (At i)) (cell_keys l (count_of v)))) (sym n.1) (within_count l n.0 i within.0 within.1))
+      or_second (key_eq (key l (At i)) (key l Bound)) _
+      (subst (λ v. IsTrue (is_among (key l (At i)) (cell_keys l (count_of v)))) (sym n.1) (within_count l n.0 i within.0 within.1))
   all_keys Bound has = or_first (key_eq (key l Bound) (key l Bound)) _ (itself (key l Bound))
-  all_keys Gone has = let same : ◌≡◌ {A = Sub} Bound Gone = is.well_formed.gone_alone l Bound has (has_key h (key l Bound) d at) in absurd (cc)
+  all_keys Gone has = let same : ◌≡◌ {A = Sub} Bound Gone =
+      is.well_formed.gone_alone l Bound has (has_key h (key l Bound) d at) in absurd (cc)
   all_keys (Name p) has = absurd (true≢false (sym (is.subkeys (key l (Name p)) has)))
   all_keys Shape has = absurd (true≢false (sym (is.subkeys (key l Shape) has)))
   all_keys Dom has = absurd (true≢false (sym (is.subkeys (key l Dom) has)))
@@ -103,6 +112,11 @@ module _ (h : Heap) (l : ℕ) (d : PureValue) (is : IsHeapOf Block h) (at : Hold
   pub block_whole : IsWhole h l (key l Bound) (cell_keys l (count_of d))
   block_whole = record {
     all_keys = all_keys;
-    of_location = λ q among. ⊎_elim (λ bound. ap (λ (k : Key). k.loc) (same_key q (key l Bound) bound)) (λ cell. let c = cell_among l (count_of d) 0 q cell in ap (λ (k : Key). k.loc) c.1) (or_of (key_eq q (key l Bound)) _ among);
-    not_gone = not_true _ (λ among. ⊎_elim (λ bound. no_gone_bound l (same_key (key l Gone) (key l Bound) bound)) (λ cell. let c = cell_among l (count_of d) 0 (key l Gone) cell in no_gone_cell l c.0 c.1) (or_of (key_eq (key l Gone) (key l Bound)) _ among));
+    of_location =
+        λ q among. ⊎_elim (λ bound. ap (λ (k : Key). k.loc) (same_key q (key l Bound) bound))
+        (λ cell. let c = cell_among l (count_of d) 0 q cell in ap (λ (k : Key). k.loc) c.1) (or_of (key_eq q (key l Bound)) _ among);
+    not_gone = not_true _
+        (λ among. ⊎_elim (λ bound. no_gone_bound l (same_key (key l Gone) (key l Bound) bound))
+        (λ cell. let c = cell_among l (count_of d) 0 (key l Gone) cell in
+        no_gone_cell l c.0 c.1) (or_of (key_eq (key l Gone) (key l Bound)) _ among));
   }

@@ -50,14 +50,17 @@ gone = at_three Gone (boolean true) ∷ []
 
 -- a block beside a cell of another one, and what is left after it was freed
 abbrev pub two : Entries
-two = at_three Bound (number (pos 2)) ∷ at_three (At (pos 0)) (number (pos 7)) ∷ at_three (At (pos 1)) (number (pos 8)) ∷ (key 4 (At (pos 0)), number (pos 9)) ∷ []
+two = at_three Bound (number (pos 2)) ∷ at_three (At (pos 0)) (number (pos 7)) ∷ at_three (At (pos 1)) (number (pos 8)) ∷
+    (key 4 (At (pos 0)), number (pos 9)) ∷ []
 
 abbrev pub other_left : Entries
 other_left = at_three Gone (boolean true) ∷ (key 4 (At (pos 0)), number (pos 9)) ∷ []
 
 -- a block of every size from 0 to 10,000 is given
 abbrev pub SizesAreGiven : Type 0
-SizesAreGiven = (l : ℕ) (n : ℤ) (h : Heap) → pos 0 ≤ℤ n → n ≤ℤ pos 10000 → (block_actions.act (codes "alloc") (Some l) (integer n ∷ []) h).outcome ≡ done (address l (pos 0))
+SizesAreGiven =
+    (l : ℕ) (n : ℤ) (h : Heap) → pos 0 ≤ℤ n → n ≤ℤ pos 10000
+    → (block_actions.act (codes "alloc") (Some l) (integer n ∷ []) h).outcome ≡ done (address l (pos 0))
 
 -- no other size is
 abbrev pub OtherSizesFail : Type 0

@@ -73,7 +73,8 @@ is_outside _ i = false
 -- `alloc(n)`, with the new symbol l: n outside 0 to 10,000 fails with "size"; else `Bound` is n, cells 0 to n-1 hold 0;
 -- done with [l, 0]
 abbrev pub allocated : Option ℕ → ℤ → Heap → ActionResult
-allocated (Some l) n h = does (address l (pos 0)) (created (key l Bound) (integer n) (cell_keys l (count_of (integer n))) (integer (pos 0)) h)
+allocated (Some l) n h =
+    does (address l (pos 0)) (created (key l Bound) (integer n) (cell_keys l (count_of (integer n))) (integer (pos 0)) h)
 allocated None n h = fails Failure.Action h
 
 abbrev pub alloc_block : Option ℕ → ℤ → Heap → ActionResult

@@ -33,8 +33,10 @@ pub fn rows_of_wrong_calls()
     ensures alloc_of_a_symbol { Gives [] (codes "alloc") (Some 3) (symbol 4 ∷ []) (failed (text (codes "type"))) [] }
     ensures load_of_a_symbol { Gives gone (codes "load") None (symbol 3 ∷ []) (failed (text (codes "type"))) gone }
     ensures load_without_an_offset { Gives gone (codes "load") None (list (from_list (symbol 3 ∷ [])) ∷ []) (failed (text (codes "type"))) gone }
-    ensures load_of_three_parts { Gives gone (codes "load") None (list (from_list (symbol 3 ∷ number (pos 0) ∷ number (pos 0) ∷ [])) ∷ []) (failed (text (codes "type"))) gone }
-    ensures store_in_a_number { Gives gone (codes "store") None (list (from_list (number (pos 3) ∷ number (pos 0) ∷ [])) ∷ number (pos 1) ∷ []) (failed (text (codes "type"))) gone }
+    ensures load_of_three_parts { Gives gone (codes "load") None (list (from_list (symbol 3 ∷ number (pos 0) ∷ number (pos 0) ∷ [])) ∷ [])
+        (failed (text (codes "type"))) gone }
+    ensures store_in_a_number { Gives gone (codes "store") None (list (from_list (number (pos 3) ∷ number (pos 0) ∷ [])) ∷ number (pos 1) ∷ [])
+        (failed (text (codes "type"))) gone }
     ensures free_of_a_number { Gives gone (codes "free") None (number (pos 3) ∷ []) (failed (text (codes "type"))) gone }
 {}
 

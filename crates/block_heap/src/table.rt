@@ -5,7 +5,7 @@ ghost use Rattle.mem_model.specs.declared.keys.MemoryName.TheVariants.{Block};
 ghost use Rattle.mem_model.specs.Keys.{key};
 ghost use Rattle.mem_model.specs.Heaps.{IsHeapOf, OccursInHeap};
 ghost use Rattle.mem_model.specs.Stored.{stored_heap_view};
-ghost use Rattle.mem_model.specs.Tables.{Answers, read_or_fail};
+ghost use Rattle.mem_model.specs.Tables.{Does, DoesWith};
 ghost use Rattle.block_heap.specs.Table.{
   number_in,
   address_in,
@@ -32,7 +32,8 @@ pub fn act_alloc(
     args: &Values,
 ) -> Result<Outcome, AllocError>
     requires { (n : _) → fresh ≡ Some n → ¬ OccursInHeap n (stored_heap_view heap.old) }
-    ensures { Answers result (stored_heap_view heap.old) (stored_heap_view heap.new) (read_or_fail (number_in (values_view args.now)) (λ n. alloc_block fresh n (stored_heap_view heap.old)) (stored_heap_view heap.old)) }
+    ensures { DoesWith result (stored_heap_view heap.old) (stored_heap_view heap.new)
+        (number_in (values_view args.now)) (alloc_block fresh) }
 {
     match number_argument(args) {
         Ok(cells) => {
@@ -55,7 +56,7 @@ fn make(
 ) -> Result<Outcome, AllocError>
     requires new { (n : _) → fresh ≡ Some n → ¬ OccursInHeap n (stored_heap_view heap.old) }
     requires size { IsTrue (is_size cells) }
-    ensures { Answers result (stored_heap_view heap.old) (stored_heap_view heap.new) (allocated fresh cells (stored_heap_view heap.old)) }
+    ensures { Does result (stored_heap_view heap.old) (stored_heap_view heap.new) (allocated fresh cells) }
 {
     let Some(location) = fresh else {
         return Failure::Action.outcome(alloc);
@@ -77,7 +78,8 @@ fn make(
 
 /// `load`.
 pub fn act_load(heap: &StoredHeap, alloc: Global, args: &Values) -> Result<Outcome, AllocError>
-    ensures { Answers result (stored_heap_view heap.now) (stored_heap_view heap.now) (read_or_fail (address_in (values_view args.now)) (λ (l, i). load l i (stored_heap_view heap.now)) (stored_heap_view heap.now)) }
+    ensures { DoesWith result (stored_heap_view heap.now) (stored_heap_view heap.now)
+        (address_in (values_view args.now)) (λ (l, i). load l i) }
 {
     match address_argument(args) {
         Ok((location, offset)) => value_of(heap, alloc, location, offset),
@@ -92,7 +94,7 @@ fn value_of(
     location: u64,
     offset: i128,
 ) -> Result<Outcome, AllocError>
-    ensures { Answers result (stored_heap_view heap.now) (stored_heap_view heap.now) (load location offset (stored_heap_view heap.now)) }
+    ensures { Does result (stored_heap_view heap.now) (stored_heap_view heap.now) (load location offset) }
 {
     if heap.has(&key_at(location, Sub::Gone)) {
         return Failure::Gone.outcome(alloc);
@@ -111,7 +113,8 @@ fn value_of(
 
 /// `store`.
 pub fn act_store(heap: &mut StoredHeap, alloc: Global, args: &Values) -> Result<Outcome, AllocError>
-    ensures { Answers result (stored_heap_view heap.old) (stored_heap_view heap.new) (read_or_fail (address_and_value_in (values_view args.now)) (λ (l, i, v). store l i v (stored_heap_view heap.old)) (stored_heap_view heap.old)) }
+    ensures { DoesWith result (stored_heap_view heap.old) (stored_heap_view heap.new)
+        (address_and_value_in (values_view args.now)) (λ (l, i, v). store l i v) }
 {
     match address_and_value_arguments(args) {
         Ok((location, offset, value)) => assign(heap, alloc, location, offset, value),
@@ -127,7 +130,7 @@ fn assign(
     offset: i128,
     value: &Value,
 ) -> Result<Outcome, AllocError>
-    ensures { Answers result (stored_heap_view heap.old) (stored_heap_view heap.new) (store location offset (value_view value.now) (stored_heap_view heap.old)) }
+    ensures { Does result (stored_heap_view heap.old) (stored_heap_view heap.new) (store location offset (value_view value.now)) }
 {
     if heap.has(&key_at(location, Sub::Gone)) {
         return Failure::Gone.outcome(alloc);
@@ -149,7 +152,8 @@ fn assign(
 /// `free`.
 pub fn act_free(heap: &mut StoredHeap, alloc: Global, args: &Values) -> Result<Outcome, AllocError>
     requires { IsHeapOf Block (stored_heap_view heap.old) }
-    ensures { Answers result (stored_heap_view heap.old) (stored_heap_view heap.new) (read_or_fail (address_in (values_view args.now)) (λ (l, i). free l i (stored_heap_view heap.old)) (stored_heap_view heap.old)) }
+    ensures { DoesWith result (stored_heap_view heap.old) (stored_heap_view heap.new)
+        (address_in (values_view args.now)) (λ (l, i). free l i) }
 {
     match address_argument(args) {
         Ok((location, offset)) => {
@@ -166,7 +170,7 @@ pub fn act_free(heap: &mut StoredHeap, alloc: Global, args: &Values) -> Result<O
 /// Frees a block by its first address.
 fn free_block(heap: &mut StoredHeap, alloc: Global, location: u64) -> Result<Outcome, AllocError>
     requires { IsHeapOf Block (stored_heap_view heap.old) }
-    ensures { Answers result (stored_heap_view heap.old) (stored_heap_view heap.new) (free location (pos 0) (stored_heap_view heap.old)) }
+    ensures { Does result (stored_heap_view heap.old) (stored_heap_view heap.new) (free location (pos 0)) }
 {
     if heap.has(&key_at(location, Sub::Gone)) {
         return Failure::Gone.outcome(alloc);

@@ -125,7 +125,8 @@ abbrev pub MissesFail : Type 0
 MissesFail =
     (p : PureParts) (m : Actions) (inputs : List PureValue) (s : State) (k : Key)
     → miss_at p m s ≡ Some k
-    → (choice_at p m s ≡ Some 2) × ((e : End) × ((place : Place) × ((step p m inputs s ≡ ends e) × (e.ending ≡ failed (text (codes "missing")) place))))
+    → (choice_at p m s ≡ Some 2)
+    × ((e : End) × ((place : Place) × ((step p m inputs s ≡ ends e) × (e.ending ≡ failed (text (codes "missing")) place))))
 
 -- A run whose numbers can be held is the run that stands.
 abbrev pub HeldRunsAreRuns : Type 0
@@ -134,7 +135,8 @@ HeldRunsAreRuns =
     → held_run p m inputs n s ≡ ended e → run p m inputs n s ≡ e
 
 -- the state is reached within the bound and before the run has ended, and there, for the first time, a result leaves 128 bits
-pub record IsFirstNumber (p : PureParts) (m : Actions) (inputs : List PureValue) (n : ℕ) (s : State) (place : Place) (h : Heap) : Type 0 where
+pub record IsFirstNumber (p : PureParts) (m : Actions) (inputs : List PureValue) (n : ℕ) (s : State) (place : Place) (h : Heap)
+    : Type 0 where
   pub steps : ℕ
   pub within : steps < n
   pub state : State
@@ -145,8 +147,10 @@ pub record IsFirstNumber (p : PureParts) (m : Actions) (inputs : List PureValue)
 
 -- A run comes to a number exactly there.
 pub record NumbersAreFirst : Type 0 where
-  pub only : (p : PureParts) (m : Actions) (inputs : List PureValue) (n : ℕ) (s : State) (place : Place) (h : Heap) → held_run p m inputs n s ≡ number place h → IsFirstNumber p m inputs n s place h
-  pub each : (p : PureParts) (m : Actions) (inputs : List PureValue) (n : ℕ) (s : State) (place : Place) (h : Heap) → IsFirstNumber p m inputs n s place h → held_run p m inputs n s ≡ number place h
+  pub only : (p : PureParts) (m : Actions) (inputs : List PureValue) (n : ℕ) (s : State) (place : Place) (h : Heap)
+      → held_run p m inputs n s ≡ number place h → IsFirstNumber p m inputs n s place h
+  pub each : (p : PureParts) (m : Actions) (inputs : List PureValue) (n : ℕ) (s : State) (place : Place) (h : Heap)
+      → IsFirstNumber p m inputs n s place h → held_run p m inputs n s ≡ number place h
 
 -- A result that leaves 128 bits is the only fault that evaluation gains: without it the value or the fault is the table's.
 abbrev pub as_table : {X : Type 0} → Result X HeldFault → Option (Result X Fault)

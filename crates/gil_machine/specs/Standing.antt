@@ -94,11 +94,24 @@ number_here command here s = if is_too_wide (evaluate_all_held (evaluated_by com
 -- what the code comes to with a command at a place, from every state for which the calls and the heap before it stand
 abbrev pub Does : PureParts → Actions → List PureValue → PureCommand → Place → Control → Heap → Option KeptEnding → Control → Heap → Type 0
 Does p m inputs command here old before end new after =
-    (s : State) → Stands p old s → s.heap ≡ before → Comes p (number_here command here s) (do_command p m inputs command here s) end new after
+    (s : State) → Stands p old s → s.heap ≡ before
+    → Comes p (number_here command here s) (do_command p m inputs command here s) end new after
 
 -- the same where the heap stays
 abbrev pub DoesBeside : PureParts → Actions → List PureValue → PureCommand → Place → Control → Option KeptEnding → Control → Type 0
 DoesBeside p m inputs command here old end new = (h : Heap) → Does p m inputs command here old h end new h
+
+-- the same in every program, with any memory and any inputs
+abbrev pub DoesAnywhere : PureCommand → Place → Control → Option KeptEnding → Control → Type 0
+DoesAnywhere command here old end new = (p : PureParts) (m : Actions) (inputs : List PureValue) → DoesBeside p m inputs command here old end new
+
+-- what the code comes to where a state goes on by this step, in which no number is too wide
+abbrev pub LeadsTo : PureParts → Control → (State → Step) → Option KeptEnding → Control → Type 0
+LeadsTo p old step end new = (s : State) → Stands p old s → Comes p None (step s) end new s.heap
+
+-- in every program
+abbrev pub LeadsAnywhere : Control → (State → Step) → Option KeptEnding → Control → Type 0
+LeadsAnywhere old step end new = (p : PureParts) → LeadsTo p old step end new
 
 -- a result left 128 bits
 abbrev pub IsAtNumber : Option KeptEnding → Type 0
@@ -106,7 +119,8 @@ IsAtNumber (Some (kept.Number place)) = ⊤
 IsAtNumber _ = ⊥
 
 -- A run under way: the code stands for a proper state, from which so many steps lead to this end.
-pub record IsUnderWay (p : PureParts) (memory : MemoryName) (m : Actions) (inputs : List PureValue) (c : Control) (h : Heap) (steps : ℕ) (end : HeldEnd) : Type 0 where
+pub record IsUnderWay (p : PureParts) (memory : MemoryName) (m : Actions) (inputs : List PureValue) (c : Control) (h : Heap)
+    (steps : ℕ) (end : HeldEnd) : Type 0 where
   pub standing : IsStanding p memory c h
   pub rest : held_run p m inputs steps standing.state ≡ end
 

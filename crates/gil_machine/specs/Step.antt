@@ -121,8 +121,11 @@ module _ (p : PureParts) (m : Actions) (inputs : List PureValue) where
   -- the command table
   abbrev pub do_command : PureCommand → Place → State → Step
   do_command (assign x e) here s = with_value (evaluate e s.current.store) here s (λ v. assigned x v s)
-  do_command (call x e es) here s = with_value (evaluate e s.current.store) here s (λ f. with_values (evaluate_all es s.current.store) here s (λ args. enter_value p f x args here s))
-  do_command (act x a es) here s = with_values (evaluate_all es s.current.store) here s (λ args. do_action (m.takes_symbol a) m x a args here s)
+  do_command (call x e es) here s =
+      with_value (evaluate e s.current.store) here s
+      (λ f. with_values (evaluate_all es s.current.store) here s (λ args. enter_value p f x args here s))
+  do_command (act x a es) here s =
+      with_values (evaluate_all es s.current.store) here s (λ args. do_action (m.takes_symbol a) m x a args here s)
   do_command (usym x) here s = new_symbol x s
   do_command (isym x k) here s = draw (slice_get inputs s.draws) x k (record s { draws = s.draws + 1 })
   do_command (ifgoto e i) here s = with_value (evaluate e s.current.store) here s (λ v. branch v i here s)

@@ -1,5 +1,5 @@
 //! What an action does with the calls in progress and the memory.
-ghost use Rattle.std.specs.Prelude.{◌≡◌, ◌+◌, ◌≤◌, ◌^◌, ◌<◌, List, None, IfOk, OnOk, IsTrue};
+ghost use Rattle.std.specs.Prelude.{◌≡◌, ◌+◌, ◌≤◌, ◌^◌, ◌<◌, List, IfOk, OnOk, IsTrue};
 ghost use Rattle.std.specs.List.{list_all};
 ghost use Rattle.gil_values.specs.Pure.{PureValue};
 ghost use Rattle.gil_syntax.specs.Pure.{PureParts, act as pure_act};
@@ -7,7 +7,7 @@ ghost use Rattle.gil_syntax.specs.View.{exprs_view};
 ghost use Rattle.gil_syntax.specs.WellMade.{is_well_made_expr};
 ghost use Rattle.mem_model.specs.View.{outcome_view};
 ghost use Rattle.gil_machine.specs.Laws.{handed};
-ghost use Rattle.gil_machine.specs.Standing.{Comes, Does, GrowsByOne, IsAtNumber, IsStanding, Stands};
+ghost use Rattle.gil_machine.specs.Standing.{Does, GrowsByOne, IsAtNumber, IsStanding, LeadsAnywhere, Stands};
 ghost use Rattle.gil_machine.specs.State.{State};
 ghost use Rattle.gil_machine.specs.Step.{after_action, counted};
 
@@ -34,7 +34,9 @@ impl<'p> Control<'p> {
         requires counter { self.old.counter + 1 < 2 ^ 64 }
         requires made { IsTrue (list_all is_well_made_expr (exprs_view expressions.now)) }
         requires standing { (p : PureParts) × IsStanding p M.memory self.old (M.heap memory.old) }
-        ensures does { IfOk result (λ end. (p : PureParts) (inputs : List PureValue) → Does p M.actions inputs (pure_act name.now action.now (exprs_view expressions.now)) place self.old (M.heap memory.old) end self.new (M.heap memory.new)) }
+        ensures does { IfOk result (λ end. (p : PureParts) (inputs : List PureValue)
+            → Does p M.actions inputs (pure_act name.now action.now (exprs_view expressions.now)) place self.old
+            (M.heap memory.old) end self.new (M.heap memory.new)) }
         ensures at_number { IfOk result (λ end. IsAtNumber end → M.heap memory.new ≡ M.heap memory.old) }
         ensures grows { OnOk result (GrowsByOne self.old self.new) }
     {
@@ -52,7 +54,8 @@ impl<'p> Control<'p> {
     fn symbol_for<M: LocalMemory>(&mut self, action: &Text) -> Option<u64>
         requires { self.old.counter + 1 < 2 ^ 64 }
         ensures handed { (p : PureParts) (s : State) → Stands p self.old s → result ≡ handed (M.actions.takes_symbol action.now) s }
-        ensures counted { (p : PureParts) (s : State) → Stands p self.old s → Stands p self.new (counted (M.actions.takes_symbol action.now) s) }
+        ensures counted { (p : PureParts) (s : State) → Stands p self.old s
+            → Stands p self.new (counted (M.actions.takes_symbol action.now) s) }
         ensures grows { GrowsByOne self.old self.new }
         ensures next { self.new.current.next ≡ self.old.current.next }
     {
@@ -74,7 +77,7 @@ impl<'p> Control<'p> {
         place: Place,
     ) -> Result<Option<Ending>, AllocError>
         requires { self.old.current.next + 1 < 2 ^ 64 }
-        ensures does { IfOk result (λ end. (p : PureParts) (s : State) → Stands p self.old s → Comes p None (after_action (outcome_view outcome) name.now place s) end self.new s.heap) }
+        ensures does { IfOk result (λ end. LeadsAnywhere self.old (after_action (outcome_view outcome) name.now place) end self.new) }
         ensures counter { self.new.counter ≡ self.old.counter }
         ensures draws { self.new.draws ≡ self.old.draws }
     {

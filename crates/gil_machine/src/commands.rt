@@ -1,13 +1,21 @@
 //! What each command does with the calls in progress.
-ghost use Rattle.std.specs.Prelude.{◌≡◌, ℕ, ◌+◌, ◌^◌, ◌<◌, List, Some, None, IfOk, OnOk};
+ghost use Rattle.std.specs.Prelude.{◌≡◌, ℕ, ◌+◌, ◌^◌, ◌<◌, List, Some, IfOk, OnOk};
 ghost use Rattle.gil_values.specs.Pure.{PureValue};
 ghost use Rattle.gil_values.specs.View.{value_view, values_view};
-ghost use Rattle.gil_syntax.specs.Pure.{PureParts, assign as pure_assign, ifgoto as pure_ifgoto, isym as pure_isym, return as pure_return, fail as pure_fail, usym as pure_usym, call as pure_call};
+ghost use Rattle.gil_syntax.specs.Pure.{
+  PureParts,
+  assign as pure_assign,
+  ifgoto as pure_ifgoto,
+  isym as pure_isym,
+  return as pure_return,
+  fail as pure_fail,
+  usym as pure_usym,
+  call as pure_call,
+};
 ghost use Rattle.gil_syntax.specs.View.{expr_view, exprs_view};
 ghost use Rattle.gil_program.specs.Program.{prog_view};
 ghost use Rattle.mem_model.specs.Actions.{Actions};
-ghost use Rattle.gil_machine.specs.Standing.{Comes, DoesBeside, GrowsByOne, Stands};
-ghost use Rattle.gil_machine.specs.State.{State};
+ghost use Rattle.gil_machine.specs.Standing.{DoesAnywhere, DoesBeside, GrowsByOne, LeadsAnywhere, LeadsTo};
 ghost use Rattle.gil_machine.specs.Step.{branch as pure_branch, draw as pure_draw, enter_value};
 
 use crate::control::Control;
@@ -28,7 +36,7 @@ impl<'p> Control<'p> {
         place: Place,
     ) -> Result<Option<Ending>, AllocError>
         requires { self.old.current.next + 1 < 2 ^ 64 }
-        ensures does { IfOk result (λ end. (p : PureParts) (m : Actions) (inputs : List PureValue) → DoesBeside p m inputs (pure_assign name.now (expr_view expression.now)) place self.old end self.new) }
+        ensures does { IfOk result (λ end. DoesAnywhere (pure_assign name.now (expr_view expression.now)) place self.old end self.new) }
         ensures grows { OnOk result (GrowsByOne self.old self.new) }
     {
         match evaluate(alloc, expression, &self.current.store) {
@@ -49,7 +57,7 @@ impl<'p> Control<'p> {
         place: Place,
     ) -> Result<Option<Ending>, AllocError>
         requires { self.old.current.next + 1 < 2 ^ 64 }
-        ensures does { IfOk result (λ end. (p : PureParts) (m : Actions) (inputs : List PureValue) → DoesBeside p m inputs (pure_ifgoto (expr_view guard.now) label.now) place self.old end self.new) }
+        ensures does { IfOk result (λ end. DoesAnywhere (pure_ifgoto (expr_view guard.now) label.now) place self.old end self.new) }
         ensures grows { OnOk result (GrowsByOne self.old self.new) }
     {
         match evaluate(alloc, guard, &self.current.store) {
@@ -67,7 +75,7 @@ impl<'p> Control<'p> {
         place: Place,
     ) -> Result<Option<Ending>, AllocError>
         requires { self.old.current.next + 1 < 2 ^ 64 }
-        ensures does { IfOk result (λ end. (p : PureParts) (s : State) → Stands p self.old s → Comes p None (pure_branch (value_view guard.now) label.now place s) end self.new s.heap) }
+        ensures does { IfOk result (λ end. LeadsAnywhere self.old (pure_branch (value_view guard.now) label.now place) end self.new) }
         ensures grows { OnOk result (GrowsByOne self.old self.new) }
     {
         match guard {
@@ -90,7 +98,7 @@ impl<'p> Control<'p> {
         expression: &Expr,
         place: Place,
     ) -> Result<Option<Ending>, AllocError>
-        ensures does { IfOk result (λ end. (p : PureParts) (m : Actions) (inputs : List PureValue) → DoesBeside p m inputs (pure_return (expr_view expression.now)) place self.old end self.new) }
+        ensures does { IfOk result (λ end. DoesAnywhere (pure_return (expr_view expression.now)) place self.old end self.new) }
         ensures grows { OnOk result (GrowsByOne self.old self.new) }
     {
         match evaluate(alloc, expression, &self.current.store) {
@@ -106,7 +114,7 @@ impl<'p> Control<'p> {
         expression: &Expr,
         place: Place,
     ) -> Result<Option<Ending>, AllocError>
-        ensures does { IfOk result (λ end. (p : PureParts) (m : Actions) (inputs : List PureValue) → DoesBeside p m inputs (pure_fail (expr_view expression.now)) place self.old end self.new) }
+        ensures does { IfOk result (λ end. DoesAnywhere (pure_fail (expr_view expression.now)) place self.old end self.new) }
         ensures grows { OnOk result (GrowsByOne self.old self.new) }
     {
         match evaluate(alloc, expression, &self.current.store) {
@@ -124,7 +132,7 @@ impl<'p> Control<'p> {
     ) -> Result<Option<Ending>, AllocError>
         requires next { self.old.current.next + 1 < 2 ^ 64 }
         requires counter { self.old.counter + 1 < 2 ^ 64 }
-        ensures does { IfOk result (λ end. (p : PureParts) (m : Actions) (inputs : List PureValue) → DoesBeside p m inputs (pure_usym name.now) place.now self.old end self.new) }
+        ensures does { IfOk result (λ end. DoesAnywhere (pure_usym name.now) place.now self.old end self.new) }
         ensures grows { OnOk result (GrowsByOne self.old self.new) }
     {
         let symbol = self.counter;
@@ -144,7 +152,8 @@ impl<'p> Control<'p> {
     ) -> Result<Option<Ending>, AllocError>
         requires next { self.old.current.next + 1 < 2 ^ 64 }
         requires draws { self.old.draws + 1 < 2 ^ 32 }
-        ensures does { IfOk result (λ end. (p : PureParts) (m : Actions) → DoesBeside p m (values_view inputs.now) (pure_isym name.now kind) place.now self.old end self.new) }
+        ensures does { IfOk result (λ end. (p : PureParts) (m : Actions)
+            → DoesBeside p m (values_view inputs.now) (pure_isym name.now kind) place.now self.old end self.new) }
         ensures grows { OnOk result (GrowsByOne self.old self.new) }
     {
         let input = inputs.as_slice().get(self.draws as usize);
@@ -164,7 +173,7 @@ impl<'p> Control<'p> {
         input: &Value,
     ) -> Result<Option<Ending>, AllocError>
         requires { self.old.current.next + 1 < 2 ^ 64 }
-        ensures does { IfOk result (λ end. (p : PureParts) (s : State) → Stands p self.old s → Comes p None (pure_draw (Some (value_view input.now)) name.now kind s) end self.new s.heap) }
+        ensures does { IfOk result (λ end. LeadsAnywhere self.old (pure_draw (Some (value_view input.now)) name.now kind) end self.new) }
         ensures counter { self.new.counter ≡ self.old.counter }
         ensures draws { self.new.draws ≡ self.old.draws }
     {
@@ -188,7 +197,9 @@ impl<'p> Control<'p> {
         place: Place,
     ) -> Result<Option<Ending>, AllocError>
         requires { self.old.current.next + 1 < 2 ^ 64 }
-        ensures does { IfOk result (λ end. (m : Actions) (inputs : List PureValue) → DoesBeside (prog_view prog.now) m inputs (pure_call name.now (expr_view callee.now) (exprs_view expressions.now)) place self.old end self.new) }
+        ensures does { IfOk result (λ end. (m : Actions) (inputs : List PureValue)
+            → DoesBeside (prog_view prog.now) m inputs (pure_call name.now (expr_view callee.now) (exprs_view expressions.now))
+            place self.old end self.new) }
         ensures grows { OnOk result (GrowsByOne self.old self.new) }
     {
         let called = match evaluate(alloc, callee, &self.current.store) {
@@ -213,7 +224,9 @@ impl<'p> Control<'p> {
         place: Place,
     ) -> Result<Option<Ending>, AllocError>
         requires { self.old.current.next + 1 < 2 ^ 64 }
-        ensures does { IfOk result (λ end. (s : State) → Stands (prog_view prog.now) self.old s → Comes (prog_view prog.now) None (enter_value (prog_view prog.now) (value_view called.now) name.now (values_view args.now) place s) end self.new s.heap) }
+        ensures does { IfOk result
+            (λ end. LeadsTo (prog_view prog.now) self.old
+            (enter_value (prog_view prog.now) (value_view called.now) name.now (values_view args.now) place) end self.new) }
         ensures grows { OnOk result (GrowsByOne self.old self.new) }
     {
         let Value::Proc(proc) = called else {

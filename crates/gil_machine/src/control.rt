@@ -6,7 +6,7 @@ ghost use Rattle.gil_syntax.specs.Programs.{find_proc};
 ghost use Rattle.gil_syntax.specs.Pure.{PureParts};
 ghost use Rattle.gil_syntax.specs.View.{numbered_command_view, proc_view};
 ghost use Rattle.gil_machine.specs.Kept.{Keeps};
-ghost use Rattle.gil_machine.specs.Standing.{Comes, FrameStands, GrowsByOne, Stands};
+ghost use Rattle.gil_machine.specs.Standing.{Comes, FrameStands, GrowsByOne, LeadsAnywhere, Stands};
 ghost use Rattle.gil_machine.specs.State.{Frame as PureFrame, State};
 ghost use Rattle.gil_machine.specs.Step.{assigned, bind_all, enter, leave, resumed, to_label, to_next};
 ghost use Rattle.gil_machine.specs.StoreView.{store_view};
@@ -42,7 +42,8 @@ pub(crate) struct Control<'p> {
 impl<'p> Control<'p> {
     /// The command at which the run stands.
     pub(crate) fn command(&self) -> Option<&'p NumberedCommand>
-        ensures command { option_map (λ c. numbered_command_view c.now) result ≡ slice_get (proc_view self.now.current.proc.now).body self.now.current.next }
+        ensures command { option_map (λ c. numbered_command_view c.now) result ≡ slice_get (proc_view self.now.current.proc.now).body
+            self.now.current.next }
         ensures below { IfSome result (λ _. self.now.current.next + 1 < 2 ^ 64) }
     {
         let body = &self.current.proc.body;
@@ -61,7 +62,7 @@ impl<'p> Control<'p> {
     /// Goes to the next command.
     pub(crate) fn go_on(&mut self)
         requires { self.old.current.next + 1 < 2 ^ 64 }
-        ensures goes { (p : PureParts) (s : State) → Stands p self.old s → Comes p None (to_next s) None self.new s.heap }
+        ensures goes { LeadsAnywhere self.old to_next None self.new }
         ensures grows { GrowsByOne self.old self.new }
     {
         self.current.next += 1;
@@ -75,7 +76,7 @@ impl<'p> Control<'p> {
         value: Value,
     ) -> Result<(), AllocError>
         requires { self.old.current.next + 1 < 2 ^ 64 }
-        ensures goes { OnOk result ((p : PureParts) (s : State) → Stands p self.old s → Comes p None (assigned name.now (value_view value) s) None self.new s.heap) }
+        ensures goes { OnOk result (LeadsAnywhere self.old (assigned name.now (value_view value)) None self.new) }
         ensures counter { self.new.counter ≡ self.old.counter }
         ensures draws { self.new.draws ≡ self.old.draws }
     {
@@ -86,7 +87,7 @@ impl<'p> Control<'p> {
 
     /// Goes to the command with an index; to none where the label is below 0.
     pub(crate) fn jump(&mut self, label: &i64)
-        ensures goes { (p : PureParts) (s : State) → Stands p self.old s → Comes p None (to_label label.now s) None self.new s.heap }
+        ensures goes { LeadsAnywhere self.old (to_label label.now) None self.new }
         ensures grows { GrowsByOne self.old self.new }
     {
         if let Ok(next) = usize::try_from(*label) {
@@ -104,7 +105,8 @@ impl<'p> Control<'p> {
     ) -> Result<(), AllocError>
         requires next { self.old.current.next + 1 < 2 ^ 64 }
         requires arity { length (values_view args.now) ≡ length proc.now.params }
-        ensures goes { OnOk result ((p : PureParts) (s : State) → Stands p self.old s → find_proc p.procs proc.now.name ≡ Some (proc_view proc.now)
+        ensures goes { OnOk result ((p : PureParts) (s : State) → Stands p self.old s
+            → find_proc p.procs proc.now.name ≡ Some (proc_view proc.now)
             → Comes p None (enter (proc_view proc.now) name.now (values_view args.now) s) None self.new s.heap) }
         ensures grows { OnOk result (GrowsByOne self.old self.new) }
     {
@@ -128,7 +130,7 @@ impl<'p> Control<'p> {
         alloc: Global,
         value: Value,
     ) -> Result<Option<Ending>, AllocError>
-        ensures goes { IfOk result (λ end. (p : PureParts) (s : State) → Stands p self.old s → Comes p None (leave s.callers (value_view value) s) end self.new s.heap) }
+        ensures goes { IfOk result (λ end. LeadsAnywhere self.old (λ s. leave s.callers (value_view value) s) end self.new) }
         ensures grows { OnOk result (GrowsByOne self.old self.new) }
     {
         match self.callers.pop() {
@@ -143,7 +145,8 @@ impl<'p> Control<'p> {
 
 /// The frame that waits gets the value.
 fn resume(alloc: Global, mut caller: Frame, value: Value) -> Result<Frame, AllocError>
-    ensures { IfOk result (λ frame. (p : PureParts) (g : PureFrame) → FrameStands p caller.entry g → FrameStands p frame (resumed g.waits (value_view value) g)) }
+    ensures { IfOk result (λ frame. (p : PureParts) (g : PureFrame) → FrameStands p caller.entry g
+        → FrameStands p frame (resumed g.waits (value_view value) g)) }
 {
     if let Some(name) = caller.waits {
         caller.store.set(alloc, name, value)?;

@@ -132,7 +132,8 @@ pub fn numbers_have_128_bits()
     ensures place { held_ending_of (returns_late too_large) 1000 ≡ held_number (in_main 1) empty }
     ensures within { held_ending_of (returns_late too_large) 2 ≡ held_number (in_main 1) empty }
     ensures past_the_bound { held_ending_of (returns_late too_large) 1 ≡ ended (test_run (returns_late too_large) no_memory (codes "main") [] 1) }
-    ensures none { held_ending_of (calls half (number 9 ∷ [])) 1000 ≡ ended (test_run (calls half (number 9 ∷ [])) no_memory (codes "main") [] 1000) }
+    ensures none { held_ending_of (calls half (number 9 ∷ [])) 1000 ≡ ended
+        (test_run (calls half (number 9 ∷ [])) no_memory (codes "main") [] 1000) }
 {}
 
 /// Choices are those of guards that are booleans and of actions whose arguments have values, in order.

@@ -56,7 +56,8 @@ pub fn run<M: LocalMemory>(
     requires starts { IsProperStart (prog_view prog.now) M.memory proc.now (values_view args) (M.heap memory) counter }
     requires counter { counter < 2 ^ 63 }
     requires bound { bound ≤ 10000 }
-    ensures { IsEndOf M.heap result (held_run_of (prog_view prog.now) M.actions proc.now (values_view args) (M.heap memory) counter (values_view inputs.now) bound) }
+    ensures { IsEndOf M.heap result
+        (held_run_of (prog_view prog.now) M.actions proc.now (values_view args) (M.heap memory) counter (values_view inputs.now) bound) }
 {
     let mut memory = memory;
     let Ok(mut control) = begin(alloc, prog, proc, &args, counter) else {
@@ -82,7 +83,8 @@ pub fn run_entry<M: LocalMemory>(
 ) -> Option<End<M>>
     requires { bound ≤ 10000 }
     ensures { MatchOption result (¬ IsEntry (prog_view prog.now) entry.now)
-        (λ end. IsEntry (prog_view prog.now) entry.now × IsEndOf M.heap end (held_run_of (prog_view prog.now) M.actions entry.now [] empty 0 (values_view inputs.now) bound)) }
+        (λ end. IsEntry (prog_view prog.now) entry.now
+        × IsEndOf M.heap end (held_run_of (prog_view prog.now) M.actions entry.now [] empty 0 (values_view inputs.now) bound)) }
 {
     let Some(0) = prog.arity(entry) else {
         return None;
@@ -102,8 +104,10 @@ fn begin<'p>(
     args: &Values,
     counter: u64,
 ) -> Result<Control<'p>, AllocError>
-    requires arity { (q : PureProc) × ((find_proc (prog_view prog.now).procs proc.now ≡ Some q) × (length q.params ≡ length (values_view args.now))) }
-    ensures stands { IfOk result (λ control. (h : Heap) → Stands (prog_view prog.now) control (start (prog_view prog.now) proc.now (values_view args.now) h counter)) }
+    requires arity { (q : PureProc)
+        × ((find_proc (prog_view prog.now).procs proc.now ≡ Some q) × (length q.params ≡ length (values_view args.now))) }
+    ensures stands { IfOk result (λ control. (h : Heap)
+        → Stands (prog_view prog.now) control (start (prog_view prog.now) proc.now (values_view args.now) h counter)) }
     ensures counter { IfOk result (λ control. control.counter ≡ counter) }
     ensures draws { IfOk result (λ control. control.draws ≡ 0) }
 {
@@ -154,7 +158,8 @@ impl<'p> Control<'p> {
         requires draws { self.old.draws + 1 < 2 ^ 32 }
         requires standing { IsStanding (prog_view prog.now) M.memory self.old (M.heap memory.old) }
         ensures does { IfOk result (λ end. (s : State) → Stands (prog_view prog.now) self.old s → s.heap ≡ M.heap memory.old
-            → Comes (prog_view prog.now) (number_at (prog_view prog.now) s) (pure_step (prog_view prog.now) M.actions (values_view inputs.now) s) end self.new (M.heap memory.new)) }
+            → Comes (prog_view prog.now) (number_at (prog_view prog.now) s)
+            (pure_step (prog_view prog.now) M.actions (values_view inputs.now) s) end self.new (M.heap memory.new)) }
         ensures at_number { IfOk result (λ end. IsAtNumber end → M.heap memory.new ≡ M.heap memory.old) }
         ensures grows { OnOk result (GrowsByOne self.old self.new) }
     {
@@ -182,7 +187,9 @@ impl<'p> Control<'p> {
         requires draws { self.old.draws + 1 < 2 ^ 32 }
         requires made { IsTrue (is_well_made_command (command_view command.now)) }
         requires standing { IsStanding (prog_view prog.now) M.memory self.old (M.heap memory.old) }
-        ensures does { IfOk result (λ end. Does (prog_view prog.now) M.actions (values_view inputs.now) (command_view command.now) place self.old (M.heap memory.old) end self.new (M.heap memory.new)) }
+        ensures does { IfOk result
+            (λ end. Does (prog_view prog.now) M.actions (values_view inputs.now) (command_view command.now) place self.old
+            (M.heap memory.old) end self.new (M.heap memory.new)) }
         ensures at_number { IfOk result (λ end. IsAtNumber end → M.heap memory.new ≡ M.heap memory.old) }
         ensures grows { OnOk result (GrowsByOne self.old self.new) }
     {

@@ -3,10 +3,50 @@ use crate::{End, run_entry};
 use gil_program::{Prog, is_well_made};
 use gil_syntax::{Command, Expr, Exprs, NumberedCommand, Parts, Proc};
 use gil_values::{BinOp, Kind, Text, Value, Values};
-use mem_model::NoMemory;
+use mem_model::{LocalMemory, Outcome};
 use sequence::Sequence;
 use std::alloc::{AllocError, Global};
 use std::test::Fail;
+
+/// The memory that has no action: its heap is empty, and every action fails with `"action"`.
+#[derive(Debug, Drop)]
+struct NoMemory {}
+
+impl LocalMemory for NoMemory {
+    ghost use Rattle.std.specs.FinMap.{empty};
+    ghost use Rattle.mem_model.specs.declared.keys.MemoryName.TheVariants.{Record};
+    ghost use Rattle.mem_model.specs.Actions.{no_memory};
+    ghost use Rattle.mem_model.specs.NoMemory.{no_memory_is_one};
+
+    ghost heap = { λ _. empty };
+
+    ghost memory = { Record };
+
+    ghost actions = { no_memory };
+
+    ghost laws = { no_memory_is_one Record };
+
+    fn empty(_alloc: Global) -> Result<NoMemory, AllocError> {
+        Ok(NoMemory {})
+    }
+
+    fn fresh_for(_action: &Text) -> bool {
+        false
+    }
+
+    fn act(
+        &mut self,
+        alloc: Global,
+        _action: &Text,
+        _fresh: Option<u64>,
+        _args: &Values,
+    ) -> Result<Outcome, AllocError> {
+        match Text::from_str(alloc, "action")? {
+            Some(text) => Ok(Outcome::Failed(Value::Str(text))),
+            None => unreachable!(),
+        }
+    }
+}
 
 fn text(alloc: Global, s: &str) -> Result<Text, Fail> {
     Ok(Text::from_str(alloc, s)?.ok_or("a character that no text has")?)

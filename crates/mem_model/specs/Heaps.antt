@@ -41,7 +41,8 @@ pub record IsWellFormed (h : Heap) : Type 0 where
   pub gone_alone : (l : ℕ) (s : Sub) → HasKey h (key l Gone) → HasKey h (key l s) → s ≡ Gone
   pub gone_is_true : (l : ℕ) (v : PureValue) → Holds h (key l Gone) v → v ≡ boolean true
   pub name_lists : (l : ℕ) (s : Sub) (d : PureValue) → HoldsNames s → Holds h (key l s) d → IsTrue (is_name_list d)
-  pub names_listed : (l : ℕ) (s : Sub) (d : PureValue) → HoldsNames s → Holds h (key l s) d → (p : _) → HasKey h (key l (Name p)) → IsTrue (lists_name d p)
+  pub names_listed : (l : ℕ) (s : Sub) (d : PureValue) → HoldsNames s → Holds h (key l s) d → (p : _) → HasKey h (key l (Name p))
+      → IsTrue (lists_name d p)
   pub bound_is_number : (l : ℕ) (v : PureValue) → Holds h (key l Bound) v → (n : ℤ) × (v ≡ integer n)
   pub cells_in_bound : (l : ℕ) (n i : ℤ) → Holds h (key l Bound) (integer n) → HasKey h (key l (At i)) → (pos 0 ≤ℤ i) × (i <ℤ n)
   pub one_descriptor : (l : ℕ) (s t : Sub) → IsDescriptor s → IsDescriptor t → HasKey h (key l s) → HasKey h (key l t) → s ≡ t

@@ -56,7 +56,8 @@ key_back : (k : Key) → key_of (key_numbers k) ≡ k
 key_back k = ap (key k.loc) (sub_back k.sub)
 
 pub key_cmp-IsAntisymmetric : IsAntisymmetric key_cmp
-key_cmp-IsAntisymmetric x y e = sym (key_back x) ∙ ap key_of (slice_cmp-IsAntisymmetric int_cmp-IsAntisymmetric (key_numbers x) (key_numbers y) e) ∙ key_back y
+key_cmp-IsAntisymmetric x y e =
+    sym (key_back x) ∙ ap key_of (slice_cmp-IsAntisymmetric int_cmp-IsAntisymmetric (key_numbers x) (key_numbers y) e) ∙ key_back y
 
 -- keys are equal where they tie
 abbrev pub key_eq : Key → Key → Bool
@@ -85,7 +86,8 @@ held_cmp (At i) (At j) = int_cmp i j
 held_cmp s t = Equal
 
 -- whole numbers from 0 are in the order of unsigned numbers
-pos_rank : (m n : ℕ) (r : Ordering) → MatchOrdering r (m < n) (m ≡ n) (n < m) → MatchOrdering r (pos m <ℤ pos n) (pos m ≡ pos n) (pos n <ℤ pos m)
+pos_rank : (m n : ℕ) (r : Ordering) → MatchOrdering r (m < n) (m ≡ n) (n < m)
+    → MatchOrdering r (pos m <ℤ pos n) (pos m ≡ pos n) (pos n <ℤ pos m)
 pos_rank m n Less h = omega (arith, ints)
 pos_rank m n Equal h = ap pos h
 pos_rank m n Greater h = omega (arith, ints)
@@ -104,7 +106,8 @@ then_equal Less = refl
 then_equal Equal = refl
 then_equal Greater = refl
 
-pub sub_cmp-variants : (s t : Sub) → ordering_then (nat_cmp (variant_number s) (variant_number t)) (held_cmp s t) ≡ slice_cmp int_cmp (sub_numbers s) (sub_numbers t)
+pub sub_cmp-variants : (s t : Sub)
+    → ordering_then (nat_cmp (variant_number s) (variant_number t)) (held_cmp s t) ≡ slice_cmp int_cmp (sub_numbers s) (sub_numbers t)
 sub_cmp-variants (Name p) (Name q) = names_cmp p q
 sub_cmp-variants (At i) (At j) = then_equal (int_cmp i j)
 sub_cmp-variants Shape Gone = refl

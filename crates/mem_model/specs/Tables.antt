@@ -132,3 +132,11 @@ dispose_whole l parts h = missed_or (first_missing h parts) h (does (boolean tru
 abbrev pub Answers : Result Outcome AllocError → Heap → Heap → ActionResult → Type 0
 Answers (Ok o) old new r = (outcome_view o ≡ r.outcome) × (new ≡ r.heap)
 Answers (Err e) old new r = new ≡ old
+
+-- as a row of the table does on the old heap
+abbrev pub Does : Result Outcome AllocError → Heap → Heap → (Heap → ActionResult) → Type 0
+Does result old new row = Answers result old new (row old)
+
+-- as a row does with what is read of the arguments, or else as they fail
+abbrev pub DoesWith : {X : Type 0} → Result Outcome AllocError → Heap → Heap → Result X Failure → (X → Heap → ActionResult) → Type 0
+DoesWith result old new read row = Answers result old new (read_or_fail read (λ x. row x old) old)

@@ -9,7 +9,6 @@ mod laws;
 mod locations;
 mod memory;
 pub mod names;
-mod no_memory;
 mod order;
 mod rows;
 mod stored;
@@ -22,6 +21,5 @@ pub use laws::{
     no_memory_keeps_the_laws, parts_of_heaps, union_is_a_heap,
 };
 pub use memory::{LocalMemory, Outcome};
-pub use no_memory::NoMemory;
 pub use rows::{memories_have_their_own_subkeys, some_heaps_are_not, some_heaps_are_well_formed};
 pub use stored::StoredHeap;

@@ -3,7 +3,7 @@ ghost use Rattle.std.specs.Prelude.{◌≡◌, OnOk, OnErr};
 ghost use Rattle.std.specs.Option.{option_map};
 ghost use Rattle.gil_values.specs.View.{value_view};
 ghost use Rattle.mem_model.specs.Stored.{stored_heap_view};
-ghost use Rattle.mem_model.specs.Tables.{LacksAll, IsWhole, Answers, created, first_missing, dispose_whole};
+ghost use Rattle.mem_model.specs.Tables.{Does, IsWhole, LacksAll, created, first_missing, dispose_whole};
 
 use crate::keys::{Key, Sub};
 use crate::memory::Outcome;
@@ -23,7 +23,9 @@ impl StoredHeap {
         value: &Value,
     ) -> Result<(), AllocError>
         requires { LacksAll (stored_heap_view self.old) parts.now }
-        ensures ok { OnOk result (stored_heap_view self.new ≡ created descriptor (value_view description) parts.now (value_view value.now) (stored_heap_view self.old)) }
+        ensures ok { OnOk result
+            (stored_heap_view self.new ≡ created descriptor (value_view description) parts.now (value_view value.now)
+            (stored_heap_view self.old)) }
         ensures err { OnErr result (stored_heap_view self.new ≡ stored_heap_view self.old) }
     {
         self.put_all(alloc, parts, value)?;
@@ -44,7 +46,7 @@ impl StoredHeap {
         parts: &[Key],
     ) -> Result<Outcome, AllocError>
         requires { IsWhole (stored_heap_view self.old) location descriptor.now parts.now }
-        ensures { Answers result (stored_heap_view self.old) (stored_heap_view self.new) (dispose_whole location parts.now (stored_heap_view self.old)) }
+        ensures { Does result (stored_heap_view self.old) (stored_heap_view self.new) (dispose_whole location parts.now) }
     {
         match self.first_missing(parts) {
             Some(missing) => return Ok(Outcome::Miss(missing.copy(alloc)?)),

@@ -39,17 +39,22 @@ abbrev pub with_a : Entries
 with_a = at_three Dom (names (name (codes "a") ∷ [])) ∷ at_three (Name (codes "a")) (number (pos 1)) ∷ at_three Proto (symbol 4) ∷ []
 
 abbrev pub with_both : Entries
-with_both = at_three Dom a_and_b ∷ at_three (Name (codes "a")) (number (pos 1)) ∷ at_three (Name (codes "b")) (number (pos 2)) ∷ at_three Proto (symbol 4) ∷ []
+with_both =
+    at_three Dom a_and_b ∷ at_three (Name (codes "a")) (number (pos 1)) ∷ at_three (Name (codes "b")) (number (pos 2)) ∷ at_three
+    Proto (symbol 4) ∷ []
 
 abbrev pub with_b : Entries
 with_b = at_three Dom (names (name (codes "b") ∷ [])) ∷ at_three (Name (codes "b")) (number (pos 2)) ∷ at_three Proto (symbol 4) ∷ []
 
 abbrev pub b_then_a : Entries
-b_then_a = at_three Dom (names (name (codes "b") ∷ name (codes "a") ∷ [])) ∷ at_three (Name (codes "a")) (number (pos 7)) ∷ at_three (Name (codes "b")) (number (pos 2)) ∷ at_three Proto (symbol 4) ∷ []
+b_then_a = at_three Dom (names (name (codes "b") ∷ name (codes "a") ∷ [])) ∷ at_three (Name (codes "a")) (number (pos 7)) ∷
+    at_three (Name (codes "b")) (number (pos 2)) ∷ at_three Proto (symbol 4) ∷ []
 
 -- a holds 5
 abbrev pub with_five : Entries
-with_five = at_three Dom a_and_b ∷ at_three (Name (codes "a")) (number (pos 5)) ∷ at_three (Name (codes "b")) (number (pos 2)) ∷ at_three Proto (symbol 4) ∷ []
+with_five =
+    at_three Dom a_and_b ∷ at_three (Name (codes "a")) (number (pos 5)) ∷ at_three (Name (codes "b")) (number (pos 2)) ∷ at_three
+    Proto (symbol 4) ∷ []
 
 -- b is missing
 abbrev pub without_b : Entries

@@ -65,7 +65,8 @@ abbrev pub delete_property : ℕ → List ℕ → Heap → ActionResult
 delete_property l p h =
     at h (key l Dom)
     (λ d. if lists_name d p
-    then at h (key l (Name p)) (λ _. does (boolean true) (insert (remove h (key l (Name p))) (key l Dom) (without_name d p))) (misses (key l (Name p)) h)
+    then at h (key l (Name p)) (λ _. does (boolean true) (insert (remove h (key l (Name p))) (key l Dom) (without_name d p)))
+    (misses (key l (Name p)) h)
     else does (boolean true) h)
     (misses (key l Dom) h)
 

@@ -5,7 +5,7 @@ ghost use Rattle.mem_model.specs.Keys.{key};
 ghost use Rattle.mem_model.specs.Heaps.{OccursInHeap};
 ghost use Rattle.mem_model.specs.Arguments.{location_in, property_in, property_and_value_in};
 ghost use Rattle.mem_model.specs.Stored.{stored_heap_view};
-ghost use Rattle.mem_model.specs.Tables.{Answers, read_or_fail};
+ghost use Rattle.mem_model.specs.Tables.{Does, DoesWith};
 ghost use Rattle.object_heap.specs.Table.{
   prototype_in,
   location_and_prototype_in,
@@ -34,7 +34,8 @@ pub fn act_new(
     args: &Values,
 ) -> Result<Outcome, AllocError>
     requires { (n : _) → fresh ≡ Some n → ¬ OccursInHeap n (stored_heap_view heap.old) }
-    ensures { Answers result (stored_heap_view heap.old) (stored_heap_view heap.new) (read_or_fail (prototype_in (values_view args.now)) (λ v. new fresh v (stored_heap_view heap.old)) (stored_heap_view heap.old)) }
+    ensures { DoesWith result (stored_heap_view heap.old) (stored_heap_view heap.new)
+        (prototype_in (values_view args.now)) (new fresh) }
 {
     match prototype_argument(args) {
         Ok(prototype) => make(heap, alloc, fresh, prototype),
@@ -50,7 +51,7 @@ fn make(
     prototype: &Value,
 ) -> Result<Outcome, AllocError>
     requires { (n : _) → fresh ≡ Some n → ¬ OccursInHeap n (stored_heap_view heap.old) }
-    ensures { Answers result (stored_heap_view heap.old) (stored_heap_view heap.new) (new fresh (value_view prototype.now) (stored_heap_view heap.old)) }
+    ensures { Does result (stored_heap_view heap.old) (stored_heap_view heap.new) (new fresh (value_view prototype.now)) }
 {
     let Some(location) = fresh else {
         return Failure::Action.outcome(alloc);
@@ -63,7 +64,8 @@ fn make(
 
 /// `get`.
 pub fn act_get(heap: &StoredHeap, alloc: Global, args: &Values) -> Result<Outcome, AllocError>
-    ensures { Answers result (stored_heap_view heap.now) (stored_heap_view heap.now) (read_or_fail (property_in (values_view args.now)) (λ (l, p). get_property l p (stored_heap_view heap.now)) (stored_heap_view heap.now)) }
+    ensures { DoesWith result (stored_heap_view heap.now) (stored_heap_view heap.now)
+        (property_in (values_view args.now)) (λ (l, p). get_property l p) }
 {
     match property_arguments(args) {
         Ok((location, name)) => value_of(heap, alloc, location, name),
@@ -78,7 +80,7 @@ fn value_of(
     location: u64,
     name: &Text,
 ) -> Result<Outcome, AllocError>
-    ensures { Answers result (stored_heap_view heap.now) (stored_heap_view heap.now) (get_property location name.now (stored_heap_view heap.now)) }
+    ensures { Does result (stored_heap_view heap.now) (stored_heap_view heap.now) (get_property location name.now) }
 {
     let property = Key::property(alloc, location, name)?;
     if let Some(value) = heap.get(&property) {
@@ -98,7 +100,8 @@ fn value_of(
 
 /// `set`.
 pub fn act_set(heap: &mut StoredHeap, alloc: Global, args: &Values) -> Result<Outcome, AllocError>
-    ensures { Answers result (stored_heap_view heap.old) (stored_heap_view heap.new) (read_or_fail (property_and_value_in (values_view args.now)) (λ (l, p, v). set_property l p v (stored_heap_view heap.old)) (stored_heap_view heap.old)) }
+    ensures { DoesWith result (stored_heap_view heap.old) (stored_heap_view heap.new)
+        (property_and_value_in (values_view args.now)) (λ (l, p, v). set_property l p v) }
 {
     match property_and_value_arguments(args) {
         Ok((location, name, value)) => assign(heap, alloc, location, name, value),
@@ -114,7 +117,7 @@ fn assign(
     name: &Text,
     value: &Value,
 ) -> Result<Outcome, AllocError>
-    ensures { Answers result (stored_heap_view heap.old) (stored_heap_view heap.new) (set_property location name.now (value_view value.now) (stored_heap_view heap.old)) }
+    ensures { Does result (stored_heap_view heap.old) (stored_heap_view heap.new) (set_property location name.now (value_view value.now)) }
 {
     let property = Key::property(alloc, location, name)?;
     let outcome = Outcome::Done(value.copy(alloc)?);
@@ -143,7 +146,8 @@ pub fn act_delete(
     alloc: Global,
     args: &Values,
 ) -> Result<Outcome, AllocError>
-    ensures { Answers result (stored_heap_view heap.old) (stored_heap_view heap.new) (read_or_fail (property_in (values_view args.now)) (λ (l, p). delete_property l p (stored_heap_view heap.old)) (stored_heap_view heap.old)) }
+    ensures { DoesWith result (stored_heap_view heap.old) (stored_heap_view heap.new)
+        (property_in (values_view args.now)) (λ (l, p). delete_property l p) }
 {
     match property_arguments(args) {
         Ok((location, name)) => delete(heap, alloc, location, name),
@@ -158,7 +162,7 @@ fn delete(
     location: u64,
     name: &Text,
 ) -> Result<Outcome, AllocError>
-    ensures { Answers result (stored_heap_view heap.old) (stored_heap_view heap.new) (delete_property location name.now (stored_heap_view heap.old)) }
+    ensures { Does result (stored_heap_view heap.old) (stored_heap_view heap.new) (delete_property location name.now) }
 {
     let domain = key_at(location, Sub::Dom);
     let names = match heap.get(&domain) {
@@ -181,7 +185,8 @@ fn delete(
 
 /// `has`.
 pub fn act_has(heap: &StoredHeap, alloc: Global, args: &Values) -> Result<Outcome, AllocError>
-    ensures { Answers result (stored_heap_view heap.now) (stored_heap_view heap.now) (read_or_fail (property_in (values_view args.now)) (λ (l, p). has_property l p (stored_heap_view heap.now)) (stored_heap_view heap.now)) }
+    ensures { DoesWith result (stored_heap_view heap.now) (stored_heap_view heap.now)
+        (property_in (values_view args.now)) (λ (l, p). has_property l p) }
 {
     match property_arguments(args) {
         Ok((location, name)) => has(heap, alloc, location, name),
@@ -191,7 +196,7 @@ pub fn act_has(heap: &StoredHeap, alloc: Global, args: &Values) -> Result<Outcom
 
 /// Whether an object has a property.
 fn has(heap: &StoredHeap, alloc: Global, location: u64, name: &Text) -> Result<Outcome, AllocError>
-    ensures { Answers result (stored_heap_view heap.now) (stored_heap_view heap.now) (has_property location name.now (stored_heap_view heap.now)) }
+    ensures { Does result (stored_heap_view heap.now) (stored_heap_view heap.now) (has_property location name.now) }
 {
     let property = Key::property(alloc, location, name)?;
     if heap.has(&property) {
@@ -205,7 +210,8 @@ fn has(heap: &StoredHeap, alloc: Global, location: u64, name: &Text) -> Result<O
 
 /// `getproto`.
 pub fn act_get_proto(heap: &StoredHeap, alloc: Global, args: &Values) -> Result<Outcome, AllocError>
-    ensures { Answers result (stored_heap_view heap.now) (stored_heap_view heap.now) (read_or_fail (location_in (values_view args.now)) (λ l. get_prototype l (stored_heap_view heap.now)) (stored_heap_view heap.now)) }
+    ensures { DoesWith result (stored_heap_view heap.now) (stored_heap_view heap.now)
+        (location_in (values_view args.now)) get_prototype }
 {
     match location_argument(args) {
         Ok(location) => prototype_of(heap, alloc, location),
@@ -215,7 +221,7 @@ pub fn act_get_proto(heap: &StoredHeap, alloc: Global, args: &Values) -> Result<
 
 /// The prototype of an object.
 fn prototype_of(heap: &StoredHeap, alloc: Global, location: u64) -> Result<Outcome, AllocError>
-    ensures { Answers result (stored_heap_view heap.now) (stored_heap_view heap.now) (get_prototype location (stored_heap_view heap.now)) }
+    ensures { Does result (stored_heap_view heap.now) (stored_heap_view heap.now) (get_prototype location) }
 {
     let key = key_at(location, Sub::Proto);
     match heap.get(&key) {
@@ -230,7 +236,8 @@ pub fn act_set_proto(
     alloc: Global,
     args: &Values,
 ) -> Result<Outcome, AllocError>
-    ensures { Answers result (stored_heap_view heap.old) (stored_heap_view heap.new) (read_or_fail (location_and_prototype_in (values_view args.now)) (λ (l, v). set_prototype l v (stored_heap_view heap.old)) (stored_heap_view heap.old)) }
+    ensures { DoesWith result (stored_heap_view heap.old) (stored_heap_view heap.new)
+        (location_and_prototype_in (values_view args.now)) (λ (l, v). set_prototype l v) }
 {
     match location_and_prototype_arguments(args) {
         Ok((location, value)) => set_prototype_of(heap, alloc, location, value),
@@ -245,7 +252,7 @@ fn set_prototype_of(
     location: u64,
     value: &Value,
 ) -> Result<Outcome, AllocError>
-    ensures { Answers result (stored_heap_view heap.old) (stored_heap_view heap.new) (set_prototype location (value_view value.now) (stored_heap_view heap.old)) }
+    ensures { Does result (stored_heap_view heap.old) (stored_heap_view heap.new) (set_prototype location (value_view value.now)) }
 {
     let key = key_at(location, Sub::Proto);
     if !heap.has(&key) {

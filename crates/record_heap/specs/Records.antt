@@ -20,7 +20,8 @@ use Rattle.record_heap.specs.Table.{name_list_of, name_list_in}
 
 -- ---- the argument of `new`
 
-pub names_read : (args : List PureValue) (v : PureValue) (vs : List PureValue) (b : Bool) → one_of args ≡ Ok v → v ≡ list (from_list vs) → b ≡ are_distinct_texts vs → name_list_in args ≡ (if b then Ok (list (from_list vs)) else Err Failure.Kind)
+pub names_read : (args : List PureValue) (v : PureValue) (vs : List PureValue) (b : Bool) → one_of args ≡ Ok v
+    → v ≡ list (from_list vs) → b ≡ are_distinct_texts vs → name_list_in args ≡ (if b then Ok (list (from_list vs)) else Err Failure.Kind)
 names_read args v vs b one is distinct =
     ap (λ r. and_then r name_list_of) (one ∙ ap Ok is)
     ∙ ap (λ ws. answer (are_distinct_texts ws)) (to_list-from_list vs)
@@ -54,9 +55,11 @@ no_gone_shape l same = let sub : ◌≡◌ {A = Sub} Gone Shape = ap (λ (k : Ke
 
 module _ (h : Heap) (l : ℕ) (d : PureValue) (is : IsHeapOf Record h) (at : Holds h (key l Shape) d) where
   all_keys : (s : Sub) → HasKey h (key l s) → IsTrue (is_among (key l s) (key l Shape ∷ name_keys l (names_of d)))
-  all_keys (Name p) has = or_second (key_eq (key l (Name p)) (key l Shape)) _ (among_listed l d p (is.well_formed.names_listed l Shape d tt at p has))
+  all_keys (Name p) has =
+      or_second (key_eq (key l (Name p)) (key l Shape)) _ (among_listed l d p (is.well_formed.names_listed l Shape d tt at p has))
   all_keys Shape has = or_first (key_eq (key l Shape) (key l Shape)) _ (itself (key l Shape))
-  all_keys Gone has = let same : ◌≡◌ {A = Sub} Shape Gone = is.well_formed.gone_alone l Shape has (has_key h (key l Shape) d at) in absurd (cc)
+  all_keys Gone has = let same : ◌≡◌ {A = Sub} Shape Gone =
+      is.well_formed.gone_alone l Shape has (has_key h (key l Shape) d at) in absurd (cc)
   all_keys (At i) has = absurd (true≢false (sym (is.subkeys (key l (At i)) has)))
   all_keys Bound has = absurd (true≢false (sym (is.subkeys (key l Bound) has)))
   all_keys Dom has = absurd (true≢false (sym (is.subkeys (key l Dom) has)))
@@ -65,6 +68,10 @@ module _ (h : Heap) (l : ℕ) (d : PureValue) (is : IsHeapOf Record h) (at : Hol
   pub record_whole : IsWhole h l (key l Shape) (name_keys l (names_of d))
   record_whole = record {
     all_keys = all_keys;
-    of_location = λ q among. ⊎_elim (λ shape. ap (λ (k : Key). k.loc) (same_key q (key l Shape) shape)) (λ name. (names_fit l d q name).0) (or_of (key_eq q (key l Shape)) _ among);
-    not_gone = not_true _ (λ among. ⊎_elim (λ shape. no_gone_shape l (same_key (key l Gone) (key l Shape) shape)) (λ name. let p = listed_among l d (key l Gone) name in no_gone_name p.0 l p.1) (or_of (key_eq (key l Gone) (key l Shape)) _ among));
+    of_location =
+        λ q among. ⊎_elim (λ shape. ap (λ (k : Key). k.loc) (same_key q (key l Shape) shape)) (λ name. (names_fit l d q name).0)
+        (or_of (key_eq q (key l Shape)) _ among);
+    not_gone = not_true _
+        (λ among. ⊎_elim (λ shape. no_gone_shape l (same_key (key l Gone) (key l Shape) shape))
+        (λ name. let p = listed_among l d (key l Gone) name in no_gone_name p.0 l p.1) (or_of (key_eq (key l Gone) (key l Shape)) _ among));
   }

@@ -51,7 +51,8 @@ gone = at_three Gone (boolean true) ∷ []
 
 -- a record beside another one, and what is left after it was disposed of
 abbrev pub two : Entries
-two = at_three Shape a_and_b ∷ at_three (Name (codes "a")) (number (pos 1)) ∷ at_three (Name (codes "b")) (number (pos 2)) ∷ (key 4 (Name (codes "a")), number (pos 7)) ∷ []
+two = at_three Shape a_and_b ∷ at_three (Name (codes "a")) (number (pos 1)) ∷ at_three (Name (codes "b")) (number (pos 2)) ∷
+    (key 4 (Name (codes "a")), number (pos 7)) ∷ []
 
 abbrev pub other_left : Entries
 other_left = at_three Gone (boolean true) ∷ (key 4 (Name (codes "a")), number (pos 7)) ∷ []

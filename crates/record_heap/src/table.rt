@@ -8,7 +8,7 @@ ghost use Rattle.mem_model.specs.Keys.{key};
 ghost use Rattle.mem_model.specs.Heaps.{IsHeapOf, OccursInHeap};
 ghost use Rattle.mem_model.specs.Arguments.{Reads, location_in, property_in, property_and_value_in};
 ghost use Rattle.mem_model.specs.Stored.{stored_heap_view};
-ghost use Rattle.mem_model.specs.Tables.{Answers, read_or_fail};
+ghost use Rattle.mem_model.specs.Tables.{Does, DoesWith};
 ghost use Rattle.record_heap.specs.Table.{name_list_in, new, lookup, mutate, dispose, no_property};
 
 use gil_values::{Kind, Text, Value, Values};
@@ -43,7 +43,8 @@ pub fn act_new(
     args: &Values,
 ) -> Result<Outcome, AllocError>
     requires { (n : _) → fresh ≡ Some n → ¬ OccursInHeap n (stored_heap_view heap.old) }
-    ensures { Answers result (stored_heap_view heap.old) (stored_heap_view heap.new) (read_or_fail (name_list_in (values_view args.now)) (λ d. new fresh d (stored_heap_view heap.old)) (stored_heap_view heap.old)) }
+    ensures { DoesWith result (stored_heap_view heap.old) (stored_heap_view heap.new)
+        (name_list_in (values_view args.now)) (new fresh) }
 {
     match name_list_argument(args) {
         Ok(names) => make(heap, alloc, fresh, names),
@@ -59,7 +60,7 @@ fn make(
     names: &Values,
 ) -> Result<Outcome, AllocError>
     requires { (n : _) → fresh ≡ Some n → ¬ OccursInHeap n (stored_heap_view heap.old) }
-    ensures { Answers result (stored_heap_view heap.old) (stored_heap_view heap.new) (new fresh (list (from_list (values_view names.now))) (stored_heap_view heap.old)) }
+    ensures { Does result (stored_heap_view heap.old) (stored_heap_view heap.new) (new fresh (list (from_list (values_view names.now)))) }
 {
     let Some(location) = fresh else {
         return Failure::Action.outcome(alloc);
@@ -76,7 +77,8 @@ fn make(
 
 /// `lookup`.
 pub fn act_lookup(heap: &StoredHeap, alloc: Global, args: &Values) -> Result<Outcome, AllocError>
-    ensures { Answers result (stored_heap_view heap.now) (stored_heap_view heap.now) (read_or_fail (property_in (values_view args.now)) (λ (l, p). lookup l p (stored_heap_view heap.now)) (stored_heap_view heap.now)) }
+    ensures { DoesWith result (stored_heap_view heap.now) (stored_heap_view heap.now)
+        (property_in (values_view args.now)) (λ (l, p). lookup l p) }
 {
     match property_arguments(args) {
         Ok((location, name)) => value_of(heap, alloc, location, name),
@@ -91,7 +93,7 @@ fn value_of(
     location: u64,
     name: &Text,
 ) -> Result<Outcome, AllocError>
-    ensures { Answers result (stored_heap_view heap.now) (stored_heap_view heap.now) (lookup location name.now (stored_heap_view heap.now)) }
+    ensures { Does result (stored_heap_view heap.now) (stored_heap_view heap.now) (lookup location name.now) }
 {
     let key = Key::property(alloc, location, name)?;
     match heap.get(&key) {
@@ -109,7 +111,7 @@ fn no_value(
     property: Key,
 ) -> Result<Outcome, AllocError>
     requires { property ≡ key location (Name name.now) }
-    ensures { Answers result (stored_heap_view heap.now) (stored_heap_view heap.now) (no_property location name.now (stored_heap_view heap.now)) }
+    ensures { Does result (stored_heap_view heap.now) (stored_heap_view heap.now) (no_property location name.now) }
 {
     let gone = Key {
         loc: location,
@@ -140,7 +142,8 @@ pub fn act_mutate(
     alloc: Global,
     args: &Values,
 ) -> Result<Outcome, AllocError>
-    ensures { Answers result (stored_heap_view heap.old) (stored_heap_view heap.new) (read_or_fail (property_and_value_in (values_view args.now)) (λ (l, p, v). mutate l p v (stored_heap_view heap.old)) (stored_heap_view heap.old)) }
+    ensures { DoesWith result (stored_heap_view heap.old) (stored_heap_view heap.new)
+        (property_and_value_in (values_view args.now)) (λ (l, p, v). mutate l p v) }
 {
     match property_and_value_arguments(args) {
         Ok((location, name, value)) => assign(heap, alloc, location, name, value),
@@ -156,7 +159,7 @@ fn assign(
     name: &Text,
     value: &Value,
 ) -> Result<Outcome, AllocError>
-    ensures { Answers result (stored_heap_view heap.old) (stored_heap_view heap.new) (mutate location name.now (value_view value.now) (stored_heap_view heap.old)) }
+    ensures { Does result (stored_heap_view heap.old) (stored_heap_view heap.new) (mutate location name.now (value_view value.now)) }
 {
     let key = Key::property(alloc, location, name)?;
     if !heap.has(&key) {
@@ -174,7 +177,8 @@ pub fn act_dispose(
     args: &Values,
 ) -> Result<Outcome, AllocError>
     requires { IsHeapOf Record (stored_heap_view heap.old) }
-    ensures { Answers result (stored_heap_view heap.old) (stored_heap_view heap.new) (read_or_fail (location_in (values_view args.now)) (λ l. dispose l (stored_heap_view heap.old)) (stored_heap_view heap.old)) }
+    ensures { DoesWith result (stored_heap_view heap.old) (stored_heap_view heap.new)
+        (location_in (values_view args.now)) dispose }
 {
     match location_argument(args) {
         Ok(location) => dispose_of(heap, alloc, location),
@@ -185,7 +189,7 @@ pub fn act_dispose(
 /// Disposes of a record.
 fn dispose_of(heap: &mut StoredHeap, alloc: Global, location: u64) -> Result<Outcome, AllocError>
     requires { IsHeapOf Record (stored_heap_view heap.old) }
-    ensures { Answers result (stored_heap_view heap.old) (stored_heap_view heap.new) (dispose location (stored_heap_view heap.old)) }
+    ensures { Does result (stored_heap_view heap.old) (stored_heap_view heap.new) (dispose location) }
 {
     let gone = Key {
         loc: location,
