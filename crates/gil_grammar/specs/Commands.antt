@@ -33,8 +33,10 @@ SpellsCommand (act x action es) from rest =
     × (from ≡ Name x ∷ becomes ∷ OfWord words.Do ∷ lexeme ∷ opening_parenthesis ∷ arguments)
     × SpellsExprs Command es arguments (closing_parenthesis ∷ rest)
 SpellsCommand (usym x) from rest = from ≡ Name x ∷ becomes ∷ OfWord words.Usym ∷ rest
-SpellsCommand (isym x k) from rest = (word : Word) × (input_word k ≡ Some word) × (from ≡ Name x ∷ becomes ∷ OfWord words.Isym ∷ OfWord word ∷ rest)
-SpellsCommand (ifgoto e i) from rest = (guard : List Lexeme) × (from ≡ OfWord words.Ifgoto ∷ guard) × SpellsExpr Command e guard (Number i ∷ rest)
+SpellsCommand (isym x k) from rest =
+    (word : Word) × (input_word k ≡ Some word) × (from ≡ Name x ∷ becomes ∷ OfWord words.Isym ∷ OfWord word ∷ rest)
+SpellsCommand (ifgoto e i) from rest =
+    (guard : List Lexeme) × (from ≡ OfWord words.Ifgoto ∷ guard) × SpellsExpr Command e guard (Number i ∷ rest)
 SpellsCommand (return e) from rest = (value : List Lexeme) × (from ≡ OfWord words.Return ∷ value) × SpellsExpr Command e value rest
 SpellsCommand (fail e) from rest = (value : List Lexeme) × (from ≡ OfWord words.Fail ∷ value) × SpellsExpr Command e value rest
 SpellsCommand vanish from rest = from ≡ OfWord words.Vanish ∷ rest

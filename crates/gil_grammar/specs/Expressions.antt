@@ -18,7 +18,8 @@ abbrev mutual
   SpellsExpr position (list_of es) from rest =
       (inner : List Lexeme) × (from ≡ opening_bracket ∷ inner) × SpellsElements position es inner (closing_bracket ∷ rest)
   SpellsExpr position (unary_of op e) from rest =
-      (inner : List Lexeme) × (from ≡ Word (unary_word op) ∷ opening_parenthesis ∷ inner) × SpellsExpr position e inner (closing_parenthesis ∷ rest)
+      (inner : List Lexeme) × (from ≡ Word (unary_word op) ∷ opening_parenthesis ∷ inner)
+      × SpellsExpr position e inner (closing_parenthesis ∷ rest)
   SpellsExpr position (binary_of op d e) from rest =
       (left right : List Lexeme) × (from ≡ before_operands op left)
       × SpellsExpr position d left (between_operands op ∷ right) × SpellsExpr position e right (closing_parenthesis ∷ rest)

@@ -19,7 +19,8 @@ pub fn one_text_spells_one_program()
 
 /// The lexemes of no expression begin another's.
 pub fn expressions_end_where_they_end()
-    ensures { (position : Position) (d e : PureExpr) (from rest left : List Lexeme) → SpellsExpr position d from rest → SpellsExpr position e from left → (d ≡ e) × (rest ≡ left) }
+    ensures { (position : Position) (d e : PureExpr) (from rest left : List Lexeme) → SpellsExpr position d from rest
+        → SpellsExpr position e from left → (d ≡ e) × (rest ≡ left) }
 {}
 
 /// The program that a text spells is well made.

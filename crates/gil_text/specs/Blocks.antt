@@ -14,4 +14,5 @@ use Rattle.gil_grammar.specs.Reading.Assertions.{without_block}
 -- Where the reader stopped for its syntax, the assertions before are answered, or none; want of memory is handed on.
 abbrev pub GivesWithout : Extent → Stop → Result (List (List Item) × List Lexeme) Stop → List (List PureItem) → List Lexeme → Type 0
 GivesWithout extent stops.Memory result front rest = result ≡ Err stops.Memory
-GivesWithout extent (stops.Syntax left) result front rest = Gives (λ found. (map assertion_view found.0, found.1)) result (with_front front (without_block extent rest))
+GivesWithout extent (stops.Syntax left) result front rest =
+    Gives (λ found. (map assertion_view found.0, found.1)) result (with_front front (without_block extent rest))

@@ -34,7 +34,8 @@ IsRefusedFor bytes at Syntax =
     (tokens : List Token) × (lexemes : List Lexeme) × AreLexemesOf tokens lexemes bytes × IsNested lexemes
     × ((items : List PlacedItem) → SpellsItems tokens items lexemes → BeginsWithProc items → ⊥)
 IsRefusedFor bytes at (Invalid kind) =
-    (items : List PlacedItem) × (i : ℕ) × Spell bytes items × IsNamedFault (parts_of items) kind i × (slice_get (places_of items) i ≡ Some at)
+    (items : List PlacedItem) × (i : ℕ) × Spell bytes items × IsNamedFault (parts_of items) kind i
+    × (slice_get (places_of items) i ≡ Some at)
 IsRefusedFor bytes at Limit = ⊥
 IsRefusedFor bytes at Entry = ⊥
 IsRefusedFor bytes at Modes = ⊥

@@ -95,7 +95,8 @@ pub fn annotation_at<'a>(
     ensures spelled { IfOk result (λ found. SpellsAnnotation (annotation_view found.0) cursor.entry found.1) }
     ensures shorter { IfOk result (λ found. length found.1 ≤ length cursor.entry) }
     ensures behind { IfOk result (λ found. found.1 ≡ drop (length cursor.entry - length found.1) cursor.entry) }
-    ensures longest { IfOk result (λ found. (open_before : ℕ) (other : PureAnnotation) (left : List Lexeme) → IsNestedFrom open_before cursor.entry
+    ensures longest { IfOk result (λ found. (open_before : ℕ) (other : PureAnnotation) (left : List Lexeme)
+        → IsNestedFrom open_before cursor.entry
         → SpellsAnnotation other cursor.entry left → length found.1 ≤ length left) }
     ensures none { IfErr result (λ stop. (open_before : ℕ) (a : PureAnnotation) (left : List Lexeme) → IsNestedFrom open_before cursor.entry
         → SpellsAnnotation a cursor.entry left → stop ≡ stops.Memory) }
@@ -117,9 +118,11 @@ pub fn read_assertions(
     ensures spelled { IfOk result (λ found. (lexemes : List Lexeme) → StandForAll bytes.now tokens.now lexemes
         → SpellsAnnotation (annotation_view found.0) (drop from lexemes) (drop found.1 lexemes)) }
     ensures behind { IfOk result (λ found. (from ≤ found.1) × (found.1 ≤ length tokens.now)) }
-    ensures longest { IfOk result (λ found. (lexemes : List Lexeme) (other : PureAnnotation) (left : List Lexeme) → StandForAll bytes.now tokens.now lexemes
+    ensures longest { IfOk result (λ found. (lexemes : List Lexeme) (other : PureAnnotation) (left : List Lexeme)
+        → StandForAll bytes.now tokens.now lexemes
         → IsNested lexemes → SpellsAnnotation other (drop from lexemes) left → length tokens.now ≤ found.1 + length left) }
-    ensures none { IfErr result (λ refused. (lexemes : List Lexeme) (a : PureAnnotation) (left : List Lexeme) → StandForAll bytes.now tokens.now lexemes
+    ensures none { IfErr result (λ refused. (lexemes : List Lexeme) (a : PureAnnotation) (left : List Lexeme)
+        → StandForAll bytes.now tokens.now lexemes
         → IsNested lexemes → SpellsAnnotation a (drop from lexemes) left → refused.kind ≡ Memory) }
     ensures kinds { IfErr result (λ refused. (refused.kind ≡ Syntax) ⊎ (refused.kind ≡ Memory)) }
 {

@@ -253,7 +253,10 @@ pub(crate) fn exprs_at<'a>(
     closing: Sign,
     cursor: Cursor<'a>,
 ) -> Result<(Exprs, Cursor<'a>), Stop>
-    ensures { Gives (λ found. (exprs_view found.0, found.1)) result (separated_at (read.expr_at inner position) closing signs.Comma cursor.entry) }
+    ensures { Gives (λ found. (
+      exprs_view found.0,
+      found.1,
+    )) result (separated_at (read.expr_at inner position) closing signs.Comma cursor.entry) }
 {
     let mut list = Exprs::new(alloc);
     if cursor.is_at(closing) {

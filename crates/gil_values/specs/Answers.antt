@@ -42,4 +42,5 @@ pub record IsExact (answer : Result Value OpFault) (outcome : Outcome) : Type 0 
   pub number : (answer ≡ Err Number) ↔ IsTooWide outcome
 
 abbrev pub AnswersAreExact : Type 0
-AnswersAreExact = (answer : Result Value OpFault) (outcome : Outcome) → Answers answer outcome → ¬ (answer ≡ Err Memory) → IsExact answer outcome
+AnswersAreExact =
+    (answer : Result Value OpFault) (outcome : Outcome) → Answers answer outcome → ¬ (answer ≡ Err Memory) → IsExact answer outcome

@@ -22,7 +22,9 @@ abbrev pub two_words : App
 two_words = with_rule (with_rule (new_app (codes "gillian")) (required_word (codes "mode"))) (required_word (codes "second"))
 
 abbrev pub line : App
-line = with_rule (with_rule (with_rule (with_rule two_words (with_one_value (codes "bound"))) (with_one_value (codes "entry"))) (with_one_value (codes "inputs"))) (flag (codes "json"))
+line = with_rule
+    (with_rule (with_rule (with_rule two_words (with_one_value (codes "bound"))) (with_one_value (codes "entry")))
+    (with_one_value (codes "inputs"))) (flag (codes "json"))
 
 -- clap takes the words
 abbrev pub AreTaken : List (List ℕ) → Type 0

@@ -118,8 +118,10 @@ pub fn entry_option(
     takes: bool,
     word: Option<&str>,
 ) -> Result<Option<Text>, AllocError>
-    ensures some { IfOk result (λ found. IfSome found (λ entry. IsOption takes SpellsEntry (codes "main") (option_map (λ s. s.now) word.entry) entry)) }
-    ensures none { IfOk result (λ found. IfNone found ((entry : List ℕ) → IsOption takes SpellsEntry (codes "main") (option_map (λ s. s.now) word.entry) entry → ⊥)) }
+    ensures some { IfOk result
+        (λ found. IfSome found (λ entry. IsOption takes SpellsEntry (codes "main") (option_map (λ s. s.now) word.entry) entry)) }
+    ensures none { IfOk result (λ found. IfNone found ((entry : List ℕ)
+        → IsOption takes SpellsEntry (codes "main") (option_map (λ s. s.now) word.entry) entry → ⊥)) }
 {
     match word {
         None => Text::from_str(alloc, "main"),
@@ -146,8 +148,10 @@ pub fn inputs_option(
     takes: bool,
     word: Option<&str>,
 ) -> Result<Option<Values>, AllocError>
-    ensures some { IfOk result (λ found. IfSome found (λ values. IsOption takes SpellsInputs [] (option_map (λ s. s.now) word.entry) (values_view values))) }
-    ensures none { IfOk result (λ found. IfNone found ((vs : List PureValue) → IsOption takes SpellsInputs [] (option_map (λ s. s.now) word.entry) vs → ⊥)) }
+    ensures some { IfOk result
+        (λ found. IfSome found (λ values. IsOption takes SpellsInputs [] (option_map (λ s. s.now) word.entry) (values_view values))) }
+    ensures none { IfOk result (λ found. IfNone found ((vs : List PureValue)
+        → IsOption takes SpellsInputs [] (option_map (λ s. s.now) word.entry) vs → ⊥)) }
 {
     match word {
         None => Ok(Some(Values::new(alloc))),

@@ -37,7 +37,8 @@ has_wide_arithmetic a = has_wide_part [] (term_of a)
 -- the atom that the reason names is one that keeps the list out of the fragment
 abbrev pub IsReason : List PureAtom → Reason → Type 0
 IsReason atoms (Reason.Atom i) = (a : PureAtom) × ((slice_get atoms i ≡ Some a) × (has_fragment_form a ≡ false))
-IsReason atoms (Reason.Number i) = (a : PureAtom) × ((slice_get atoms i ≡ Some a) × IsTrue (not (has_narrow_literals a) || has_wide_arithmetic a))
+IsReason atoms (Reason.Number i) =
+    (a : PureAtom) × ((slice_get atoms i ≡ Some a) × IsTrue (not (has_narrow_literals a) || has_wide_arithmetic a))
 
 -- the laws of a decider
 abbrev pub IsRight : List Sort → List PureAtom → PureDecision → Type 0

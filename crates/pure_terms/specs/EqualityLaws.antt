@@ -75,7 +75,8 @@ same_variable-same x y h =
     λ i. record { number = numbers i; sort = sorts i }
 
 pub same_variable-refl : (x : Var) → same_variable x x ≡ true
-same_variable-refl x = and_from (eqb x.number x.number) (same_sort x.sort x.sort) ((Decides-eqb x.number x.number).1 refl) (same_sort-refl x.sort)
+same_variable-refl x =
+    and_from (eqb x.number x.number) (same_sort x.sort x.sort) ((Decides-eqb x.number x.number).1 refl) (same_sort-refl x.sort)
 
 mutual
   pub same_term-refl : (t : PureTerm) → same_term t t ≡ true

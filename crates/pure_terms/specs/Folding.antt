@@ -72,7 +72,8 @@ folded_with_literal op (literal k) l = literal_or (binary_of op (literal k) (lit
 folded_with_literal op (binary_of inner t (literal (Literal.Int m))) (Literal.Int n) =
     term_or (binary_of op (binary_of inner t (literal (Literal.Int m))) (literal (Literal.Int n))) (joined_shift t inner m op n)
 folded_with_literal op (list_of ts) (Literal.Int i) =
-    if is_nth op then term_or (binary_of op (list_of ts) (literal (Literal.Int i))) (element_term ts i) else binary_of op (list_of ts) (literal (Literal.Int i))
+    if is_nth op then term_or (binary_of op (list_of ts) (literal (Literal.Int i))) (element_term ts i)
+    else binary_of op (list_of ts) (literal (Literal.Int i))
 folded_with_literal op s l = binary_of op s (literal l)
 
 abbrev pub folded_binary : BinOp → PureTerm → PureTerm → PureTerm

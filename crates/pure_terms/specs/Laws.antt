@@ -31,8 +31,10 @@ pub record DependOnVariables : Type 0 where
 -- They stay when the table grows, and so does the table's word for the variables.
 pub record StayWhenTablesGrow : Type 0 where
   pub over : (t : PureTerm) (vars more : List Sort) → IsOver vars t → IsOver (vars ++ more) t
-  pub values : (t : PureTerm) (vars : List Sort) (v more : List PureValue) → IsOver vars t → length v ≡ length vars → value (v ++ more) t ≡ value v t
-  pub truths : (a : PureAtom) (vars : List Sort) (v more : List PureValue) → IsOver vars (term_of a) → length v ≡ length vars → truth (v ++ more) a ≡ truth v a
+  pub values : (t : PureTerm) (vars : List Sort) (v more : List PureValue) → IsOver vars t → length v ≡ length vars
+      → value (v ++ more) t ≡ value v t
+  pub truths : (a : PureAtom) (vars : List Sort) (v more : List PureValue) → IsOver vars (term_of a) → length v ≡ length vars
+      → truth (v ++ more) a ≡ truth v a
 
 -- ---- symbols
 
@@ -43,15 +45,19 @@ InventsNoSymbol = (t : PureTerm) (v : List PureValue) (w : PureValue) (n : ℕ) 
 
 -- Symbols are known apart alone: other names for them give other names in values, and keep truth and what is proper.
 pub record RenamingKeeps : Type 0 where
-  pub values : (f : ℕ → ℕ) (v : List PureValue) (t : PureTerm) → IsOneToOneOn (symbols_of_all v) f → value (map (renamed f) v) t ≡ option_map (renamed f) (value v t)
+  pub values : (f : ℕ → ℕ) (v : List PureValue) (t : PureTerm) → IsOneToOneOn (symbols_of_all v) f
+      → value (map (renamed f) v) t ≡ option_map (renamed f) (value v t)
   pub truths : (f : ℕ → ℕ) (v : List PureValue) (a : PureAtom) → IsOneToOneOn (symbols_of_all v) f → truth (map (renamed f) v) a ≡ truth v a
-  pub proper : (f : ℕ → ℕ) (vars : List Sort) (v : List PureValue) → IsOneToOneOn (symbols_of_all v) f → IsProper vars v → IsProper vars (map (renamed f) v)
+  pub proper : (f : ℕ → ℕ) (vars : List Sort) (v : List PureValue) → IsOneToOneOn (symbols_of_all v) f → IsProper vars v
+      → IsProper vars (map (renamed f) v)
 
 -- ---- kinds and the fragment
 
 -- A kind that form and sorts tell is that of the value.
 abbrev pub KnownKindsAreRight : Type 0
-KnownKindsAreRight = (vars : List Sort) (v : List PureValue) (t : PureTerm) (w : PureValue) (k : Kind) → IsProper vars v → IsOver vars t → value v t ≡ Some w → known_kind t ≡ Some k → kind_of w ≡ k
+KnownKindsAreRight =
+    (vars : List Sort) (v : List PureValue) (t : PureTerm) (w : PureValue) (k : Kind) → IsProper vars v → IsOver vars t
+    → value v t ≡ Some w → known_kind t ≡ Some k → kind_of w ≡ k
 
 -- A simple term without variables of sort any has a known kind.
 abbrev pub SimpleTermsHaveKinds : Type 0
@@ -59,11 +65,15 @@ SimpleTermsHaveKinds = (t : PureTerm) → IsTrue (is_simple t) → names_sort So
 
 -- Simple terms have values.
 abbrev pub SimpleTermsHaveValues : Type 0
-SimpleTermsHaveValues = (vars : List Sort) (v : List PureValue) (t : PureTerm) → IsProper vars v → IsOver vars t → IsTrue (is_simple t) → (w : PureValue) × (value v t ≡ Some w)
+SimpleTermsHaveValues =
+    (vars : List Sort) (v : List PureValue) (t : PureTerm) → IsProper vars v → IsOver vars t → IsTrue (is_simple t)
+    → (w : PureValue) × (value v t ≡ Some w)
 
 -- The term of an atom of a fragment form is true or false.
 abbrev pub FragmentTermsAreBooleans : Type 0
-FragmentTermsAreBooleans = (vars : List Sort) (v : List PureValue) (a : PureAtom) → IsProper vars v → IsOver vars (term_of a) → IsTrue (has_fragment_form a) → (b : Bool) × (value v (term_of a) ≡ Some (boolean b))
+FragmentTermsAreBooleans =
+    (vars : List Sort) (v : List PureValue) (a : PureAtom) → IsProper vars v → IsOver vars (term_of a)
+    → IsTrue (has_fragment_form a) → (b : Bool) × (value v (term_of a) ≡ Some (boolean b))
 
 -- each atom by itself is a list of the fragment
 abbrev pub AreEachInFragment : List PureAtom → Type 0

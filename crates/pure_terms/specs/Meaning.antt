@@ -44,7 +44,8 @@ abbrev mutual
 pub record IsProper (vars : List Sort) (v : List PureValue) : Type 0 where
   pub one_each : length v ≡ length vars
   pub sorts : (x : ℕ) (s : Sort) (w : PureValue) → slice_get vars x ≡ Some s → slice_get v x ≡ Some w → IsTrue (has_sort s w)
-  pub fresh : (x y n : ℕ) (w : PureValue) → slice_get vars x ≡ Some Sort.Fresh → slice_get v x ≡ Some (symbol n) → y < x → slice_get v y ≡ Some w → ¬ OccursIn n w
+  pub fresh : (x y n : ℕ) (w : PureValue) → slice_get vars x ≡ Some Sort.Fresh → slice_get v x ≡ Some (symbol n) → y < x
+      → slice_get v y ≡ Some w → ¬ OccursIn n w
 
 -- the term, or each atom, names only variables of the table, with their sorts there
 abbrev pub AreVariablesOf : List Sort → List Var → Type 0

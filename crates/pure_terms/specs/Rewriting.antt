@@ -10,7 +10,8 @@ use Rattle.pure_terms.specs.Pure.{PureTerm, size, variables}
 
 -- under every proper valuation under which t is defined, u is defined and has the same value
 abbrev pub KeepsValue : PureTerm → PureTerm → Type 0
-KeepsValue t u = (vars : List Sort) (v : List PureValue) (w : PureValue) → IsProper vars v → IsOver vars t → value v t ≡ Some w → value v u ≡ Some w
+KeepsValue t u =
+    (vars : List Sort) (v : List PureValue) (w : PureValue) → IsProper vars v → IsOver vars t → value v t ≡ Some w → value v u ≡ Some w
 
 -- each variable of u stands in t, with the same sort
 abbrev pub NamesNoMore : PureTerm → PureTerm → Type 0

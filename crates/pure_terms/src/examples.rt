@@ -61,7 +61,8 @@ pub fn values_are_those_of_the_table()
     ensures sum { value (integer (pos 40) ∷ []) (plus x (number 2)) ≡ Some (integer (pos 42)) }
     ensures difference { value (integer (pos 1) ∷ integer (pos 3) ∷ []) (minus x y) ≡ Some (integer (negsuc 1)) }
     ensures both_sides { value [] (binary_of BinOp.And (truth_of false) one_by_zero_is_one) ≡ None }
-    ensures list { value (symbol 7 ∷ []) (equals (pair (of_sort Sort.Fresh 0) (number 1)) (pair (of_sort Sort.Fresh 0) (number 1))) ≡ Some (boolean true) }
+    ensures list { value (symbol 7 ∷ []) (equals (pair (of_sort Sort.Fresh 0) (number 1)) (pair (of_sort Sort.Fresh 0) (number 1))) ≡ Some
+        (boolean true) }
     ensures wrong_kind { value (boolean true ∷ []) (plus b (number 2)) ≡ None }
     ensures kinds { map (λ v. value (v ∷ []) (kind_term_of any)) one_of_each
         ≡ map (λ k. Some (kind k)) (Kind.Int ∷ Kind.Bool ∷ Kind.Str ∷ Kind.Sym ∷ Kind.Kind ∷ Kind.Proc ∷ Kind.List ∷ []) }

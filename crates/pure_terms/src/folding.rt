@@ -128,7 +128,8 @@ struct Shift {
 
 /// One shift for two, where the code can hold its literal.
 fn join_shifts(inner: BinOp, m: i128, op: BinOp, n: i128) -> Option<Shift>
-    ensures { (t : PureTerm) → option_map (λ shift. binary_of shift.op t (literal (Literal.Int shift.by))) result ≡ joined_shift t inner m op n }
+    ensures { (t : PureTerm)
+        → option_map (λ shift. binary_of shift.op t (literal (Literal.Int shift.by))) result ≡ joined_shift t inner m op n }
 {
     match (inner, op) {
         (BinOp::Add, BinOp::Add) => shift_by(BinOp::Add, m.checked_add(n)),
@@ -150,7 +151,10 @@ fn shift_by(op: BinOp, by: Option<i128>) -> Option<Shift>
 
 /// The shift that `(t INNER BY) OP RIGHT` is, where both are by literals.
 fn find_shift(op: BinOp, inner: BinOp, by: &Term, right: &Literal) -> Option<Shift>
-    ensures { (t : PureTerm) → term_or (binary_of op (binary_of inner t (term_view by.now)) (literal right.now)) (option_map (λ shift. binary_of shift.op t (literal (Literal.Int shift.by))) result) ≡ folded_with_literal op (binary_of inner t (term_view by.now)) right.now }
+    ensures { (t : PureTerm)
+        → term_or (binary_of op (binary_of inner t (term_view by.now)) (literal right.now))
+        (option_map (λ shift. binary_of shift.op t (literal (Literal.Int shift.by))) result) ≡ folded_with_literal op
+        (binary_of inner t (term_view by.now)) right.now }
 {
     match (by, right) {
         (Term::Lit(Literal::Int(m)), Literal::Int(n)) => join_shifts(inner, *m, op, *n),
@@ -166,7 +170,8 @@ fn fold_shifts(
     by: Box<Term>,
     right: Literal,
 ) -> Result<Term, AllocError>
-    ensures { IfOk result (λ t. term_view t ≡ folded_with_literal op (binary_of inner (term_view operand.value) (term_view by.value)) right) }
+    ensures { IfOk result
+        (λ t. term_view t ≡ folded_with_literal op (binary_of inner (term_view operand.value) (term_view by.value)) right) }
 {
     match find_shift(op, inner, &by, &right) {
         Some(shift) => {
@@ -180,7 +185,9 @@ fn fold_shifts(
 /// The place in a list of terms at which an operator with a literal finds an element.
 fn find_element(op: BinOp, terms: &Terms, right: &Literal) -> Option<usize>
     ensures found { IfSome result (λ i. i < length (terms_view terms.now)) }
-    ensures folded { term_or (binary_of op (list_of (from_list (terms_view terms.now))) (literal right.now)) (option_and_then (slice_get (terms_view terms.now)) result) ≡ folded_with_literal op (list_of (from_list (terms_view terms.now))) right.now }
+    ensures folded { term_or (binary_of op (list_of (from_list (terms_view terms.now))) (literal right.now))
+        (option_and_then (slice_get (terms_view terms.now)) result) ≡ folded_with_literal op
+        (list_of (from_list (terms_view terms.now))) right.now }
 {
     match (op, right) {
         (BinOp::Nth, Literal::Int(place)) => place_in(terms, *place),

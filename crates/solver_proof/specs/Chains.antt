@@ -87,7 +87,8 @@ kind_fact_at atoms i = option_and_then kind_fact_of (slice_get atoms i)
 
 -- the atom at this place says that s and t are equal, either way round
 abbrev pub AreEqualAt : List PureAtom → ℕ → PureTerm → PureTerm → Type 0
-AreEqualAt atoms i s t = (equality_at atoms i ≡ Some (record { left = s; right = t })) ⊎ (equality_at atoms i ≡ Some (record { left = t; right = s }))
+AreEqualAt atoms i s t =
+    (equality_at atoms i ≡ Some (record { left = s; right = t })) ⊎ (equality_at atoms i ≡ Some (record { left = t; right = s }))
 
 -- the equalities at these places lead from s to t
 abbrev pub Leads : List PureAtom → List ℕ → PureTerm → PureTerm → Type 0
@@ -121,7 +122,9 @@ is_empty_kind _ = false
 
 -- what is said of s's kind can't be said of t
 abbrev pub is_against : Option KindFact → PureTerm → PureTerm → Bool
-is_against (Some fact) s t = same_term fact.subject s && (if fact.is_so then is_empty_kind fact.kind || are_other_kinds (known_kind t) (Some fact.kind) else is_of_kind (known_kind t) fact.kind)
+is_against (Some fact) s t =
+    same_term fact.subject s &&
+    (if fact.is_so then is_empty_kind fact.kind || are_other_kinds (known_kind t) (Some fact.kind) else is_of_kind (known_kind t) fact.kind)
 is_against None s t = false
 
 -- both are said with different kinds, or of one kind one is said and the other denied

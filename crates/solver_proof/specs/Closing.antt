@@ -142,9 +142,11 @@ abbrev mutual
   Closes vars atoms (values_at i ps) = IsSomeAnd (value_atoms (kind_fact_at atoms i)) (λ more. CloseEach vars atoms more ps)
   Closes vars atoms (parts_apart i) = IsSomeAnd (equal_lists_at atoms i) (λ lists. ¬ HaveOneLength lists.left lists.right)
   Closes vars atoms (parts_at i p) =
-      IsSomeAnd (equal_lists_at atoms i) (λ lists. HaveOneLength lists.left lists.right × Closes vars (atoms ++ element_equalities lists.left lists.right) p)
+      IsSomeAnd (equal_lists_at atoms i) (λ lists. HaveOneLength lists.left lists.right
+      × Closes vars (atoms ++ element_equalities lists.left lists.right) p)
   Closes vars atoms (differ_at i ps) =
-      IsSomeAnd (different_lists_at atoms i) (λ lists. HaveOneLength lists.left lists.right × CloseEach vars atoms (element_disequalities lists.left lists.right) ps)
+      IsSomeAnd (different_lists_at atoms i) (λ lists. HaveOneLength lists.left lists.right
+      × CloseEach vars atoms (element_disequalities lists.left lists.right) ps)
   Closes vars atoms (split_on t p q) =
       IsOver vars t × IsTrue (may_split t) × Closes vars (atoms ++ positive t ∷ []) p × Closes vars (atoms ++ negative t ∷ []) q
   Closes vars atoms (meet_at i j k) = IsTrue (meet (at_most_at atoms i) (at_most_at atoms j) (disequality_at atoms k))

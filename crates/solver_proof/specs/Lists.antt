@@ -29,7 +29,8 @@ fact_view (Fact.IsKind t k) = positive (equals (term_view t.now) (literal (Liter
 abbrev pub list_step : AtomList-F (List PureAtom) → List PureAtom
 list_step (AtomList-F.Given atoms) = atoms_view atoms.now
 list_step (AtomList-F.More rest fact) = rest.now ++ fact_view fact ∷ []
-list_step (AtomList-F.Parts rest left right) = rest.now ++ element_equalities (from_list (terms_view left.now)) (from_list (terms_view right.now))
+list_step (AtomList-F.Parts rest left right) =
+    rest.now ++ element_equalities (from_list (terms_view left.now)) (from_list (terms_view right.now))
 
 abbrev pub list_view : AtomList → List PureAtom
 list_view = fold-AtomList (List PureAtom) list_step

@@ -10,7 +10,8 @@ use Rattle.solver_proof.specs.Pure.{PureProof}
 
 -- A list that a proof closes has no proper valuation under which every atom is true.
 abbrev pub ClosedListsHaveNoSolution : Type 0
-ClosedListsHaveNoSolution = (vars : List Sort) (atoms : List PureAtom) (p : PureProof) → AreOver vars atoms → Closes vars atoms p → IsUnsatisfiable vars atoms
+ClosedListsHaveNoSolution =
+    (vars : List Sort) (atoms : List PureAtom) (p : PureProof) → AreOver vars atoms → Closes vars atoms p → IsUnsatisfiable vars atoms
 
 -- the laws of a refuter
 abbrev pub RefutesRightly : List Sort → List PureAtom → Option PureProof → Type 0

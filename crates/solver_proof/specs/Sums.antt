@@ -53,7 +53,8 @@ pub record Row : Type 0 where
 
 -- `s - t + more <= 0`, or `= 0`
 abbrev pub difference : Option Side → Option Side → ℤ → Bool → Option Row
-difference (Some s) (Some t) more is_equal = Some (record { plus = s.of; minus = t.of; constant = (s.plus -ℤ t.plus) +ℤ more; is_equal = is_equal })
+difference (Some s) (Some t) more is_equal =
+    Some (record { plus = s.of; minus = t.of; constant = (s.plus -ℤ t.plus) +ℤ more; is_equal = is_equal })
 difference _ _ more is_equal = None
 
 -- `s <= t` gives `s - t <= 0`, `s < t` gives `s - t + 1 <= 0`, and `s = t` gives `s - t = 0`
@@ -120,7 +121,8 @@ DividesEach d (f ∷ fs) = (d ∣ unsigned_abs f.factor) × DividesEach d fs
 -- the code can hold each product and each sum of the products from one of them to the last
 abbrev pub is_held_total : List PureAtom → (Row → ℤ) → List Factor → Bool
 is_held_total atoms part [] = true
-is_held_total atoms part (f ∷ fs) = is_held (of_row part f.factor (row_at atoms f.atom)) && (is_held (total atoms part (f ∷ fs)) && is_held_total atoms part fs)
+is_held_total atoms part (f ∷ fs) =
+    is_held (of_row part f.factor (row_at atoms f.atom)) && (is_held (total atoms part (f ∷ fs)) && is_held_total atoms part fs)
 
 -- the rows of different atoms times their factors add to a positive constant without variables; no number above 1 divides
 -- each factor; and the code can hold the numbers on the way

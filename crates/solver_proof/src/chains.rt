@@ -238,7 +238,9 @@ fn is_against(said: Option<Said<'_>>, s: &Term, t: &Term) -> bool
 
 /// Whether a kind that is said or denied can't be that of a term.
 fn is_kind_against(kind: Kind, is_so: bool, t: &Term) -> bool
-    ensures { result ≡ (if is_so then is_empty_kind kind || are_other_kinds (known_kind (term_view t.now)) (Some kind) else is_of_kind (known_kind (term_view t.now)) kind) }
+    ensures { result ≡
+        (if is_so then is_empty_kind kind || are_other_kinds (known_kind (term_view t.now)) (Some kind) else is_of_kind
+        (known_kind (term_view t.now)) kind) }
 {
     if is_so {
         is_empty_kind(kind) || are_other_kinds(t.known_kind(), Some(kind))
@@ -248,7 +250,8 @@ fn is_kind_against(kind: Kind, is_so: bool, t: &Term) -> bool
 }
 
 fn are_against(first: Option<Said<'_>>, second: Option<Said<'_>>, s: &Term, t: &Term) -> bool
-    ensures { result ≡ are_against (option_map said_view first.entry) (option_map said_view second.entry) (term_view s.now) (term_view t.now) }
+    ensures { result ≡ are_against (option_map said_view first.entry) (option_map said_view second.entry) (term_view s.now)
+        (term_view t.now) }
 {
     match first {
         Some(first) => match second {

@@ -147,7 +147,8 @@ fn split_closes<'a>(
     first: &'a Proof,
     second: &'a Proof,
 ) -> bool
-    ensures { IsTrue result ↔ Closes vars.now (list_view list.now) (split_on (term_view term.now) (proof_view first.now) (proof_view second.now)) }
+    ensures { IsTrue result ↔ Closes vars.now (list_view list.now)
+        (split_on (term_view term.now) (proof_view first.now) (proof_view second.now)) }
 {
     if !term.is_over(vars) {
         return false;

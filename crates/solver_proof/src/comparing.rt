@@ -60,7 +60,8 @@ fn lists_of<'a>(left: &'a Term, right: &'a Term) -> Option<ListPair<'a>>
 
 /// Whether the atoms at these places say `s <= t`, `t <= s`, and that s and t differ.
 pub(crate) fn meet_closes(list: &AtomList<'_>, first: usize, second: usize, third: usize) -> bool
-    ensures { result ≡ meet (at_most_at (list_view list.now) first) (at_most_at (list_view list.now) second) (disequality_at (list_view list.now) third) }
+    ensures { result ≡ meet (at_most_at (list_view list.now) first) (at_most_at (list_view list.now) second)
+        (disequality_at (list_view list.now) third) }
 {
     match find_at_most(list, first) {
         Some(up) => match find_at_most(list, second) {

@@ -122,7 +122,8 @@ fn equality_of<'a>(fact: Fact<'a>) -> Option<Link<'a>>
 
 /// A term, and a kind that it is said to be, where this is no test of a kind.
 fn kind_link<'a>(term: &'a Term, kind: Kind) -> Option<Link<'a>>
-    ensures { option_map link_view result ≡ unless_kind_fact (kind_fact true (term_view term.now) (literal (Literal.Kind kind))) (Some (record { left = term_view term.now; right = literal (Literal.Kind kind) })) }
+    ensures { option_map link_view result ≡ unless_kind_fact (kind_fact true (term_view term.now) (literal (Literal.Kind kind)))
+        (Some (record { left = term_view term.now; right = literal (Literal.Kind kind) })) }
 {
     match term {
         Term::Op1(UnOp::Kind, _) => None,
@@ -135,7 +136,8 @@ fn kind_link<'a>(term: &'a Term, kind: Kind) -> Option<Link<'a>>
 
 /// The two sides of an equality that is no test of a kind.
 fn link_of<'a>(term: &'a Term) -> Option<Link<'a>>
-    ensures { option_map link_view result ≡ unless_kind_fact (kind_fact_of_term true (term_view term.now)) (sides_of_equality (term_view term.now)) }
+    ensures { option_map link_view result ≡ unless_kind_fact (kind_fact_of_term true (term_view term.now))
+        (sides_of_equality (term_view term.now)) }
 {
     match term {
         Term::Op2(BinOp::Equal, left, right) => link_between(left, right),
@@ -145,7 +147,8 @@ fn link_of<'a>(term: &'a Term) -> Option<Link<'a>>
 
 /// Two sides, where they are no test of a kind.
 fn link_between<'a>(left: &'a Term, right: &'a Term) -> Option<Link<'a>>
-    ensures { option_map link_view result ≡ unless_kind_fact (kind_fact true (term_view left.now) (term_view right.now)) (Some (record { left = term_view left.now; right = term_view right.now })) }
+    ensures { option_map link_view result ≡ unless_kind_fact (kind_fact true (term_view left.now) (term_view right.now))
+        (Some (record { left = term_view left.now; right = term_view right.now })) }
 {
     match kind_said(left, right, true) {
         Some(_) => None,

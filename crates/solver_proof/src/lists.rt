@@ -102,7 +102,8 @@ fn or_one<'a>(found: Found<'a>, fact: Fact<'a>) -> Found<'a>
 
 /// What stands at a place where the equalities of the elements of two list terms are more in the list.
 fn or_part<'a>(found: Found<'a>, left: &'a Terms, right: &'a Terms) -> Found<'a>
-    ensures { (atoms : List PureAtom) (i : ℕ) → FindsAt atoms i found.entry → FindsAt (atoms ++ element_equalities (from_list (terms_view left.now)) (from_list (terms_view right.now))) i result }
+    ensures { (atoms : List PureAtom) (i : ℕ) → FindsAt atoms i found.entry
+        → FindsAt (atoms ++ element_equalities (from_list (terms_view left.now)) (from_list (terms_view right.now))) i result }
 {
     match found {
         Found::Here(before) => Found::Here(before),

@@ -131,7 +131,8 @@ fn row_where_false(term: &Term) -> Option<Row>
 /// `s - t + more <= 0`, or `= 0`.
 fn difference(s: &Term, t: &Term, more: u8, is_equal: bool) -> Option<Row>
     requires { more < 2 }
-    ensures { option_map row_view result ≡ held_row (difference (side_of (term_view s.now)) (side_of (term_view t.now)) (pos more) is_equal) }
+    ensures { option_map row_view result ≡ held_row
+        (difference (side_of (term_view s.now)) (side_of (term_view t.now)) (pos more) is_equal) }
 {
     match offset_of(s) {
         Some(first) => match offset_of(t) {

@@ -106,7 +106,8 @@ abbrev pub without_block : Extent → List Lexeme → Reading (List (List PureIt
 without_block Whole ls = None
 without_block Longest ls = Some ([], ls)
 
-abbrev pub block_and : Extent → List Lexeme → Reading (List PureItem) → (List Lexeme → Reading (List (List PureItem))) → Reading (List (List PureItem))
+abbrev pub block_and : Extent → List Lexeme → Reading (List PureItem) → (List Lexeme → Reading (List (List PureItem)))
+    → Reading (List (List PureItem))
 block_and extent ls None more = without_block extent ls
 block_and extent ls (Some block) more = with_front (block.0 ∷ []) (more block.1)
 
