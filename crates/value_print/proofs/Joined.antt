@@ -1,7 +1,9 @@
 -- The printed elements of a list, one after another, with a separator between one and the next.
-use Rattle.std.proofs.Common.{◌≡◌, ◌≤◌, length, ◌+◌, ℕ, zero, suc, List, [], ◌∷◌, ◌++◌, map, take, Some, slice_get, refl, sym, ap, append_assoc, append-nil, arith, add-one}
+use Rattle.std.proofs.Common.{◌≡◌, ◌≤◌, ◌<◌, length, get_or, subst, ◌+◌, ℕ, zero, suc, List, [], ◌∷◌, ◌++◌, map, take, Some, slice_get, refl, sym, ap, append_assoc, append-nil, arith, add-one}
 use Rattle.std.specs.Prelude.{codes}
 use Rattle.std.proofs.lemmas.List.{take_all, length-map}
+use Rattle.std.proofs.lemmas.Option.{slice_get_read}
+use Rattle.gil_values.proofs.Lists.{slice_get-read}
 use Rattle.std.specs.List.{join_by, flat_map}
 use Rattle.gil_values.specs.Pure.{PureValue, from_list}
 use Rattle.gil_values.specs.View.{value_view}
@@ -44,20 +46,28 @@ printed_values-from_list : (vs : List PureValue) → printed_values (from_list v
 printed_values-from_list [] = refl
 printed_values-from_list (v ∷ vs) = ap (λ ps. printed_value v ∷ ps) (printed_values-from_list vs)
 
--- text by text, or value by value
-flat_map-map : (vs : List PureValue) → flat_map (λ p. codes ", " ++ p) (map printed_value vs) ≡ flat_map (λ v. codes ", " ++ printed_value v) vs
-flat_map-map [] = refl
-flat_map-map (v ∷ vs) = ap (λ rest. (codes ", " ++ printed_value v) ++ rest) (flat_map-map vs)
-
-join_by-map : (vs : List PureValue) → join_by (λ printed. printed) (codes ", ") (map printed_value vs) ≡ joined vs
-join_by-map [] = refl
-join_by-map (v ∷ vs) = ap (λ rest. printed_value v ++ rest) (flat_map-map vs)
+-- text by text, or element by element
+pub join_by-map : {X : Type 0} (printed : X → List ℕ) (separator : List ℕ) (xs : List X) → join_by (λ text. text) separator (map printed xs) ≡ join_by printed separator xs
+join_by-map printed separator [] = refl
+join_by-map {X = X} printed separator (x ∷ xs) = ap (λ rest. printed x ++ rest) (later xs)
+  where
+    later : (ys : List X) → flat_map (λ text. separator ++ text) (map printed ys) ≡ flat_map (λ y. separator ++ printed y) ys
+    later [] = refl
+    later (y ∷ ys) = ap (λ rest. (separator ++ printed y) ++ rest) (later ys)
 
 pub printed_list-joined : (vs : List PureValue) → printed_list vs ≡ codes "[" ++ joined vs ++ codes "]"
-printed_list-joined vs = rw (printed_values-from_list vs, join_by-map vs) refl
+printed_list-joined vs = rw (printed_values-from_list vs, join_by-map printed_value (codes ", ") vs) refl
 
 pub joined-take : (vs : List PureValue) (k : ℕ) (v : PureValue) → slice_get vs k ≡ Some v → joined (take (k + 1) vs) ≡ joined (take k vs) ++ (separator_before (codes ", ") k ++ printed_value v)
 joined-take = join_by-take printed_value (codes ", ")
+
+-- the element that was read from a slice, seen by f, is the one at the same place of the list seen by f
+pub element_read : {X Y : Type 0} (f : Y → X) (items : List Y) (xs : List X) (i : ℕ) (y : Y) → map f items ≡ xs → i < length items → y ≡ get_or items i y → slice_get xs i ≡ Some (f y)
+element_read f items xs i y seen within is = subst (λ zs. slice_get zs i ≡ Some (f y)) seen (slice_get-read f items i y within is)
+
+-- and where the slice is the list itself
+pub item_read : {X : Type 0} (items xs : List X) (i : ℕ) (x : X) → items ≡ xs → i < length items → x ≡ get_or items i x → slice_get xs i ≡ Some x
+item_read items xs i x same within is = subst (λ zs. slice_get zs i ≡ Some x) same (slice_get_read items (length items) i x refl within is)
 
 -- no element is left behind the list's end
 pub take-values : (items : List Value) (vs : List PureValue) (k : ℕ) → map value_view items ≡ vs → length items ≤ k → take k vs ≡ vs
