@@ -1,7 +1,5 @@
 pub mod Cases
 pub mod Ending
-pub mod Joined
-pub mod Numbers
 pub mod Paths
 pub mod Runs
 pub mod Spelled

@@ -1,21 +1,9 @@
 -- The texts of reports: a head line, and a line for the answer.
-use Rattle.std.specs.Prelude.{ℕ, zero, suc, List, [], ◌∷◌, ◌++◌, codes}
-use Rattle.gil_values.specs.Pure.{PureValue, list, from_list}
+use Rattle.std.specs.Prelude.{ℕ, List, [], ◌∷◌, ◌++◌, codes}
+use Rattle.gil_values.specs.Pure.{PureValue}
 use Rattle.gil_values.specs.Printed.{numeral, printed_value}
 use Rattle.gil_values.specs.declared.places.Place.{Place}
-
--- `main:4`
-abbrev pub printed_place : Place → List ℕ
-printed_place p = p.proc ++ codes ":" ++ numeral p.at
-
--- values in brackets, as a list value is printed
-abbrev pub printed_list : List PureValue → List ℕ
-printed_list vs = printed_value (list (from_list vs))
-
--- what stands before an element of a printed list, by its number
-abbrev pub separator_before : ℕ → List ℕ
-separator_before zero = []
-separator_before (suc index) = codes ", "
+use Rattle.value_print.specs.Pieces.{printed_place, printed_list}
 
 -- what a report of one procedure is about
 pub record Head : Type 0 where

@@ -1,143 +1,20 @@
 //! The text of a report.
 ghost use Rattle.std.specs.Prelude.{◌≡◌, ◌++◌, string_bytes, OnOk, IfOk};
 ghost use Rattle.gil_values.specs.View.{value_view, values_view};
-ghost use Rattle.std.specs.List.{flat_map};
-ghost use Rattle.gil_values.specs.Characters.{IsText, IsTextCharacter};
-ghost use Rattle.gil_values.specs.Pure.{symbol as symbol_value};
-ghost use Rattle.gil_values.specs.Printed.{numeral, signed_numeral, printed_value, text_literal, literal_character, kind_name};
-ghost use Rattle.gillian_core.specs.Reports.{printed_place, printed_list, separator_before, head_line, answer_line, report_text, bug};
+ghost use Rattle.gillian_core.specs.Reports.{head_line, answer_line, report_text, bug};
 ghost use Rattle.gillian_core.specs.Answers.{answer_of};
 ghost use Rattle.gillian_core.specs.Words.{test_head};
 
 use crate::verdicts::Verdict;
-use gil_values::{Kind, Place, Text, Value, Values};
+use gil_values::{Place, Value, Values};
 use std::alloc::{AllocError, Global};
-use std::fmt::Write;
+use value_print::{push_number, push_place, push_value, push_values};
 
 /// The head line of a test of `main`, up to its bound.
 const HEAD: &str = "gillian test gil-record entry main bound ";
 
 /// How many commands a run may execute.
 const BOUND: u64 = 1000;
-
-/// Adds the printed form of a value.
-#[cycle(print)]
-pub fn push_value(out: &mut String, value: &Value) -> Result<(), AllocError>
-    ensures { OnOk result (string_bytes out.new ≡ string_bytes out.old ++ printed_value (value_view value.now)) }
-{
-    match value {
-        Value::Int(number) => push_integer(out, *number),
-        Value::Bool(truth) => write!(out, "{truth}"),
-        Value::Str(text) => push_literal(out, text),
-        Value::Sym(symbol) => push_symbol(out, *symbol),
-        Value::Kind(kind) => out.push_str(name_of(*kind)),
-        Value::Proc(name) => {
-            out.push_str("@")?;
-            out.push_str(name.as_str())
-        }
-        Value::List(values) => push_values(out, values),
-    }
-}
-
-/// Adds the printed form of a list of values, in its brackets.
-#[cycle(print)]
-pub fn push_values(out: &mut String, values: &Values) -> Result<(), AllocError>
-    ensures { OnOk result (string_bytes out.new ≡ string_bytes out.old ++ printed_list (values_view values.now)) }
-{
-    out.push_str("[")?;
-    for (index, value) in values.as_slice().iter().enumerate() {
-        push_separator(out, index)?;
-        push_value(out, value)?;
-    }
-    out.push_str("]")?;
-    Ok(())
-}
-
-/// Adds what stands before the element with this number.
-fn push_separator(out: &mut String, index: usize) -> Result<(), AllocError>
-    ensures { OnOk result (string_bytes out.new ≡ string_bytes out.old ++ separator_before index) }
-{
-    if index > 0 {
-        out.push_str(", ")
-    } else {
-        Ok(())
-    }
-}
-
-/// Adds a whole number.
-#[tactic(auto, using(crate::proofs::Numbers::printed_integer))]
-fn push_integer(out: &mut String, number: i128) -> Result<(), AllocError>
-    ensures { OnOk result (string_bytes out.new ≡ string_bytes out.old ++ signed_numeral number) }
-{
-    write!(out, "{number}")
-}
-
-/// Adds a symbol, as `$4`.
-fn push_symbol(out: &mut String, symbol: u64) -> Result<(), AllocError>
-    ensures { OnOk result (string_bytes out.new ≡ string_bytes out.old ++ printed_value (symbol_value symbol)) }
-{
-    out.push_str("$")?;
-    push_number(out, symbol)
-}
-
-/// Adds a text between double quotes, with escapes.
-pub fn push_literal(out: &mut String, text: &Text) -> Result<(), AllocError>
-    ensures { OnOk result (string_bytes out.new ≡ string_bytes out.old ++ text_literal text.now) }
-{
-    out.push_str("\"")?;
-    push_characters(out, text.as_str())?;
-    out.push_str("\"")
-}
-
-/// Adds the characters of a text literal.
-fn push_characters(out: &mut String, characters: &str) -> Result<(), AllocError>
-    requires { IsText characters.now }
-    ensures { OnOk result (string_bytes out.new ≡ string_bytes out.old ++ flat_map literal_character characters.now) }
-{
-    for character in characters.as_bytes() {
-        push_character(out, *character)?;
-    }
-    Ok(())
-}
-
-/// Adds one character of a text literal.
-fn push_character(out: &mut String, character: u8) -> Result<(), AllocError>
-    requires { IsTextCharacter character }
-    ensures { OnOk result (string_bytes out.new ≡ string_bytes out.old ++ literal_character character) }
-{
-    match character {
-        b'"' => out.push_str("\\\""),
-        b'\\' => out.push_str("\\\\"),
-        b'\n' => out.push_str("\\n"),
-        _ => out.push(char::from(character)),
-    }
-}
-
-/// The name of a kind.
-fn name_of(kind: Kind) -> &'static str
-    ensures { result.now ≡ kind_name kind }
-{
-    match kind {
-        Kind::Int => "Int",
-        Kind::Bool => "Bool",
-        Kind::Str => "Str",
-        Kind::Sym => "Sym",
-        Kind::Kind => "Kind",
-        Kind::Proc => "Proc",
-        Kind::List => "List",
-        Kind::Undef => "Undef",
-        Kind::Null => "Null",
-    }
-}
-
-/// Adds a place, as `main:4`.
-pub fn push_place(out: &mut String, place: &Place) -> Result<(), AllocError>
-    ensures { OnOk result (string_bytes out.new ≡ string_bytes out.old ++ printed_place place.now) }
-{
-    out.push_str(place.proc.as_str())?;
-    out.push_str(":")?;
-    push_number(out, u64::from(place.at))
-}
 
 /// The text of the report on a verdict.
 pub fn report(alloc: Global, verdict: &Verdict) -> Result<String, AllocError>
@@ -157,14 +34,6 @@ fn push_head(out: &mut String, bound: u64) -> Result<(), AllocError>
     push_number(out, bound)?;
     out.push_str("\n")?;
     Ok(())
-}
-
-/// Adds a number in decimal digits.
-#[tactic(auto, using(crate::proofs::Numbers::printed_number))]
-fn push_number(out: &mut String, number: u64) -> Result<(), AllocError>
-    ensures { OnOk result (string_bytes out.new ≡ string_bytes out.old ++ numeral number) }
-{
-    write!(out, "{number}")
 }
 
 /// Adds the line of a verdict.

@@ -2,8 +2,8 @@ use Rattle.std.proofs.Common.{◌≡◌, ◌+◌, ◌*◌, ◌++◌, take, strin
 use Rattle.std.specs.Prelude.{codes}
 use Rattle.gil_values.specs.Pure.{value_size, values_size, from_list}
 use Rattle.gil_values.specs.View.{value_view, values_view}
-use Rattle.gillian_core.proofs.Joined.{joined}
-use Rattle.gillian_core.proofs.printing.+print.Given as goal
+use Rattle.value_print.proofs.Joined.{joined}
+use Rattle.value_print.proofs.values.+print.Given as goal
 
 abbrev pub decreases-push_value : goal.decreases-push_value
 decreases-push_value l = 2 * value_size (value_view l.value.now)

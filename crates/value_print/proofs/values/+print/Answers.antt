@@ -2,9 +2,9 @@ use Rattle.std.proofs.Common.{◌≡◌, ◌++◌, List, ℕ, arith, append_asso
 use Rattle.std.specs.Prelude.{codes}
 use Rattle.gil_values.specs.Pure.{PureValue}
 use Rattle.gil_values.proofs.Views.{value_size-element, values_view-element}
-use Rattle.gillian_core.proofs.Joined.{joined, joined-take, take-values, printed_list-joined}
-use Rattle.gillian_core.specs.Reports.{printed_list}
-use Rattle.gillian_core.proofs.printing.+print.Goals as goal
+use Rattle.value_print.proofs.Joined.{joined, joined-take, take-values, printed_list-joined}
+use Rattle.value_print.specs.Pieces.{printed_list}
+use Rattle.value_print.proofs.values.+print.Goals as goal
 
 pub push_values-push_value-requires : goal.push_values-push_value-requires
 push_values-push_value-requires t c =

@@ -1,0 +1,4 @@
+pub mod Assertions
+pub mod Commands
+pub mod Expressions
+pub mod Programs
