@@ -27,14 +27,14 @@ use Rattle.sym_model.specs.Terms.{StateTerms, all_of, AreEachOver, IsFreshOver}
 use Rattle.sym_model.proofs.ListLaws.{same_some, not_none, each_left, each_right, one_with}
 
 -- a variable of a term that names lower ones alone
-below_all : (n : ℕ) (xs : List Var) (x : Var) → list_all (λ y. ltb y.number n) xs ≡ true → Contains xs x → x.number < n
+pub below_all : (n : ℕ) (xs : List Var) (x : Var) → list_all (λ y. ltb y.number n) xs ≡ true → Contains xs x → x.number < n
 below_all n [] x all has = absurd (none_contained x has)
 below_all n (y ∷ xs) x all (zero, below, is) =
     ltb-true x.number n (ap (λ (z : Var). ltb z.number n) (sym is) ∙ (and_parts (ltb y.number n) (list_all (λ z. ltb z.number n) xs) all).0)
 below_all n (y ∷ xs) x all (suc k, below, is) =
     below_all n xs x (and_parts (ltb y.number n) (list_all (λ z. ltb z.number n) xs) all).1 (k, omega (arith, below), is)
 
-both_parts : (a : Option PureValue) (b : Option (List PureValue)) (us : List PureValue) → both a b ≡ Some us → (w : PureValue) × ((ws : List PureValue) × ((a ≡ Some w) × (b ≡ Some ws) × (us ≡ w ∷ ws)))
+pub both_parts : (a : Option PureValue) (b : Option (List PureValue)) (us : List PureValue) → both a b ≡ Some us → (w : PureValue) × ((ws : List PureValue) × ((a ≡ Some w) × (b ≡ Some ws) × (us ≡ w ∷ ws)))
 both_parts (Some w) (Some ws) us is = (w, (ws, (refl, refl, sym (same_some is))))
 both_parts (Some w) None us is = not_none is
 both_parts None b us is = not_none is
@@ -49,7 +49,7 @@ symbols_in_arguments v n (t ∷ args) us is occurs =
     (λ later. inr (symbols_in_arguments v n args ws rest later))
     (Contains-append_cases (symbols w) (symbols_of_all ws) n (subst (OccursAmong n) whole occurs))
 
-symbol_of_kind : (w : PureValue) → kind_of w ≡ Kind.Sym → (n : ℕ) × (w ≡ symbol n)
+pub symbol_of_kind : (w : PureValue) → kind_of w ≡ Kind.Sym → (n : ℕ) × (w ≡ symbol n)
 symbol_of_kind (symbol n) is = (n, refl)
 symbol_of_kind w is = cc
 
