@@ -1,0 +1,3 @@
+pub mod Combined
+pub mod Stepping
+pub mod Telling

@@ -1,0 +1,3 @@
+pub mod Alternatives
+pub mod Comparing
+pub mod Laws

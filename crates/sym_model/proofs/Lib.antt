@@ -1,0 +1,5 @@
+pub mod Asking
+pub mod ChunkLists
+pub mod ChunkMeaning
+pub mod ListLaws
+pub mod Unions

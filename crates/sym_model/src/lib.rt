@@ -1,0 +1,16 @@
+//! Symbolic memories: their interface and laws, and lists of symbolic chunks.
+#![tactic(auto)]
+
+mod branches;
+mod chunks;
+mod keys;
+mod laws;
+mod memory;
+mod path_conditions;
+
+pub use branches::{Branch, Branches, SymResult};
+pub use chunks::{Chunk, SymFrag};
+pub use keys::{SymKey, SymSub};
+pub use laws::{chunks_have_a_meaning, serving_valuations_may_act, unions_change};
+pub use memory::SymMemory;
+pub use path_conditions::PathCond;
