@@ -1,0 +1,5 @@
+pub mod Cycling
+pub mod Following
+pub mod Meeting
+pub mod Valuing
+pub mod Walking

@@ -1,0 +1,7 @@
+pub mod Answers
+pub mod Combining
+pub mod Differences
+pub mod Nodes
+pub mod Rows
+pub mod Valuations
+pub mod Walks
