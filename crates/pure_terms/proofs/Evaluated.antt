@@ -132,6 +132,12 @@ evaluated_more v us i u o a before is same now =
       narrow = ap (λ ts. have_wide_parts v (from_list ts)) next ∙ wide-push v (take i us) u before.narrow now;
     }
 
+-- the same up to the next place of a list
+pub wide-next : (v : List PureValue) (us : List PureTerm) (i : ℕ) (u : PureTerm) → have_wide_parts v (from_list (take i us)) ≡ false → slice_get us i ≡ Some u → has_wide_part v u ≡ false
+    → have_wide_parts v (from_list (take (i + 1) us)) ≡ false
+wide-next v us i u before is now =
+    ap (λ ts. have_wide_parts v (from_list ts)) (ap (λ n. take n us) (add-one i) ∙ take-push us i u is) ∙ wide-push v (take i us) u before now
+
 wide-element : (v : List PureValue) (us : List PureTerm) (i : ℕ) (u : PureTerm) → slice_get us i ≡ Some u → has_wide_part v u ≡ true → have_wide_parts v (from_list us) ≡ true
 wide-element v [] i u is wide = cc
 wide-element v (t ∷ us) zero u is wide =

@@ -1,4 +1,6 @@
 pub mod Counting
+pub mod DirectLaws
+pub mod DirectSure
 pub mod EqualLists
 pub mod Evaluated
 pub mod Folded
@@ -6,6 +8,7 @@ mod FoldingLaws
 pub mod FragmentLaws
 pub mod KindLaws
 pub mod ListTests
+pub mod PairTests
 pub mod NamingLaws
 mod ProperRows
 pub mod Renamed

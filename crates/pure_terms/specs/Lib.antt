@@ -1,4 +1,5 @@
 pub mod Deciding
+pub mod Direct
 pub mod Equality
 pub mod EqualityLaws
 pub mod Examples

@@ -17,6 +17,10 @@ use Rattle.pure_terms.specs.Wide.{is_wide, has_wide_part}
 abbrev pub have_wide_parts : List PureValue → PureTerms → Bool
 have_wide_parts v ts = list_any (λ s. is_wide (value v s)) (subterms_of_all ts)
 
+-- no part of two terms is too wide
+abbrev pub AreNarrow : List PureValue → PureTerm → PureTerm → Type 0
+AreNarrow v s t = (has_wide_part v s ≡ false) × (has_wide_part v t ≡ false)
+
 -- the answer is the term's value, or that a part of it is too wide
 abbrev pub Evaluates : List PureValue → PureTerm → Result (Option Value) HoldsFault → Type 0
 Evaluates v t (Ok o) = (option_map value_view o ≡ value v t) × (has_wide_part v t ≡ false)

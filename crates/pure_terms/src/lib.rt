@@ -3,6 +3,7 @@
 
 mod atoms;
 mod deciders;
+mod direct;
 mod equality;
 mod examples;
 mod folding;

@@ -1,18 +1,20 @@
 //! The values of terms and the truth of atoms under a valuation.
-ghost use Rattle.std.specs.Prelude.{◌≡◌, List, true, false, slice_get, IfOk, Err, Some};
+ghost use Rattle.std.specs.Prelude.{◌≡◌, List, true, false, slice_get, IfOk, IsOk, Err, Some};
 ghost use Rattle.std.specs.Option.{option_map};
 ghost use Rattle.gil_values.specs.Answers.{Answers};
 ghost use Rattle.gil_values.specs.Operators.{Outcome};
-ghost use Rattle.gil_values.specs.Pure.{PureValue};
+ghost use Rattle.gil_values.specs.Pure.{PureValue, boolean};
 ghost use Rattle.gil_values.specs.View.{value_view, values_view};
 ghost use Rattle.pure_terms.specs.declared.truth.HoldsFault.TheVariants.{Number, Memory};
-ghost use Rattle.pure_terms.specs.Meaning.{literal_value, truth};
+ghost use Rattle.pure_terms.specs.Direct.{IsModerate};
+ghost use Rattle.pure_terms.specs.Meaning.{literal_value, truth, value as pure_value};
 ghost use Rattle.pure_terms.specs.Pure.{PureTerm, PureTerms, list_of, unary_of, binary_of, term_of, from_list};
 ghost use Rattle.pure_terms.specs.Truth.{Evaluates, EvaluatesAll, IsDefined, with_last};
 ghost use Rattle.pure_terms.specs.View.{term_view, terms_view, atom_view};
 ghost use Rattle.pure_terms.specs.Wide.{is_wide, has_wide_part};
 
 use crate::atoms::Atom;
+use crate::direct::direct_truth;
 use crate::literals::Literal;
 use crate::terms::{Term, Terms};
 use crate::variables::Valuation;
@@ -39,8 +41,34 @@ impl From<AllocError> for HoldsFault {
     }
 }
 
-/// Whether an atom is true under a valuation.
+/// Whether an atom is true under a valuation. On atoms of the fragment it takes no memory.
 pub fn holds(alloc: Global, atom: &Atom, valuation: &Valuation) -> Result<bool, HoldsFault>
+    ensures ok { IfOk result (λ b. b ≡ truth (values_view valuation.now) (atom_view atom.now)) }
+    ensures narrow { IfOk result (λ _. has_wide_part (values_view valuation.now) (term_of (atom_view atom.now)) ≡ false) }
+    ensures number { result ≡ Err Number → has_wide_part (values_view valuation.now) (term_of (atom_view atom.now)) ≡ true }
+
+    // Neither fault comes on an atom of the fragment, where the numbers lie between -2^125 and 2^125.
+    ensures sure { IsModerate (values_view valuation.now) (atom_view atom.now) → IsOk result }
+{
+    match direct_truth(atom.term(), valuation) {
+        Some(truth) => Ok(truth_of(atom, truth)),
+        None => evaluate_atom(alloc, atom, valuation),
+    }
+}
+
+/// The truth of an atom whose term has this value.
+fn truth_of(atom: &Atom, value: bool) -> bool
+    ensures { (v : List PureValue) → pure_value v (term_of (atom_view atom.now)) ≡ Some (boolean value) → result ≡ truth v (atom_view atom.now) }
+{
+    match atom {
+        Atom::Holds(_) => value,
+        Atom::Not(_) => !value,
+        Atom::Open(_) => true,
+    }
+}
+
+/// The truth of an atom by the values of all that stands in it.
+fn evaluate_atom(alloc: Global, atom: &Atom, valuation: &Valuation) -> Result<bool, HoldsFault>
     ensures ok { IfOk result (λ b. b ≡ truth (values_view valuation.now) (atom_view atom.now)) }
     ensures narrow { IfOk result (λ _. has_wide_part (values_view valuation.now) (term_of (atom_view atom.now)) ≡ false) }
     ensures number { result ≡ Err Number → has_wide_part (values_view valuation.now) (term_of (atom_view atom.now)) ≡ true }
