@@ -80,7 +80,7 @@ impl Prog {
     }
 
     /// How many procedures there are.
-    pub(crate) fn proc_count(&self) -> usize
+    pub fn proc_count(&self) -> usize
         ensures { result ≡ length (prog_view self.now).procs }
     {
         self.procs.len()
