@@ -241,12 +241,22 @@ fault_or_tokens kind at bytes tokens other h (end, lead, last) =
     no_end (start bytes) h.place end h.tokens tokens h.lead (stuck_at kind at bytes other h) lead last
 
 -- The bytes that follow a place are those of the text from there on.
-record Follows (bytes : List ℕ) (p : Place) : Type 0 where
+pub record Follows (bytes : List ℕ) (p : Place) : Type 0 where
   rest : p.rest ≡ drop p.at bytes
   within : p.at ≤ length bytes
 
-slice_here : (bytes : List ℕ) (p q : Place) (t : Token) → Follows bytes p → Passes p t q → IsSlice bytes t × Follows bytes q
-slice_here bytes p q t f h =
+pub follows_start : (bytes : List ℕ) → Follows bytes (start bytes)
+follows_start bytes = record { rest = refl; within = omega arith }
+
+-- the slice of a token that leads on is the token's text
+pub record Sliced (bytes : List ℕ) (p q : Place) (t : Token) (h : Passes p t q) : Type 0 where
+  pub text : slice_range bytes t.from t.to ≡ h.text
+  pub forward : t.from ≤ t.to
+  pub within : t.to ≤ length bytes
+  pub follows : Follows bytes q
+
+pub slice_text : (bytes : List ℕ) (p q : Place) (t : Token) → Follows bytes p → (h : Passes p t q) → Sliced bytes p q t h
+slice_text bytes p q t f h =
     let whole = passes_length p q t h in
     let all : p.at + length p.rest ≡ length bytes = let count = ap length f.rest ∙ length-drop p.at bytes in let within = f.within in omega (arith, count) in
     let from_text : drop t.from bytes ≡ h.text ++ q.rest =
@@ -254,12 +264,19 @@ slice_here bytes p q t f h =
     let to = h.to in
     let at = h.at in
     let count : t.to - t.from ≡ length h.text = omega (arith, to) in
-    let taken : slice_range bytes t.from t.to ≡ h.text = ap (λ n. take n (drop t.from bytes)) count ∙ ap (take (length h.text)) from_text ∙ take_at h.text q.rest (length h.text) refl in
     let behind : q.rest ≡ drop q.at bytes =
-    sym (drop_at h.text q.rest (length h.text) refl) ∙ ap (drop (length h.text)) (sym from_text) ∙ drop-drop (length h.text) t.from bytes ∙ ap (λ n. drop n bytes) (sym h.to ∙ sym h.at) in (
-      record { forward = omega (arith, to); within = omega (arith, whole, all, at); spelled = subst (Spells t.form) (sym taken) h.spelled.0 },
-      record { rest = behind; within = omega (arith, whole, all) },
-    )
+    sym (drop_at h.text q.rest (length h.text) refl) ∙ ap (drop (length h.text)) (sym from_text) ∙ drop-drop (length h.text) t.from bytes ∙ ap (λ n. drop n bytes) (sym h.to ∙ sym h.at) in
+    record {
+      text = ap (λ n. take n (drop t.from bytes)) count ∙ ap (take (length h.text)) from_text ∙ take_at h.text q.rest (length h.text) refl;
+      forward = omega (arith, to);
+      within = omega (arith, whole, all, at);
+      follows = record { rest = behind; within = omega (arith, whole, all) };
+    }
+
+slice_here : (bytes : List ℕ) (p q : Place) (t : Token) → Follows bytes p → Passes p t q → IsSlice bytes t × Follows bytes q
+slice_here bytes p q t f h =
+    let s = slice_text bytes p q t f h in
+    (record { forward = s.forward; within = s.within; spelled = subst (Spells t.form) (sym s.text) h.spelled.0 }, s.follows)
 
 slices_from : (bytes : List ℕ) (p q : Place) (ts : List Token) → Follows bytes p → Lead p ts q → AllByRecursion (IsSlice bytes) ts
 slices_from bytes p q [] f h = tt
@@ -270,7 +287,7 @@ slices_from bytes p q (t ∷ ts) f (next, first, others) =
 -- each token is a slice of the text
 pub slices : (ts : List Token) (bytes : List ℕ) → AreTokensOf ts bytes → All (IsSlice bytes) ts
 slices ts bytes (end, lead, last) =
-    All-from_recursion _ _ (slices_from bytes (start bytes) end ts (record { rest = refl; within = omega arith }) lead)
+    All-from_recursion _ _ (slices_from bytes (start bytes) end ts (follows_start bytes) lead)
 
 -- tests of the length
 pub some_left : (rest : List ℕ) → false ≡ eqb (length rest) 0 → rest ≢ []

@@ -1,1 +1,10 @@
 pub mod Adding
+pub mod Assertions
+pub mod Commands
+pub mod Expressions
+pub mod Lexing
+pub mod Operators
+pub mod Pieces
+pub mod Programs
+pub mod Texts
+pub mod Tokens

@@ -4,6 +4,9 @@ ghost use Rattle.std.specs.List.{flat_map};
 ghost use Rattle.gil_syntax.specs.Pure.{PureProc};
 ghost use Rattle.gil_syntax.specs.View.{spec_view, pred_def_view};
 ghost use Rattle.gil_program.specs.Program.{prog_view};
+ghost use Rattle.gil_syntax.specs.Programs.{renumbered};
+ghost use Rattle.gil_grammar.specs.Texts.{SpellProgram};
+ghost use Rattle.gil_print.specs.Writable.{IsWritable};
 ghost use Rattle.syntax_print.specs.Programs.{printed_proc, printed_spec, printed_pred, printed_program};
 
 use gil_program::Prog;
@@ -55,6 +58,9 @@ fn push_preds(out: &mut String, preds: &PredDefs) -> Result<(), AllocError>
 /// The text of a program: a command on each line; then each specification and each predicate on a line of its own.
 pub fn print_prog(alloc: Global, prog: &Prog) -> Result<Vec<u8>, AllocError>
     ensures printed { IfOk result (λ bytes. bytes.items ≡ printed_program (prog_view prog.now)) }
+    // Where some text spells the program, but for the numbers of its commands, this one spells it, with each command's index
+    // as its number.
+    ensures again { IfOk result (λ bytes. IsWritable (prog_view prog.now) → SpellProgram bytes.items (renumbered (prog_view prog.now))) }
 {
     let mut out = String::new(alloc);
     push_procs(&mut out, prog)?;
