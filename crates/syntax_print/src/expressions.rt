@@ -9,7 +9,7 @@ use std::alloc::AllocError;
 use value_print::{push_separator, push_value};
 
 /// The name of an operator of one operand.
-fn unary_name(op: UnOp) -> &'static str
+pub fn unary_name(op: UnOp) -> &'static str
     ensures { result.now ≡ unary_name op }
 {
     match op {
@@ -21,7 +21,7 @@ fn unary_name(op: UnOp) -> &'static str
 }
 
 /// What stands before the operands.
-fn before_operands(op: BinOp) -> &'static str
+pub fn before_operands(op: BinOp) -> &'static str
     ensures { result.now ≡ before_operands op }
 {
     match op {
@@ -31,7 +31,7 @@ fn before_operands(op: BinOp) -> &'static str
 }
 
 /// What stands between the operands.
-fn between_operands(op: BinOp) -> &'static str
+pub fn between_operands(op: BinOp) -> &'static str
     ensures { result.now ≡ between_operands op }
 {
     match op {

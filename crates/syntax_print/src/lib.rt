@@ -8,5 +8,5 @@ mod programs;
 
 pub use assertions::{push_assertion, push_block, push_item, push_param, push_use, push_variables};
 pub use commands::push_command;
-pub use expressions::{push_expr, push_exprs};
+pub use expressions::{before_operands, between_operands, push_expr, push_exprs, unary_name};
 pub use programs::{push_pred, push_proc, push_spec};

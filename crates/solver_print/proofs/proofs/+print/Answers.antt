@@ -1,0 +1,22 @@
+use Rattle.std.proofs.Common.{◌≡◌, Some, slice_get, sym, arith}
+use Rattle.std.specs.Prelude.{codes}
+use Rattle.solver_proof.specs.View.{proof_view, proofs_view}
+use Rattle.solver_proof.proofs.Sizes.{size-element}
+use Rattle.value_print.proofs.Joined.{pushed}
+use Rattle.solver_print.specs.Proofs.{printed_proof}
+use Rattle.solver_print.proofs.Sizes.{branches_added}
+use Rattle.solver_print.proofs.proofs.+print.Goals as goal
+
+pub push_branches-returns : goal.push_branches-returns
+push_branches-returns t c = branches_added _ _ _ _ _ _ c.in_ok-push_str.ensures.bytes c.in_ok-push_each.ensures c.in_ok-push_str-2.ensures.bytes
+
+pub push_each-push_proof-requires : goal.push_each-push_proof-requires
+push_each-push_proof-requires t c =
+    let element : slice_get (proofs_view c.args.proofs.now) c.loop-index.index ≡ Some (proof_view c.in-Some.proof.now) = sym c.in-Some.ensures in
+    let smaller = size-element _ c.loop-index.index _ element in
+    (omega (arith, smaller), tt)
+
+pub push_each-loop-index-preserved : goal.push_each-loop-index-preserved
+push_each-loop-index-preserved t c =
+    let element : slice_get (proofs_view c.args.proofs.now) c.loop-index.index ≡ Some (proof_view c.in-Some.proof.now) = sym c.in-Some.ensures in
+    pushed (printed_proof c.args.names.now) (codes ", ") _ c.loop-index.index _ _ _ _ _ element c.loop-index.invariant c.in_ok-push_separator.ensures c.in_ok-push_proof.ensures

@@ -1,0 +1,4 @@
+pub mod Atoms
+pub mod Laws
+pub mod Proofs
+pub mod Terms
