@@ -17,7 +17,7 @@ use Rattle.gil_syntax.specs.Pure.{PureExpr, PureItem, PureCommand, assign, call,
 use Rattle.gil_grammar.specs.declared.positions.Position.TheVariants as positions
 use Rattle.gil_grammar.specs.Assertions.{SpellsBlock, SpellsUse}
 use Rattle.gil_grammar.specs.Commands.{SpellsName, SpellsNames, SpellsCommand, SpellsStatement}
-use Rattle.gil_grammar.specs.Expressions.{SpellsExprs}
+use Rattle.gil_grammar.specs.Expressions.{SpellsExpr, SpellsExprs}
 use Rattle.gil_grammar.specs.Nesting.{most_open}
 use Rattle.gil_grammar.specs.Vocabulary as grammar
 use Rattle.gil_grammar.proofs.ListLaws.{found_is}
@@ -27,7 +27,7 @@ use Rattle.syntax_print.specs.Expressions.{printed_expr, printed_exprs}
 use Rattle.gil_print.proofs.Lexing.{IsSpelled, Written, Lexes, Anywhere, lexes_blank}
 use Rattle.gil_print.proofs.Expressions.{four, behind_of, parenthesis_closed, expr_prints, exprs_print}
 use Rattle.gil_print.proofs.Assertions.{six, variables_print, use_prints, block_prints}
-use Rattle.gil_print.proofs.Pieces.{PrintsFirst, PrintsAny, PrintsBare, three, separated_prints}
+use Rattle.gil_print.proofs.Pieces.{PrintsFirst, PrintsAny, PrintsBare, first_of, first_of_any, three, separated_prints}
 use Rattle.gil_print.proofs.Tokens.{named, name_token, number_token, lexes_of, lexes_word, word_and_blank, comma_step, becomes_step, semicolon_step, left_parenthesis, right_parenthesis}
 
 -- ---- names
@@ -209,42 +209,6 @@ ifgoto_prints e i from rest b count (guard, is, k) w =
           );
     }
 
-return_prints : (e : PureExpr) (from rest : List Lexeme) (b : Option Form) (count : ℕ) → SpellsCommand (return e) from rest → Written b count from
-    → PrintsBare (SpellsCommand (return e)) (printed_command (return e)) count rest
-unfolding word_bytes
-return_prints e from rest b count (value, is, k) w =
-    let here = subst (Written b count) is w in
-    let expression = expr_prints positions.Command e value rest _ count k here.1 in
-    record {
-      before = _;
-      behind = expression.behind;
-      again = λ bytes ls stops any.
-          let y = expression.again (Some (forms.Word words.Return)) bytes ls refl stops (any _) in (
-            lexemes.Word words.Return ∷ y.0,
-            (y.0, refl, y.1),
-            λ b'. subst (λ t. Lexes b' count t (lexemes.Word words.Return ∷ y.0)) (sym (append_assoc (codes "return ") (printed_expr e) bytes))
-                (word_and_blank words.Return b' count (printed_expr e ++ bytes) y.0 here.0.within y.2),
-          );
-    }
-
-fail_prints : (e : PureExpr) (from rest : List Lexeme) (b : Option Form) (count : ℕ) → SpellsCommand (fail e) from rest → Written b count from
-    → PrintsBare (SpellsCommand (fail e)) (printed_command (fail e)) count rest
-unfolding word_bytes
-fail_prints e from rest b count (value, is, k) w =
-    let here = subst (Written b count) is w in
-    let expression = expr_prints positions.Command e value rest _ count k here.1 in
-    record {
-      before = _;
-      behind = expression.behind;
-      again = λ bytes ls stops any.
-          let y = expression.again (Some (forms.Word words.Fail)) bytes ls refl stops (any _) in (
-            lexemes.Word words.Fail ∷ y.0,
-            (y.0, refl, y.1),
-            λ b'. subst (λ t. Lexes b' count t (lexemes.Word words.Fail ∷ y.0)) (sym (append_assoc (codes "fail ") (printed_expr e) bytes))
-                (word_and_blank words.Fail b' count (printed_expr e ++ bytes) y.0 here.0.within y.2),
-          );
-    }
-
 vanish_prints : (from rest : List Lexeme) (b : Option Form) (count : ℕ) → SpellsCommand vanish from rest → Written b count from → PrintsBare (SpellsCommand vanish) (printed_command vanish) count rest
 unfolding word_bytes
 vanish_prints from rest b count is w =
@@ -255,9 +219,9 @@ vanish_prints from rest b count is w =
       again = λ bytes ls stops any. (lexemes.Word words.Vanish ∷ ls, refl, λ b'. lexes_word words.Vanish b' count bytes ls here.0.within stops (any _));
     }
 
--- a word and what follows it, whose text begins with no number
+-- a word and what follows it
 worded : (word : Word) (before : List ℕ) → before ≡ word_bytes word ++ codes " " → (spells : List Lexeme → List Lexeme → Type 0) (printed : List ℕ) (from inner rest : List Lexeme) (b : Option Form) (count : ℕ)
-    → from ≡ lexemes.Word word ∷ inner → Written b count from → (Written (Some (forms.Word word)) count inner → PrintsAny spells printed count rest)
+    → from ≡ lexemes.Word word ∷ inner → Written b count from → (Written (Some (forms.Word word)) count inner → PrintsFirst spells printed count rest)
     → PrintsBare (λ ls left. (inner : List Lexeme) × (ls ≡ lexemes.Word word ∷ inner) × spells inner left) (before ++ printed) count rest
 worded word before spelled spells printed from inner rest b count is w prints =
     let here = subst (Written b count) is w in
@@ -266,12 +230,12 @@ worded word before spelled spells printed from inner rest b count is w prints =
       before = _;
       behind = thing.behind;
       again = λ bytes ls stops any.
-          let y = thing.again bytes ls any in (
+          let y = thing.again (Some (forms.Word word)) bytes ls refl stops any in (
             lexemes.Word word ∷ y.0,
             (y.0, refl, y.1),
             λ b'. subst (λ t. Lexes b' count ((t ++ printed) ++ bytes) (lexemes.Word word ∷ y.0)) (sym spelled)
                 (subst (λ t. Lexes b' count t (lexemes.Word word ∷ y.0)) (sym (three (word_bytes word) (codes " ") printed bytes))
-                (word_and_blank word b' count (printed ++ bytes) y.0 here.0.within (y.2 _))),
+                (word_and_blank word b' count (printed ++ bytes) y.0 here.0.within y.2)),
           );
     }
 
@@ -311,15 +275,19 @@ command_prints (act x action es) from rest b count h w = act_prints x action es 
 command_prints (usym x) from rest b count h w = usym_prints x from rest b count h w
 command_prints (isym x k) from rest b count h w = isym_prints x k from rest b count h w
 command_prints (ifgoto e i) from rest b count h w = ifgoto_prints e i from rest b count h w
-command_prints (return e) from rest b count h w = return_prints e from rest b count h w
-command_prints (fail e) from rest b count h w = fail_prints e from rest b count h w
+command_prints (return e) from rest b count (value, is, k) w =
+    worded words.Return (codes "return ") refl (SpellsExpr positions.Command e) (printed_expr e) from value rest b count is w
+    (λ w'. first_of (expr_prints positions.Command e value rest _ count k w'))
+command_prints (fail e) from rest b count (value, is, k) w =
+    worded words.Fail (codes "fail ") refl (SpellsExpr positions.Command e) (printed_expr e) from value rest b count is w
+    (λ w'. first_of (expr_prints positions.Command e value rest _ count k w'))
 command_prints vanish from rest b count h w = vanish_prints from rest b count h w
 command_prints (fold_use u) from rest b count (inner, is, k) w =
-    worded words.Fold (codes "fold ") refl (SpellsUse u) (printed_use u) from inner rest b count is w (λ w'. use_prints u inner rest _ count k w')
+    worded words.Fold (codes "fold ") refl (SpellsUse u) (printed_use u) from inner rest b count is w (λ w'. first_of_any (use_prints u inner rest _ count k w'))
 command_prints (unfold_use u) from rest b count (inner, is, k) w =
-    worded words.Unfold (codes "unfold ") refl (SpellsUse u) (printed_use u) from inner rest b count is w (λ w'. use_prints u inner rest _ count k w')
+    worded words.Unfold (codes "unfold ") refl (SpellsUse u) (printed_use u) from inner rest b count is w (λ w'. first_of_any (use_prints u inner rest _ count k w'))
 command_prints (assert_that items) from rest b count (block, is, k) w =
-    worded words.Assert (codes "assert ") refl (SpellsBlock items) (printed_block items) from block rest b count is w (λ w'. block_prints items block rest _ count k w')
+    worded words.Assert (codes "assert ") refl (SpellsBlock items) (printed_block items) from block rest b count is w (λ w'. first_of_any (block_prints items block rest _ count k w'))
 command_prints (loop_invariant xs ps items) from rest b count h w = invariant_prints xs ps items from rest b count h w
 
 -- the line of a command

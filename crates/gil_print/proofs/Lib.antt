@@ -6,5 +6,6 @@ pub mod Lexing
 pub mod Operators
 pub mod Pieces
 pub mod Programs
+pub mod Renumbering
 pub mod Texts
 pub mod Tokens

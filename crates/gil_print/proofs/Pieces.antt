@@ -59,6 +59,9 @@ bare_of_any h = record { before = h.before; behind = h.behind; again = λ bytes 
 pub three : (a b c d : List ℕ) → ((a ++ b) ++ c) ++ d ≡ a ++ (b ++ (c ++ d))
 three a b c d = simp append_assoc
 
+shifted : (a b c d : List ℕ) → ((a ++ b) ++ c) ++ d ≡ a ++ ((b ++ c) ++ d)
+shifted a b c d = simp append_assoc
+
 -- things with a separator between one and the next
 module _ {X : Type 0} (spells : X → List Lexeme → List Lexeme → Type 0) (printed : X → List ℕ) (separator : Lexeme) (between : List ℕ)
     (opens : Opens separator) (takes : takes_minus (Some (form_of separator)) ≡ true)
@@ -69,6 +72,18 @@ module _ {X : Type 0} (spells : X → List Lexeme → List Lexeme → Type 0) (p
   -- each behind the separator
   abbrev later : List X → List ℕ
   later xs = flat_map (λ x. between ++ printed x) xs
+
+  -- one, and the others each behind the separator
+  one_and_more : (x : X) (xs : List X) (count : ℕ) (after rest : List Lexeme) → PrintsFirst (spells x) (printed x) count after → PrintsMore (SpellsMore spells separator xs) (later xs) count rest
+      → PrintsFirst (SpellsSeparated spells separator (x ∷ xs)) (printed x ++ later xs) count rest
+  one_and_more x xs count after rest first others = record {
+    before = others.before;
+    behind = others.behind;
+    again = λ b bytes ls takes' h any.
+        let tail = others.again bytes ls h any in
+        let front = first.again b (later xs ++ bytes) tail.0 takes' (others.stops bytes h) tail.2 in
+        (front.0, (tail.0, front.1, tail.1), subst (λ text. Lexes b count text front.0) (sym (append_assoc (printed x) (later xs) bytes)) front.2);
+  }
 
   more_prints : (xs : List X) (from rest : List Lexeme) (b : Option Form) (count : ℕ) → SpellsMore spells separator xs from rest → Written b count from
       → PrintsMore (SpellsMore spells separator xs) (later xs) count rest
@@ -82,18 +97,17 @@ module _ {X : Type 0} (spells : X → List Lexeme → List Lexeme → Type 0) (p
       let here = subst (Written b count) is w in
       let next : Written (Some (form_of separator)) count inner = subst (λ n. Written (Some (form_of separator)) n inner) (opens count) here.1 in
       let first = prints x inner after _ count one next in
-      let others = more_prints xs after rest first.before count more first.behind in
+      let all = one_and_more x xs count after rest first (more_prints xs after rest first.before count more first.behind) in
       record {
-        before = others.before;
-        behind = others.behind;
+        before = all.before;
+        behind = all.behind;
         stops = λ bytes h. subst Stops (sym (three between (printed x) (later xs) bytes)) (stops (printed x ++ (later xs ++ bytes)));
         again = λ bytes ls h any.
-            let tail = others.again bytes ls h any in
-            let front = first.again (Some (form_of separator)) (later xs ++ bytes) tail.0 takes (others.stops bytes h) tail.2 in (
-              separator ∷ front.0,
-              (front.0, tail.0, refl, front.1, tail.1),
-              λ b'. subst (λ text. Lexes b' count text (separator ∷ front.0)) (sym (three between (printed x) (later xs) bytes))
-                  (lexes b count (printed x ++ (later xs ++ bytes)) front.0 here.0 b' front.2),
+            let y = all.again (Some (form_of separator)) bytes ls takes h any in (
+              separator ∷ y.0,
+              (y.0, y.1.0, refl, y.1.1, y.1.2),
+              λ b'. subst (λ text. Lexes b' count text (separator ∷ y.0)) (sym (shifted between (printed x) (later xs) bytes))
+                  (lexes b count ((printed x ++ later xs) ++ bytes) y.0 here.0 b' y.2),
             );
       }
 
@@ -106,15 +120,7 @@ module _ {X : Type 0} (spells : X → List Lexeme → List Lexeme → Type 0) (p
   }
   separated_prints (x ∷ xs) from rest b count (after, one, more) w =
       let first = prints x from after b count one w in
-      let others = more_prints xs after rest first.before count more first.behind in
-      record {
-        before = others.before;
-        behind = others.behind;
-        again = λ b' bytes ls takes' h any.
-            let tail = others.again bytes ls h any in
-            let front = first.again b' (later xs ++ bytes) tail.0 takes' (others.stops bytes h) tail.2 in
-            (front.0, (tail.0, front.1, tail.1), subst (λ text. Lexes b' count text front.0) (sym (append_assoc (printed x) (later xs) bytes)) front.2);
-      }
+      one_and_more x xs count after rest first (more_prints xs after rest first.before count more first.behind)
 
 -- things one directly after another, with blanks or nothing between their texts
 module _ {X : Type 0} (spells : X → List Lexeme → List Lexeme → Type 0) (printed : X → List ℕ) (gap : List ℕ)
@@ -124,23 +130,30 @@ module _ {X : Type 0} (spells : X → List Lexeme → List Lexeme → Type 0) (p
   abbrev all_behind : List X → List ℕ
   all_behind xs = flat_map (λ x. gap ++ printed x) xs
 
+  -- one, and the others each behind the gap
+  one_and_each : (x : X) (xs : List X) (count : ℕ) (after rest : List Lexeme) → PrintsAny (spells x) (printed x) count after → PrintsAny (SpellsEach spells xs) (all_behind xs) count rest
+      → PrintsAny (SpellsEach spells (x ∷ xs)) (printed x ++ all_behind xs) count rest
+  one_and_each x xs count after rest first others = record {
+    before = others.before;
+    behind = others.behind;
+    again = λ bytes ls any.
+        let tail = others.again bytes ls any in
+        let front = first.again (all_behind xs ++ bytes) tail.0 tail.2 in
+        (front.0, (tail.0, front.1, tail.1), λ b. subst (λ text. Lexes b count text front.0) (sym (append_assoc (printed x) (all_behind xs) bytes)) (front.2 b));
+  }
+
   pub each_prints : (xs : List X) (from rest : List Lexeme) (b : Option Form) (count : ℕ) → SpellsEach spells xs from rest → Written b count from
       → PrintsAny (SpellsEach spells xs) (all_behind xs) count rest
   each_prints [] from rest b count is w = record { before = b; behind = subst (Written b count) is w; again = λ bytes ls any. (ls, refl, any) }
   each_prints (x ∷ xs) from rest b count (after, one, more) w =
       let first = prints x from after b count one w in
-      let others = each_prints xs after rest first.before count more first.behind in
+      let all = one_and_each x xs count after rest first (each_prints xs after rest first.before count more first.behind) in
       record {
-        before = others.before;
-        behind = others.behind;
+        before = all.before;
+        behind = all.behind;
         again = λ bytes ls any.
-            let tail = others.again bytes ls any in
-            let front = first.again (all_behind xs ++ bytes) tail.0 tail.2 in (
-              front.0,
-              (tail.0, front.1, tail.1),
-              λ b'. subst (λ text. Lexes b' count text front.0) (sym (three gap (printed x) (all_behind xs) bytes))
-                  (lexes b' count (printed x ++ (all_behind xs ++ bytes)) front.0 (front.2 b')),
-            );
+            let y = all.again bytes ls any in
+            (y.0, y.1, λ b'. subst (λ text. Lexes b' count text y.0) (sym (shifted gap (printed x) (all_behind xs) bytes)) (lexes b' count ((printed x ++ all_behind xs) ++ bytes) y.0 (y.2 b')));
       }
 
   pub some_print : (xs : List X) (from rest : List Lexeme) (b : Option Form) (count : ℕ) → SpellsSome spells xs from rest → Written b count from
@@ -148,15 +161,5 @@ module _ {X : Type 0} (spells : X → List Lexeme → List Lexeme → Type 0) (p
   some_print [] from rest b count h w = absurd h
   some_print (x ∷ xs) from rest b count (after, one, more) w =
       let first = prints x from after b count one w in
-      let others = each_prints xs after rest first.before count more first.behind in
-      record {
-        before = others.before;
-        behind = others.behind;
-        again = λ bytes ls any.
-            let tail = others.again bytes ls any in
-            let front = first.again (all_behind xs ++ bytes) tail.0 tail.2 in (
-              front.0,
-              (tail.0, front.1, tail.1),
-              λ b'. subst (λ text. Lexes b' count text front.0) (sym (append_assoc (printed x) (all_behind xs) bytes)) (front.2 b'),
-            );
-      }
+      let all = one_and_each x xs count after rest first (each_prints xs after rest first.before count more first.behind) in
+      record { before = all.before; behind = all.behind; again = all.again }

@@ -20,4 +20,5 @@ PrintedAgain = (bytes : List ℕ) (p : PureParts) → SpellProgram bytes p → S
 
 -- Two writable programs that are printed alike are the same but for the numbers of their commands.
 abbrev pub PrintingTellsPrograms : Type 0
-PrintingTellsPrograms = (p q : PureParts) → IsWritable p → IsWritable q → printed_program p ≡ printed_program q → renumbered p ≡ renumbered q
+PrintingTellsPrograms =
+    (p q : PureParts) → IsWritable p → IsWritable q → printed_program p ≡ printed_program q → renumbered p ≡ renumbered q

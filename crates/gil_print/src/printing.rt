@@ -5,6 +5,7 @@ ghost use Rattle.gil_syntax.specs.Pure.{PureProc};
 ghost use Rattle.gil_syntax.specs.View.{spec_view, pred_def_view};
 ghost use Rattle.gil_program.specs.Program.{prog_view};
 ghost use Rattle.gil_syntax.specs.Programs.{renumbered};
+ghost use Rattle.gil_syntax.specs.Valid.{IsValid};
 ghost use Rattle.gil_grammar.specs.Texts.{SpellProgram};
 ghost use Rattle.gil_print.specs.Writable.{IsWritable};
 ghost use Rattle.syntax_print.specs.Programs.{printed_proc, printed_spec, printed_pred, printed_program};
@@ -61,6 +62,8 @@ pub fn print_prog(alloc: Global, prog: &Prog) -> Result<Vec<u8>, AllocError>
     // Where some text spells the program, but for the numbers of its commands, this one spells it, with each command's index
     // as its number.
     ensures again { IfOk result (λ bytes. IsWritable (prog_view prog.now) → SpellProgram bytes.items (renumbered (prog_view prog.now))) }
+    // The program with these numbers is valid too, so that readers take the text.
+    ensures valid { OnOk result (IsValid (renumbered (prog_view prog.now))) }
 {
     let mut out = String::new(alloc);
     push_procs(&mut out, prog)?;

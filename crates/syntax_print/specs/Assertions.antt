@@ -4,7 +4,7 @@ use Rattle.std.specs.List.{join_by}
 use Rattle.gil_syntax.specs.declared.assertions.Param.{Param}
 use Rattle.gil_syntax.specs.declared.assertions.SpecSort.{SpecSort}
 use Rattle.gil_syntax.specs.declared.assertions.SpecSort.TheVariants as sorts
-use Rattle.gil_syntax.specs.Pure.{PureExpr, PurePredUse, PureItem, pure, uses}
+use Rattle.gil_syntax.specs.Pure.{PurePredUse, PureItem, pure, uses}
 use Rattle.syntax_print.specs.Expressions.{printed_expr, printed_exprs}
 
 -- what stands behind the name of a parameter or of a logical variable: `: int`. The sort any is left out.

@@ -14,7 +14,9 @@ printed_statement c = printed_command c.command ++ codes ";\n"
 -- command;
 -- }
 abbrev pub printed_proc : PureProc → List ℕ
-printed_proc q = codes "proc " ++ q.name ++ codes "(" ++ printed_names q.params ++ codes ") {\n" ++ flat_map printed_statement q.body ++ codes "}\n"
+printed_proc q =
+    codes "proc " ++ q.name ++ codes "(" ++ printed_names q.params ++ codes ") {\n"
+    ++ flat_map printed_statement q.body ++ codes "}\n"
 
 -- spec name(x: sort, ..) [#x: sort, ..] { precondition } { postcondition } ..
 abbrev pub printed_spec : PureSpec → List ℕ

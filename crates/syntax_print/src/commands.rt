@@ -65,7 +65,8 @@ fn push_action(
     action: &Text,
     arguments: &Exprs,
 ) -> Result<(), AllocError>
-    ensures { OnOk result (string_bytes out.new ≡ string_bytes out.old ++ printed_command (act variable.now action.now (exprs_view arguments.now))) }
+    ensures { OnOk result (string_bytes out.new ≡ string_bytes out.old
+        ++ printed_command (act variable.now action.now (exprs_view arguments.now))) }
 {
     out.push_str(variable.as_str())?;
     out.push_str(" := do ")?;
