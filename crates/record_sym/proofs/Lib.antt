@@ -1,0 +1,9 @@
+pub mod CaseLaws
+pub mod Elements
+pub mod Facts
+pub mod LookupLaws
+pub mod NameLists
+pub mod NewLaws
+pub mod PropertyLaws
+pub mod Right
+pub mod Shapes
