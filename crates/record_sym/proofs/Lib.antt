@@ -1,4 +1,6 @@
 pub mod CaseLaws
+pub mod DisposeLaws
+pub mod DisposeRight
 pub mod Elements
 pub mod Facts
 pub mod LookupLaws

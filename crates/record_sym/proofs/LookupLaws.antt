@@ -142,7 +142,7 @@ module _ (vars : List Sort) (v : List PureValue) (h : Heap) (l : PureTerm) (a : 
 -- ---- the arguments
 
 -- a value is a symbol, or reading a symbol fails
-symbol_or_not : (x : PureValue) → ((a : ℕ) × (x ≡ symbol a)) ⊎ ((symbol_of x ≡ Err Failure.Kind) × (¬ (kind_of x ≡ Kind.Sym)))
+pub symbol_or_not : (x : PureValue) → ((a : ℕ) × (x ≡ symbol a)) ⊎ ((symbol_of x ≡ Err Failure.Kind) × (¬ (kind_of x ≡ Kind.Sym)))
 symbol_or_not (symbol a) = inl (a, refl)
 symbol_or_not (integer i) = inr (refl, λ e. cc)
 symbol_or_not (boolean b) = inr (refl, λ e. cc)

@@ -62,12 +62,12 @@ with_all_first k ks w h = same_heap _ _ (λ q.
     ∙ sym (get-with_all ks w (insert h k w) q))
 
 -- the texts of values, which are distinct
-and_parts3 : (b c d : Bool) → (b && not c && d) ≡ true → (b ≡ true) × (c ≡ false) × (d ≡ true)
+pub and_parts3 : (b c d : Bool) → (b && not c && d) ≡ true → (b ≡ true) × (c ≡ false) × (d ≡ true)
 and_parts3 true true d e = absurd (true≢false (sym e))
 and_parts3 true false d e = (refl, refl, e)
 and_parts3 false c d e = absurd (true≢false (sym e))
 
-text_value : (w : PureValue) → is_text w ≡ true → (p : List ℕ) × (w ≡ text p)
+pub text_value : (w : PureValue) → is_text w ≡ true → (p : List ℕ) × (w ≡ text p)
 text_value (text p) e = (p, refl)
 text_value w e = absurd (true≢false (sym e))
 

@@ -123,7 +123,7 @@ module _ (vars : List Sort) (v : List PureValue) (h : Heap) (l : PureTerm) (a : 
     by_opened proto is no_list names e = absurd (omega (arith, key_number vars v h c f proto a Shape is e))
     by_opened gone is no_list names e = absurd (omega (arith, key_number vars v h c f gone a Shape is e))
 
-    holds_opened : is_list_term c.val ≡ false → is_name_list f.w ≡ true → f.k ≡ key a Shape → Hold v (opened_at l c)
+    pub holds_opened : is_list_term c.val ≡ false → is_name_list f.w ≡ true → f.k ≡ key a Shape → Hold v (opened_at l c)
     holds_opened no_list names e = by_opened c.sub refl no_list names e
 
     -- ---- a chunk that doesn't tell of the name

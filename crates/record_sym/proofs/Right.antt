@@ -28,6 +28,7 @@ use Rattle.sym_model.proofs.ChunkMeaning.{ChunkTerms, chunk_by_chunk, chunks_hav
 use Rattle.sym_model.proofs.ListLaws.{not_none, each_left, each_right}
 use Rattle.record_sym.proofs.CaseLaws.{Exact, covered}
 use Rattle.record_sym.proofs.LookupLaws.{IsRight, lookup_right, mutate_right}
+use Rattle.record_sym.proofs.DisposeRight.{dispose_right}
 use Rattle.record_sym.proofs.NewLaws.{new_right}
 
 -- what the proofs of the actions are given
@@ -93,3 +94,9 @@ module _ (action : List ℕ) (args : List PureTerm) (cs : List PureChunk) (is_op
 
 pub new_is_right : IsRightAction RecordAction.New
 new_is_right action fresh args cs is_op asked = with_fresh action args cs is_op fresh asked
+
+pub dispose_is_right : IsRightAction RecordAction.Dispose
+dispose_is_right action fresh args cs is_op asked =
+    are_right RecordAction.Dispose action fresh args cs is_op asked (λ vars v args' h serves.
+    let given = what_is_given RecordAction.Dispose action fresh args cs is_op asked vars v args' h serves in
+    dispose_right vars v h cs serves.proper given.over_chunks serves.has_heap args args' given.over_args serves.have_values given.keeps)
