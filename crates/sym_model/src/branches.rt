@@ -1,7 +1,11 @@
 //! What an action on symbolic states may come to.
+ghost use Rattle.std.specs.Prelude.{◌≡◌, IfOk};
+ghost use Rattle.sym_model.specs.View.{result_view};
+
 use crate::keys::SymKey;
 use pure_terms::{Atoms, Term};
 use sequence::Sequence;
+use std::alloc::{AllocError, Global};
 
 /// What an action comes to, in terms. Contracts see it as its pure data, by `result_view`.
 #[derive(Debug, Drop)]
@@ -9,6 +13,19 @@ pub enum SymResult {
     Done(Term),
     Failed(Term),
     Miss(SymKey),
+}
+
+impl SymResult {
+    /// An equal result.
+    pub fn copy(&self, alloc: Global) -> Result<SymResult, AllocError>
+        ensures { IfOk result (λ r. result_view r ≡ result_view self.now) }
+    {
+        match self {
+            SymResult::Done(term) => Ok(SymResult::Done(term.copy(alloc)?)),
+            SymResult::Failed(term) => Ok(SymResult::Failed(term.copy(alloc)?)),
+            SymResult::Miss(key) => Ok(SymResult::Miss(key.copy(alloc)?)),
+        }
+    }
 }
 
 /// What an action may come to where the conditions are true. Contracts see it as its pure data, by `branch_view`.

@@ -1,0 +1,11 @@
+pub mod CaseLaws
+pub mod DisposeLaws
+pub mod DisposeRight
+pub mod Elements
+pub mod Facts
+pub mod LookupLaws
+pub mod NameLists
+pub mod NewLaws
+pub mod PropertyLaws
+pub mod Right
+pub mod Shapes

@@ -1,0 +1,12 @@
+use Rattle.std.proofs.Common.{◌≡◌, ◌++◌, take, drop, map}
+use Rattle.std.specs.List.{flat_map}
+use Rattle.pure_terms.specs.View.{term_view}
+use Rattle.record_sym.specs.Table.{takings_from, next_takings, missing_name, disposed, dispose_names, dispose_from}
+use Rattle.record_sym.specs.View.{record_branches_view, taking_view, takings_view}
+use Rattle.sym_conditions.specs.Alternatives.{alternatives_view}
+use Rattle.sym_model.specs.View.{frag_view, chunk_view}
+use Rattle.record_sym.proofs.disposing.with_missing.Given as goal
+
+abbrev pub invariant-loop-taking : goal.invariant-loop-taking
+invariant-loop-taking l =
+    record_branches_view l.branches ≡ record_branches_view l.fn.branches ++ flat_map (missing_name (frag_view l.chunks) (term_view l.loc) (term_view l.name)) (map taking_view (take l.taking-index l.taking-items))

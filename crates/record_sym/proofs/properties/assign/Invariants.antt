@@ -1,0 +1,12 @@
+use Rattle.std.proofs.Common.{◌≡◌, ◌++◌, drop, map}
+use Rattle.pure_terms.specs.View.{term_view}
+use Rattle.record_sym.specs.Table.{changes_from}
+use Rattle.record_sym.specs.View.{record_branches_view}
+use Rattle.sym_conditions.specs.Alternatives.{alternatives_view}
+use Rattle.sym_model.specs.View.{frag_view, chunk_view}
+use Rattle.record_sym.proofs.properties.assign.Given as goal
+
+abbrev pub invariant-loop-index : goal.invariant-loop-index
+invariant-loop-index l =
+    record_branches_view l.branches ++ changes_from (alternatives_view l.when) (term_view l.l) (term_view l.p) (term_view l.val) (frag_view l.chunks) l.index (map chunk_view (drop l.index l.chunk-items))
+    ≡ record_branches_view l.fn.branches ++ changes_from (alternatives_view l.when) (term_view l.l) (term_view l.p) (term_view l.val) (frag_view l.chunks) 0 (frag_view l.chunks)
