@@ -160,7 +160,8 @@ fn end_closes(list: &AtomList<'_>, end: ChainEnd, s: &Term, t: &Term) -> bool
     }
 }
 
-fn are_different_literals(s: &Term, t: &Term) -> bool
+/// Whether two terms are different literals.
+pub fn are_different_literals(s: &Term, t: &Term) -> bool
     ensures { result ≡ are_different_literals (term_view s.now) (term_view t.now) }
 {
     match s {
@@ -172,7 +173,8 @@ fn are_different_literals(s: &Term, t: &Term) -> bool
     }
 }
 
-fn are_other_kinds(first: Option<Kind>, second: Option<Kind>) -> bool
+/// Whether two kinds are told, and are different.
+pub fn are_other_kinds(first: Option<Kind>, second: Option<Kind>) -> bool
     ensures { result ≡ are_other_kinds first second }
 {
     match (first, second) {
@@ -196,8 +198,8 @@ fn is_known_kind(known: Option<Kind>, kind: Kind) -> bool
     }
 }
 
-/// A Fresh variable, and a term over variables with lower numbers.
-fn is_fresh_over(s: &Term, t: &Term) -> bool
+/// Whether these are a Fresh variable and a term over variables with lower numbers.
+pub fn is_fresh_over(s: &Term, t: &Term) -> bool
     ensures { result ≡ is_fresh_over (term_view s.now) (term_view t.now) }
 {
     match s {

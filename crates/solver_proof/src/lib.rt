@@ -12,6 +12,7 @@ mod refuters;
 mod rows;
 mod sums;
 
+pub use chains::{are_different_literals, are_other_kinds, is_fresh_over};
 pub use checking::accepts;
 pub use laws::closed_lists_have_no_solution;
 pub use proofs::{ChainEnd, Factor, Factors, Places, Proof, Proofs};

@@ -1,0 +1,5 @@
+pub mod Classes
+pub mod Equating
+pub mod Linking
+pub mod Nodes
+pub mod Solved
