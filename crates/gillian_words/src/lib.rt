@@ -3,6 +3,7 @@
 
 mod asked;
 mod inputs;
+mod laws;
 mod line;
 mod options;
 mod scan;
@@ -10,4 +11,5 @@ mod scan;
 mod tests;
 
 pub use asked::{Words, WordsFault, read_words};
+pub use laws::words_ask_for_one_thing;
 pub use options::{Language, Mode};
