@@ -1,6 +1,7 @@
 pub mod Cases
 pub mod Ending
 pub mod Paths
+pub mod Refusing
 pub mod Runs
 pub mod Spelled
 pub mod Standing

@@ -15,7 +15,7 @@ use Rattle.gil_machine.specs.Run.{run, after}
 use Rattle.gillian_core.specs.declared.programs.Command.{Command}
 use Rattle.gillian_core.specs.declared.programs.Command.TheVariants.{Draw, Branch, Return, Fail, Vanish}
 use Rattle.gillian_core.specs.declared.programs.Literal.{Literal}
-use Rattle.gillian_core.specs.Control.{IsForward, Reaches, stays, jumps, passes, IsFailure}
+use Rattle.gillian_core.specs.Control.{IsForward, Reaches, ReachesWithin, stays, jumps, passes, IsFailure}
 use Rattle.gillian_core.specs.Literals.{literal_value}
 use Rattle.gillian_core.specs.Programs.{guard, command_of, body_from, program_of}
 
@@ -94,13 +94,6 @@ step-above commands m inputs at store draws n limit target x e looked above =
     step-standing commands m inputs at store draws (Branch x limit target) e
     ∙ ap (λ o. with_value o (in_main at) (standing at store draws) (λ v. branch v (pos target) (in_main at) (standing at store draws))) (guarded _ store n limit looked ∙ ap (λ b. Ok (boolean b)) (int_le-false n limit above))
 
--- control never goes back
-onward : (commands : List Command) (n : ℤ) (forward : IsForward commands) (at to : ℕ) → Reaches commands n at to → at ≤ to
-onward commands n forward at to stays = omega arith
-onward commands n forward at to (jumps {variable = x} {limit = limit} {target = target} is below r) =
-    let later = forward.each at (Branch x limit target) is in omega (arith, later.1, onward commands n forward target to r)
-onward commands n forward at to (passes is above r) = omega (arith, onward commands n forward (at + 1) to r)
-
 -- what is asked of the state in which control begins: the variable that is drawn has its value wherever a branch stands,
 -- and no draw stands from there on
 pub record IsSet (commands : List Command) (store : Store) (n : ℤ) (at : ℕ) : Type 0 where
@@ -112,22 +105,23 @@ set_later commands store n at later le h = record { stored = h.stored; no_draw =
 
 module _ (commands : List Command) (m : Actions) (inputs : List PureValue) (store : Store) (draws : ℕ) (n : ℤ) (forward : IsForward commands) where
   -- a run follows control to a failure
-  pub runs_to_failure : (at to : ℕ) (literal : Literal) → IsSet commands store n at → Reaches commands n at to → slice_get commands to ≡ Some (Fail literal) → (k : ℕ) → to < at + k
+  pub runs_to_failure : (steps at to : ℕ) (literal : Literal) → IsSet commands store n at → Reaches commands n steps at to
+      → slice_get commands to ≡ Some (Fail literal) → (k : ℕ) → steps < k
       → run (program_of commands) m inputs k (standing at store draws) ≡ end_at (standing to store draws) (failed (literal_value literal) (in_main to))
-  runs_to_failure at to literal h r f zero within = absurd (omega (arith, onward commands n forward at to r))
-  runs_to_failure at to literal h stays f (suc k) within =
+  runs_to_failure steps at to literal h r f zero within = absurd (omega arith)
+  runs_to_failure steps at to literal h stays f (suc k) within =
       ap (λ s. after s (run (program_of commands) m inputs k)) (step-standing commands m inputs at store draws (Fail literal) f)
-  runs_to_failure at to literal h (jumps {variable = x} {limit = limit} {target = target} is below r) f (suc k) within =
+  runs_to_failure steps at to literal h (jumps {steps = j} {variable = x} {limit = limit} {target = target} is below r) f (suc k) within =
       let later = forward.each at (Branch x limit target) is in
       ap (λ s. after s (run (program_of commands) m inputs k)) (step-at_most commands m inputs at store draws n limit target x is (h.stored at x limit target is) below)
-      ∙ runs_to_failure target to literal (set_later commands store n at target (omega (arith, later.1)) h) r f k (omega (arith, later.1))
-  runs_to_failure at to literal h (passes {variable = x} {limit = limit} {target = target} is above r) f (suc k) within =
+      ∙ runs_to_failure j target to literal (set_later commands store n at target (omega (arith, later.1)) h) r f k (omega arith)
+  runs_to_failure steps at to literal h (passes {steps = j} {variable = x} {limit = limit} {target = target} is above r) f (suc k) within =
       ap (λ s. after s (run (program_of commands) m inputs k)) (step-above commands m inputs at store draws n limit target x is (h.stored at x limit target is) above)
-      ∙ runs_to_failure (at + 1) to literal (set_later commands store n at (at + 1) (omega arith) h) r f k (omega arith)
+      ∙ runs_to_failure j (at + 1) to literal (set_later commands store n at (at + 1) (omega arith) h) r f k (omega arith)
 
-  -- a failure that control reaches from a command
-  abbrev pub FailureFrom : ℕ → Type 0
-  FailureFrom at = (to : ℕ) × (Reaches commands n at to × IsFailure commands to)
+  -- a failure that control reaches from a command in fewer than k steps
+  abbrev pub FailureWithin : ℕ → ℕ → Type 0
+  FailureWithin k at = (to : ℕ) × (ReachesWithin commands n k at to × IsFailure commands to)
 
   -- a run of k steps fails
   abbrev pub Fails : ℕ → ℕ → Type 0
@@ -145,25 +139,27 @@ module _ (commands : List Command) (m : Actions) (inputs : List PureValue) (stor
       subst (λ t. IsFailed (after t (run (program_of commands) m inputs k)).ending) (step-standing commands m inputs at store draws c is ∙ ends_so) fails
 
   by_command : (k at : ℕ) (found : Option Command) → slice_get commands at ≡ found → IsSet commands store n at
-      → ((i : ℕ) → IsSet commands store n i → Fails k i → FailureFrom i) → Fails (suc k) at → FailureFrom at
-  by_command k at None is h ih fails = ih at h (later_fails k at _ (step-past commands m inputs at store draws is) fails)
+      → ((i : ℕ) → IsSet commands store n i → Fails k i → FailureWithin k i) → Fails (suc k) at → FailureWithin (suc k) at
+  by_command k at None is h ih fails =
+      let g = ih at h (later_fails k at _ (step-past commands m inputs at store draws is) fails) in
+      (g.0, ((g.1.0.0, omega (arith, g.1.0.1), g.1.0.2), g.1.1))
   by_command k at (Some (Draw x)) is h ih fails = absurd (h.no_draw at x (omega arith) is)
   by_command k at (Some (Return v)) is h ih fails = absurd (ended k at (Return v) _ is refl fails)
   by_command k at (Some Vanish) is h ih fails = absurd (ended k at Vanish _ is refl fails)
-  by_command k at (Some (Fail literal)) is h ih fails = (at, (stays, (literal, is)))
+  by_command k at (Some (Fail literal)) is h ih fails = (at, ((0, omega arith, stays), (literal, is)))
   by_command k at (Some (Branch x limit target)) is h ih fails =
       let looked = h.stored at x limit target is in
       let later = forward.each at (Branch x limit target) is in
       elim (at_most_or_above n limit) [
         | inl below ↦
             let g = ih target (set_later commands store n at target (omega (arith, later.1)) h) (later_fails k at _ (step-at_most commands m inputs at store draws n limit target x is looked below) fails) in
-            (g.0, (jumps is below g.1.0, g.1.1))
+            (g.0, ((suc g.1.0.0, omega (arith, g.1.0.1), jumps is below g.1.0.2), g.1.1))
         | inr above ↦
             let g = ih (at + 1) (set_later commands store n at (at + 1) (omega arith) h) (later_fails k at _ (step-above commands m inputs at store draws n limit target x is looked above) fails) in
-            (g.0, (passes is above g.1.0, g.1.1))
+            (g.0, ((suc g.1.0.0, omega (arith, g.1.0.1), passes is above g.1.0.2), g.1.1))
       ]
 
   -- a run that fails comes to a failure by control
-  pub failure_of_run : (k at : ℕ) → IsSet commands store n at → Fails k at → FailureFrom at
+  pub failure_of_run : (k at : ℕ) → IsSet commands store n at → Fails k at → FailureWithin k at
   failure_of_run zero at h fails = absurd fails
   failure_of_run (suc k) at h fails = by_command k at (slice_get commands at) refl h (failure_of_run k) fails

@@ -1,9 +1,8 @@
 -- Whole runs of a forward program: from its first command, with or without a draw.
-use Rattle.std.proofs.Common.{◌≡◌, ◌<◌, ◌≤◌, ℕ, zero, suc, ℤ, pos, List, [], ◌∷◌, length, Some, true, slice_get, sym, ◌∙◌, subst, refl, ap, arith}
+use Rattle.std.proofs.Common.{◌≡◌, ◌+◌, ◌-◌, ◌<◌, ◌≤◌, ℕ, zero, suc, ℤ, pos, List, [], ◌∷◌, Some, true, slice_get, sym, ◌∙◌, subst, refl, ap, arith}
 use Rattle.std.specs.Prelude.{codes}
 use Rattle.std.specs.Str.{bytes_eq}
 use Rattle.std.proofs.lemmas.Slice.Eq.{bytes_eq-Decides}
-use Rattle.std.proofs.lemmas.Option.{slice_get_within}
 use Rattle.gil_values.specs.declared.kinds.Kind.TheVariants.{Int}
 use Rattle.gil_values.specs.Pure.{PureValue, integer, boolean, text, symbol, kind, procedure, list}
 use Rattle.gil_syntax.specs.Evaluation.{Store, bind}
@@ -14,9 +13,9 @@ use Rattle.gil_machine.specs.Run.{run, after, IsEntry, IsBug, IsClean}
 use Rattle.gillian_core.specs.declared.programs.Literal.{Literal}
 use Rattle.gillian_core.specs.declared.programs.Command.{Command}
 use Rattle.gillian_core.specs.declared.programs.Command.TheVariants.{Draw, Branch, Fail}
-use Rattle.gillian_core.specs.Control.{IsForward, BeginsWithDraw, Reaches, IsFailure, ReportsFailure}
-use Rattle.gillian_core.specs.Reports.{Answer, clean, bug}
-use Rattle.gillian_core.specs.Right.{IsRightAnswer}
+use Rattle.gillian_core.specs.Control.{IsForward, BeginsWithDraw, Reaches, ReachesWithin, IsFailure, ReportsFailure}
+use Rattle.gillian_core.specs.Reports.{PureAnswer, clean, bug}
+use Rattle.gillian_core.specs.Right.{IsRightVerdict}
 use Rattle.gillian_core.specs.Literals.{literal_value}
 use Rattle.gillian_core.specs.Programs.{program_of, main_of}
 use Rattle.gillian_core.proofs.Runs.{standing, in_main, step-standing, IsSet, runs_to_failure, failure_of_run}
@@ -57,24 +56,24 @@ module _ (commands : List Command) (m : Actions) (forward : IsForward commands) 
   entry = (main_of commands, (refl, refl))
 
   -- with a draw: a failure that control reaches after it is a bug on the drawn number
-  pub bug_drawn : (x : List ℕ) (n : ℤ) (to : ℕ) (literal : Literal) (k : ℕ) → slice_get commands 0 ≡ Some (Draw x)
-      → Reaches commands n 1 to → slice_get commands to ≡ Some (Fail literal) → to < k → IsBug (program_of commands) m (codes "main") k (integer n ∷ []) (literal_value literal) (in_main to)
-  bug_drawn x n to literal zero first r f within = absurd (omega arith)
-  bug_drawn x n to literal (suc k) first r f within =
+  pub bug_drawn : (x : List ℕ) (n : ℤ) (steps to : ℕ) (literal : Literal) (k : ℕ) → slice_get commands 0 ≡ Some (Draw x)
+      → Reaches commands n steps 1 to → slice_get commands to ≡ Some (Fail literal) → steps + 1 < k → IsBug (program_of commands) m (codes "main") k (integer n ∷ []) (literal_value literal) (in_main to)
+  bug_drawn x n steps to literal zero first r f within = absurd (omega arith)
+  bug_drawn x n steps to literal (suc k) first r f within =
       let ran = ap (λ s. after s (run (program_of commands) m (integer n ∷ []) k)) (step-draw commands m [] x n first)
-      ∙ runs_to_failure commands m (integer n ∷ []) (drawn_store x n) 1 n forward 1 to literal (is_set_drawn commands x n forward first) r f k (omega arith) in
+      ∙ runs_to_failure commands m (integer n ∷ []) (drawn_store x n) 1 n forward steps 1 to literal (is_set_drawn commands x n forward first) r f k (omega arith) in
       record { entry = entry; fails = ap (λ e. e.ending) ran; draws_each = ap (λ e. e.draws) ran }
 
   -- without a draw: a failure that control reaches is a bug on no inputs
-  pub bug_undrawn : (n : ℤ) (to : ℕ) (literal : Literal) (k : ℕ) → ((x : List ℕ) → slice_get commands 0 ≡ Some (Draw x) → ⊥)
-      → Reaches commands n 0 to → slice_get commands to ≡ Some (Fail literal) → to < k → IsBug (program_of commands) m (codes "main") k [] (literal_value literal) (in_main to)
-  bug_undrawn n to literal k first r f within =
-      let ran = runs_to_failure commands m [] [] 0 n forward 0 to literal (is_set_undrawn commands n forward first) r f k (omega arith) in
+  pub bug_undrawn : (n : ℤ) (steps to : ℕ) (literal : Literal) (k : ℕ) → ((x : List ℕ) → slice_get commands 0 ≡ Some (Draw x) → ⊥)
+      → Reaches commands n steps 0 to → slice_get commands to ≡ Some (Fail literal) → steps < k → IsBug (program_of commands) m (codes "main") k [] (literal_value literal) (in_main to)
+  bug_undrawn n steps to literal k first r f within =
+      let ran = runs_to_failure commands m [] [] 0 n forward steps 0 to literal (is_set_undrawn commands n forward first) r f k within in
       record { entry = entry; fails = ap (λ e. e.ending) ran; draws_each = ap (λ e. e.draws) ran }
 
   -- with a draw: where control reaches no failure after it, whatever is drawn, no run fails
   clean_after : (x : List ℕ) (inputs : List PureValue) (k : ℕ) → slice_get commands 0 ≡ Some (Draw x)
-      → ((n : ℤ) (to : ℕ) → Reaches commands n 1 to → IsFailure commands to → ⊥)
+      → ((n : ℤ) (to : ℕ) → ReachesWithin commands n k 1 to → IsFailure commands to → ⊥)
       → IsFailed (after (step (program_of commands) m inputs (standing 0 [] 0)) (run (program_of commands) m inputs k)).ending → ⊥
   clean_after x [] k first never fails = subst (λ s. IsFailed (after s (run (program_of commands) m [] k)).ending) (drawing commands m [] x first) fails
   clean_after x (integer n ∷ inputs) k first never fails =
@@ -88,14 +87,22 @@ module _ (commands : List Command) (m : Actions) (forward : IsForward commands) 
   clean_after x (procedure v ∷ inputs) k first never fails = subst (λ s. IsFailed (after s (run (program_of commands) m (procedure v ∷ inputs) k)).ending) (drawing commands m (procedure v ∷ inputs) x first) fails
   clean_after x (list v ∷ inputs) k first never fails = subst (λ s. IsFailed (after s (run (program_of commands) m (list v ∷ inputs) k)).ending) (drawing commands m (list v ∷ inputs) x first) fails
 
-  pub clean_drawn : (x : List ℕ) (k : ℕ) → slice_get commands 0 ≡ Some (Draw x)
-      → ((n : ℤ) (to : ℕ) → Reaches commands n 1 to → IsFailure commands to → ⊥) → IsClean (program_of commands) m (codes "main") k
-  clean_drawn x zero first never = record { entry = entry; never_fails = λ inputs fails. fails }
-  clean_drawn x (suc k) first never = record { entry = entry; never_fails = λ inputs fails. clean_after x inputs k first never fails }
+  -- what is reached in fewer steps is reached within more
+  more_steps : (n : ℤ) (k less at to : ℕ) → k ≤ less → ReachesWithin commands n k at to → ReachesWithin commands n less at to
+  more_steps n k less at to le r = (r.0, omega (arith, r.1), r.2)
+
+  -- the draw is a step
+  pub clean_drawn : (x : List ℕ) (k less : ℕ) → slice_get commands 0 ≡ Some (Draw x) → less ≡ k - 1
+      → ((n : ℤ) (to : ℕ) → ReachesWithin commands n less 1 to → IsFailure commands to → ⊥) → IsClean (program_of commands) m (codes "main") k
+  clean_drawn x zero less first one never = record { entry = entry; never_fails = λ inputs fails. fails }
+  clean_drawn x (suc k) less first one never = record {
+    entry = entry;
+    never_fails = λ inputs fails. clean_after x inputs k first (λ n to r. never n to (more_steps n k less 1 to (omega arith) r)) fails;
+  }
 
   -- without a draw: the same from the first command, for any number in place of the drawn one
   pub clean_undrawn : (n : ℤ) (k : ℕ) → ((x : List ℕ) → slice_get commands 0 ≡ Some (Draw x) → ⊥)
-      → ((to : ℕ) → Reaches commands n 0 to → IsFailure commands to → ⊥) → IsClean (program_of commands) m (codes "main") k
+      → ((to : ℕ) → ReachesWithin commands n k 0 to → IsFailure commands to → ⊥) → IsClean (program_of commands) m (codes "main") k
   clean_undrawn n k first never = record {
     entry = entry;
     never_fails = λ inputs fails.
@@ -105,26 +112,25 @@ module _ (commands : List Command) (m : Actions) (forward : IsForward commands) 
 
 -- What a report of a failing command says is right where control reaches that command. The bound is a variable here,
 -- since a run is not to be computed.
-pub right_drawn : (commands : List Command) (forward : IsForward commands) (name : List ℕ) (at k : ℕ) (n : ℤ) (inputs : List PureValue) (answer : Answer)
-    → BeginsWithDraw commands → name ≡ codes "main" → inputs ≡ integer n ∷ [] → Reaches commands n 1 at → length commands ≤ k
-    → ReportsFailure name commands at inputs answer → IsRightAnswer (program_of commands) k answer
-right_drawn commands forward name at k n inputs answer first is_main one r few report =
+pub right_drawn : (commands : List Command) (forward : IsForward commands) (name : List ℕ) (at k less : ℕ) (n : ℤ) (inputs : List PureValue) (answer : PureAnswer)
+    → BeginsWithDraw commands → name ≡ codes "main" → inputs ≡ integer n ∷ [] → less ≡ k - 1 → ReachesWithin commands n less 1 at
+    → ReportsFailure name commands at inputs answer → IsRightVerdict (program_of commands) (codes "main") k answer
+right_drawn commands forward name at k less n inputs answer first is_main one draw r report =
     let said : answer ≡ bug (in_main at) (literal_value report.0) (integer n ∷ []) = report.1.1 ∙ rw (is_main, one) refl in
-    let within : at < length commands = slice_get_within commands at _ report.1.0 in
-    subst (IsRightAnswer (program_of commands) k) (sym said) (λ memory. bug_drawn commands memory forward first.0 n at report.0 k first.1 r report.1.0 (omega arith))
+    let steps : r.0 + 1 < k = omega (arith, r.1, draw) in
+    subst (IsRightVerdict (program_of commands) (codes "main") k) (sym said) (λ memory. bug_drawn commands memory forward first.0 n r.0 at report.0 k first.1 r.2 report.1.0 steps)
 
-pub right_undrawn : (commands : List Command) (forward : IsForward commands) (name : List ℕ) (at k : ℕ) (n : ℤ) (inputs : List PureValue) (answer : Answer)
-    → (BeginsWithDraw commands → ⊥) → name ≡ codes "main" → inputs ≡ [] → Reaches commands n 0 at → length commands ≤ k
-    → ReportsFailure name commands at inputs answer → IsRightAnswer (program_of commands) k answer
-right_undrawn commands forward name at k n inputs answer first is_main none r few report =
+pub right_undrawn : (commands : List Command) (forward : IsForward commands) (name : List ℕ) (at k : ℕ) (n : ℤ) (inputs : List PureValue) (answer : PureAnswer)
+    → (BeginsWithDraw commands → ⊥) → name ≡ codes "main" → inputs ≡ [] → ReachesWithin commands n k 0 at
+    → ReportsFailure name commands at inputs answer → IsRightVerdict (program_of commands) (codes "main") k answer
+right_undrawn commands forward name at k n inputs answer first is_main none r report =
     let said : answer ≡ bug (in_main at) (literal_value report.0) [] = report.1.1 ∙ rw (is_main, none) refl in
-    let within : at < length commands = slice_get_within commands at _ report.1.0 in
-    subst (IsRightAnswer (program_of commands) k) (sym said) (λ memory. bug_undrawn commands memory forward n at report.0 k (λ x e. first (x, e)) r report.1.0 (omega arith))
+    subst (IsRightVerdict (program_of commands) (codes "main") k) (sym said) (λ memory. bug_undrawn commands memory forward n r.0 at report.0 k (λ x e. first (x, e)) r.2 report.1.0 r.1)
 
-pub clean_if_drawn : (commands : List Command) (forward : IsForward commands) (k : ℕ) → BeginsWithDraw commands
-    → ((n : ℤ) (to : ℕ) → Reaches commands n 1 to → IsFailure commands to → ⊥) → IsRightAnswer (program_of commands) k clean
-clean_if_drawn commands forward k first never = λ memory. clean_drawn commands memory forward first.0 k first.1 never
+pub clean_if_drawn : (commands : List Command) (forward : IsForward commands) (k less : ℕ) → BeginsWithDraw commands → less ≡ k - 1
+    → ((n : ℤ) (to : ℕ) → ReachesWithin commands n less 1 to → IsFailure commands to → ⊥) → IsRightVerdict (program_of commands) (codes "main") k clean
+clean_if_drawn commands forward k less first one never = λ memory. clean_drawn commands memory forward first.0 k less first.1 one never
 
 pub clean_if_undrawn : (commands : List Command) (forward : IsForward commands) (k : ℕ) → (BeginsWithDraw commands → ⊥)
-    → ((n : ℤ) (to : ℕ) → Reaches commands n 0 to → IsFailure commands to → ⊥) → IsRightAnswer (program_of commands) k clean
+    → ((n : ℤ) (to : ℕ) → ReachesWithin commands n k 0 to → IsFailure commands to → ⊥) → IsRightVerdict (program_of commands) (codes "main") k clean
 clean_if_undrawn commands forward k first never = λ memory. clean_undrawn commands memory forward (pos 0) k (λ x e. first (x, e)) (never (pos 0))

@@ -1,9 +1,16 @@
--- The answer that a verdict of the code stands for.
+-- The answers of the code as data.
 use Rattle.gil_values.specs.View.{value_view, values_view}
-use Rattle.gillian_core.specs.declared.verdicts.Verdict.{Verdict}
-use Rattle.gillian_core.specs.declared.verdicts.Verdict.TheVariants.{Bug, Clean}
-use Rattle.gillian_core.specs.Reports.{Answer, clean, bug}
+use Rattle.gillian_core.specs.declared.answers.Answer.{Answer}
+use Rattle.gillian_core.specs.declared.answers.Answer.TheVariants.{Clean, Bug, Returned, Failed, Vanished, Cut, NoInput, BadInput, Number}
+use Rattle.gillian_core.specs.Reports.{PureAnswer, clean, bug, returned, failed, vanished, cut, no_input, bad_input, number}
 
-abbrev pub answer_of : Verdict → Answer
-answer_of Clean = clean
-answer_of (Bug place value inputs) = bug place (value_view value) (values_view inputs)
+abbrev pub answer_view : Answer → PureAnswer
+answer_view Clean = clean
+answer_view (Bug place value inputs) = bug place (value_view value) (values_view inputs)
+answer_view (Returned value) = returned (value_view value)
+answer_view (Failed value place) = failed (value_view value) place
+answer_view Vanished = vanished
+answer_view Cut = cut
+answer_view (NoInput draw) = no_input draw
+answer_view (BadInput draw) = bad_input draw
+answer_view (Number place) = number place

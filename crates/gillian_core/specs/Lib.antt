@@ -8,6 +8,7 @@ pub mod Intervals
 pub mod Literals
 pub mod Outcomes
 pub mod Programs
+pub mod Refusals
 pub mod Reports
 pub mod Right
 pub mod Words

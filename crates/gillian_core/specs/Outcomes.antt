@@ -4,28 +4,28 @@ use Rattle.std.specs.Io.KnownBytes.{append_known, IsAtEnd}
 use Rattle.gil_io.specs.Faults.{FaultRose}
 use Rattle.gil_io.specs.Reading.{Takes}
 use Rattle.gil_io.specs.Writing.{TakesPart}
+use Rattle.gillian_words.specs.Asked.{Asked}
+use Rattle.gillian_core.specs.declared.refusals.Refusal.{Refusal}
 use Rattle.gillian_core.specs.declared.status.Status.{Status}
 use Rattle.gillian_core.specs.declared.status.Status.TheVariants.{Good, Found, Words, Text, ReadFault, WriteFault, Memory, TooLarge}
-use Rattle.gillian_core.specs.declared.programs.Command.{Command}
-use Rattle.gillian_core.specs.Accepted.{Spell}
-use Rattle.gillian_core.specs.Programs.{program_of}
-use Rattle.gillian_core.specs.Reports.{line, Answer, clean, bug, Report, report_text}
+use Rattle.gillian_core.specs.Refusals.{IsRefusal, refusal_line}
+use Rattle.gillian_core.specs.Reports.{PureAnswer, clean, bug, returned, failed, vanished, cut, no_input, bad_input, number}
+use Rattle.gillian_core.specs.Reports.{Report, line, report_text}
 use Rattle.gillian_core.specs.Right.{IsRightAnswer}
-use Rattle.gillian_core.specs.Words.{WordsFit, head_of}
+use Rattle.gillian_core.specs.Words.{IsAsked, WordsFit, head_of}
 
 -- the most bytes that a source may give
 abbrev pub most_bytes : ℕ
 most_bytes = 1048576
 
--- the lines that answer words, sizes and texts that are refused
+-- the lines that answer words and sizes that are refused
 abbrev pub usage_line : List ℕ
 usage_line = line (codes "usage: gillian MODE LANG [--bound N] [--entry NAME] [--inputs LIST] [--json]")
 
 abbrev pub refused_size : List ℕ
 refused_size = line (codes "refused size")
 
-abbrev pub refused_form : List ℕ
-refused_form = line (codes "refused form at 0")
+-- ---- calls
 
 -- a call: its words; what the source tells that it has left and its count of faults, before and after; what the sink tells
 -- that it has taken and its count of faults, before and after
@@ -40,49 +40,91 @@ pub record Call : Type 0 where
   pub write_faults : ℕ
   pub write_faults_after : ℕ
 
+-- the call with these words on a source and a sink, each before and after, of which this is told
+module _ {S K : Type 0} (left : S → Option (List ℕ)) (read_faults : S → ℕ) (taken : K → Option (List ℕ)) (write_faults : K → ℕ) where
+  abbrev pub call_of : List (List ℕ) → S → S → K → K → Call
+  call_of words source source_after sink sink_after = record {
+    words = words;
+    left = left source;
+    left_after = left source_after;
+    read_faults = read_faults source;
+    read_faults_after = read_faults source_after;
+    taken = taken sink;
+    taken_after = taken sink_after;
+    write_faults = write_faults sink;
+    write_faults_after = write_faults sink_after;
+  }
+
 -- The source was read to its end: the bytes that it gave are all that it had, and no more than it may have.
 pub record IsRead (c : Call) : Type 0 where
   pub fit : WordsFit c.words
   pub end : IsAtEnd c.left_after
   pub within : IfSome c.left (λ bytes. length bytes ≤ most_bytes)
 
--- the bytes are no accepted text
-abbrev pub IsRefused : List ℕ → Type 0
-IsRefused bytes = (commands : List Command) → Spell bytes commands → ⊥
-
--- a report is written
-abbrev pub IsReported : Status → Type 0
-IsReported status = (status ≡ Good) ⊎ (status ≡ Found)
-
--- clean is good, and a bug is found
-abbrev pub status_of : Answer → Status
-status_of clean = Good
-status_of (bug place value inputs) = Found
-
--- The report is about these words and right for the bytes: they are an accepted text, and the answer is right for
--- its program within the bound.
-pub record IsRight (words : List (List ℕ)) (bytes : List ℕ) (r : Report) : Type 0 where
-  pub head : r.head ≡ head_of words
-  pub commands : List Command
-  pub text : Spell bytes commands
-  pub answer : IsRightAnswer (program_of commands) r.head.bound r.answer
-
 -- P holds of some bytes, which are those of the source where it tells them.
 abbrev pub OfBytes : Call → (List ℕ → Type 0) → Type 0
 OfBytes c P = (bytes : List ℕ) × IfSome c.left (λ left. bytes ≡ left) × P bytes
 
--- The text is that of a report about the words whose answer has this status, and which is right for the bytes.
+-- ---- outputs
+
+-- what is written of an accepted text: a report
+pub data Output : Type 0 where
+  a_report : Report → Output
+
+abbrev pub output_text : Output → List ℕ
+output_text (a_report r) = report_text r
+
+-- a run that returned or vanished and a clean verdict are good
+abbrev pub answer_status : PureAnswer → Status
+answer_status clean = Good
+answer_status (bug place value inputs) = Found
+answer_status (returned value) = Good
+answer_status (failed value place) = Found
+answer_status vanished = Good
+answer_status cut = Found
+answer_status (no_input draw) = Found
+answer_status (bad_input draw) = Found
+answer_status (number place) = Found
+
+abbrev pub output_status : Output → Status
+output_status (a_report r) = answer_status r.answer
+
+-- what is asked for is written of a text
+abbrev pub IsRightOutput : Asked → List ℕ → Output → Type 0
+IsRightOutput a bytes (a_report r) = (r.head ≡ head_of a) × IsRightAnswer a bytes r.answer
+
+-- The output is right for the bytes, and is what the words ask for.
+abbrev pub IsRight : List (List ℕ) → List ℕ → Output → Type 0
+IsRight words bytes output = (a : Asked) × IsAsked words a × IsRightOutput a bytes output
+
+-- The text isn't accepted where this is asked that the words ask for, and is refused so.
+abbrev pub IsRefused : List (List ℕ) → List ℕ → Refusal → Type 0
+IsRefused words bytes r = (a : Asked) × IsAsked words a × IsRefusal a bytes r
+
+-- ---- ends
+
+-- an output is written
+abbrev pub IsReported : Status → Type 0
+IsReported status = (status ≡ Good) ⊎ (status ≡ Found)
+
+-- The text is that of an output with this status, which is right for the bytes and the words.
 pub record Reports (c : Call) (status : Status) (text : List ℕ) : Type 0 where
-  pub report : Report
-  pub written : text ≡ report_text report
-  pub ends : status ≡ status_of report.answer
-  pub right : OfBytes c (λ bytes. IsRight c.words bytes report)
+  pub output : Output
+  pub written : text ≡ output_text output
+  pub ends : status ≡ output_status output
+  pub right : OfBytes c (λ bytes. IsRight c.words bytes output)
+
+-- The text is the refusal of the bytes for the words.
+pub record Refuses (c : Call) (text : List ℕ) : Type 0 where
+  pub refusal : Refusal
+  pub written : text ≡ refusal_line refusal
+  pub right : OfBytes c (λ bytes. IsRefused c.words bytes refusal)
 
 -- The text that a call may write with a status.
 abbrev pub MayWrite : Call → Status → List ℕ → Type 0
 MayWrite c Words text = (WordsFit c.words → ⊥) × (text ≡ usage_line)
 MayWrite c TooLarge text = WordsFit c.words × Takes c.left c.left_after (λ gave. most_bytes < length gave) × (text ≡ refused_size)
-MayWrite c Text text = IsRead c × OfBytes c IsRefused × (text ≡ refused_form)
+MayWrite c Text text = IsRead c × Refuses c text
 MayWrite c Good text = IsRead c × Reports c Good text
 MayWrite c Found text = IsRead c × Reports c Found text
 MayWrite c ReadFault text = ⊥

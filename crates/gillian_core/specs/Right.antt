@@ -1,12 +1,67 @@
--- Which answer of a test is right, for the procedure `main` of a program.
-use Rattle.std.specs.Prelude.{ℕ, codes}
+-- Which answers are right, by the mode that is asked for.
+use Rattle.std.specs.Prelude.{◌≡◌, ℕ, List, []}
+use Rattle.std.specs.FinMap.{empty}
 use Rattle.gil_syntax.specs.Pure.{PureParts}
 use Rattle.mem_model.specs.Actions.{Actions}
-use Rattle.gil_machine.specs.Run.{IsBug, IsClean}
-use Rattle.gillian_core.specs.Reports.{Answer, clean, bug}
+use Rattle.record_heap.specs.Table.{record_actions}
+use Rattle.gil_machine.specs.Held.{HeldEnd, ended as held_end, number as held_number, held_run_of}
+use Rattle.gil_machine.specs.Run.{IsBug, IsClean, IsEntry}
+use Rattle.gil_machine.specs.State.{Ending, returned as end_returned, failed as end_failed, vanished as end_vanished}
+use Rattle.gil_machine.specs.State.{no_input as end_no_input, bad_input as end_bad_input, cut as end_cut}
+use Rattle.gillian_words.specs.declared.options.Mode.{Mode}
+use Rattle.gillian_words.specs.declared.options.Mode.TheVariants.{Run, Test, Compile}
+use Rattle.gillian_words.specs.Asked.{Asked}
+use Rattle.gillian_core.specs.declared.programs.Command.{Command}
+use Rattle.gillian_core.specs.Accepted.{IsTextOf, Spell}
+use Rattle.gillian_core.specs.Programs.{program_of}
+use Rattle.gillian_core.specs.Reports.{PureAnswer, clean, bug, returned, failed, vanished, cut, no_input, bad_input, number}
+
+-- ---- run
+
+-- how a run ended
+abbrev pub ending_answer : Ending → PureAnswer
+ending_answer (end_returned v) = returned v
+ending_answer (end_failed v place) = failed v place
+ending_answer end_vanished = vanished
+ending_answer (end_no_input k) = no_input k
+ending_answer (end_bad_input k) = bad_input k
+ending_answer end_cut = cut
+
+-- the end of a run, or the place of the first result that leaves 128 bits
+abbrev pub end_answer : HeldEnd → PureAnswer
+end_answer (held_end e) = ending_answer e.ending
+end_answer (held_number place h) = number place
+
+-- The bytes are a text of a program, and the answer is how the run of the entry ends, from the empty heap of records and the
+-- counter 0, on the inputs and within the bound that are asked for.
+pub record IsRightRun (a : Asked) (bytes : List ℕ) (answer : PureAnswer) : Type 0 where
+  pub program : PureParts
+  pub text : IsTextOf bytes program
+  pub entry : IsEntry program a.entry
+  pub ends : answer ≡ end_answer (held_run_of program record_actions a.entry [] empty 0 a.inputs a.bound)
+
+-- ---- test
 
 -- `clean` is right where no run fails within the bound; `bug` where the run with these inputs fails with this value at
 -- this place within the bound, and draws each of them. This is so whatever the actions of the memory do.
-abbrev pub IsRightAnswer : PureParts → ℕ → Answer → Type 0
-IsRightAnswer p bound clean = (memory : Actions) → IsClean p memory (codes "main") bound
-IsRightAnswer p bound (bug place value inputs) = (memory : Actions) → IsBug p memory (codes "main") bound inputs value place
+abbrev pub IsRightVerdict : PureParts → List ℕ → ℕ → PureAnswer → Type 0
+IsRightVerdict p entry bound clean = (memory : Actions) → IsClean p memory entry bound
+IsRightVerdict p entry bound (bug place value inputs) = (memory : Actions) → IsBug p memory entry bound inputs value place
+IsRightVerdict p entry bound _ = ⊥
+
+-- the bytes are a text of a forward program, and the verdict is right for it
+pub record IsRightTest (a : Asked) (bytes : List ℕ) (answer : PureAnswer) : Type 0 where
+  pub commands : List Command
+  pub text : Spell bytes commands
+  pub verdict : IsRightVerdict (program_of commands) a.entry a.bound answer
+
+-- ---- each mode
+
+-- the answer is right for the bytes where this is asked of the mode
+abbrev pub IsRightOf : Mode → Asked → List ℕ → PureAnswer → Type 0
+IsRightOf Run a bytes answer = IsRightRun a bytes answer
+IsRightOf Test a bytes answer = IsRightTest a bytes answer
+IsRightOf Compile a bytes answer = ⊥
+
+abbrev pub IsRightAnswer : Asked → List ℕ → PureAnswer → Type 0
+IsRightAnswer a bytes answer = IsRightOf a.mode a bytes answer

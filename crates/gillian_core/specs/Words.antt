@@ -1,22 +1,25 @@
--- The words of the command line.
-use Rattle.std.specs.Prelude.{◌≡◌, ℕ, List, [], ◌∷◌, map, codes, String, string_bytes, Vec}
-use Rattle.std.specs.declared.alloc.Global.{Global}
+-- The words of the command line: what they ask for, where that is built.
+use Rattle.std.specs.Prelude.{ℕ, List}
+use Rattle.gillian_words.specs.declared.options.Mode.{Mode}
+use Rattle.gillian_words.specs.declared.options.Mode.TheVariants.{Run, Test, Compile}
+use Rattle.gillian_words.specs.Asked.{Asked, AskFor, mode_word, language_word}
 use Rattle.gillian_core.specs.Reports.{Head}
 
--- the words as they are spelled
-abbrev pub spelled : Vec (String Global) Global → List (List ℕ)
-spelled words = map string_bytes words.items
+-- the modes that are built
+abbrev pub IsBuilt : Mode → Type 0
+IsBuilt Run = Unit {0}
+IsBuilt Test = Unit {0}
+IsBuilt Compile = ⊥
 
--- After the program's name, which is not looked at, the words are exactly a mode and a language. The mode `test` and
--- the language `gil-record` are the only ones yet.
+-- The words ask for this, and it is built.
+pub record IsAsked (words : List (List ℕ)) (a : Asked) : Type 0 where
+  pub asked : AskFor words a
+  pub built : IsBuilt a.mode
+
+-- the words ask for something that is built
 abbrev pub WordsFit : List (List ℕ) → Type 0
-WordsFit words = (program : List ℕ) × (words ≡ program ∷ codes "test" ∷ codes "gil-record" ∷ [])
+WordsFit words = (a : Asked) × IsAsked words a
 
--- the head of the report that such words ask for: their mode and language, the entry `main` and the bound 1,000
-abbrev pub head_of : List (List ℕ) → Head
-head_of (program ∷ mode ∷ language ∷ more) = record { mode = mode; language = language; entry = codes "main"; bound = 1000 }
-head_of _ = record { mode = []; language = []; entry = codes "main"; bound = 1000 }
-
--- the head of a test of `main` over records, with a bound
-abbrev pub test_head : ℕ → Head
-test_head bound = record { mode = codes "test"; language = codes "gil-record"; entry = codes "main"; bound = bound }
+-- the head of the report that is asked for
+abbrev pub head_of : Asked → Head
+head_of a = record { mode = mode_word a.mode; language = language_word a.second; entry = a.entry; bound = a.bound }

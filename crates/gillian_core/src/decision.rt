@@ -3,15 +3,15 @@ ghost use Rattle.std.specs.Prelude.{◌≡◌, ◌<◌, ℕ, ℤ, [], ◌∷◌,
 ghost use Rattle.gil_values.specs.Pure.{integer};
 ghost use Rattle.gil_values.specs.View.{value_view, values_view};
 ghost use Rattle.gillian_core.specs.Intervals.{IsIn};
-ghost use Rattle.gillian_core.specs.Control.{IsForward, BeginsWithDraw, Reaches, IsFailure, ReportsFailure};
-ghost use Rattle.gillian_core.specs.Answers.{answer_of};
+ghost use Rattle.gillian_core.specs.Control.{IsForward, BeginsWithDraw, ReachesWithin, IsFailure, ReportsFailure};
+ghost use Rattle.gillian_core.specs.Answers.{answer_view};
 ghost use Rattle.gillian_core.specs.Programs.{program_of};
-ghost use Rattle.gillian_core.specs.Right.{IsRightAnswer};
+ghost use Rattle.gillian_core.specs.Right.{IsRightVerdict};
 ghost use Rattle.gillian_core.specs.Literals.{literal_value};
 
+use crate::answers::Answer;
 use crate::intervals::Interval;
 use crate::programs::{Command, ForwardProgram, Literal};
-use crate::verdicts::Verdict;
 use gil_values::{Place, Value, Values};
 use std::alloc::{AllocError, Global};
 
@@ -22,38 +22,43 @@ pub struct Found {
     pub drawn: i128,
 }
 
-/// A failure that control reaches from a command, with some number of the interval as the drawn one.
-pub fn search_from(commands: &[Command], at: usize, interval: Interval) -> Option<Found>
+/// A failure that control reaches from a command in fewer steps than so many, with some number of the interval as the drawn
+/// one.
+pub fn search_from(commands: &[Command], at: usize, interval: Interval, bound: u32) -> Option<Found>
     requires forward { IsForward commands.now }
     requires within { at < length commands.now }
     ensures member { IfSome result (λ f. IsIn interval f.drawn) }
-    ensures reached { IfSome result (λ f. Reaches commands.now f.drawn at f.at) }
+    ensures reached { IfSome result (λ f. ReachesWithin commands.now f.drawn bound at f.at) }
     ensures failure { IfSome result (λ f. IsFailure commands.now f.at) }
-    ensures none { IfNone result ((x : ℤ) (to : ℕ) → IsIn interval x → Reaches commands.now x at to → IsFailure commands.now to → ⊥) }
+    ensures none { IfNone result ((x : ℤ) (to : ℕ)
+        → IsIn interval x → ReachesWithin commands.now x bound at to → IsFailure commands.now to → ⊥) }
 {
+    if bound == 0 {
+        return None;
+    }
     let drawn = interval.member()?;
     match &commands[at] {
         Command::Fail(_) => Some(Found { at, drawn }),
         Command::Branch { limit, target, .. } => {
-            match search_from(commands, *target, interval.up_to(*limit)) {
+            match search_from(commands, *target, interval.up_to(*limit), bound - 1) {
                 Some(found) => Some(found),
-                None => search_from(commands, at + 1, interval.above(*limit)),
+                None => search_from(commands, at + 1, interval.above(*limit), bound - 1),
             }
         }
         _ => None,
     }
 }
 
-/// The verdict on a forward program. No run of it is cut, since control never goes back.
-pub fn decide(alloc: Global, program: &ForwardProgram) -> Result<Verdict, AllocError>
+/// The verdict on a forward program within a bound of steps.
+pub fn decide(alloc: Global, program: &ForwardProgram, bound: u32) -> Result<Answer, AllocError>
     requires name { program.now.name ≡ codes "main" }
     requires forward { IsForward program.now.commands.items }
-    ensures { IfOk result (λ v. IsRightAnswer (program_of program.now.commands.items) 1000 (answer_of v)) }
+    ensures { IfOk result (λ v. IsRightVerdict (program_of program.now.commands.items) (codes "main") bound (answer_view v)) }
 {
     if begins_with_draw(&program.commands) {
-        decide_drawn(alloc, program)
+        decide_drawn(alloc, program, bound)
     } else {
-        decide_undrawn(alloc, program)
+        decide_undrawn(alloc, program, bound)
     }
 }
 
@@ -64,15 +69,20 @@ fn begins_with_draw(commands: &[Command]) -> bool
     matches!(commands.first(), Some(Command::Draw(_)))
 }
 
-/// The verdict on a program that draws a number first.
-fn decide_drawn(alloc: Global, program: &ForwardProgram) -> Result<Verdict, AllocError>
+/// The verdict on a program that draws a number first, which is a step.
+fn decide_drawn(alloc: Global, program: &ForwardProgram, bound: u32) -> Result<Answer, AllocError>
     requires name { program.now.name ≡ codes "main" }
     requires forward { IsForward program.now.commands.items }
     requires drawn { BeginsWithDraw program.now.commands.items }
-    ensures { IfOk result (λ v. IsRightAnswer (program_of program.now.commands.items) 1000 (answer_of v)) }
+    ensures { IfOk result (λ v. IsRightVerdict (program_of program.now.commands.items) (codes "main") bound (answer_view v)) }
 {
-    match search_from(&program.commands, 1, Interval::all()) {
-        None => Ok(Verdict::Clean),
+    match search_from(
+        &program.commands,
+        1,
+        Interval::all(),
+        bound.saturating_sub(1),
+    ) {
+        None => Ok(Answer::Clean),
         Some(found) => {
             let inputs = one_input(alloc, found.drawn)?;
             bug(alloc, program, found.at, inputs)
@@ -81,14 +91,14 @@ fn decide_drawn(alloc: Global, program: &ForwardProgram) -> Result<Verdict, Allo
 }
 
 /// The verdict on a program that draws nothing: the interval then stands for no drawn number.
-fn decide_undrawn(alloc: Global, program: &ForwardProgram) -> Result<Verdict, AllocError>
+fn decide_undrawn(alloc: Global, program: &ForwardProgram, bound: u32) -> Result<Answer, AllocError>
     requires name { program.now.name ≡ codes "main" }
     requires forward { IsForward program.now.commands.items }
     requires undrawn { BeginsWithDraw program.now.commands.items → ⊥ }
-    ensures { IfOk result (λ v. IsRightAnswer (program_of program.now.commands.items) 1000 (answer_of v)) }
+    ensures { IfOk result (λ v. IsRightVerdict (program_of program.now.commands.items) (codes "main") bound (answer_view v)) }
 {
-    match search_from(&program.commands, 0, Interval::all()) {
-        None => Ok(Verdict::Clean),
+    match search_from(&program.commands, 0, Interval::all(), bound) {
+        None => Ok(Answer::Clean),
         Some(found) => bug(alloc, program, found.at, Values::new(alloc)),
     }
 }
@@ -99,13 +109,13 @@ fn bug(
     program: &ForwardProgram,
     at: usize,
     inputs: Values,
-) -> Result<Verdict, AllocError>
+) -> Result<Answer, AllocError>
     requires forward { IsForward program.now.commands.items }
     requires failure { IsFailure program.now.commands.items at }
-    ensures { IfOk result (λ v. ReportsFailure program.now.name program.now.commands.items at (values_view inputs) (answer_of v)) }
+    ensures { IfOk result (λ v. ReportsFailure program.now.name program.now.commands.items at (values_view inputs) (answer_view v)) }
 {
     match &program.commands[at] {
-        Command::Fail(literal) => Ok(Verdict::Bug {
+        Command::Fail(literal) => Ok(Answer::Bug {
             place: Place {
                 proc: program.name.copy(alloc)?,
                 at: at as u32,

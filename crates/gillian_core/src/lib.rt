@@ -1,16 +1,19 @@
 //! The top call: from words and source bytes to a status and the bytes of a report.
 #![tactic(auto)]
 
+mod answers;
 mod decision;
 mod forward;
 mod intervals;
 mod laws;
-mod printing;
 mod programs;
 mod reading;
+mod refusals;
+mod reports;
+mod running;
 mod status;
+mod testing;
 mod top;
-mod verdicts;
 mod words;
 
 pub use laws::one_program;

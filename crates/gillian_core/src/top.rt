@@ -1,29 +1,28 @@
 //! The top call.
-ghost use Rattle.std.specs.Prelude.{◌≡◌, ◌≢◌, ◌⊎◌, ◌<◌, ◌++◌, length, Some, List, map, codes, string_bytes, IfOk, IfSome, IfNone, IsNone};
+ghost use Rattle.std.specs.Prelude.{◌≡◌, ◌⊎◌, ◌<◌, ◌++◌, ◌≤◌, ℕ, List, length, Some, string_bytes, IfOk, IfErr, IfSome};
 ghost use Rattle.std.specs.Io.KnownBytes.{IsAtEnd};
 ghost use Rattle.gil_io.specs.Faults.{FaultRose};
 ghost use Rattle.gil_io.specs.Reading.{Takes};
-ghost use Rattle.gillian_core.specs.declared.programs.Command.{Command};
-ghost use Rattle.gillian_core.specs.Accepted.{Spell};
-ghost use Rattle.gillian_core.specs.Answers.{answer_of};
-ghost use Rattle.gillian_core.specs.Control.{IsForward};
-ghost use Rattle.gillian_core.specs.Finishing.{Answers, Finishes, IsOutputFor};
-ghost use Rattle.gillian_core.specs.Outcomes.{Ends, IsRefused, IsReported, IsRight, most_bytes, refused_form, status_of};
-ghost use Rattle.gillian_core.specs.Programs.{program_of};
-ghost use Rattle.gillian_core.specs.Reports.{Answer, Report, report_text};
+ghost use Rattle.gillian_words.specs.Line.{spelled};
+ghost use Rattle.gillian_words.specs.View.{words_view};
+ghost use Rattle.gillian_core.specs.declared.refusals.Refusal.{Refusal};
+ghost use Rattle.gillian_core.specs.Answers.{answer_view};
+ghost use Rattle.gillian_core.specs.Finishing.{Answers, Finishes, IsResponse, IsResponseOrRefusal, IsStop};
+ghost use Rattle.gillian_core.specs.Outcomes.{Ends, IsRefused, IsReported, IsRight, Output, call_of, most_bytes};
+ghost use Rattle.gillian_core.specs.Outcomes.{output_status, output_text};
+ghost use Rattle.gillian_core.specs.Refusals.{refusal_line};
 ghost use Rattle.gillian_core.specs.Right.{IsRightAnswer};
-ghost use Rattle.gillian_core.specs.Words.{WordsFit, spelled, test_head};
+ghost use Rattle.gillian_core.specs.Words.{IsBuilt, WordsFit};
 
-use crate::decision::decide;
-use crate::printing::report;
-use crate::programs::ForwardProgram;
-use crate::reading::program_of;
+use crate::answers::Answer;
+use crate::refusals::{Refusal, Stop, refusal_text};
+use crate::reports::{report_of, status_of};
+use crate::running::run;
 use crate::status::Status;
-use crate::verdicts::Verdict;
-use crate::words::{USAGE_LINE, fit};
+use crate::testing::test;
+use crate::words::{USAGE_LINE, asked};
 use gil_io::{ReadEnd, Sink, Source, read_all, write_all};
-use gil_lexemes::lexemes;
-use gil_lexer::{LexKind, lex};
+use gillian_words::{Mode, Words};
 use std::alloc::{AllocError, Global};
 
 /// The most bytes that a source text may have.
@@ -32,12 +31,9 @@ pub const MOST_BYTES: usize = 1_048_576;
 /// What is written where the source has more bytes.
 const REFUSED_SIZE: &str = "refused size\n";
 
-/// What is written where the bytes are no forward program.
-const REFUSED_FORM: &str = "refused form at 0\n";
-
 /// What a call writes once the source is read, and how it then ends.
 #[derive(Debug, Drop)]
-struct Output {
+struct Response {
     status: Status,
     text: String,
 }
@@ -52,14 +48,15 @@ pub fn gillian<S: Source, K: Sink>(
     source: &mut S,
     out: &mut K,
 ) -> Status
-    // What is reported is right: where source and sink tell their bytes, the sink took the text of one report, whose head
-    // is that of the words and which is right for the bytes that the source gave.
-    ensures right { IsReported result → IfSome (S.left source.old) (λ bytes. IfSome (K.taken out.old) (λ before. (r : Report)
-        × (K.taken out.new ≡ Some (before ++ report_text r)) × IsRight (spelled words.now) bytes r × (result ≡ status_of r.answer))) }
+    // What is reported is right: where source and sink tell their bytes, the sink took the text of one output, which is what
+    // the words ask for and right for the bytes that the source gave.
+    ensures right { IsReported result → IfSome (S.left source.old) (λ bytes. IfSome (K.taken out.old) (λ before. (o : Output)
+        × (K.taken out.new ≡ Some (before ++ output_text o)) × IsRight (spelled words.now) bytes o × (result ≡ output_status o))) }
 
     // 2: exactly where the words don't fit, and then the source isn't read.
     ensures words { result ≡ Status.Words → WordsFit (spelled words.now) → ⊥ }
-    ensures unfit { (WordsFit (spelled words.now) → ⊥) → ((result ≡ Status.Words) ⊎ (result ≡ Status.WriteFault)) × (source.new ≡ source.old) }
+    ensures unfit { (WordsFit (spelled words.now) → ⊥)
+        → ((result ≡ Status.Words) ⊎ (result ≡ Status.WriteFault) ⊎ (result ≡ Status.Memory)) × (source.new ≡ source.old) }
 
     // 4 and 5: only where the count of that object rose in this call.
     ensures read_fault { result ≡ Status.ReadFault → FaultRose (S.faults source.old) (S.faults source.new) }
@@ -70,8 +67,10 @@ pub fn gillian<S: Source, K: Sink>(
         (result ≡ Status.TooLarge → most_bytes < length gave)
         × (most_bytes < length gave → (result ≡ Status.TooLarge) ⊎ (result ≡ Status.WriteFault))) }
 
-    // 3: exactly where the bytes are no accepted text. With 0 and 1 they are one, by `right`.
-    ensures text { result ≡ Status.Text → IfSome (S.left source.old) IsRefused }
+    // 3: exactly where the bytes are no accepted text, and then the first kind that applies is named. With 0 and 1 they are one,
+    // by `right`.
+    ensures text { result ≡ Status.Text → IfSome (S.left source.old) (λ bytes. IfSome (K.taken out.old) (λ before. (r : Refusal)
+        × (K.taken out.new ≡ Some (before ++ refusal_line r)) × IsRefused (spelled words.now) bytes r)) }
 
     // With 0, 1 and 3 the source was read to its end.
     ensures read { IsReported result ⊎ (result ≡ Status.Text) → IsAtEnd (S.left source.new) }
@@ -80,17 +79,7 @@ pub fn gillian<S: Source, K: Sink>(
     ensures nothing { (result ≡ Status.ReadFault) ⊎ (result ≡ Status.Memory) → K.taken out.new ≡ K.taken out.old }
 
     // What is written with each status, and of which text a part is written with 5.
-    ensures ends { Ends (record {
-      words = spelled words.now;
-      left = S.left source.old;
-      left_after = S.left source.new;
-      read_faults = S.faults source.old;
-      read_faults_after = S.faults source.new;
-      taken = K.taken out.old;
-      taken_after = K.taken out.new;
-      write_faults = K.faults out.old;
-      write_faults_after = K.faults out.new;
-    }) result }
+    ensures ends { Ends (call_of S.left S.faults K.taken K.faults (spelled words.now) source.old source.new out.old out.new) result }
 {
     respond(alloc, words, source, out)
 }
@@ -102,27 +91,20 @@ fn respond<S: Source, K: Sink>(
     source: &mut S,
     out: &mut K,
 ) -> Status
-    ensures unfit { (WordsFit (spelled words.now) → ⊥) → ((result ≡ Status.Words) ⊎ (result ≡ Status.WriteFault)) × (source.new ≡ source.old) }
+    ensures unfit { (WordsFit (spelled words.now) → ⊥)
+        → ((result ≡ Status.Words) ⊎ (result ≡ Status.WriteFault) ⊎ (result ≡ Status.Memory)) × (source.new ≡ source.old) }
     ensures too_large { Takes (S.left source.old) (S.left source.new) (λ gave.
         (result ≡ Status.TooLarge → most_bytes < length gave)
         × (most_bytes < length gave → (result ≡ Status.TooLarge) ⊎ (result ≡ Status.WriteFault))) }
-    ensures ends { Ends (record {
-      words = spelled words.now;
-      left = S.left source.old;
-      left_after = S.left source.new;
-      read_faults = S.faults source.old;
-      read_faults_after = S.faults source.new;
-      taken = K.taken out.old;
-      taken_after = K.taken out.new;
-      write_faults = K.faults out.old;
-      write_faults_after = K.faults out.new;
-    }) result }
+    ensures ends { Ends (call_of S.left S.faults K.taken K.faults (spelled words.now) source.old source.new out.old out.new) result }
 {
-    if !fit(words) {
-        return finish(out, USAGE_LINE, Status::Words);
-    }
+    let task = match asked(alloc, words) {
+        Ok(Some(task)) => task,
+        Ok(None) => return finish(out, USAGE_LINE, Status::Words),
+        Err(_) => return Status::Memory,
+    };
     match read_all(alloc, source, MOST_BYTES) {
-        Ok(bytes) => answer(alloc, &bytes, out),
+        Ok(bytes) => answer(alloc, &task, &bytes, out),
         Err(ReadEnd::ReadFault) => Status::ReadFault,
         Err(ReadEnd::TooLarge) => finish(out, REFUSED_SIZE, Status::TooLarge),
         Err(ReadEnd::Memory) => Status::Memory,
@@ -130,16 +112,18 @@ fn respond<S: Source, K: Sink>(
 }
 
 /// Answers the whole text.
-fn answer<K: Sink>(alloc: Global, bytes: &[u8], out: &mut K) -> Status
-    ensures { Answers bytes.now (K.taken out.old) (K.taken out.new) (K.faults out.old) (K.faults out.new) result }
+fn answer<K: Sink>(alloc: Global, words: &Words, bytes: &[u8], out: &mut K) -> Status
+    requires built { IsBuilt words.now.mode }
+    requires bound { words.now.bound ≤ 10000 }
+    ensures { Answers (words_view words.now) bytes.now (K.taken out.old) (K.taken out.new) (K.faults out.old) (K.faults out.new) result }
 {
-    match output_of(alloc, bytes) {
-        Ok(output) => finish(out, output.text.as_str(), output.status),
+    match response_to(alloc, words, bytes) {
+        Ok(response) => finish(out, response.text.as_str(), response.status),
         Err(_) => Status::Memory,
     }
 }
 
-/// Writes the output, and ends with the status if it is written.
+/// Writes the text, and ends with the status if it is written.
 fn finish<K: Sink>(out: &mut K, text: &str, status: Status) -> Status
     ensures { Finishes (K.taken out.old) (K.taken out.new) (K.faults out.old) (K.faults out.new) text.now status result }
 {
@@ -149,71 +133,51 @@ fn finish<K: Sink>(out: &mut K, text: &str, status: Status) -> Status
     }
 }
 
-/// The output for a text.
-fn output_of(alloc: Global, bytes: &[u8]) -> Result<Output, AllocError>
-    ensures { IfOk result (λ output. IsOutputFor bytes.now output.status (string_bytes output.text)) }
+/// The response to a text.
+fn response_to(alloc: Global, words: &Words, bytes: &[u8]) -> Result<Response, AllocError>
+    requires built { IsBuilt words.now.mode }
+    requires bound { words.now.bound ≤ 10000 }
+    ensures { IfOk result (λ response. IsResponseOrRefusal (words_view words.now) bytes.now response.status (string_bytes response.text)) }
 {
-    match read_text(alloc, bytes)? {
-        Some(program) => test(alloc, &program),
-        None => refusal(alloc),
+    match work(alloc, words, bytes) {
+        Ok(response) => Ok(response),
+        Err(Stop::Refused(refusal)) => refuse(alloc, refusal),
+        Err(Stop::Memory) => Err(AllocError),
     }
 }
 
-/// The output for a text that isn't accepted.
-fn refusal(alloc: Global) -> Result<Output, AllocError>
-    ensures { IfOk result (λ output. (output.status ≡ Status.Text) × (string_bytes output.text ≡ refused_form)) }
+/// The response to a text that isn't accepted.
+fn refuse(alloc: Global, refusal: Refusal) -> Result<Response, AllocError>
+    ensures { IfOk result (λ response. (response.status ≡ Status.Text) × (string_bytes response.text ≡ refusal_line refusal)) }
 {
-    let text = String::from_str(alloc, REFUSED_FORM)?;
-    Ok(Output {
+    let text = refusal_text(alloc, refusal)?;
+    Ok(Response {
         status: Status::Text,
         text,
     })
 }
 
-/// The forward program that the bytes spell, and None where they spell none.
-fn read_text(alloc: Global, bytes: &[u8]) -> Result<Option<ForwardProgram>, AllocError>
-    ensures main { IfOk result (λ found. IfSome found (λ p. (p.name ≡ codes "main") × IsForward p.commands.items)) }
-    ensures some { IfOk result (λ found. IfSome found (λ p. Spell bytes.now p.commands.items)) }
-    ensures none { IfOk result (λ found. IfNone found ((commands : List Command) → Spell bytes.now commands → ⊥)) }
+/// Does what is asked with a text.
+fn work(alloc: Global, words: &Words, bytes: &[u8]) -> Result<Response, Stop>
+    requires built { IsBuilt words.now.mode }
+    requires bound { words.now.bound ≤ 10000 }
+    ensures response { IfOk result (λ response. IsResponse (words_view words.now) bytes.now response.status (string_bytes response.text)) }
+    ensures stop { IfErr result (IsStop (words_view words.now) bytes.now) }
 {
-    match lex(alloc, bytes) {
-        Ok(tokens) => {
-            let lexemes = lexemes(alloc, bytes, &tokens)?;
-            program_of(alloc, &lexemes)
-        }
-        Err(fault) => no_program(fault.kind),
-    }
+    let answer = match words.mode {
+        Mode::Run => run(alloc, words, bytes)?,
+        Mode::Test => test(alloc, words, bytes)?,
+        Mode::Compile => unreachable!(),
+    };
+    Ok(report(alloc, words, &answer)?)
 }
 
-/// What a fault of the lexer leaves: no program, or no memory.
-fn no_program(kind: LexKind) -> Result<Option<ForwardProgram>, AllocError>
-    ensures { IfOk result (λ found. IsNone found × (kind ≢ LexKind.Memory)) }
+/// The report of an answer.
+fn report(alloc: Global, words: &Words, answer: &Answer) -> Result<Response, AllocError>
+    ensures { IfOk result (λ response. (bytes : List ℕ) → IsRightAnswer (words_view words.now) bytes (answer_view answer.now)
+        → IsResponse (words_view words.now) bytes response.status (string_bytes response.text)) }
 {
-    match kind {
-        LexKind::Memory => Err(AllocError),
-        _ => Ok(None),
-    }
-}
-
-/// The output of the test of a program.
-fn test(alloc: Global, program: &ForwardProgram) -> Result<Output, AllocError>
-    requires name { program.now.name ≡ codes "main" }
-    requires forward { IsForward program.now.commands.items }
-    ensures { IfOk result (λ output. (a : Answer) × IsRightAnswer (program_of program.now.commands.items) 1000 a
-        × (output.status ≡ status_of a) × (string_bytes output.text ≡ report_text (record { head = test_head 1000; answer = a }))) }
-{
-    let verdict = decide(alloc, program)?;
-    let text = report(alloc, &verdict)?;
-    let status = status_of(&verdict);
-    Ok(Output { status, text })
-}
-
-/// A clean verdict is good.
-fn status_of(verdict: &Verdict) -> Status
-    ensures { result ≡ status_of (answer_of verdict.now) }
-{
-    match verdict {
-        Verdict::Clean => Status::Good,
-        Verdict::Bug { .. } => Status::Found,
-    }
+    let text = report_of(alloc, words, answer)?;
+    let status = status_of(answer);
+    Ok(Response { status, text })
 }

@@ -11,7 +11,7 @@ use Rattle.gillian_core.specs.Accepted.{Spell}
 use Rattle.gillian_core.specs.Grammar.{Spells}
 use Rattle.gil_lexemes.specs.Lexemes.{StandForAll}
 use Rattle.gillian_core.proofs.Standing.{spelled_as_read}
-use Rattle.gillian_core.proofs.top.read_text.Goals as goal
+use Rattle.gillian_core.proofs.testing.read_text.Goals as goal
 
 -- no program of the lexemes is none of the text
 none_of_lexemes : (r : Result (Option ForwardProgram) AllocError) (bytes : List ℕ) (tokens : List Token) (ls : List Lexeme)

@@ -1,0 +1,22 @@
+use Rattle.std.proofs.Common.{refl}
+use Rattle.gil_program.specs.Program.{prog_view}
+use Rattle.gillian_words.specs.declared.options.Mode.TheVariants.{Test}
+use Rattle.gillian_words.specs.View.{words_view}
+use Rattle.gillian_core.specs.declared.refusals.RefusalKind.TheVariants.{Entry, Form}
+use Rattle.gillian_core.proofs.Cases.{not_true}
+use Rattle.gillian_core.proofs.Refusing.{refused_by}
+use Rattle.gillian_core.proofs.testing.refusal_of.Goals as goal
+
+pub returns-in-Err : goal.returns-in-Err
+returns-in-Err c =
+    refused_by (words_view c.args.words.now) Test _ _ _ c.requires.mode c.requires.none (c.in_ok-kind_of-in-Err.ensures.kind (words_view c.args.words.now) _ _ c.in-Err.ensures.refused)
+
+pub returns-then-is_entry : goal.returns-then-is_entry
+returns-then-is_entry c =
+    refused_by (words_view c.args.words.now) Test _ Form _ c.requires.mode c.requires.none
+    (prog_view c.in-Ok.prog, record { spelled = c.in-Ok.ensures.ok; valid = c.in-Ok.ensures.valid }, c.is_entry.ensures.0 c.if-is_entry.true, refl)
+
+pub returns : goal.returns
+returns c =
+    refused_by (words_view c.args.words.now) Test _ Entry _ c.requires.mode c.requires.none
+    (prog_view c.in-Ok.prog, record { spelled = c.in-Ok.ensures.ok; valid = c.in-Ok.ensures.valid }, (λ entry. not_true _ c.if-is_entry.false (c.is_entry.ensures.1 entry)), refl)

@@ -1,0 +1,57 @@
+-- Texts that aren't accepted: the line that says so, and which kind and byte it names.
+use Rattle.std.specs.Prelude.{◌≡◌, ℕ, List, ◌++◌, length, codes}
+use Rattle.gil_values.specs.Printed.{numeral}
+use Rattle.gil_syntax.specs.Pure.{PureParts}
+use Rattle.gil_syntax.specs.declared.validity.InvalidKind.TheVariants as faults
+use Rattle.gil_text.specs.declared.refused.RefusedKind.TheVariants as reader
+use Rattle.gil_text.specs.Refusals.{IsRefusedFor}
+use Rattle.gil_machine.specs.Run.{IsEntry}
+use Rattle.gillian_words.specs.Asked.{Asked}
+use Rattle.gillian_core.specs.declared.refusals.Refusal.{Refusal}
+use Rattle.gillian_core.specs.declared.refusals.RefusalKind.{RefusalKind}
+use Rattle.gillian_core.specs.declared.refusals.RefusalKind.TheVariants.{Lex, Nesting, Syntax, Duplicate, Label, NoEnd, UnknownName}
+use Rattle.gillian_core.specs.declared.refusals.RefusalKind.TheVariants.{Arity, TooMany, Limit, Entry, Modes, Form}
+use Rattle.gillian_core.specs.Accepted.{IsAccepted, IsTextOf}
+use Rattle.gillian_core.specs.Reports.{line}
+
+abbrev pub kind_word : RefusalKind → List ℕ
+kind_word Lex = codes "lex"
+kind_word Nesting = codes "nesting"
+kind_word Syntax = codes "syntax"
+kind_word Duplicate = codes "duplicate"
+kind_word Label = codes "label"
+kind_word NoEnd = codes "noend"
+kind_word UnknownName = codes "unknown-name"
+kind_word Arity = codes "arity"
+kind_word TooMany = codes "too-many"
+kind_word Limit = codes "limit"
+kind_word Entry = codes "entry"
+kind_word Modes = codes "modes"
+kind_word Form = codes "form"
+
+-- `refused label at 0`
+abbrev pub refusal_line : Refusal → List ℕ
+refusal_line r = line (codes "refused " ++ kind_word r.kind ++ codes " at " ++ numeral r.at)
+
+-- The kind is the first that applies, at this byte. Those up to `too-many` are the reader's, by the text alone. `entry` is that
+-- of a program without the procedure that is asked for, or with parameters of it, at the text's length. `form`, at 0, is that of
+-- a program of a form that isn't built.
+abbrev pub IsFirstKind : Asked → List ℕ → ℕ → RefusalKind → Type 0
+IsFirstKind a bytes at Lex = IsRefusedFor bytes at reader.Lex
+IsFirstKind a bytes at Nesting = IsRefusedFor bytes at reader.Nesting
+IsFirstKind a bytes at Syntax = IsRefusedFor bytes at reader.Syntax
+IsFirstKind a bytes at Duplicate = IsRefusedFor bytes at (reader.Invalid faults.Duplicate)
+IsFirstKind a bytes at Label = IsRefusedFor bytes at (reader.Invalid faults.BadLabel)
+IsFirstKind a bytes at NoEnd = IsRefusedFor bytes at (reader.Invalid faults.NoEnd)
+IsFirstKind a bytes at UnknownName = IsRefusedFor bytes at (reader.Invalid faults.UnknownName)
+IsFirstKind a bytes at Arity = IsRefusedFor bytes at (reader.Invalid faults.Arity)
+IsFirstKind a bytes at TooMany = IsRefusedFor bytes at (reader.Invalid faults.TooMany)
+IsFirstKind a bytes at Limit = ⊥
+IsFirstKind a bytes at Entry = (p : PureParts) × IsTextOf bytes p × (IsEntry p a.entry → ⊥) × (at ≡ length bytes)
+IsFirstKind a bytes at Modes = ⊥
+IsFirstKind a bytes at Form = (p : PureParts) × IsTextOf bytes p × IsEntry p a.entry × (at ≡ 0)
+
+-- the refusal of a text where this is asked: it isn't accepted, and the kind is the first that applies
+pub record IsRefusal (a : Asked) (bytes : List ℕ) (r : Refusal) : Type 0 where
+  pub not_accepted : IsAccepted a bytes → ⊥
+  pub kind : IsFirstKind a bytes r.at r.kind
