@@ -1,15 +1,14 @@
 -- How a call ends, from what its stages leave.
 use Rattle.std.proofs.Common.{◌≡◌, ◌⊎◌, inl, inr, ◌≤◌, ◌++◌, ℕ, List, length, Option, Some, None, IfSome, refl, sym, ◌∙◌, ap, subst}
 use Rattle.std.specs.Io.KnownBytes.{append_known}
-use Rattle.gillian_words.specs.Asked.{Asked}
+use Rattle.gillian_words.specs.Asked.{Asked, AskFor}
 use Rattle.gillian_core.specs.declared.refusals.Refusal.{Refusal}
 use Rattle.gillian_core.specs.declared.status.Status.{Status}
 use Rattle.gillian_core.specs.declared.status.Status.TheVariants.{Good, Found, Words, Text, ReadFault, WriteFault, Memory, TooLarge}
-use Rattle.gillian_core.specs.Outcomes.{Call, IsReported, Ends, written, write_failed, read_failed, out_of_memory, MayWrite, IsRead, IsRefused, IsRight, OfBytes, Output, a_report, Refuses, Reports, answer_status, output_status, output_text}
+use Rattle.gillian_core.specs.Outcomes.{Call, IsReported, Ends, written, write_failed, read_failed, out_of_memory, MayWrite, IsRead, IsRefused, IsRight, OfBytes, Output, a_report, a_program, Refuses, Reports, answer_status, output_status, output_text}
 use Rattle.gillian_core.specs.Finishing.{Finishes, Answers, IsResponseOrRefusal}
 use Rattle.gillian_core.specs.Refusals.{refusal_line}
 use Rattle.gillian_core.specs.Reports.{PureAnswer, clean, bug, returned, failed, vanished, cut, no_input, bad_input, number}
-use Rattle.gillian_core.specs.Words.{IsAsked}
 
 pub ends_of_finish : (c : Call) (status result : Status) (text : List ℕ) → MayWrite c status text
     → Finishes c.taken c.taken_after c.write_faults c.write_faults_after text status result → Ends c result
@@ -30,12 +29,13 @@ by_answer c (number place) text read reports = (read, reports)
 
 may_report : (c : Call) (output : Output) (text : List ℕ) → IsRead c → Reports c (output_status output) text → MayWrite c (output_status output) text
 may_report c (a_report r) text read reports = by_answer c r.answer text read reports
+may_report c (a_program p) text read reports = (read, reports)
 
 if_some_weaker : {X : Type 0} (o : Option X) (P Q : X → Type 0) → ((x : X) → P x → Q x) → IfSome o P → IfSome o Q
 if_some_weaker None P Q f h = tt
 if_some_weaker (Some x) P Q f h = f x h
 
-module _ (c : Call) (a : Asked) (asked : IsAsked c.words a) (read : IsRead c) (bytes : List ℕ) (whole : IfSome c.left (λ left. bytes ≡ left)) where
+module _ (c : Call) (a : Asked) (asked : AskFor c.words a) (read : IsRead c) (bytes : List ℕ) (whole : IfSome c.left (λ left. bytes ≡ left)) where
   may_write_response : (status : Status) (text : List ℕ) → IsResponseOrRefusal a bytes status text → MayWrite c status text
   may_write_response status text (inl (r, refusal, is, says)) =
       let refuses : Refuses c text = record { refusal = r; written = says; right = (bytes, whole, (a, asked, refusal)) } in
@@ -70,6 +70,7 @@ no_answer_too_large (number place) e = cc
 
 no_output_too_large : (output : Output) → output_status output ≡ TooLarge → ⊥
 no_output_too_large (a_report r) e = no_answer_too_large r.answer e
+no_output_too_large (a_program p) e = cc
 
 -- an answer to a text is no refusal of its size
 pub answer_not_too_large : (a : Asked) (bytes : List ℕ) (taken taken_after : Option (List ℕ)) (faults faults_after : ℕ) (result : Status)

@@ -5,28 +5,33 @@ use Rattle.gil_syntax.specs.Valid.{IsValid}
 use Rattle.gil_grammar.specs.Texts.{SpellProgram}
 use Rattle.gil_machine.specs.Run.{IsEntry}
 use Rattle.gillian_words.specs.declared.options.Mode.{Mode}
-use Rattle.gillian_words.specs.declared.options.Mode.TheVariants.{Run}
+use Rattle.gillian_words.specs.declared.options.Mode.TheVariants.{Run, Compile}
 use Rattle.gillian_words.specs.Asked.{Asked}
 use Rattle.gillian_core.specs.declared.refusals.RefusalKind.{RefusalKind}
 use Rattle.gillian_core.specs.declared.refusals.RefusalKind.TheVariants as kinds
-use Rattle.gillian_core.specs.Accepted.{IsAcceptedBy}
+use Rattle.gillian_core.specs.Accepted.{IsAccepted, IsAcceptedBy}
 use Rattle.gillian_core.specs.Refusals.{IsFirstKind, IsRefusal}
 
 -- a text that a mode doesn't accept isn't accepted where that mode is asked
+pub not_accepted_by : (a : Asked) (mode : Mode) (bytes : List ℕ) → a.mode ≡ mode → (IsAcceptedBy mode a bytes → ⊥) → IsAccepted a bytes → ⊥
+not_accepted_by a mode bytes is never accepted = never (subst (λ m. IsAcceptedBy m a bytes) is accepted)
+
 pub refused_by : (a : Asked) (mode : Mode) (bytes : List ℕ) (kind : RefusalKind) (at : ℕ) → a.mode ≡ mode → (IsAcceptedBy mode a bytes → ⊥)
     → IsFirstKind a bytes at kind → IsRefusal a bytes (record { kind = kind; at = at })
-refused_by a mode bytes kind at is never first = record { not_accepted = λ accepted. never (subst (λ m. IsAcceptedBy m a bytes) is accepted); kind = first }
+refused_by a mode bytes kind at is never first = record { not_accepted = not_accepted_by a mode bytes is never; kind = first }
 
-module _ (a : Asked) (bytes : List ℕ) (is_run : a.mode ≡ Run) where
-  -- a text that the reader refuses
-  pub run_refused_by_reader : (kind : RefusalKind) (at : ℕ) → ((p : PureParts) → SpellProgram bytes p → IsValid p → ⊥)
-      → IsFirstKind a bytes at kind → IsRefusal a bytes (record { kind = kind; at = at })
-  run_refused_by_reader kind at never first = refused_by a Run bytes kind at is_run (λ accepted. never accepted.0 accepted.1.spelled accepted.1.valid) first
+-- a text of no valid program is accepted neither to be run nor to be compiled
+pub nothing_to_run : (a : Asked) (bytes : List ℕ) → a.mode ≡ Run → ((p : PureParts) → SpellProgram bytes p → IsValid p → ⊥) → IsAccepted a bytes → ⊥
+nothing_to_run a bytes is never = not_accepted_by a Run bytes is (λ accepted. never accepted.0 accepted.1.spelled accepted.1.valid)
 
-  -- the text of a program that lacks the entry
-  pub run_refused_at_entry : (p : PureParts) → SpellProgram bytes p → IsValid p → ((q : PureParts) → SpellProgram bytes q → IsValid q → p ≡ q)
-      → (IsEntry p a.entry → ⊥) → IsRefusal a bytes (record { kind = kinds.Entry; at = length bytes })
-  run_refused_at_entry p spelled valid only never =
-      refused_by a Run bytes kinds.Entry (length bytes) is_run
-      (λ accepted. never (subst (λ q. IsEntry q a.entry) (sym (only accepted.0 accepted.1.spelled accepted.1.valid)) accepted.2))
-      (p, record { spelled = spelled; valid = valid }, never, refl)
+pub nothing_to_compile : (a : Asked) (bytes : List ℕ) → a.mode ≡ Compile → ((p : PureParts) → SpellProgram bytes p → IsValid p → ⊥) → IsAccepted a bytes → ⊥
+nothing_to_compile a bytes is never = not_accepted_by a Compile bytes is (λ accepted. never accepted.0 accepted.1.spelled accepted.1.valid)
+
+-- the text of a program that lacks the entry isn't run
+pub run_refused_at_entry : (a : Asked) (bytes : List ℕ) (p : PureParts) → a.mode ≡ Run → SpellProgram bytes p → IsValid p
+    → ((q : PureParts) → SpellProgram bytes q → IsValid q → p ≡ q)
+    → (IsEntry p a.entry → ⊥) → IsRefusal a bytes (record { kind = kinds.Entry; at = length bytes })
+run_refused_at_entry a bytes p is spelled valid only never =
+    refused_by a Run bytes kinds.Entry (length bytes) is
+    (λ accepted. never (subst (λ q. IsEntry q a.entry) (sym (only accepted.0 accepted.1.spelled accepted.1.valid)) accepted.2))
+    (p, record { spelled = spelled; valid = valid }, never, refl)

@@ -4,15 +4,17 @@ use Rattle.std.specs.Io.KnownBytes.{append_known, IsAtEnd}
 use Rattle.gil_io.specs.Faults.{FaultRose}
 use Rattle.gil_io.specs.Reading.{Takes}
 use Rattle.gil_io.specs.Writing.{TakesPart}
-use Rattle.gillian_words.specs.Asked.{Asked}
+use Rattle.gil_syntax.specs.Pure.{PureParts}
+use Rattle.syntax_print.specs.Programs.{printed_program}
+use Rattle.gillian_words.specs.Asked.{Asked, AskFor}
 use Rattle.gillian_core.specs.declared.refusals.Refusal.{Refusal}
 use Rattle.gillian_core.specs.declared.status.Status.{Status}
 use Rattle.gillian_core.specs.declared.status.Status.TheVariants.{Good, Found, Words, Text, ReadFault, WriteFault, Memory, TooLarge}
 use Rattle.gillian_core.specs.Refusals.{IsRefusal, refusal_line}
 use Rattle.gillian_core.specs.Reports.{PureAnswer, clean, bug, returned, failed, vanished, cut, no_input, bad_input, number}
 use Rattle.gillian_core.specs.Reports.{Report, line, report_text}
-use Rattle.gillian_core.specs.Right.{IsRightAnswer}
-use Rattle.gillian_core.specs.Words.{IsAsked, WordsFit, head_of}
+use Rattle.gillian_core.specs.Right.{IsCompiled, IsRightAnswer}
+use Rattle.gillian_core.specs.Words.{WordsFit, head_of}
 
 -- the most bytes that a source may give
 abbrev pub most_bytes : ℕ
@@ -67,12 +69,14 @@ OfBytes c P = (bytes : List ℕ) × IfSome c.left (λ left. bytes ≡ left) × P
 
 -- ---- outputs
 
--- what is written of an accepted text: a report
+-- what is written of an accepted text: a report, or a program
 pub data Output : Type 0 where
   a_report : Report → Output
+  a_program : PureParts → Output
 
 abbrev pub output_text : Output → List ℕ
 output_text (a_report r) = report_text r
+output_text (a_program p) = printed_program p
 
 -- a run that returned or vanished and a clean verdict are good
 abbrev pub answer_status : PureAnswer → Status
@@ -88,18 +92,20 @@ answer_status (number place) = Found
 
 abbrev pub output_status : Output → Status
 output_status (a_report r) = answer_status r.answer
+output_status (a_program p) = Good
 
 -- what is asked for is written of a text
 abbrev pub IsRightOutput : Asked → List ℕ → Output → Type 0
 IsRightOutput a bytes (a_report r) = (r.head ≡ head_of a) × IsRightAnswer a bytes r.answer
+IsRightOutput a bytes (a_program p) = IsCompiled a.mode bytes p
 
 -- The output is right for the bytes, and is what the words ask for.
 abbrev pub IsRight : List (List ℕ) → List ℕ → Output → Type 0
-IsRight words bytes output = (a : Asked) × IsAsked words a × IsRightOutput a bytes output
+IsRight words bytes output = (a : Asked) × AskFor words a × IsRightOutput a bytes output
 
 -- The text isn't accepted where this is asked that the words ask for, and is refused so.
 abbrev pub IsRefused : List (List ℕ) → List ℕ → Refusal → Type 0
-IsRefused words bytes r = (a : Asked) × IsAsked words a × IsRefusal a bytes r
+IsRefused words bytes r = (a : Asked) × AskFor words a × IsRefusal a bytes r
 
 -- ---- ends
 

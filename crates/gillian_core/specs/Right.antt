@@ -57,6 +57,12 @@ pub record IsRightTest (a : Asked) (bytes : List ℕ) (answer : PureAnswer) : Ty
 
 -- ---- each mode
 
+-- the program is what is to be written of the bytes: that of which they are a text
+abbrev pub IsCompiled : Mode → List ℕ → PureParts → Type 0
+IsCompiled Run bytes p = ⊥
+IsCompiled Test bytes p = ⊥
+IsCompiled Compile bytes p = IsTextOf bytes p
+
 -- the answer is right for the bytes where this is asked of the mode
 abbrev pub IsRightOf : Mode → Asked → List ℕ → PureAnswer → Type 0
 IsRightOf Run a bytes answer = IsRightRun a bytes answer

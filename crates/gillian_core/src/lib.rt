@@ -2,6 +2,7 @@
 #![tactic(auto)]
 
 mod answers;
+mod compiling;
 mod decision;
 mod forward;
 mod intervals;
@@ -14,7 +15,6 @@ mod running;
 mod status;
 mod testing;
 mod top;
-mod words;
 
 pub use laws::one_program;
 pub use status::Status;

@@ -3,6 +3,8 @@ ghost use Rattle.std.specs.Prelude.{◌≡◌, ◌≢◌, ◌++◌, List, ℕ, I
 ghost use Rattle.gil_text.specs.Refusals.{IsRefused};
 ghost use Rattle.gil_text.specs.declared.refused.RefusedKind.TheVariants as reader;
 ghost use Rattle.gillian_words.specs.Asked.{Asked};
+ghost use Rattle.gillian_core.specs.Accepted.{IsAccepted};
+ghost use Rattle.gillian_core.specs.Finishing.{IsStop};
 ghost use Rattle.gillian_core.specs.Refusals.{IsFirstKind, kind_word, refusal_line};
 
 use gil_syntax::InvalidKind;
@@ -67,8 +69,22 @@ impl From<AllocError> for Stop {
     }
 }
 
-/// The kind of a refusal by the reader of GIL texts, and want of memory where it is no refusal.
-pub fn kind_of(kind: RefusedKind) -> Result<RefusalKind, AllocError>
+/// What a refusal by the reader of GIL texts is, where the text isn't accepted.
+pub fn stop_of(refused: Refused) -> Stop
+    ensures { (a : Asked) (bytes : List ℕ) → IsRefused bytes refused
+        → (refused.kind ≢ reader.Memory → IsAccepted a bytes → ⊥) → IsStop a bytes result }
+{
+    match kind_of(refused.kind) {
+        Ok(kind) => Stop::Refused(Refusal {
+            kind,
+            at: refused.at,
+        }),
+        Err(_) => Stop::Memory,
+    }
+}
+
+/// The kind of a refusal by the reader, and want of memory where it is no refusal.
+fn kind_of(kind: RefusedKind) -> Result<RefusalKind, AllocError>
     ensures kind { IfOk result (λ k. (a : Asked) (bytes : List ℕ) (at : ℕ)
         → IsRefused bytes (record { at = at; kind = kind }) → IsFirstKind a bytes at k) }
     ensures other { OnOk result (kind ≢ reader.Memory) }

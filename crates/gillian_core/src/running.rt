@@ -13,7 +13,7 @@ ghost use Rattle.gillian_core.specs.Finishing.{IsStop};
 ghost use Rattle.gillian_core.specs.Right.{IsRightRun, end_answer};
 
 use crate::answers::Answer;
-use crate::refusals::{Refusal, RefusalKind, Stop, kind_of};
+use crate::refusals::{Refusal, RefusalKind, Stop, stop_of};
 use gil_machine::{End, run_entry};
 use gil_program::Prog;
 use gil_text::read_prog;
@@ -32,13 +32,7 @@ pub fn run(alloc: Global, words: &Words, bytes: &[u8]) -> Result<Answer, Stop>
 {
     let prog = match read_prog(alloc, bytes) {
         Ok(prog) => prog,
-        Err(refused) => {
-            let kind = kind_of(refused.kind)?;
-            return Err(Stop::Refused(Refusal {
-                kind,
-                at: refused.at,
-            }));
-        }
+        Err(refused) => return Err(stop_of(refused)),
     };
     match end_of_entry::<RecordHeap>(alloc, &prog, &words.entry, &words.inputs, words.bound)? {
         Some(answer) => Ok(answer),

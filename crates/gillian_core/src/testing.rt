@@ -8,14 +8,13 @@ ghost use Rattle.gillian_core.specs.Accepted.{IsAcceptedBy, Spell};
 ghost use Rattle.gillian_core.specs.Answers.{answer_view};
 ghost use Rattle.gillian_core.specs.Control.{IsForward};
 ghost use Rattle.gillian_core.specs.Finishing.{IsStop};
-ghost use Rattle.gillian_core.specs.Refusals.{IsRefusal};
 ghost use Rattle.gillian_core.specs.Right.{IsRightTest};
 
 use crate::answers::Answer;
 use crate::decision::decide;
 use crate::programs::ForwardProgram;
 use crate::reading::program_of;
-use crate::refusals::{Refusal, RefusalKind, Stop, kind_of};
+use crate::refusals::{Refusal, RefusalKind, Stop, stop_of};
 use gil_lexemes::lexemes;
 use gil_lexer::{LexKind, lex};
 use gil_program::Prog;
@@ -32,10 +31,7 @@ pub fn test(alloc: Global, words: &Words, bytes: &[u8]) -> Result<Answer, Stop>
 {
     match forward_program(alloc, words, bytes)? {
         Some(program) => Ok(decide(alloc, &program, words.bound)?),
-        None => {
-            let refusal = refusal_of(alloc, words, bytes)?;
-            Err(Stop::Refused(refusal))
-        }
+        None => Err(stop_untested(alloc, words, bytes)),
     }
 }
 
@@ -57,24 +53,21 @@ fn forward_program(
 }
 
 /// Why a text that isn't to be tested isn't accepted.
-fn refusal_of(alloc: Global, words: &Words, bytes: &[u8]) -> Result<Refusal, AllocError>
+fn stop_untested(alloc: Global, words: &Words, bytes: &[u8]) -> Stop
     requires mode { words.now.mode ≡ Mode.Test }
     requires none { IsAcceptedBy Mode.Test (words_view words.now) bytes.now → ⊥ }
-    ensures { IfOk result (IsRefusal (words_view words.now) bytes.now) }
+    ensures { IsStop (words_view words.now) bytes.now result }
 {
     match read_prog(alloc, bytes) {
-        Err(refused) => Ok(Refusal {
-            kind: kind_of(refused.kind)?,
-            at: refused.at,
-        }),
+        Err(refused) => stop_of(refused),
         Ok(prog) => {
             if is_entry(&prog, &words.entry) {
-                Ok(Refusal {
+                Stop::Refused(Refusal {
                     kind: RefusalKind::Form,
                     at: 0,
                 })
             } else {
-                Ok(Refusal {
+                Stop::Refused(Refusal {
                     kind: RefusalKind::Entry,
                     at: bytes.len(),
                 })

@@ -1,5 +1,5 @@
 //! The top call.
-ghost use Rattle.std.specs.Prelude.{◌≡◌, ◌⊎◌, ◌<◌, ◌++◌, ◌≤◌, ℕ, List, length, Some, string_bytes, IfOk, IfErr, IfSome};
+ghost use Rattle.std.specs.Prelude.{◌≡◌, ◌⊎◌, ◌<◌, ◌++◌, ◌≤◌, ℕ, List, length, Some, IfOk, IfErr, IfSome};
 ghost use Rattle.std.specs.Io.KnownBytes.{IsAtEnd};
 ghost use Rattle.gil_io.specs.Faults.{FaultRose};
 ghost use Rattle.gil_io.specs.Reading.{Takes};
@@ -12,21 +12,25 @@ ghost use Rattle.gillian_core.specs.Outcomes.{Ends, IsRefused, IsReported, IsRig
 ghost use Rattle.gillian_core.specs.Outcomes.{output_status, output_text};
 ghost use Rattle.gillian_core.specs.Refusals.{refusal_line};
 ghost use Rattle.gillian_core.specs.Right.{IsRightAnswer};
-ghost use Rattle.gillian_core.specs.Words.{IsBuilt, WordsFit};
+ghost use Rattle.gillian_core.specs.Words.{WordsFit};
 
 use crate::answers::Answer;
+use crate::compiling::compile;
 use crate::refusals::{Refusal, Stop, refusal_text};
 use crate::reports::{report_of, status_of};
 use crate::running::run;
 use crate::status::Status;
 use crate::testing::test;
-use crate::words::{USAGE_LINE, asked};
 use gil_io::{ReadEnd, Sink, Source, read_all, write_all};
-use gillian_words::{Mode, Words};
+use gillian_words::{Mode, Words, WordsFault, read_words};
 use std::alloc::{AllocError, Global};
 
 /// The most bytes that a source text may have.
 pub const MOST_BYTES: usize = 1_048_576;
+
+/// The line that answers words that don't fit.
+const USAGE_LINE: &str =
+    "usage: gillian MODE LANG [--bound N] [--entry NAME] [--inputs LIST] [--json]\n";
 
 /// What is written where the source has more bytes.
 const REFUSED_SIZE: &str = "refused size\n";
@@ -35,7 +39,7 @@ const REFUSED_SIZE: &str = "refused size\n";
 #[derive(Debug, Drop)]
 struct Response {
     status: Status,
-    text: String,
+    text: Vec<u8>,
 }
 
 /// Does what the words ask with the text that the source gives. The words are read first, then the source to its end,
@@ -98,36 +102,42 @@ fn respond<S: Source, K: Sink>(
         × (most_bytes < length gave → (result ≡ Status.TooLarge) ⊎ (result ≡ Status.WriteFault))) }
     ensures ends { Ends (call_of S.left S.faults K.taken K.faults (spelled words.now) source.old source.new out.old out.new) result }
 {
-    let task = match asked(alloc, words) {
-        Ok(Some(task)) => task,
-        Ok(None) => return finish(out, USAGE_LINE, Status::Words),
-        Err(_) => return Status::Memory,
+    let task = match read_words(alloc, words) {
+        Ok(task) => task,
+        Err(WordsFault::Refused) => return finish_line(out, USAGE_LINE, Status::Words),
+        Err(WordsFault::Memory) => return Status::Memory,
     };
     match read_all(alloc, source, MOST_BYTES) {
         Ok(bytes) => answer(alloc, &task, &bytes, out),
         Err(ReadEnd::ReadFault) => Status::ReadFault,
-        Err(ReadEnd::TooLarge) => finish(out, REFUSED_SIZE, Status::TooLarge),
+        Err(ReadEnd::TooLarge) => finish_line(out, REFUSED_SIZE, Status::TooLarge),
         Err(ReadEnd::Memory) => Status::Memory,
     }
 }
 
 /// Answers the whole text.
 fn answer<K: Sink>(alloc: Global, words: &Words, bytes: &[u8], out: &mut K) -> Status
-    requires built { IsBuilt words.now.mode }
-    requires bound { words.now.bound ≤ 10000 }
+    requires { words.now.bound ≤ 10000 }
     ensures { Answers (words_view words.now) bytes.now (K.taken out.old) (K.taken out.new) (K.faults out.old) (K.faults out.new) result }
 {
     match response_to(alloc, words, bytes) {
-        Ok(response) => finish(out, response.text.as_str(), response.status),
+        Ok(response) => finish(out, &response.text, response.status),
         Err(_) => Status::Memory,
     }
 }
 
+/// Writes the line, and ends with the status if it is written.
+fn finish_line<K: Sink>(out: &mut K, line: &str, status: Status) -> Status
+    ensures { Finishes (K.taken out.old) (K.taken out.new) (K.faults out.old) (K.faults out.new) line.now status result }
+{
+    finish(out, line.as_bytes(), status)
+}
+
 /// Writes the text, and ends with the status if it is written.
-fn finish<K: Sink>(out: &mut K, text: &str, status: Status) -> Status
+fn finish<K: Sink>(out: &mut K, text: &[u8], status: Status) -> Status
     ensures { Finishes (K.taken out.old) (K.taken out.new) (K.faults out.old) (K.faults out.new) text.now status result }
 {
-    match write_all(out, text.as_bytes()) {
+    match write_all(out, text) {
         Ok(()) => status,
         Err(_) => Status::WriteFault,
     }
@@ -135,9 +145,8 @@ fn finish<K: Sink>(out: &mut K, text: &str, status: Status) -> Status
 
 /// The response to a text.
 fn response_to(alloc: Global, words: &Words, bytes: &[u8]) -> Result<Response, AllocError>
-    requires built { IsBuilt words.now.mode }
-    requires bound { words.now.bound ≤ 10000 }
-    ensures { IfOk result (λ response. IsResponseOrRefusal (words_view words.now) bytes.now response.status (string_bytes response.text)) }
+    requires { words.now.bound ≤ 10000 }
+    ensures { IfOk result (λ response. IsResponseOrRefusal (words_view words.now) bytes.now response.status response.text.items) }
 {
     match work(alloc, words, bytes) {
         Ok(response) => Ok(response),
@@ -148,36 +157,49 @@ fn response_to(alloc: Global, words: &Words, bytes: &[u8]) -> Result<Response, A
 
 /// The response to a text that isn't accepted.
 fn refuse(alloc: Global, refusal: Refusal) -> Result<Response, AllocError>
-    ensures { IfOk result (λ response. (response.status ≡ Status.Text) × (string_bytes response.text ≡ refusal_line refusal)) }
+    ensures { IfOk result (λ response. (response.status ≡ Status.Text) × (response.text.items ≡ refusal_line refusal)) }
 {
     let text = refusal_text(alloc, refusal)?;
     Ok(Response {
         status: Status::Text,
-        text,
+        text: text.into_bytes(),
     })
 }
 
 /// Does what is asked with a text.
 fn work(alloc: Global, words: &Words, bytes: &[u8]) -> Result<Response, Stop>
-    requires built { IsBuilt words.now.mode }
-    requires bound { words.now.bound ≤ 10000 }
-    ensures response { IfOk result (λ response. IsResponse (words_view words.now) bytes.now response.status (string_bytes response.text)) }
+    requires { words.now.bound ≤ 10000 }
+    ensures response { IfOk result (λ response. IsResponse (words_view words.now) bytes.now response.status response.text.items) }
     ensures stop { IfErr result (IsStop (words_view words.now) bytes.now) }
 {
-    let answer = match words.mode {
-        Mode::Run => run(alloc, words, bytes)?,
-        Mode::Test => test(alloc, words, bytes)?,
-        Mode::Compile => unreachable!(),
-    };
-    Ok(report(alloc, words, &answer)?)
+    match words.mode {
+        Mode::Run => {
+            let answer = run(alloc, words, bytes)?;
+            Ok(report(alloc, words, &answer)?)
+        }
+        Mode::Test => {
+            let answer = test(alloc, words, bytes)?;
+            Ok(report(alloc, words, &answer)?)
+        }
+        Mode::Compile => {
+            let text = compile(alloc, words, bytes)?;
+            Ok(Response {
+                status: Status::Good,
+                text,
+            })
+        }
+    }
 }
 
 /// The report of an answer.
 fn report(alloc: Global, words: &Words, answer: &Answer) -> Result<Response, AllocError>
     ensures { IfOk result (λ response. (bytes : List ℕ) → IsRightAnswer (words_view words.now) bytes (answer_view answer.now)
-        → IsResponse (words_view words.now) bytes response.status (string_bytes response.text)) }
+        → IsResponse (words_view words.now) bytes response.status response.text.items) }
 {
     let text = report_of(alloc, words, answer)?;
     let status = status_of(answer);
-    Ok(Response { status, text })
+    Ok(Response {
+        status,
+        text: text.into_bytes(),
+    })
 }
