@@ -1,8 +1,11 @@
+pub mod Accepting
 pub mod CaseLaws
 pub mod DisposeLaws
 pub mod DisposeRight
 pub mod Elements
 pub mod Facts
+pub mod Instance
+pub mod Law
 pub mod LookupLaws
 pub mod NameLists
 pub mod NewLaws

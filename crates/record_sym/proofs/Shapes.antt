@@ -1,6 +1,6 @@
 -- The forms of the conditions that are asked, and what states and results are made of.
-use Rattle.std.proofs.Common.{◌≡◌, ◌⊎◌, ⊎_elim, inl, inr, ℕ, zero, suc, ◌+◌, List, [], ◌∷◌, ◌++◌, map, Bool, true, false, Option, Some, None, if◌then◌else◌, refl, sym, ap, subst, ◌∙◌}
-use Rattle.std.specs.List.{flat_map}
+use Rattle.std.proofs.Common.{◌≡◌, ◌⊎◌, ⊎_elim, inl, inr, ℕ, zero, suc, ◌+◌, List, [], ◌∷◌, ◌++◌, map, Bool, true, false, Option, Some, None, if◌then◌else◌, slice_get, refl, sym, ap, subst, ◌∙◌, arith}
+use Rattle.std.specs.List.{flat_map, remove}
 use Rattle.gil_values.specs.declared.kinds.Kind.{Kind}
 use Rattle.gil_values.specs.Equality.{same_kind}
 use Rattle.mem_model.specs.declared.failures.Failure.{Failure}
@@ -8,17 +8,19 @@ use Rattle.pure_terms.specs.declared.literals.Literal.{Literal}
 use Rattle.pure_terms.specs.declared.variables.Var.{Var}
 use Rattle.pure_terms.specs.Kinds.{known_kind}
 use Rattle.pure_terms.specs.Pure.{PureTerm, literal, variable, list_of, unary_of, binary_of, PureTerms, to_list, PureAtom, positive, negative, opening}
-use Rattle.record_sym.specs.Places.{gone_there, gone_at, key_there, at_key, other_place, key_elsewhere, other_key, listed, unlisted, tells_not, lacks, absent_there, absent_at, form_of_names, opened_there, opened_at}
-use Rattle.record_sym.specs.Table.{RecordBranches, cases, failure, null, found, lookup, changes_from, mutate, gone_cases, absent_cases, opened_names, missed_names, missed_name, without_property, wrong_number, property_or_fail, faulty, distinct_from, name_chunk, created, made_cases, make, act_new, act_lookup, act_mutate}
+use Rattle.record_sym.specs.Places.{gone_there, gone_at, key_there, at_key, other_place, key_elsewhere, other_key, listed, unlisted, tells_not, lacks, absent_there, absent_at, form_of_names, opened_there, opened_at, undescribed_there, undescribed_at}
+use Rattle.record_heap.specs.declared.actions.RecordAction.{RecordAction}
+use Rattle.record_sym.specs.Table.{RecordBranches, cases, failure, null, true_term, asked_by, branches_of, PureTaking, taking, takings_from, next_takings, missing_name, disposed, dispose_names, dispose_there, dispose_from, dispose, found, lookup, changes_from, mutate, gone_cases, absent_cases, opened_names, missed_names, missed_name, without_property, wrong_number, property_or_fail, faulty, distinct_from, name_chunk, created, made_cases, make, act_new, act_lookup, act_mutate}
 use Rattle.sym_conditions.specs.declared.comparing.Comparison.{Comparison}
 use Rattle.sym_conditions.specs.Alternatives.{Alternatives, never, always, given, both, any, all_from, all, equal, same, other, by_comparison, kind_is, by_kind, of_kind, not_of_kind, with_form}
 use Rattle.sym_conditions.specs.Comparing.{compared}
 use Rattle.sym_model.specs.Chunks.{with_held, placed_in, value_where_described, value_where_held}
 use Rattle.sym_model.specs.Lists.{Each}
-use Rattle.sym_model.specs.Pure.{PureSub, named, cell, shape, bound, dom, proto, gone, PureChunk, sub_terms, done, result_terms}
+use Rattle.sym_model.specs.Pure.{PureSub, named, cell, shape, bound, dom, proto, gone, PureChunk, sub_terms, done, missed}
 use Rattle.sym_model.specs.Terms.{is_literal, is_list_term}
 use Rattle.sym_model.proofs.ChunkMeaning.{ChunkTerms, chunk_val}
-use Rattle.sym_model.proofs.ListLaws.{each_append, each_flat, each_to}
+use Rattle.sym_model.proofs.ListLaws.{same_some, each_append, each_flat, each_to}
+use Rattle.record_sym.proofs.DisposeLaws.{each_removed}
 use Rattle.record_sym.proofs.CaseLaws.{EachAtom, Shaped, shaped_cases, both_shaped, form_shaped}
 
 -- Q of the conditions that are asked of terms of which Side holds, and of the forms that are needed where Form holds
@@ -172,24 +174,52 @@ module _ (Q : PureAtom → Type 0) (Side Form : PureTerm → Type 0) (accepts : 
     opened_shaped : EachAtom Q (opened_at l c)
     opened_shaped = opened_by c.sub refl
 
-  -- ---- the actions, with K of each chunk and R of each term of a result
+  -- ---- the actions, with R of each term of a state and of a result, and N of what chunks hold
 
-  module _ (K : PureChunk → Type 0) (R : PureTerm → Type 0) (texts : (k : Literal) → R (literal k)) where
-    abbrev State : List PureChunk → Type 0
-    State cs = Each K cs
+  module _ (R : PureTerm → Type 0) (N : PureSub → PureTerm → Type 0) (r_text : (k : List ℕ) → R (literal (Literal.Str k))) (r_null : R null) (r_true : R true_term) (r_elements : (ts : PureTerms) → R (list_of ts) → Each R (to_list ts))
+      (n_name : (q t : PureTerm) → N (named q) t) (n_gone : (t : PureTerm) → N gone t) (n_list : (ts : PureTerms) → N shape (list_of ts)) where
+    pub record IsFine (c : PureChunk) : Type 0 where
+      pub terms : ChunkTerms R c
+      pub holds : N c.sub c.val
 
-    abbrev Shapes : RecordBranches → Type 0
+    abbrev pub State : List PureChunk → Type 0
+    State cs = Each IsFine cs
+
+    abbrev pub Shapes : RecordBranches → Type 0
     Shapes bs = Each (Shaped Q State R) bs
 
+    both_never : (x : Alternatives) → both x never ≡ never
+    both_never [] = refl
+    both_never (conds ∷ x) = both_never x
+
+    never_taken : (when : Alternatives) (cs : List PureChunk) (res : _) → Shapes (cases (both when never) cs res)
+    never_taken when cs res = subst (λ x. Shapes (cases x cs res)) (sym (both_never when)) tt
+
+    fine_held : (cs : List PureChunk) (i : ℕ) (c : PureChunk) (q t : PureTerm) → slice_get cs i ≡ Some c → c.sub ≡ named q → R t → State cs → State (with_held cs i t)
+    fine_held [] i c q t there is r_t state = tt
+    fine_held (d ∷ cs) zero c q t there is r_t state =
+        let sub : d.sub ≡ named q = ap (λ (e : PureChunk). e.sub) (same_some there) ∙ is in (
+          record {
+            terms = record {
+              places = state.0.terms.places;
+              described = subst (λ s. Each R (value_where_described s t)) (sym sub) tt;
+              held = subst (λ s. Each R (value_where_held s t)) (sym sub) (r_t, tt);
+            };
+            holds = subst (λ s. N s t) (sym sub) (n_name q t);
+          },
+          state.1,
+        )
+    fine_held (d ∷ cs) (suc i) c q t there is r_t state = (state.0, fine_held cs i c q t there is r_t state.1)
+
     module _ (cs : List PureChunk) (sides : Each ChunkSides cs) (state : State cs) where
-      pub failed_shaped : (when : Alternatives) (why : Failure) → EachAtom Q when → Shapes (cases when cs (failure why))
-      failed_shaped when why conds = shaped_cases Q State R when cs (failure why) conds state (texts _, tt)
+      failed_shaped : (when : Alternatives) (why : Failure) → EachAtom Q when → Shapes (cases when cs (failure why))
+      failed_shaped when why conds = shaped_cases Q State R when cs (failure why) conds state (r_text _, tt)
+
+      each_chunk : (f : PureChunk → Alternatives) → ((c : PureChunk) → ChunkSides c → EachAtom Q (f c)) → Each (λ c. EachAtom Q (f c)) cs
+      each_chunk f is = each_to ChunkSides (λ c. EachAtom Q (f c)) cs is sides
 
       module _ (l p : PureTerm) (side_l : Side l) (side_p : Side p) (r_l : R l) (r_p : R p) (when : Alternatives) (conds : EachAtom Q when) where
-        each_chunk : (f : PureChunk → Alternatives) → ((c : PureChunk) → ChunkSides c → EachAtom Q (f c)) → Each (λ c. EachAtom Q (f c)) cs
-        each_chunk f is = each_to ChunkSides (λ c. EachAtom Q (f c)) cs is sides
-
-        pub without_shaped : Shapes (without_property when l p cs)
+        without_shaped : Shapes (without_property when l p cs)
         without_shaped =
             each_append (Shaped Q State R) (gone_cases when l cs) (absent_cases when l p cs ++ (opened_names when l p cs ++ missed_names when l p cs))
             (failed_shaped (both when (any (gone_at l) cs)) Failure.Gone (both_shaped Q when (any (gone_at l) cs) conds (any_shaped (gone_at l) cs (each_chunk (gone_at l) (gone_shaped l p side_l side_p)))))
@@ -202,13 +232,206 @@ module _ (Q : PureAtom → Type 0) (Side Form : PureTerm → Type 0) (accepts : 
             (shaped_cases Q State R (both when (all (lacks l p) cs)) cs (missed_name l p)
             (both_shaped Q when (all (lacks l p) cs) conds (all_shaped always (lacks l p) cs always_shaped (each_chunk (lacks l p) (lacks_shaped l p side_l side_p)))) state (r_l, (r_p, tt)))))
 
-        pub lookup_shaped : Each (λ c. R c.val) cs → Shapes (lookup when l p cs)
-        lookup_shaped vals =
-            each_append (Shaped Q State R) (flat_map (found when l p cs) cs) (without_property when l p cs) (found_shaped cs sides vals) without_shaped
-          where
-            found_shaped : (ds : List PureChunk) → Each ChunkSides ds → Each (λ c. R c.val) ds → Shapes (flat_map (found when l p cs) ds)
-            found_shaped [] all_sides vals = tt
-            found_shaped (c ∷ ds) all_sides vals =
-                each_append (Shaped Q State R) (found when l p cs c) (flat_map (found when l p cs) ds)
-                (shaped_cases Q State R (both when (at_key l p c)) cs (done c.val) (both_shaped Q when (at_key l p c) conds (key_shaped l p side_l side_p c all_sides.0)) state (vals.0, tt))
-                (found_shaped ds all_sides.1 vals.1)
+        found_shaped : (ds : List PureChunk) → Each ChunkSides ds → State ds → Shapes (flat_map (found when l p cs) ds)
+        found_shaped [] all_sides fine = tt
+        found_shaped (c ∷ ds) all_sides fine =
+            each_append (Shaped Q State R) (found when l p cs c) (flat_map (found when l p cs) ds)
+            (shaped_cases Q State R (both when (at_key l p c)) cs (done c.val) (both_shaped Q when (at_key l p c) conds (key_shaped l p side_l side_p c all_sides.0)) state (chunk_val R c fine.0.terms, tt))
+            (found_shaped ds all_sides.1 fine.1)
+
+        lookup_shaped : Shapes (lookup when l p cs)
+        lookup_shaped = each_append (Shaped Q State R) (flat_map (found when l p cs) cs) (without_property when l p cs) (found_shaped cs sides state) without_shaped
+
+        change_by : (t : PureTerm) → R t → (i : ℕ) (c : PureChunk) → slice_get cs i ≡ Some c → ChunkSides c → (s : PureSub) → c.sub ≡ s → Shapes (cases (both when (key_there l p c.loc s)) (with_held cs i t) (done t))
+        change_by t r_t i c there c_sides (named q) is =
+            shaped_cases Q State R (both when (key_there l p c.loc (named q))) (with_held cs i t) (done t)
+            (both_shaped Q when (key_there l p c.loc (named q)) conds (subst (λ s. EachAtom Q (key_there l p c.loc s)) is (key_shaped l p side_l side_p c c_sides)))
+            (fine_held cs i c q t there is r_t state) (r_t, tt)
+        change_by t r_t i c there c_sides (cell q) is = never_taken when (with_held cs i t) (done t)
+        change_by t r_t i c there c_sides shape is = never_taken when (with_held cs i t) (done t)
+        change_by t r_t i c there c_sides bound is = never_taken when (with_held cs i t) (done t)
+        change_by t r_t i c there c_sides dom is = never_taken when (with_held cs i t) (done t)
+        change_by t r_t i c there c_sides proto is = never_taken when (with_held cs i t) (done t)
+        change_by t r_t i c there c_sides gone is = never_taken when (with_held cs i t) (done t)
+
+        changes_shaped : (t : PureTerm) → R t → (i : ℕ) (ds : List PureChunk) → Each ChunkSides ds → ((j : ℕ) (c : PureChunk) → slice_get ds j ≡ Some c → slice_get cs (i + j) ≡ Some c) → Shapes (changes_from when l p t cs i ds)
+        changes_shaped t r_t i [] all_sides places = tt
+        changes_shaped t r_t i (c ∷ ds) all_sides places =
+            each_append (Shaped Q State R) (cases (both when (at_key l p c)) (with_held cs i t) (done t)) (changes_from when l p t cs (i + 1) ds)
+            (change_by t r_t i c (ap (slice_get cs) (omega arith) ∙ places 0 c refl) all_sides.0 c.sub refl)
+            (changes_shaped t r_t (i + 1) ds all_sides.1 (λ j d at. ap (slice_get cs) (omega arith) ∙ places (suc j) d at))
+
+        mutate_shaped : (t : PureTerm) → R t → Shapes (mutate when l p t cs)
+        mutate_shaped t r_t =
+            each_append (Shaped Q State R) (changes_from when l p t cs 0 cs) (without_property when l p cs)
+            (changes_shaped t r_t 0 cs sides (λ j c at. ap (slice_get cs) (omega arith) ∙ at)) without_shaped
+
+      or_fail_shaped : (l p : PureTerm) → Side l → Side p → (branches : Alternatives → RecordBranches) → ((when : Alternatives) → EachAtom Q when → Shapes (branches when)) → Shapes (property_or_fail l p cs branches)
+      or_fail_shaped l p side_l side_p branches is =
+          each_append (Shaped Q State R) (cases (not_of_kind l Kind.Sym ++ not_of_kind p Kind.Str) cs (failure Failure.Kind)) (branches (both (of_kind l Kind.Sym) (of_kind p Kind.Str)))
+          (failed_shaped (not_of_kind l Kind.Sym ++ not_of_kind p Kind.Str) Failure.Kind (each_append (Each Q) (not_of_kind l Kind.Sym) (not_of_kind p Kind.Str) (not_kind_shaped l Kind.Sym side_l) (not_kind_shaped p Kind.Str side_p)))
+          (is (both (of_kind l Kind.Sym) (of_kind p Kind.Str)) (both_shaped Q (of_kind l Kind.Sym) (of_kind p Kind.Str) (kind_shaped l Kind.Sym side_l) (kind_shaped p Kind.Str side_p)))
+
+      wrong_shaped : Shapes (wrong_number cs)
+      wrong_shaped = failed_shaped always Failure.Arity always_shaped
+
+      -- ---- `new`
+
+      faulty_shaped : (ds : List PureTerm) → Each Side ds → EachAtom Q (faulty ds)
+      faulty_shaped [] all_sides = tt
+      faulty_shaped (d ∷ ds) all_sides =
+          each_append (Each Q) (not_of_kind d Kind.Str) (any (same d) ds ++ faulty ds) (not_kind_shaped d Kind.Str all_sides.0)
+          (each_append (Each Q) (any (same d) ds) (faulty ds) (same_each d ds all_sides.0 all_sides.1) (faulty_shaped ds all_sides.1))
+
+      distinct_shaped : (x : Alternatives) (ds : List PureTerm) → EachAtom Q x → Each Side ds → EachAtom Q (distinct_from x ds)
+      distinct_shaped x [] first all_sides = first
+      distinct_shaped x (d ∷ ds) first all_sides =
+          distinct_shaped (all_from (both x (of_kind d Kind.Str)) (other d) ds) ds
+          (other_each (both x (of_kind d Kind.Str)) d ds (both_shaped Q x (of_kind d Kind.Str) first (kind_shaped d Kind.Str all_sides.0)) all_sides.0 all_sides.1) all_sides.1
+
+      fine_names : (x : Var) → R (variable x) → (ds : List PureTerm) → Each R ds → State (map (name_chunk x) ds)
+      fine_names x r_x [] all_r = tt
+      fine_names x r_x (d ∷ ds) all_r =
+          (record { terms = record { places = (r_x, (all_r.0, tt)); described = tt; held = (r_null, tt) }; holds = n_name d null }, fine_names x r_x ds all_r.1)
+
+      fine_created : (x : Var) → R (variable x) → (ts : PureTerms) → R (list_of ts) → State (created x (list_of ts) (to_list ts) cs)
+      fine_created x r_x ts r_d =
+          each_append IsFine (cs ++ map (name_chunk x) (to_list ts)) (record { loc = variable x; sub = shape; val = list_of ts } ∷ [])
+          (each_append IsFine cs (map (name_chunk x) (to_list ts)) state (fine_names x r_x (to_list ts) (r_elements ts r_d)))
+          (record { terms = record { places = (r_x, tt); described = (r_d, tt); held = tt }; holds = n_list ts }, tt)
+
+      unlisted_shaped : (x : Var) → R (variable x) → (d : PureTerm) → Side d → EachAtom Q (with_form d (of_kind d Kind.List)) → Shapes (cases (not_of_kind d Kind.List) cs (failure Failure.Kind) ++ cases (with_form d (of_kind d Kind.List)) cs (done (variable x)))
+      unlisted_shaped x r_x d side form =
+          each_append (Shaped Q State R) (cases (not_of_kind d Kind.List) cs (failure Failure.Kind)) (cases (with_form d (of_kind d Kind.List)) cs (done (variable x)))
+          (failed_shaped (not_of_kind d Kind.List) Failure.Kind (not_kind_shaped d Kind.List side))
+          (shaped_cases Q State R (with_form d (of_kind d Kind.List)) cs (done (variable x)) form state (r_x, tt))
+
+      no_list_literal : (k : Literal) → of_kind (literal k) Kind.List ≡ never
+      no_list_literal (Literal.Int n) = refl
+      no_list_literal (Literal.Bool n) = refl
+      no_list_literal (Literal.Str n) = refl
+      no_list_literal (Literal.Kind n) = refl
+      no_list_literal (Literal.Proc n) = refl
+
+      form_of_argument : (d : PureTerm) → Side d → (of_kind d Kind.List ≡ never) ⊎ Q (opening d) → EachAtom Q (with_form d (of_kind d Kind.List))
+      form_of_argument d side why = ⊎_elim (λ e. subst (λ x. EachAtom Q (with_form d x)) (sym e) tt) (λ is. form_shaped Q d (of_kind d Kind.List) is (kind_shaped d Kind.List side)) why
+
+      make_shaped : (x : Var) → R (variable x) → (d : PureTerm) → Side d → R d → (is_list_term d ≡ false → (of_kind d Kind.List ≡ never) ⊎ Form d) → Shapes (make x d cs)
+      make_shaped x r_x (list_of ts) side r_d form =
+          each_append (Shaped Q State R) (cases (faulty (to_list ts)) cs (failure Failure.Kind)) (made_cases x (list_of ts) (to_list ts) cs)
+          (failed_shaped (faulty (to_list ts)) Failure.Kind (faulty_shaped (to_list ts) (accepts.elements ts side)))
+          (shaped_cases Q State R (distinct_from always (to_list ts)) (created x (list_of ts) (to_list ts) cs) (done (variable x)) (distinct_shaped always (to_list ts) always_shaped (accepts.elements ts side)) (fine_created x r_x ts r_d) (r_x, tt))
+      make_shaped x r_x (literal k) side r_d form = unlisted_shaped x r_x (literal k) side (form_of_argument (literal k) side (inl (no_list_literal k)))
+      make_shaped x r_x (variable y) side r_d form = unlisted_shaped x r_x (variable y) side (form_of_argument (variable y) side (⊎_elim inl (λ is. inr (accepts.form (variable y) is refl refl)) (form refl)))
+      make_shaped x r_x (unary_of op t) side r_d form = unlisted_shaped x r_x (unary_of op t) side (form_of_argument (unary_of op t) side (⊎_elim inl (λ is. inr (accepts.form (unary_of op t) is refl refl)) (form refl)))
+      make_shaped x r_x (binary_of op s t) side r_d form = unlisted_shaped x r_x (binary_of op s t) side (form_of_argument (binary_of op s t) side (⊎_elim inl (λ is. inr (accepts.form (binary_of op s t) is refl refl)) (form refl)))
+
+      -- ---- `dispose`
+
+      record IsFineTaking (k : PureTaking) : Type 0 where
+        when : EachAtom Q k.when
+        fine : State k.left
+        left_sides : Each ChunkSides k.left
+
+      fine_taking : (x : Alternatives) (left : List PureChunk) → EachAtom Q x → State left → Each ChunkSides left → Each IsFineTaking (taking x left)
+      fine_taking [] left conds fine left_sides = tt
+      fine_taking (conds ∷ x) left all_conds fine left_sides = (record { when = all_conds; fine = fine; left_sides = left_sides }, tt)
+
+      module _ (loc : PureTerm) (side_loc : Side loc) (r_loc : R loc) where
+        next_fine : (d : PureTerm) → Side d → (k : PureTaking) → IsFineTaking k → (i : ℕ) (es : List PureChunk) → Each ChunkSides es → Each IsFineTaking (takings_from k.when loc d k.left i es)
+        next_fine d side_d k is i [] all_sides = tt
+        next_fine d side_d k is i (c ∷ es) all_sides =
+            each_append IsFineTaking (taking (both k.when (at_key loc d c)) (remove k.left i)) (takings_from k.when loc d k.left (i + 1) es)
+            (fine_taking (both k.when (at_key loc d c)) (remove k.left i) (both_shaped Q k.when (at_key loc d c) is.when (key_shaped loc d side_loc side_d c all_sides.0)) (each_removed IsFine k.left i is.fine) (each_removed ChunkSides k.left i is.left_sides))
+            (next_fine d side_d k is (i + 1) es all_sides.1)
+
+        missing_shaped : (d : PureTerm) → Side d → R d → (k : PureTaking) → IsFineTaking k → Shapes (missing_name cs loc d k)
+        missing_shaped d side_d r_d k is =
+            shaped_cases Q State R (both k.when (all (other_key loc d) k.left)) cs (missed_name loc d)
+            (both_shaped Q k.when (all (other_key loc d) k.left) is.when (all_shaped always (other_key loc d) k.left always_shaped (each_to ChunkSides (λ c. EachAtom Q (other_key loc d c)) k.left (elsewhere_shaped loc d side_loc side_d) is.left_sides)))
+            state (r_loc, (r_d, tt))
+
+        disposed_shaped : (k : PureTaking) → IsFineTaking k → Shapes (disposed loc k)
+        disposed_shaped k is =
+            shaped_cases Q State R k.when (k.left ++ record { loc = loc; sub = gone; val = true_term } ∷ []) (done true_term) is.when
+            (each_append IsFine k.left (record { loc = loc; sub = gone; val = true_term } ∷ []) is.fine (record { terms = record { places = (r_loc, tt); described = tt; held = (r_true, tt) }; holds = n_gone true_term }, tt))
+            (r_true, tt)
+
+        names_shaped : (ds : List PureTerm) → Each Side ds → Each R ds → (ks : List PureTaking) → Each IsFineTaking ks → Shapes (dispose_names cs loc ds ks)
+        names_shaped [] all_sides all_r ks fine = each_flat (Shaped Q State R) (disposed loc) ks (each_to IsFineTaking (λ k. Shapes (disposed loc k)) ks disposed_shaped fine)
+        names_shaped (d ∷ ds) all_sides all_r ks fine =
+            each_append (Shaped Q State R) (flat_map (missing_name cs loc d) ks) (dispose_names cs loc ds (flat_map (next_takings loc d) ks))
+            (each_flat (Shaped Q State R) (missing_name cs loc d) ks (each_to IsFineTaking (λ k. Shapes (missing_name cs loc d k)) ks (missing_shaped d all_sides.0 all_r.0) fine))
+            (names_shaped ds all_sides.1 all_r.1 (flat_map (next_takings loc d) ks)
+            (each_flat IsFineTaking (next_takings loc d) ks (each_to IsFineTaking (λ k. Each IsFineTaking (next_takings loc d k)) ks (λ k is. next_fine d all_sides.0 k is 0 k.left is.left_sides) fine)))
+
+      module _ (l : PureTerm) (side_l : Side l) (r_l : R l) (when : Alternatives) (conds : EachAtom Q when) where
+        there_shaped : (i : ℕ) (c : PureChunk) → ChunkSides c → IsFine c → (s : PureSub) → c.sub ≡ s → (t : PureTerm) → c.val ≡ t → Shapes (dispose_there when l cs i c.loc s t)
+        there_shaped i c c_sides fine shape is (list_of ts) is_list =
+            let side_val : Side (list_of ts) = subst Side is_list (side_of_val l l side_l side_l c c_sides is) in
+            let r_val : R (list_of ts) = subst R is_list (chunk_val R c fine.terms) in
+            names_shaped c.loc c_sides.places.0 fine.terms.places.0 (to_list ts) (accepts.elements ts side_val) (r_elements ts r_val) (taking (both when (same l c.loc)) (remove cs i))
+            (fine_taking (both when (same l c.loc)) (remove cs i) (both_shaped Q when (same l c.loc) conds (same_shaped l c.loc side_l c_sides.places.0)) (each_removed IsFine cs i state) (each_removed ChunkSides cs i sides))
+        there_shaped i c c_sides fine shape is (literal k) is_list = tt
+        there_shaped i c c_sides fine shape is (variable y) is_list = tt
+        there_shaped i c c_sides fine shape is (unary_of op t) is_list = tt
+        there_shaped i c c_sides fine shape is (binary_of op s t) is_list = tt
+        there_shaped i c c_sides fine (named q) is t is_list = tt
+        there_shaped i c c_sides fine (cell q) is t is_list = tt
+        there_shaped i c c_sides fine bound is t is_list = tt
+        there_shaped i c c_sides fine dom is t is_list = tt
+        there_shaped i c c_sides fine proto is t is_list = tt
+        there_shaped i c c_sides fine gone is t is_list = tt
+
+        from_shaped : (i : ℕ) (ds : List PureChunk) → Each ChunkSides ds → State ds → Shapes (dispose_from when l cs i ds)
+        from_shaped i [] all_sides fine = tt
+        from_shaped i (c ∷ ds) all_sides fine =
+            each_append (Shaped Q State R) (dispose_there when l cs i c.loc c.sub c.val) (dispose_from when l cs (i + 1) ds)
+            (there_shaped i c all_sides.0 fine.0 c.sub refl c.val refl) (from_shaped (i + 1) ds all_sides.1 fine.1)
+
+        undescribed_by : (c : PureChunk) → ChunkSides c → (s : PureSub) → EachAtom Q (undescribed_there l c.loc s)
+        undescribed_by c c_sides shape = other_shaped l c.loc side_l c_sides.places.0
+        undescribed_by c c_sides gone = other_shaped l c.loc side_l c_sides.places.0
+        undescribed_by c c_sides (named q) = always_shaped
+        undescribed_by c c_sides (cell q) = always_shaped
+        undescribed_by c c_sides bound = always_shaped
+        undescribed_by c c_sides dom = always_shaped
+        undescribed_by c c_sides proto = always_shaped
+
+        dispose_shaped : Shapes (dispose when l cs)
+        dispose_shaped =
+            each_append (Shaped Q State R) (gone_cases when l cs) (cases (both (any (opened_at l) cs) when) cs (done true_term) ++ (cases (both when (all (undescribed_at l) cs)) cs (missed (record { loc = l; sub = shape })) ++ dispose_from when l cs 0 cs))
+            (failed_shaped (both when (any (gone_at l) cs)) Failure.Gone (both_shaped Q when (any (gone_at l) cs) conds (any_shaped (gone_at l) cs (each_chunk (gone_at l) (gone_shaped l l side_l side_l)))))
+            (each_append (Shaped Q State R) (cases (both (any (opened_at l) cs) when) cs (done true_term)) (cases (both when (all (undescribed_at l) cs)) cs (missed (record { loc = l; sub = shape })) ++ dispose_from when l cs 0 cs)
+            (shaped_cases Q State R (both (any (opened_at l) cs) when) cs (done true_term) (both_shaped Q (any (opened_at l) cs) when (any_shaped (opened_at l) cs (each_chunk (opened_at l) (opened_shaped l l side_l side_l))) conds) state (r_true, tt))
+            (each_append (Shaped Q State R) (cases (both when (all (undescribed_at l) cs)) cs (missed (record { loc = l; sub = shape }))) (dispose_from when l cs 0 cs)
+            (shaped_cases Q State R (both when (all (undescribed_at l) cs)) cs (missed (record { loc = l; sub = shape })) (both_shaped Q when (all (undescribed_at l) cs) conds (all_shaped always (undescribed_at l) cs always_shaped (each_chunk (undescribed_at l) (λ c c_sides. undescribed_by c c_sides c.sub)))) state (r_l, tt))
+            (from_shaped 0 cs sides state)))
+
+      -- ---- every action
+
+      pub shaped : (op : RecordAction) (fresh : Option Var) (args : List PureTerm) → ((x : Var) → fresh ≡ Some x → R (variable x)) → Each Side (asked_by (Some op) args) → Each R args
+          → ((d : PureTerm) → args ≡ d ∷ [] → is_list_term d ≡ false → (of_kind d Kind.List ≡ never) ⊎ Form d) → Shapes (branches_of op fresh args cs)
+      shaped RecordAction.New (Some x) (d ∷ []) r_x asked_sides all_r form = make_shaped x (r_x x refl) d asked_sides.0 all_r.0 (form d refl)
+      shaped RecordAction.New None (d ∷ []) r_x asked_sides all_r form = tt
+      shaped RecordAction.New (Some x) [] r_x asked_sides all_r form = wrong_shaped
+      shaped RecordAction.New None [] r_x asked_sides all_r form = wrong_shaped
+      shaped RecordAction.New (Some x) (d ∷ e ∷ more) r_x asked_sides all_r form = wrong_shaped
+      shaped RecordAction.New None (d ∷ e ∷ more) r_x asked_sides all_r form = wrong_shaped
+      shaped RecordAction.Lookup fresh (l ∷ p ∷ []) r_x asked_sides all_r form =
+          or_fail_shaped l p asked_sides.0 asked_sides.1.0 (λ when. lookup when l p cs) (λ when conds. lookup_shaped l p asked_sides.0 asked_sides.1.0 all_r.0 all_r.1.0 when conds)
+      shaped RecordAction.Lookup fresh [] r_x asked_sides all_r form = wrong_shaped
+      shaped RecordAction.Lookup fresh (l ∷ []) r_x asked_sides all_r form = wrong_shaped
+      shaped RecordAction.Lookup fresh (l ∷ p ∷ t ∷ more) r_x asked_sides all_r form = wrong_shaped
+      shaped RecordAction.Mutate fresh (l ∷ p ∷ t ∷ []) r_x asked_sides all_r form =
+          or_fail_shaped l p asked_sides.0 asked_sides.1.0 (λ when. mutate when l p t cs) (λ when conds. mutate_shaped l p asked_sides.0 asked_sides.1.0 all_r.0 all_r.1.0 when conds t all_r.1.1.0)
+      shaped RecordAction.Mutate fresh [] r_x asked_sides all_r form = wrong_shaped
+      shaped RecordAction.Mutate fresh (l ∷ []) r_x asked_sides all_r form = wrong_shaped
+      shaped RecordAction.Mutate fresh (l ∷ p ∷ []) r_x asked_sides all_r form = wrong_shaped
+      shaped RecordAction.Mutate fresh (l ∷ p ∷ t ∷ s ∷ more) r_x asked_sides all_r form = wrong_shaped
+      shaped RecordAction.Dispose fresh (l ∷ []) r_x asked_sides all_r form =
+          each_append (Shaped Q State R) (cases (not_of_kind l Kind.Sym) cs (failure Failure.Kind)) (dispose (of_kind l Kind.Sym) l cs)
+          (failed_shaped (not_of_kind l Kind.Sym) Failure.Kind (not_kind_shaped l Kind.Sym asked_sides.0))
+          (dispose_shaped l asked_sides.0 all_r.0 (of_kind l Kind.Sym) (kind_shaped l Kind.Sym asked_sides.0))
+      shaped RecordAction.Dispose fresh [] r_x asked_sides all_r form = wrong_shaped
+      shaped RecordAction.Dispose fresh (l ∷ p ∷ more) r_x asked_sides all_r form = wrong_shaped

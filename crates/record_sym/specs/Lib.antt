@@ -1,4 +1,6 @@
 pub mod Laws
 pub mod Places
+pub mod Plain
+pub mod RecordMeaning
 pub mod Table
 pub mod View

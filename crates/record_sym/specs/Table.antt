@@ -188,3 +188,12 @@ branches_of RecordAction.Dispose fresh args cs = act_dispose args cs
 -- an action that records don't have
 abbrev pub unknown_action : List PureChunk → RecordBranches
 unknown_action cs = cases always cs (failure Failure.Action)
+
+-- the arguments that an action asks about: all but the value that `mutate` stores
+abbrev pub asked_by : Option RecordAction → List PureTerm → List PureTerm
+asked_by (Some RecordAction.Mutate) (l ∷ p ∷ more) = l ∷ p ∷ []
+asked_by op args = args
+
+abbrev pub table : Option RecordAction → Option Var → List PureTerm → List PureChunk → RecordBranches
+table (Some op) fresh args cs = branches_of op fresh args cs
+table None fresh args cs = unknown_action cs

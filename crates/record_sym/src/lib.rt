@@ -6,12 +6,11 @@ mod disposing;
 mod folds;
 mod laws;
 mod making;
+mod memory;
 mod places;
 mod properties;
 mod states;
+mod table;
 
-pub use disposing::act_dispose;
 pub use laws::{dispose_is_right, lookup_is_right, mutate_is_right, new_is_right};
-pub use making::act_new;
-pub use properties::{act_lookup, act_mutate};
 pub use states::RecordSym;

@@ -1,0 +1,217 @@
+-- The three laws on conditions and terms, as what conditions and terms are made of: they are own and made of what is given; they
+-- name no other variables; they are plain.
+use Rattle.std.proofs.Common.{◌≡◌, ◌⊎◌, ⊎_elim, inl, inr, ℕ, ℤ, List, [], ◌∷◌, ◌++◌, Bool, true, false, not, ◌&&◌, ◌||◌, Option, Some, None, IsTrue, is_some, refl, sym, ap, subst, ◌∙◌, true≢false}
+use Rattle.std.specs.List.{Contains, list_any}
+use Rattle.std.proofs.lemmas.Bool.{and_parts, and_from}
+use Rattle.std.proofs.lemmas.List.Elements.{Contains-append_cases, Contains-push}
+use Rattle.gil_values.proofs.OperatorSymbols.{none_contained}
+use Rattle.gil_values.specs.declared.kinds.Kind.{Kind}
+use Rattle.gil_values.specs.declared.operators.UnOp.{UnOp}
+use Rattle.gil_values.specs.declared.operators.BinOp.{BinOp}
+use Rattle.pure_terms.specs.declared.literals.Literal.{Literal}
+use Rattle.pure_terms.specs.declared.variables.Sort.{Sort}
+use Rattle.pure_terms.specs.declared.variables.Var.{Var}
+use Rattle.pure_terms.specs.Equality.{same_term}
+use Rattle.pure_terms.specs.EqualityLaws.{same_term-refl}
+use Rattle.pure_terms.specs.Fragment.{is_simple, are_simple, names_sort, name_sort, is_plain, is_kind_test, is_flat, has_literals_between, have_literals_between, has_fragment_form}
+use Rattle.pure_terms.specs.Kinds.{known_kind}
+use Rattle.pure_terms.specs.Meaning.{IsOver}
+use Rattle.pure_terms.specs.Pure.{PureTerm, literal, variable, list_of, unary_of, binary_of, PureTerms, no_terms, term_and, to_list, PureAtom, positive, negative, opening, term_of, subterms, subterms_of_all, variables}
+use Rattle.pure_terms.proofs.SimpleLaws.{simple_terms_have_kinds}
+use Rattle.sym_conditions.specs.declared.comparing.Comparison.{Comparison}
+use Rattle.sym_conditions.specs.Alternatives.{equal, kind_is}
+use Rattle.sym_conditions.specs.Comparing.{are_apart, compared}
+use Rattle.sym_conditions.proofs.Telling.{Compared, are_same, are_different, are_unsure, comparison_of}
+use Rattle.sym_model.specs.Laws.{IsPlainWithin, IsDecidedWithin}
+use Rattle.sym_model.specs.Lists.{Each, OneOf, IsAmong}
+use Rattle.sym_model.specs.Terms.{StandsIn, is_literal, is_list_term, IsPart, IsMadeOf, AreMadeOf, Asked, IsOwnCondition}
+use Rattle.sym_model.proofs.ListLaws.{each_to, one_to, one_left, one_right, one_parts}
+use Rattle.record_sym.proofs.NameLists.{elements_over}
+use Rattle.record_sym.proofs.Shapes.{Accepts}
+
+-- ---- subterms
+
+itself_first : (t : PureTerm) → IsAmong t (subterms t)
+itself_first (literal k) = inl refl
+itself_first (variable x) = inl refl
+itself_first (list_of ts) = inl refl
+itself_first (unary_of op t) = inl refl
+itself_first (binary_of op s t) = inl refl
+
+mutual
+  within : (u s e : PureTerm) → IsAmong s (subterms u) → IsAmong e (subterms s) → IsAmong e (subterms u)
+  within (literal k) s e one inner = ⊎_elim (λ same. subst (λ z. IsAmong e (subterms z)) (sym same) inner) absurd one
+  within (variable x) s e one inner = ⊎_elim (λ same. subst (λ z. IsAmong e (subterms z)) (sym same) inner) absurd one
+  within (list_of ts) s e one inner = ⊎_elim (λ same. subst (λ z. IsAmong e (subterms z)) (sym same) inner) (λ later. inr (within_all ts s e later inner)) one
+  within (unary_of op t) s e one inner = ⊎_elim (λ same. subst (λ z. IsAmong e (subterms z)) (sym same) inner) (λ later. inr (within t s e later inner)) one
+  within (binary_of op t u) s e one inner =
+      ⊎_elim (λ same. subst (λ z. IsAmong e (subterms z)) (sym same) inner)
+      (λ later. inr (⊎_elim
+      (λ left. one_left (λ y. y ≡ e) (subterms t) (subterms u) (within t s e left inner))
+      (λ right. one_right (λ y. y ≡ e) (subterms t) (subterms u) (within u s e right inner))
+      (one_parts (λ y. y ≡ s) (subterms t) (subterms u) later)))
+      one
+
+  within_all : (ts : PureTerms) (s e : PureTerm) → IsAmong s (subterms_of_all ts) → IsAmong e (subterms s) → IsAmong e (subterms_of_all ts)
+  within_all no_terms s e one inner = absurd one
+  within_all (term_and t ts) s e one inner =
+      ⊎_elim
+      (λ left. one_left (λ y. y ≡ e) (subterms t) (subterms_of_all ts) (within t s e left inner))
+      (λ right. one_right (λ y. y ≡ e) (subterms t) (subterms_of_all ts) (within_all ts s e right inner))
+      (one_parts (λ y. y ≡ s) (subterms t) (subterms_of_all ts) one)
+
+-- an element of a list term stands in it
+elements_stand : (ts : PureTerms) → Each (λ e. IsAmong e (subterms_of_all ts)) (to_list ts)
+elements_stand no_terms = tt
+elements_stand (term_and t ts) = (
+  one_left (λ y. y ≡ t) (subterms t) (subterms_of_all ts) (itself_first t),
+  each_to (λ e. IsAmong e (subterms_of_all ts)) (λ e. IsAmong e (subterms_of_all (term_and t ts))) (to_list ts) (λ e later. one_right (λ y. y ≡ e) (subterms t) (subterms_of_all ts) later) (elements_stand ts),
+)
+
+pub stands_elements : (given : List PureTerm) (ts : PureTerms) → StandsIn given (list_of ts) → Each (StandsIn given) (to_list ts)
+stands_elements given ts stands =
+    each_to (λ e. IsAmong e (subterms_of_all ts)) (StandsIn given) (to_list ts)
+    (λ e inside. one_to (λ u. IsAmong (list_of ts) (subterms u)) (λ u. IsAmong e (subterms u)) given (λ u there. within u (list_of ts) e there (inr inside)) stands)
+    (elements_stand ts)
+
+pub stands_itself : (given : List PureTerm) → Each (StandsIn given) given
+stands_itself [] = tt
+stands_itself (t ∷ given) = (inl (itself_first t), each_to (StandsIn given) (StandsIn (t ∷ given)) given (λ e later. inr later) (stands_itself given))
+
+-- ---- comparisons that aren't sure
+
+or_false_first : (b c : Bool) → (b || c) ≡ false → b ≡ false
+or_false_first true c e = absurd (true≢false e)
+or_false_first false c e = refl
+
+unsure_by : (s t : PureTerm) (c : Comparison) → Compared s t c → c ≡ Comparison.Unsure → (¬ (s ≡ t)) × ((is_literal s && is_literal t) ≡ false)
+unsure_by s t Comparison.Same (are_same e) is = absurd (cc)
+unsure_by s t Comparison.Different (are_different a b) is = absurd (cc)
+unsure_by s t Comparison.Unsure (are_unsure differ apart) is =
+    ((λ e. true≢false (sym (same_term-refl s) ∙ ap (same_term s) e ∙ differ)), or_false_first (is_literal s && is_literal t) _ apart)
+
+unsure : (s t : PureTerm) → compared s t ≡ Comparison.Unsure → (¬ (s ≡ t)) × ((is_literal s && is_literal t) ≡ false)
+unsure s t is = unsure_by s t (compared s t) (comparison_of s t) is
+
+-- ---- own conditions
+
+pub own_accepts : (g : Asked) → Accepts (IsOwnCondition g) (StandsIn g.compared) (λ t. IsAmong t g.forms)
+own_accepts g = record {
+  are_equal = λ s t first second is. let parts = unsure s t is in inl (refl, inl (parts.0, parts.1, inl first, inl second));
+  are_other = λ s t first second is. let parts = unsure s t is in inl (refl, inl (parts.0, parts.1, inl first, inl second));
+  is_kind = λ t k side known. inr (refl, (side, known, refl));
+  isnt_kind = λ t k side known. inr (refl, (side, known, refl));
+  form = λ t form no_list no_literal. (form, no_list, no_literal);
+  elements = stands_elements g.compared;
+}
+
+-- ---- variables
+
+over_both : (vars : List Sort) (s t : PureTerm) → IsOver vars s → IsOver vars t → IsOver vars (equal s t)
+over_both vars s t first second x has = ⊎_elim (first x) (second x) (Contains-append_cases (variables s) (variables t) x has)
+
+over_kind : (vars : List Sort) (t : PureTerm) (k : Kind) → IsOver vars t → IsOver vars (kind_is t k)
+over_kind vars t k over x has = ⊎_elim (over x) (λ none. absurd (none_contained x none)) (Contains-append_cases (variables t) [] x has)
+
+pub over_accepts : (vars : List Sort) → Accepts (λ a. IsOver vars (term_of a)) (IsOver vars) (IsOver vars)
+over_accepts vars = record {
+  are_equal = λ s t first second is. over_both vars s t first second;
+  are_other = λ s t first second is. over_both vars s t first second;
+  is_kind = λ t k side known. over_kind vars t k side;
+  isnt_kind = λ t k side known. over_kind vars t k side;
+  form = λ t form no_list no_literal. form;
+  elements = λ ts over. elements_over vars ts over;
+}
+
+-- ---- plain
+
+not_true : (b : Bool) → not b ≡ true → b ≡ false
+not_true true e = absurd (true≢false (sym e))
+not_true false e = refl
+
+pub record PlainParts (low high : ℤ) (t : PureTerm) : Type 0 where
+  pub simple : is_simple t ≡ true
+  pub no_any : names_sort Sort.Any t ≡ false
+  pub no_list : names_sort Sort.List t ≡ false
+  pub literals : has_literals_between low high t ≡ true
+
+pub plain_parts : (low high : ℤ) (t : PureTerm) → IsPlainWithin low high t → PlainParts low high t
+plain_parts low high t (plain, literals) =
+    let parts = and_parts (is_simple t) (not (names_sort Sort.Any t) && not (names_sort Sort.List t)) plain in
+    let sorts = and_parts (not (names_sort Sort.Any t)) (not (names_sort Sort.List t)) parts.1 in
+    record { simple = parts.0; no_any = not_true _ sorts.0; no_list = not_true _ sorts.1; literals = literals }
+
+or_ends : (a b : Bool) → (a || (b || true)) ≡ true
+or_ends true b = refl
+or_ends false true = refl
+or_ends false false = refl
+
+fragment_of : (low high : ℤ) (s t : PureTerm) → PlainParts low high s → PlainParts low high t → (kt ff rest : Bool)
+    → (((is_simple s && is_simple t) || rest) && (not (names_sort Sort.List s || names_sort Sort.List t) && (kt || (ff || (not (names_sort Sort.Any s) && not (names_sort Sort.Any t)))))) ≡ true
+fragment_of low high s t p q kt ff rest =
+    (λ i. ((p.simple i && q.simple i) || rest) && (not (p.no_list i || q.no_list i) && (kt || (ff || (not (p.no_any i) && not (q.no_any i))))))
+    ∙ or_ends kt ff
+
+decided_equality : (low high : ℤ) (s t : PureTerm) → IsPlainWithin low high s → IsPlainWithin low high t → IsTrue (has_fragment_form (positive (equal s t))) × IsTrue (has_literals_between low high (equal s t))
+decided_equality low high s t first second =
+    let p = plain_parts low high s first in
+    let q = plain_parts low high t second in
+    (fragment_of low high s t p q (is_kind_test (equal s t)) (is_flat s && is_flat t) _, and_from _ _ p.literals q.literals)
+
+never_unknown : {X : Type 0} (low high : ℤ) (t : PureTerm) → IsPlainWithin low high t → known_kind t ≡ None → X
+never_unknown low high t plain unknown =
+    let p = plain_parts low high t plain in
+    let (k, known) = simple_terms_have_kinds t p.simple p.no_any in
+    absurd (true≢false (ap is_some (sym known ∙ unknown)))
+
+plain_elements : (low high : ℤ) (ts : PureTerms) → are_simple ts ≡ true → name_sort Sort.Any ts ≡ false → name_sort Sort.List ts ≡ false → have_literals_between low high ts ≡ true → Each (IsPlainWithin low high) (to_list ts)
+plain_elements low high no_terms simple no_any no_list literals = tt
+plain_elements low high (term_and t ts) simple no_any no_list literals =
+    let s = and_parts (is_simple t) (are_simple ts) simple in
+    let a = or_false (names_sort Sort.Any t) (name_sort Sort.Any ts) no_any in
+    let l = or_false (names_sort Sort.List t) (name_sort Sort.List ts) no_list in
+    let n = and_parts (has_literals_between low high t) (have_literals_between low high ts) literals in
+    ((and_from (is_simple t) _ s.0 (and_from (not (names_sort Sort.Any t)) (not (names_sort Sort.List t)) (ap not a.0) (ap not l.0)), n.0), plain_elements low high ts s.1 a.1 l.1 n.1)
+  where
+    or_false : (b c : Bool) → (b || c) ≡ false → (b ≡ false) × (c ≡ false)
+    or_false true c e = absurd (true≢false e)
+    or_false false c e = (refl, e)
+
+pub elements_plain : (low high : ℤ) (ts : PureTerms) → IsPlainWithin low high (list_of ts) → Each (IsPlainWithin low high) (to_list ts)
+elements_plain low high ts plain = let p = plain_parts low high (list_of ts) plain in plain_elements low high ts p.simple p.no_any p.no_list p.literals
+
+pub plain_accepts : (low high : ℤ) → Accepts (IsDecidedWithin low high) (IsPlainWithin low high) (λ t. ⊥)
+plain_accepts low high = record {
+  are_equal = λ s t first second is. decided_equality low high s t first second;
+  are_other = λ s t first second is. decided_equality low high s t first second;
+  is_kind = λ t k side known. never_unknown low high t side known;
+  isnt_kind = λ t k side known. never_unknown low high t side known;
+  form = λ t form no_list no_literal. absurd form;
+  elements = elements_plain low high;
+}
+
+-- ---- what terms are made of
+
+pub made_of_given : (given : List PureTerm) (fresh : Option Var) (t : PureTerm) → StandsIn given t → IsMadeOf given fresh t
+made_of_given given fresh (literal k) stands = tt
+made_of_given given fresh (variable x) stands = inl stands
+made_of_given given fresh (list_of ts) stands = inl (inl stands)
+made_of_given given fresh (unary_of op t) stands = inl stands
+made_of_given given fresh (binary_of op s t) stands = inl (inl stands)
+
+made_elements : (given : List PureTerm) (fresh : Option Var) (ts : PureTerms) → AreMadeOf given fresh ts → Each (IsMadeOf given fresh) (to_list ts)
+made_elements given fresh no_terms made = tt
+made_elements given fresh (term_and t ts) made = (made.0, made_elements given fresh ts made.1)
+
+no_list_variable : (ts : PureTerms) (x : Var) → list_of ts ≡ variable x → ⊥
+no_list_variable ts x e = cc
+
+pub elements_made : (given : List PureTerm) (fresh : Option Var) (ts : PureTerms) → IsMadeOf given fresh (list_of ts) → Each (IsMadeOf given fresh) (to_list ts)
+elements_made given fresh ts made =
+    ⊎_elim
+    (λ part. ⊎_elim
+    (λ stands. each_to (StandsIn given) (IsMadeOf given fresh) (to_list ts) (made_of_given given fresh) (stands_elements given ts stands))
+    (λ other_part. ⊎_elim (λ is_lit. absurd (true≢false (sym is_lit))) (λ (x, (is, e)). absurd (no_list_variable ts x e)) other_part)
+    part)
+    (made_elements given fresh ts)
+    made
