@@ -39,7 +39,9 @@ given_list c = take c.given c.list
 -- the second list is the first one, with the equalities of the elements at these places added
 abbrev pub IsOpened : List PureAtom → List ℕ → List PureAtom → Type 0
 IsOpened atoms [] list = atoms ≡ list
-IsOpened atoms (p ∷ ps) list = IsSomeAnd (equal_lists_at atoms p) (λ lists. HaveOneLength lists.left lists.right × IsOpened (atoms ++ element_equalities lists.left lists.right) ps list)
+IsOpened atoms (p ∷ ps) list =
+    IsSomeAnd (equal_lists_at atoms p)
+    (λ lists. HaveOneLength lists.left lists.right × IsOpened (atoms ++ element_equalities lists.left lists.right) ps list)
 
 -- a proof over the second list as one over the first
 abbrev pub under_parts : List ℕ → PureProof → PureProof
@@ -49,12 +51,14 @@ under_parts (p ∷ ps) proof = parts_at p (under_parts ps proof)
 -- the equalities of the elements of two list terms stand in the list
 pub record AreListed (list : List PureAtom) (ts us : PureTerms) : Type 0 where
   pub one_length : HaveOneLength ts us
-  pub each : (j : ℕ) (s t : PureTerm) → slice_get (to_list ts) j ≡ Some s → slice_get (to_list us) j ≡ Some t → (m : ℕ) × (slice_get list m ≡ Some (positive (equals s t)))
+  pub each : (j : ℕ) (s t : PureTerm) → slice_get (to_list ts) j ≡ Some s → slice_get (to_list us) j ≡ Some t
+      → (m : ℕ) × (slice_get list m ≡ Some (positive (equals s t)))
 
 -- the sides of an equality that has a form of the fragment
 abbrev pub are_plain : PureTerm → PureTerm → Bool
 are_plain s t =
-    (is_simple s && is_simple t) && ((not (names_sort Sort.List s) && not (names_sort Sort.List t)) && ((is_flat s && is_flat t) || (not (names_sort Sort.Any s) && not (names_sort Sort.Any t))))
+    (is_simple s && is_simple t) && ((not (names_sort Sort.List s) && not (names_sort Sort.List t))
+    && ((is_flat s && is_flat t) || (not (names_sort Sort.Any s) && not (names_sort Sort.Any t))))
 
 -- what holds once the classes of the sides of the equalities before one place are one, and the equalities of elements were
 -- added for those before another
@@ -63,9 +67,11 @@ pub record IsTakenTo (c : PureClasses) (united_to listed_to : ℕ) : Type 0 wher
   pub opened : IsOpened (given_list c) c.opened c.list
   pub nodes : AreNodes c.list c.nodes
   pub united : (i : ℕ) (sides : Sides) → i < united_to → equality_at c.list i ≡ Some sides → IsUnited c.nodes sides.left sides.right
-  pub listed : (i : ℕ) (ts us : PureTerms) → i < listed_to → equality_at c.list i ≡ Some (record { left = list_of ts; right = list_of us }) → AreListed c.list ts us
+  pub listed : (i : ℕ) (ts us : PureTerms) → i < listed_to
+      → equality_at c.list i ≡ Some (record { left = list_of ts; right = list_of us }) → AreListed c.list ts us
   pub equated : (i : ℕ) (sides : Sides) → equality_at c.list i ≡ Some sides → Equates (given_list c) sides.left sides.right
-  pub plain : HaveFragmentForms (given_list c) → (i : ℕ) (sides : Sides) → equality_at c.list i ≡ Some sides → are_plain sides.left sides.right ≡ true
+  pub plain : HaveFragmentForms (given_list c) → (i : ℕ) (sides : Sides) → equality_at c.list i ≡ Some sides
+      → are_plain sides.left sides.right ≡ true
 
 abbrev pub IsTaken : PureClasses → ℕ → Type 0
 IsTaken c place = IsTakenTo c place place
@@ -96,10 +102,12 @@ IsApart atoms proof = ((vars : List Sort) → Closes vars atoms (proof_view proo
 -- the equality at a place was taken in, or the given list is closed
 abbrev pub HasTaken : PureClasses → ℕ → Taken → Type 0
 HasTaken old place (Taken.Goes classes) =
-    (given_list (classes_view classes) ≡ given_list old) × (IsTaken (classes_view classes) (place + 1) × weight_from (place + 1) (classes_view classes) < weight_from place old)
+    (given_list (classes_view classes) ≡ given_list old)
+    × (IsTaken (classes_view classes) (place + 1) × weight_from (place + 1) (classes_view classes) < weight_from place old)
 HasTaken old place (Taken.Clash proof) = IsApart (given_list old) proof
 
 -- all equalities were taken in, or the list is closed
 abbrev pub IsClosing : List PureAtom → Closing → Type 0
-IsClosing atoms (Closing.Whole classes) = (given_list (classes_view classes) ≡ atoms) × IsTaken (classes_view classes) (length (atoms_view classes.list))
+IsClosing atoms (Closing.Whole classes) =
+    (given_list (classes_view classes) ≡ atoms) × IsTaken (classes_view classes) (length (atoms_view classes.list))
 IsClosing atoms (Closing.Clash proof) = IsApart atoms proof

@@ -24,7 +24,9 @@ have_other_lengths _ _ = false
 -- two different literals, terms of different kinds by form or sort, a Fresh variable and a term over variables with lower
 -- numbers, or list terms of different length
 abbrev pub clash : PureTerm → PureTerm → Bool
-clash s t = are_different_literals s t || (are_other_kinds (known_kind s) (known_kind t) || (is_fresh_over s t || (is_fresh_over t s || have_other_lengths s t)))
+clash s t =
+    are_different_literals s t || (are_other_kinds (known_kind s) (known_kind t)
+    || (is_fresh_over s t || (is_fresh_over t s || have_other_lengths s t)))
 
 abbrev pub EquatesNoClash : List PureAtom → Type 0
 EquatesNoClash atoms = (s t : PureTerm) → Equates atoms s t → clash s t ≡ false

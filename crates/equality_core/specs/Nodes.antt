@@ -86,7 +86,8 @@ pub record IsUnitedBy (old : List PureNode) (sides : Sides) (place : ℕ) (new :
 abbrev pub end_between : PureTerm → PureTerm → Option ChainEnd
 end_between s t =
     if are_different_literals s t then Some ChainEnd.Literals
-    else (if are_other_kinds (known_kind s) (known_kind t) then Some ChainEnd.Kinds else (if is_fresh_over s t then Some ChainEnd.Fresh else (if is_fresh_over t s then Some ChainEnd.Fresh else None)))
+    else (if are_other_kinds (known_kind s) (known_kind t) then Some ChainEnd.Kinds
+    else (if is_fresh_over s t then Some ChainEnd.Fresh else (if is_fresh_over t s then Some ChainEnd.Fresh else None)))
 
 -- why the terms of two nodes of one class can't be equal
 abbrev pub clash_end : PureNode → PureNode → Option ChainEnd
@@ -94,6 +95,9 @@ clash_end m n = if nat_eq m.root n.root then end_between m.term n.term else None
 
 abbrev pub ClashesWithNone : PureNode → List PureNode → Type 0
 ClashesWithNone m nodes = (i : ℕ) (n : PureNode) → slice_get nodes i ≡ Some n → clash_end m n ≡ None
+
+abbrev pub HaveNoClash : List PureNode → Type 0
+HaveNoClash nodes = (i : ℕ) (n : PureNode) → slice_get nodes i ≡ Some n → ClashesWithNone n nodes
 
 -- the nodes at these places are of one class, and this is why their terms can't be equal
 pub record IsClash (nodes : List PureNode) (c : Clash) : Type 0 where

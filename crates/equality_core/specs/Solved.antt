@@ -11,13 +11,18 @@ use Rattle.equality_core.specs.declared.forms.Solved.{Solved}
 use Rattle.equality_core.specs.declared.forms.SolvedForm.{SolvedForm}
 use Rattle.equality_core.specs.Equating.{Equates, EquatesNoClash, HaveFragmentForms}
 
+-- the sorts of a form's variables
+abbrev pub table : SolvedForm → List Sort
+table form = form.vars
+
 -- the list of which a form is
 abbrev pub equalities : SolvedForm → List PureAtom
 equalities form = atoms_view form.atoms
 
--- a form of the list, which equates no clash where its equalities have forms of the fragment; or a proof that closes the list
+-- a form of the list over the table, which equates no clash where its equalities have forms of the fragment; or a proof that
+-- closes the list
 abbrev pub IsSolved : List Sort → List PureAtom → Solved → Type 0
-IsSolved vars atoms (Solved.Form form) = (equalities form ≡ atoms) × (HaveFragmentForms atoms → EquatesNoClash atoms)
+IsSolved vars atoms (Solved.Form form) = (table form ≡ vars) × (equalities form ≡ atoms) × (HaveFragmentForms atoms → EquatesNoClash atoms)
 IsSolved vars atoms (Solved.Clash proof) = Closes vars atoms (proof_view proof)
 
 -- a proof that two terms are equated, which closes the list with their disequality appended; or they aren't equated, where

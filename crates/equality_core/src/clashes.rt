@@ -1,7 +1,7 @@
 //! Terms of one class that can't be equal.
 ghost use Rattle.std.specs.Prelude.{◌≡◌, ℕ, map, slice_get, Some, None, IfSome, IfNone};
 ghost use Rattle.pure_terms.specs.View.{term_view};
-ghost use Rattle.equality_core.specs.Nodes.{PureNode, node_view, end_between, clash_end, IsClash, ClashesWithNone};
+ghost use Rattle.equality_core.specs.Nodes.{node_view, end_between, clash_end, IsClash, ClashesWithNone, HaveNoClash};
 
 use crate::nodes::Node;
 use pure_terms::Term;
@@ -60,7 +60,7 @@ fn clash_with(nodes: &[Node], first: usize, node: &Node) -> Option<Clash>
 /// Two nodes of one class whose terms can't be equal.
 pub(crate) fn find_clash(nodes: &[Node]) -> Option<Clash>
     ensures found { IfSome result (IsClash (map node_view nodes.now)) }
-    ensures none { IfNone result ((i : ℕ) (n : PureNode) → slice_get (map node_view nodes.now) i ≡ Some n → ClashesWithNone n (map node_view nodes.now)) }
+    ensures none { IfNone result (HaveNoClash (map node_view nodes.now)) }
 {
     for (first, node) in nodes.iter().enumerate() {
         if let Some(clash) = clash_with(nodes, first, node) {

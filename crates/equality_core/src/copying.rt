@@ -1,12 +1,24 @@
-//! Lists of atoms that are copied.
+//! Tables and lists of atoms that are copied.
 ghost use Rattle.std.specs.Prelude.{◌≡◌, [], ◌∷◌, ◌++◌, IfOk, OnOk};
 ghost use Rattle.pure_terms.specs.Pure.{negative};
 ghost use Rattle.pure_terms.specs.View.{atoms_view, term_view};
 ghost use Rattle.solver_proof.specs.Chains.{equals};
 
 use gil_values::BinOp;
-use pure_terms::{Atom, Atoms, Term};
+use pure_terms::{Atom, Atoms, Term, VarTable};
 use std::alloc::{AllocError, Global};
+
+/// An equal table.
+pub(crate) fn copy_of_table(alloc: Global, vars: &VarTable) -> Result<VarTable, AllocError>
+    ensures { IfOk result (λ table. table ≡ vars.now) }
+{
+    let sorts = vars.as_slice();
+    let mut table = VarTable::new(alloc);
+    for sort in sorts {
+        table.push(*sort)?;
+    }
+    Ok(table)
+}
 
 /// An equal list.
 pub(crate) fn copy_of(alloc: Global, atoms: &Atoms) -> Result<Atoms, AllocError>

@@ -5,13 +5,15 @@ ghost use Rattle.equality_core.specs.Equating.{EquatesNoClash, HaveFragmentForms
 use crate::closing::{Closing, close};
 use crate::copying::{copy_of, push_disequality};
 use crate::linking::linked;
-use pure_terms::{Atoms, Term};
+use pure_terms::{Atoms, Term, VarTable};
 use solver_proof::Proof;
 use std::alloc::{AllocError, Global};
 
-/// Equalities that were taken in without a clash. Contracts see the list of which they are by `equalities`.
+/// Equalities that were taken in without a clash. Contracts see the table of their variables by `table`, and the list of which
+/// they are by `equalities`.
 #[derive(Drop)]
 pub struct SolvedForm {
+    pub(crate) vars: VarTable,
     pub(crate) atoms: Atoms,
     ghost no_clash: { HaveFragmentForms (atoms_view atoms) → EquatesNoClash (atoms_view atoms) },
 }

@@ -52,7 +52,8 @@ fn chain_proof(
     second: &Node,
     end: ChainEnd,
 ) -> Result<Proof, AllocError>
-    ensures { IfOk result (λ p. proof_view p ≡ under_parts opened.now (chain ((node_view first.now).chain ++ reverse (node_view second.now).chain) end)) }
+    ensures { IfOk result (λ p. proof_view p
+        ≡ under_parts opened.now (chain ((node_view first.now).chain ++ reverse (node_view second.now).chain) end)) }
 {
     let places = way(alloc, first.chain.as_slice(), second.chain.as_slice())?;
     under_parts(alloc, opened, Proof::Chain(places, end))

@@ -39,7 +39,8 @@ pub(crate) fn push_elements(
     left: &[Term],
     right: &[Term],
 ) -> Result<(), AllocError>
-    ensures { OnOk result (atoms_view list.new ≡ atoms_view list.old ++ element_equalities (from_list (map term_view left.now)) (from_list (map term_view right.now))) }
+    ensures { OnOk result (atoms_view list.new
+        ≡ atoms_view list.old ++ element_equalities (from_list (map term_view left.now)) (from_list (map term_view right.now))) }
 {
     match left {
         [] => Ok(()),

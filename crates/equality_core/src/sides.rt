@@ -28,7 +28,8 @@ fn is_kind_fact(left: &Term, right: &Term) -> bool
 
 /// The sides of an equality of terms.
 fn sides_of_equality(alloc: Global, term: &Term) -> Result<Option<BothSides>, AllocError>
-    ensures { IfOk result (λ o. option_map sides_view o ≡ unless_kind_fact (kind_fact_of_term true (term_view term.now)) (sides_of_equality (term_view term.now))) }
+    ensures { IfOk result (λ o. option_map sides_view o
+        ≡ unless_kind_fact (kind_fact_of_term true (term_view term.now)) (sides_of_equality (term_view term.now))) }
 {
     match term {
         Term::Op2(BinOp::Equal, left, right) => {

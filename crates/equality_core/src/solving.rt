@@ -4,7 +4,7 @@ ghost use Rattle.pure_terms.specs.View.{atoms_view};
 ghost use Rattle.equality_core.specs.Solved.{IsSolved};
 
 use crate::closing::{Closing, close};
-use crate::copying::copy_of;
+use crate::copying::{copy_of, copy_of_table};
 use crate::forms::{Solved, SolvedForm};
 use crate::linking::clash_proof;
 use pure_terms::{Atoms, VarTable};
@@ -19,9 +19,11 @@ pub fn equal(alloc: Global, vars: &VarTable, atoms: &Atoms) -> Result<Solved, Al
     match close(alloc, list)? {
         Closing::Whole(classes) => match clash_proof(alloc, &classes)? {
             Some(proof) => Ok(Solved::Clash(proof)),
-            None => Ok(Solved::Form(SolvedForm {
-                atoms: copy_of(alloc, atoms)?,
-            })),
+            None => {
+                let vars = copy_of_table(alloc, vars)?;
+                let atoms = copy_of(alloc, atoms)?;
+                Ok(Solved::Form(SolvedForm { vars, atoms }))
+            }
         },
         Closing::Clash(proof) => Ok(Solved::Clash(proof)),
     }

@@ -10,7 +10,7 @@ use Rattle.linear_core.specs.declared.walks.Step.{Step}
 use Rattle.linear_core.specs.Nodes.{AreNarrow, tail_of, head_of, weight_of, may_go}
 use Rattle.linear_core.specs.declared.relaxing.Relaxed.TheVariants.{Stays, Moves, Returns}
 use Rattle.linear_core.specs.declared.relaxing.Relaxed.{Relaxed}
-use Rattle.linear_core.specs.Walks.{number_at, AreReached, IsGrown, IsStill, IsMet, AreMet, IsRelaxed, IsFollowedBothWays, height}
+use Rattle.linear_core.specs.Walks.{number_at, AreReached, IsGrown, IsStill, IsMet, AreMet, IsRelaxed, IsFollowedBothWays, height, row_at_turn}
 use Rattle.linear_core.proofs.Walking.{between, weight-between, moderate, number-is, grown}
 
 -- the element at a place where there is one
@@ -65,18 +65,29 @@ met_both_ways ds reaches row e forwards backwards =
     let is = there ds row e (λ d. IsStill reaches d false) forwards in
     some_and (slice_get ds row) (get_or ds row e) (IsMet reaches) is.0 (record { forwards = is.1; backwards = backwards })
 
-pub met_more : (ds : List Difference) (reaches : List Reach) (row : ℕ) → AreMet ds reaches row → IsSomeAnd (slice_get ds row) (IsMet reaches) → AreMet ds reaches (row + 1)
-met_more ds reaches row before here k d at below = ⊎_elim earlier last (cases_eq k row) where
-  earlier : k ≡ row → IsMet reaches d
-  earlier same =
-      let is = there ds row d (IsMet reaches) here in
-      let which : get_or ds row d ≡ d = same_Some (get_or ds row d) d (sym is.0 ∙ subst (λ i. slice_get ds i ≡ Some d) same at) in
+-- what was met before a turn, and at it
+pub met_more : (ds : List Difference) (reaches : List Reach) (rows : ℕ → ℕ) (turn : ℕ) → ((t : ℕ) (d : Difference) → t < turn → slice_get ds (rows t) ≡ Some d → IsMet reaches d) → IsSomeAnd (slice_get ds (rows turn)) (IsMet reaches) → (t : ℕ) (d : Difference) → t < turn + 1 → slice_get ds (rows t) ≡ Some d → IsMet reaches d
+met_more ds reaches rows turn before here t d below at = ⊎_elim last earlier (cases_eq t turn) where
+  last : t ≡ turn → IsMet reaches d
+  last same =
+      let is = there ds (rows turn) d (IsMet reaches) here in
+      let which : get_or ds (rows turn) d ≡ d = same_Some (get_or ds (rows turn) d) d (sym is.0 ∙ subst (λ i. slice_get ds (rows i) ≡ Some d) same at) in
       subst (IsMet reaches) which is.1
 
-  last : (k ≡ row → ⊥) → IsMet reaches d
-  last other = before k d at (less k row below other) where
-    less : (k row : ℕ) → k < row + 1 → (k ≡ row → ⊥) → k < row
-    less k row below other = omega arith
+  earlier : (t ≡ turn → ⊥) → IsMet reaches d
+  earlier other = before t d (less t turn below other) at where
+    less : (t turn : ℕ) → t < turn + 1 → (t ≡ turn → ⊥) → t < turn
+    less t turn below other = omega arith
+
+-- each row has a turn
+turn_of : (count : ℕ) (from_last : Bool) (k : ℕ) → k < count → (row_at_turn count from_last (row_at_turn count from_last k) ≡ k) × (row_at_turn count from_last k < count)
+turn_of count true k h = (omega (arith, h), omega (arith, h))
+turn_of count false k h = (refl, h)
+
+pub met_each : (ds : List Difference) (reaches : List Reach) (from_last : Bool) → ((t : ℕ) (d : Difference) → t < length ds → slice_get ds (row_at_turn (length ds) from_last t) ≡ Some d → IsMet reaches d) → AreMet ds reaches (length ds)
+met_each ds reaches from_last all k d at below =
+    let turn = turn_of (length ds) from_last k below in
+    all (row_at_turn (length ds) from_last k) d turn.1 (ap (slice_get ds) turn.0 ∙ at)
 
 -- a second way after the first one changed nothing
 pub followed_both_ways : (ds : List Difference) (old middle new : List Reach) (row : ℕ) (e : Difference) (relaxed : Relaxed) → middle ≡ old → IsSomeAnd (slice_get ds row) (λ d. IsStill middle d false) → IsRelaxed ds middle new row true relaxed → IsFollowedBothWays ds old new row relaxed

@@ -38,7 +38,8 @@ is_factor_of f None = false
 -- the code can hold each product, and each sum of the products from one of them to the last
 abbrev pub is_held_total : {R : Type 0} → List R → (R → ℤ) → List Factor → Bool
 is_held_total rows part [] = true
-is_held_total rows part (f ∷ fs) = is_held (of_row part f.factor (slice_get rows f.atom)) && (is_held (total rows part (f ∷ fs)) && is_held_total rows part fs)
+is_held_total rows part (f ∷ fs) =
+    is_held (of_row part f.factor (slice_get rows f.atom)) && (is_held (total rows part (f ∷ fs)) && is_held_total rows part fs)
 
 -- different rows times their factors add to a positive constant without variables, no number above 1 divides each factor,
 -- and the code can hold the numbers on the way

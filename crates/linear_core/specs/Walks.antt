@@ -79,6 +79,10 @@ pub record IsMet (reaches : List Reach) (d : Difference) : Type 0 where
 abbrev pub AreMet : List Difference → List Reach → ℕ → Type 0
 AreMet differences reaches count = (k : ℕ) (d : Difference) → slice_get differences k ≡ Some d → k < count → IsMet reaches d
 
+-- the row that is followed at a turn, counted from the first row or from the last
+abbrev pub row_at_turn : ℕ → Bool → ℕ → ℕ
+row_at_turn count from_last turn = if from_last then count - (turn + 1) else turn
+
 -- ---- cycles
 
 -- the steps of the walk, from the last up to the first of these that leaves the node
@@ -126,19 +130,23 @@ IsFollowed differences old new (Relaxed.Returns fs) = IsCycle differences fs
 
 -- the same, or the difference can't be followed to a lesser number, and nothing changed
 abbrev pub IsRelaxed : List Difference → List Reach → List Reach → ℕ → Bool → Relaxed → Type 0
-IsRelaxed differences old new row backwards Relaxed.Stays = (new ≡ old) × IsSomeAnd (slice_get differences row) (λ d. IsStill new d backwards)
+IsRelaxed differences old new row backwards Relaxed.Stays =
+    (new ≡ old) × IsSomeAnd (slice_get differences row) (λ d. IsStill new d backwards)
 IsRelaxed differences old new row backwards relaxed = IsFollowed differences old new relaxed
 
 abbrev pub IsFollowedBothWays : List Difference → List Reach → List Reach → ℕ → Relaxed → Type 0
-IsFollowedBothWays differences old new row Relaxed.Stays = (new ≡ old) × IsSomeAnd (slice_get differences row) (IsMet new)
+IsFollowedBothWays differences old new row Relaxed.Stays =
+    (new ≡ old) × IsSomeAnd (slice_get differences row) (IsMet new)
 IsFollowedBothWays differences old new row relaxed = IsFollowed differences old new relaxed
 
 -- all differences are met, some node has a lesser number, or there is a cycle
 abbrev pub HasPassed : List Difference → List Reach → List Reach → Passed → Type 0
-HasPassed differences old new Passed.Settles = (length new ≡ length old) × AreReached differences new × AreMet differences new (length differences)
+HasPassed differences old new Passed.Settles =
+    (length new ≡ length old) × AreReached differences new × AreMet differences new (length differences)
 HasPassed differences old new Passed.Moves = (length new ≡ length old) × AreReached differences new × height new < height old
 HasPassed differences old new (Passed.Returns fs) = IsCycle differences fs
 
 abbrev pub HasSettled : List Difference → List Reach → List Reach → Option (List Factor) → Type 0
-HasSettled differences old new None = (length new ≡ length old) × AreReached differences new × AreMet differences new (length differences)
+HasSettled differences old new None =
+    (length new ≡ length old) × AreReached differences new × AreMet differences new (length differences)
 HasSettled differences old new (Some fs) = IsCycle differences fs

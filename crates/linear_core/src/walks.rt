@@ -87,7 +87,8 @@ impl Reaches {
     /// This many nodes, each with the number 0 by a walk without steps.
     pub(crate) fn new(alloc: Global, count: usize) -> Result<Reaches, AllocError>
         ensures len { IfOk result (λ reaches. length reaches ≡ count) }
-        ensures zero { IfOk result (λ reaches. (x : ℕ) (reach : Reach) → slice_get reaches x ≡ Some reach → reach ≡ record { number = pos 0; walk = [] }) }
+        ensures zero { IfOk result (λ reaches. (x : ℕ) (reach : Reach) → slice_get reaches x ≡ Some reach
+            → reach ≡ record { number = pos 0; walk = [] }) }
     {
         let mut items = Vec::with_capacity(alloc, count)?;
         for _node in 0..count {
