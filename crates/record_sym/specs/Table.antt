@@ -65,7 +65,8 @@ lookup when l p cs = flat_map (found when l p cs) cs ++ without_property when l 
 -- the chunk at each place, if it is that of p, holds t then
 abbrev pub changes_from : Alternatives → PureTerm → PureTerm → PureTerm → List PureChunk → ℕ → List PureChunk → RecordBranches
 changes_from when l p t cs i [] = []
-changes_from when l p t cs i (c ∷ rest) = cases (both when (at_key l p c)) (with_held cs i t) (done t) ++ changes_from when l p t cs (i + 1) rest
+changes_from when l p t cs i (c ∷ rest) = cases (both when (at_key l p c)) (with_held cs i t) (done t) ++ changes_from when l p t cs
+    (i + 1) rest
 
 abbrev pub mutate : Alternatives → PureTerm → PureTerm → PureTerm → List PureChunk → RecordBranches
 mutate when l p t cs = changes_from when l p t cs 0 cs ++ without_property when l p cs

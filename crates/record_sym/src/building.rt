@@ -32,7 +32,8 @@ pub fn with_cases(
     chunks: &SymFrag,
     outcome: &SymResult,
 ) -> Result<Branches<RecordSym>, AllocError>
-    ensures { IfOk result (λ bs. record_branches_view bs ≡ record_branches_view branches ++ cases (alternatives_view when) (frag_view chunks.now) (result_view outcome.now)) }
+    ensures { IfOk result (λ bs. record_branches_view bs ≡ record_branches_view branches ++ cases (alternatives_view when)
+        (frag_view chunks.now) (result_view outcome.now)) }
 {
     let mut branches = branches;
     let when = settle(alloc, when)?;
@@ -59,7 +60,8 @@ pub fn with_failure(
     chunks: &SymFrag,
     why: Failure,
 ) -> Result<Branches<RecordSym>, AllocError>
-    ensures { IfOk result (λ bs. record_branches_view bs ≡ record_branches_view branches ++ cases (alternatives_view when) (frag_view chunks.now) (failure why)) }
+    ensures { IfOk result (λ bs. record_branches_view bs ≡ record_branches_view branches ++ cases (alternatives_view when)
+        (frag_view chunks.now) (failure why)) }
 {
     let outcome = failed_with(alloc, why)?;
     with_cases(alloc, branches, when, chunks, &outcome)

@@ -69,7 +69,8 @@ fn take_here(
     chunk: &Chunk,
 ) -> Result<Takings, AllocError>
     requires { index < length (frag_view taking.now.left) }
-    ensures { IfOk result (λ ks. takings_view ks ≡ takings_view takings ++ taking_of (both (alternatives_view taking.now.when) (at_key (term_view loc.now) (term_view name.now) (chunk_view chunk.now))) (remove (frag_view taking.now.left) index)) }
+    ensures { IfOk result (λ ks. takings_view ks ≡ takings_view takings ++ taking_of (both (alternatives_view taking.now.when) (at_key
+        (term_view loc.now) (term_view name.now) (chunk_view chunk.now))) (remove (frag_view taking.now.left) index)) }
 {
     let here = combine(alloc, &taking.when, &key_here(alloc, loc, name, chunk)?)?;
     let left = without_chunk(alloc, &taking.left, index)?;
@@ -84,7 +85,8 @@ fn take_name(
     loc: &Term,
     name: &Term,
 ) -> Result<Takings, AllocError>
-    ensures { IfOk result (λ ks. takings_view ks ≡ takings_view takings ++ next_takings_of (term_view loc.now) (term_view name.now) (taking_view taking.now)) }
+    ensures { IfOk result (λ ks. takings_view ks ≡ takings_view takings ++ next_takings_of (term_view loc.now) (term_view name.now)
+        (taking_view taking.now)) }
 {
     let mut takings = takings;
     for (index, chunk) in taking.left.as_slice().iter().enumerate() {
@@ -100,7 +102,8 @@ fn next_takings(
     loc: &Term,
     name: &Term,
 ) -> Result<Takings, AllocError>
-    ensures { IfOk result (λ ks. takings_view ks ≡ flat_map (next_takings_of (term_view loc.now) (term_view name.now)) (takings_view before.now)) }
+    ensures { IfOk result (λ ks. takings_view ks ≡ flat_map (next_takings_of (term_view loc.now) (term_view name.now))
+        (takings_view before.now)) }
 {
     let mut takings = Sequence::new(alloc);
     for taking in before.as_slice() {
@@ -118,7 +121,8 @@ fn with_missing_after(
     name: &Term,
     taking: &Taking,
 ) -> Result<Branches<RecordSym>, AllocError>
-    ensures { IfOk result (λ bs. record_branches_view bs ≡ record_branches_view branches ++ missing_name (frag_view chunks.now) (term_view loc.now) (term_view name.now) (taking_view taking.now)) }
+    ensures { IfOk result (λ bs. record_branches_view bs ≡ record_branches_view branches ++ missing_name (frag_view chunks.now)
+        (term_view loc.now) (term_view name.now) (taking_view taking.now)) }
 {
     let others = all_other_keys(alloc, loc, name, taking.left.as_slice())?;
     let missing = combine(alloc, &taking.when, &others)?;
@@ -135,7 +139,8 @@ fn with_missing(
     name: &Term,
     takings: &Takings,
 ) -> Result<Branches<RecordSym>, AllocError>
-    ensures { IfOk result (λ bs. record_branches_view bs ≡ record_branches_view branches ++ flat_map (missing_name (frag_view chunks.now) (term_view loc.now) (term_view name.now)) (takings_view takings.now)) }
+    ensures { IfOk result (λ bs. record_branches_view bs ≡ record_branches_view branches ++ flat_map (missing_name
+        (frag_view chunks.now) (term_view loc.now) (term_view name.now)) (takings_view takings.now)) }
 {
     let mut branches = branches;
     for taking in takings.as_slice() {
@@ -146,7 +151,8 @@ fn with_missing(
 
 /// The chunks and the one that says that the location is gone.
 fn with_gone_chunk(alloc: Global, chunks: &SymFrag, loc: &Term) -> Result<SymFrag, AllocError>
-    ensures { IfOk result (λ cs. frag_view cs ≡ frag_view chunks.now ++ record { loc = term_view loc.now; sub = gone; val = true_term } ∷ []) }
+    ensures { IfOk result (λ cs. frag_view cs ≡ frag_view chunks.now
+        ++ record { loc = term_view loc.now; sub = gone; val = true_term } ∷ []) }
 {
     let mut left = chunks.copy(alloc)?;
     left.push(Chunk {
@@ -164,7 +170,8 @@ fn with_disposed(
     loc: &Term,
     taking: &Taking,
 ) -> Result<Branches<RecordSym>, AllocError>
-    ensures { IfOk result (λ bs. record_branches_view bs ≡ record_branches_view branches ++ disposed (term_view loc.now) (taking_view taking.now)) }
+    ensures { IfOk result (λ bs. record_branches_view bs ≡ record_branches_view branches ++ disposed (term_view loc.now)
+        (taking_view taking.now)) }
 {
     let left = with_gone_chunk(alloc, &taking.left, loc)?;
     let when = copy_alternatives(alloc, &taking.when)?;
@@ -186,7 +193,8 @@ fn with_all_disposed(
     loc: &Term,
     takings: &Takings,
 ) -> Result<Branches<RecordSym>, AllocError>
-    ensures { IfOk result (λ bs. record_branches_view bs ≡ record_branches_view branches ++ flat_map (disposed (term_view loc.now)) (takings_view takings.now)) }
+    ensures { IfOk result (λ bs. record_branches_view bs ≡ record_branches_view branches ++ flat_map (disposed (term_view loc.now))
+        (takings_view takings.now)) }
 {
     let mut branches = branches;
     for taking in takings.as_slice() {
@@ -204,7 +212,8 @@ fn dispose_names(
     names: &[Term],
     first: Takings,
 ) -> Result<Branches<RecordSym>, AllocError>
-    ensures { IfOk result (λ bs. record_branches_view bs ≡ record_branches_view branches ++ dispose_names_of (frag_view chunks.now) (term_view loc.now) (map term_view names.now) (takings_view first)) }
+    ensures { IfOk result (λ bs. record_branches_view bs ≡ record_branches_view branches ++ dispose_names_of (frag_view chunks.now)
+        (term_view loc.now) (map term_view names.now) (takings_view first)) }
 {
     let mut branches = branches;
     let mut takings = first;
@@ -227,7 +236,9 @@ fn dispose_listed(
     names: &Terms,
 ) -> Result<Branches<RecordSym>, AllocError>
     requires { index < length (frag_view chunks.now) }
-    ensures { IfOk result (λ bs. record_branches_view bs ≡ record_branches_view branches ++ dispose_names_of (frag_view chunks.now) (term_view loc.now) (terms_view names.now) (taking_of (both (alternatives_view when.now) (same (term_view l.now) (term_view loc.now))) (remove (frag_view chunks.now) index))) }
+    ensures { IfOk result (λ bs. record_branches_view bs ≡ record_branches_view branches ++ dispose_names_of (frag_view chunks.now)
+        (term_view loc.now) (terms_view names.now) (taking_of (both (alternatives_view when.now) (same (term_view l.now)
+        (term_view loc.now))) (remove (frag_view chunks.now) index))) }
 {
     let here = combine(alloc, when, &terms_equal(alloc, l, loc)?)?;
     let left = without_chunk(alloc, chunks, index)?;
@@ -246,7 +257,9 @@ fn dispose_there(
     chunk: &Chunk,
 ) -> Result<Branches<RecordSym>, AllocError>
     requires { index < length (frag_view chunks.now) }
-    ensures { IfOk result (λ bs. record_branches_view bs ≡ record_branches_view branches ++ dispose_there_of (alternatives_view when.now) (term_view l.now) (frag_view chunks.now) index (term_view chunk.now.loc) (sub_view chunk.now.sub) (term_view chunk.now.val)) }
+    ensures { IfOk result (λ bs. record_branches_view bs ≡ record_branches_view branches ++ dispose_there_of
+        (alternatives_view when.now) (term_view l.now) (frag_view chunks.now) index (term_view chunk.now.loc) (sub_view chunk.now.sub)
+        (term_view chunk.now.val)) }
 {
     match (&chunk.sub, &chunk.val) {
         (SymSub::Shape, Term::List(names)) => {
@@ -264,7 +277,8 @@ fn dispose_somewhere(
     l: &Term,
     chunks: &SymFrag,
 ) -> Result<Branches<RecordSym>, AllocError>
-    ensures { IfOk result (λ bs. record_branches_view bs ≡ record_branches_view branches ++ dispose_from (alternatives_view when.now) (term_view l.now) (frag_view chunks.now) 0 (frag_view chunks.now)) }
+    ensures { IfOk result (λ bs. record_branches_view bs ≡ record_branches_view branches ++ dispose_from (alternatives_view when.now)
+        (term_view l.now) (frag_view chunks.now) 0 (frag_view chunks.now)) }
 {
     let mut branches = branches;
     for (index, chunk) in chunks.as_slice().iter().enumerate() {
@@ -281,7 +295,8 @@ fn with_opened_names(
     l: &Term,
     chunks: &SymFrag,
 ) -> Result<Branches<RecordSym>, AllocError>
-    ensures { IfOk result (λ bs. record_branches_view bs ≡ record_branches_view branches ++ cases (both (any (opened_at (term_view l.now)) (frag_view chunks.now)) (alternatives_view when.now)) (frag_view chunks.now) (done true_term)) }
+    ensures { IfOk result (λ bs. record_branches_view bs ≡ record_branches_view branches ++ cases (both (any (opened_at
+        (term_view l.now)) (frag_view chunks.now)) (alternatives_view when.now)) (frag_view chunks.now) (done true_term)) }
 {
     let opened = combine(alloc, &any_opened(alloc, l, chunks.as_slice())?, when)?;
     let outcome = SymResult::Done(Term::Lit(Literal::Bool(true)));
@@ -296,7 +311,9 @@ fn with_missed_names(
     l: &Term,
     chunks: &SymFrag,
 ) -> Result<Branches<RecordSym>, AllocError>
-    ensures { IfOk result (λ bs. record_branches_view bs ≡ record_branches_view branches ++ cases (both (alternatives_view when.now) (all (undescribed_at (term_view l.now)) (frag_view chunks.now))) (frag_view chunks.now) (missed (record { loc = term_view l.now; sub = shape }))) }
+    ensures { IfOk result (λ bs. record_branches_view bs ≡ record_branches_view branches ++ cases (both (alternatives_view when.now)
+        (all (undescribed_at (term_view l.now)) (frag_view chunks.now))) (frag_view chunks.now) (missed
+        (record { loc = term_view l.now; sub = shape }))) }
 {
     let undescribed = combine(alloc, when, &all_undescribed(alloc, l, chunks.as_slice())?)?;
     let outcome = SymResult::Miss(SymKey {
@@ -314,7 +331,8 @@ fn dispose(
     l: &Term,
     chunks: &SymFrag,
 ) -> Result<Branches<RecordSym>, AllocError>
-    ensures { IfOk result (λ bs. record_branches_view bs ≡ record_branches_view branches ++ dispose_of (alternatives_view when.now) (term_view l.now) (frag_view chunks.now)) }
+    ensures { IfOk result (λ bs. record_branches_view bs ≡ record_branches_view branches ++ dispose_of (alternatives_view when.now)
+        (term_view l.now) (frag_view chunks.now)) }
 {
     let gone = with_gone(alloc, branches, when, l, chunks)?;
     let opened = with_opened_names(alloc, gone, when, l, chunks)?;
@@ -324,7 +342,8 @@ fn dispose(
 
 /// The branches of disposing, whatever the argument's kind.
 fn dispose_any(alloc: Global, l: &Term, chunks: &SymFrag) -> Result<Branches<RecordSym>, AllocError>
-    ensures { IfOk result (λ bs. record_branches_view bs ≡ cases (not_of_kind (term_view l.now) Kind.Sym) (frag_view chunks.now) (failure Failure.Kind) ++ dispose_of (of_kind (term_view l.now) Kind.Sym) (term_view l.now) (frag_view chunks.now)) }
+    ensures { IfOk result (λ bs. record_branches_view bs ≡ cases (not_of_kind (term_view l.now) Kind.Sym) (frag_view chunks.now)
+        (failure Failure.Kind) ++ dispose_of (of_kind (term_view l.now) Kind.Sym) (term_view l.now) (frag_view chunks.now)) }
 {
     let wrong = kind_is_not(alloc, l, Kind::Sym)?;
     let branches = with_failure(alloc, Sequence::new(alloc), wrong, chunks, Failure::Kind)?;

@@ -31,7 +31,8 @@ pub fn equal_to_none(
     p: &Term,
     terms: &[Term],
 ) -> Result<Alternatives, AllocError>
-    ensures { IfOk result (λ x. alternatives_view x ≡ all_from (alternatives_view first) (other (term_view p.now)) (map term_view terms.now)) }
+    ensures { IfOk result (λ x. alternatives_view x ≡ all_from (alternatives_view first) (other (term_view p.now))
+        (map term_view terms.now)) }
 {
     let mut alternatives = first;
     for term in terms {

@@ -45,7 +45,8 @@ use sym_model::{Branches, Chunk, SymFrag, SymResult, SymSub};
 
 /// The term is no text, or equal to one of these.
 fn faulty_before(alloc: Global, term: &Term, later: &[Term]) -> Result<Alternatives, AllocError>
-    ensures { IfOk result (λ x. alternatives_view x ≡ not_of_kind (term_view term.now) Kind.Str ++ any (same (term_view term.now)) (map term_view later.now)) }
+    ensures { IfOk result (λ x. alternatives_view x ≡ not_of_kind (term_view term.now) Kind.Str ++ any (same (term_view term.now))
+        (map term_view later.now)) }
 {
     let no_text = kind_is_not(alloc, term, Kind::Str)?;
     extend(alloc, no_text, &equal_to_one(alloc, term, later)?)
@@ -70,7 +71,8 @@ fn distinct_before(
     term: &Term,
     later: &[Term],
 ) -> Result<Alternatives, AllocError>
-    ensures { IfOk result (λ x. alternatives_view x ≡ all_from (combined (alternatives_view first.now) (of_kind (term_view term.now) Kind.Str)) (other (term_view term.now)) (map term_view later.now)) }
+    ensures { IfOk result (λ x. alternatives_view x ≡ all_from (combined (alternatives_view first.now) (of_kind
+        (term_view term.now) Kind.Str)) (other (term_view term.now)) (map term_view later.now)) }
 {
     let text = both(alloc, first, &kind_is(alloc, term, Kind::Str)?)?;
     equal_to_none(alloc, text, term, later)
@@ -105,7 +107,8 @@ fn with_record(
     names: &Terms,
     chunks: &SymFrag,
 ) -> Result<SymFrag, AllocError>
-    ensures { IfOk result (λ cs. frag_view cs ≡ created_of location (list_of (from_list (terms_view names.now))) (terms_view names.now) (frag_view chunks.now)) }
+    ensures { IfOk result (λ cs. frag_view cs ≡ created_of location (list_of (from_list (terms_view names.now)))
+        (terms_view names.now) (frag_view chunks.now)) }
 {
     let mut made = chunks.copy(alloc)?;
     for name in names.as_slice() {
@@ -126,7 +129,8 @@ fn refused(
     names: &Terms,
     chunks: &SymFrag,
 ) -> Result<Branches<RecordSym>, AllocError>
-    ensures { IfOk result (λ bs. record_branches_view bs ≡ cases (faulty_of (terms_view names.now)) (frag_view chunks.now) (failure Failure.Kind)) }
+    ensures { IfOk result (λ bs. record_branches_view bs ≡ cases (faulty_of (terms_view names.now)) (frag_view chunks.now)
+        (failure Failure.Kind)) }
 {
     let faults = faulty(alloc, names.as_slice())?;
     with_failure(alloc, Sequence::new(alloc), faults, chunks, Failure::Kind)
@@ -140,7 +144,8 @@ fn with_made(
     names: &Terms,
     chunks: &SymFrag,
 ) -> Result<Branches<RecordSym>, AllocError>
-    ensures { IfOk result (λ bs. record_branches_view bs ≡ record_branches_view branches ++ made_cases location (list_of (from_list (terms_view names.now))) (terms_view names.now) (frag_view chunks.now)) }
+    ensures { IfOk result (λ bs. record_branches_view bs ≡ record_branches_view branches ++ made_cases location (list_of (from_list
+        (terms_view names.now))) (terms_view names.now) (frag_view chunks.now)) }
 {
     let when = distinct(alloc, names.as_slice())?;
     let made = with_record(alloc, location, names, chunks)?;
@@ -155,7 +160,8 @@ fn make_listed(
     names: &Terms,
     chunks: &SymFrag,
 ) -> Result<Branches<RecordSym>, AllocError>
-    ensures { IfOk result (λ bs. record_branches_view bs ≡ make_of location (list_of (from_list (terms_view names.now))) (frag_view chunks.now)) }
+    ensures { IfOk result (λ bs. record_branches_view bs ≡ make_of location (list_of (from_list (terms_view names.now)))
+        (frag_view chunks.now)) }
 {
     let branches = refused(alloc, names, chunks)?;
     with_made(alloc, branches, location, names, chunks)
@@ -168,7 +174,9 @@ fn make_unlisted(
     names: &Term,
     chunks: &SymFrag,
 ) -> Result<Branches<RecordSym>, AllocError>
-    ensures { IfOk result (λ bs. record_branches_view bs ≡ cases (not_of_kind (term_view names.now) Kind.List) (frag_view chunks.now) (failure Failure.Kind) ++ cases (with_form_of (term_view names.now) (of_kind (term_view names.now) Kind.List)) (frag_view chunks.now) (done (variable location))) }
+    ensures { IfOk result (λ bs. record_branches_view bs ≡ cases (not_of_kind (term_view names.now) Kind.List) (frag_view chunks.now)
+        (failure Failure.Kind) ++ cases (with_form_of (term_view names.now) (of_kind (term_view names.now) Kind.List))
+        (frag_view chunks.now) (done (variable location))) }
 {
     let no_list = kind_is_not(alloc, names, Kind::List)?;
     let branches = with_failure(alloc, Sequence::new(alloc), no_list, chunks, Failure::Kind)?;

@@ -62,7 +62,8 @@ fn other_place(
     loc: &Term,
     q: &Term,
 ) -> Result<Alternatives, AllocError>
-    ensures { IfOk result (λ x. alternatives_view x ≡ other_place_of (term_view l.now) (term_view p.now) (term_view loc.now) (term_view q.now)) }
+    ensures { IfOk result (λ x. alternatives_view x ≡ other_place_of (term_view l.now) (term_view p.now) (term_view loc.now)
+        (term_view q.now)) }
 {
     match compare(p, q) {
         Comparison::Same => terms_differ(alloc, l, loc),

@@ -55,7 +55,8 @@ fn opened_when(
     p: &Term,
     chunks: &SymFrag,
 ) -> Result<Alternatives, AllocError>
-    ensures { IfOk result (λ x. alternatives_view x ≡ both (any (opened_at (term_view l.now)) (frag_view chunks.now)) (both (alternatives_view when.now) (all (other_key (term_view l.now) (term_view p.now)) (frag_view chunks.now)))) }
+    ensures { IfOk result (λ x. alternatives_view x ≡ both (any (opened_at (term_view l.now)) (frag_view chunks.now)) (both
+        (alternatives_view when.now) (all (other_key (term_view l.now) (term_view p.now)) (frag_view chunks.now)))) }
 {
     let unheld = combine(
         alloc,
@@ -75,7 +76,8 @@ fn with_opened(
     p: &Term,
     chunks: &SymFrag,
 ) -> Result<Branches<RecordSym>, AllocError>
-    ensures { IfOk result (λ bs. record_branches_view bs ≡ record_branches_view branches ++ opened_names (alternatives_view when.now) (term_view l.now) (term_view p.now) (frag_view chunks.now)) }
+    ensures { IfOk result (λ bs. record_branches_view bs ≡ record_branches_view branches ++ opened_names (alternatives_view when.now)
+        (term_view l.now) (term_view p.now) (frag_view chunks.now)) }
 {
     let outcome = missed_name(alloc, l, p)?;
     let opened = opened_when(alloc, when, l, p, chunks)?;
@@ -91,7 +93,8 @@ fn with_missed(
     p: &Term,
     chunks: &SymFrag,
 ) -> Result<Branches<RecordSym>, AllocError>
-    ensures { IfOk result (λ bs. record_branches_view bs ≡ record_branches_view branches ++ missed_names (alternatives_view when.now) (term_view l.now) (term_view p.now) (frag_view chunks.now)) }
+    ensures { IfOk result (λ bs. record_branches_view bs ≡ record_branches_view branches ++ missed_names (alternatives_view when.now)
+        (term_view l.now) (term_view p.now) (frag_view chunks.now)) }
 {
     let outcome = missed_name(alloc, l, p)?;
     let missed = combine(alloc, when, &all_lack(alloc, l, p, chunks.as_slice())?)?;
@@ -106,7 +109,8 @@ pub fn with_gone(
     l: &Term,
     chunks: &SymFrag,
 ) -> Result<Branches<RecordSym>, AllocError>
-    ensures { IfOk result (λ bs. record_branches_view bs ≡ record_branches_view branches ++ gone_cases (alternatives_view when.now) (term_view l.now) (frag_view chunks.now)) }
+    ensures { IfOk result (λ bs. record_branches_view bs ≡ record_branches_view branches ++ gone_cases (alternatives_view when.now)
+        (term_view l.now) (frag_view chunks.now)) }
 {
     let gone = combine(alloc, when, &any_gone(alloc, l, chunks.as_slice())?)?;
     with_failure(alloc, branches, gone, chunks, Failure::Gone)
@@ -121,7 +125,8 @@ fn with_absent(
     p: &Term,
     chunks: &SymFrag,
 ) -> Result<Branches<RecordSym>, AllocError>
-    ensures { IfOk result (λ bs. record_branches_view bs ≡ record_branches_view branches ++ absent_cases (alternatives_view when.now) (term_view l.now) (term_view p.now) (frag_view chunks.now)) }
+    ensures { IfOk result (λ bs. record_branches_view bs ≡ record_branches_view branches ++ absent_cases (alternatives_view when.now)
+        (term_view l.now) (term_view p.now) (frag_view chunks.now)) }
 {
     let absent = combine(alloc, when, &any_absent(alloc, l, p, chunks.as_slice())?)?;
     with_failure(alloc, branches, absent, chunks, Failure::Absent)
@@ -136,7 +141,8 @@ fn without_property(
     p: &Term,
     chunks: &SymFrag,
 ) -> Result<Branches<RecordSym>, AllocError>
-    ensures { IfOk result (λ bs. record_branches_view bs ≡ record_branches_view branches ++ without_property_of (alternatives_view when.now) (term_view l.now) (term_view p.now) (frag_view chunks.now)) }
+    ensures { IfOk result (λ bs. record_branches_view bs ≡ record_branches_view branches ++ without_property_of
+        (alternatives_view when.now) (term_view l.now) (term_view p.now) (frag_view chunks.now)) }
 {
     let gone = with_gone(alloc, branches, when, l, chunks)?;
     let absent = with_absent(alloc, gone, when, l, p, chunks)?;
@@ -154,7 +160,8 @@ fn with_value(
     chunks: &SymFrag,
     chunk: &Chunk,
 ) -> Result<Branches<RecordSym>, AllocError>
-    ensures { IfOk result (λ bs. record_branches_view bs ≡ record_branches_view branches ++ found (alternatives_view when.now) (term_view l.now) (term_view p.now) (frag_view chunks.now) (chunk_view chunk.now)) }
+    ensures { IfOk result (λ bs. record_branches_view bs ≡ record_branches_view branches ++ found (alternatives_view when.now)
+        (term_view l.now) (term_view p.now) (frag_view chunks.now) (chunk_view chunk.now)) }
 {
     let here = combine(alloc, when, &key_here(alloc, l, p, chunk)?)?;
     let outcome = SymResult::Done(chunk.val.copy(alloc)?);
@@ -170,7 +177,8 @@ fn look_up(
     p: &Term,
     chunks: &SymFrag,
 ) -> Result<Branches<RecordSym>, AllocError>
-    ensures { IfOk result (λ bs. record_branches_view bs ≡ record_branches_view branches ++ lookup (alternatives_view when.now) (term_view l.now) (term_view p.now) (frag_view chunks.now)) }
+    ensures { IfOk result (λ bs. record_branches_view bs ≡ record_branches_view branches ++ lookup (alternatives_view when.now)
+        (term_view l.now) (term_view p.now) (frag_view chunks.now)) }
 {
     let mut branches = branches;
     for chunk in chunks.as_slice() {
@@ -192,7 +200,9 @@ fn with_change(
     chunk: &Chunk,
 ) -> Result<Branches<RecordSym>, AllocError>
     requires { index < length (frag_view chunks.now) }
-    ensures { IfOk result (λ bs. record_branches_view bs ≡ record_branches_view branches ++ cases (both (alternatives_view when.now) (at_key (term_view l.now) (term_view p.now) (chunk_view chunk.now))) (with_held (frag_view chunks.now) index (term_view val.now)) (done (term_view val.now))) }
+    ensures { IfOk result (λ bs. record_branches_view bs ≡ record_branches_view branches ++ cases (both (alternatives_view when.now)
+        (at_key (term_view l.now) (term_view p.now) (chunk_view chunk.now))) (with_held (frag_view chunks.now) index
+        (term_view val.now)) (done (term_view val.now))) }
 {
     let here = combine(alloc, when, &key_here(alloc, l, p, chunk)?)?;
     let mut changed = chunks.copy(alloc)?;
@@ -211,7 +221,8 @@ fn assign(
     val: &Term,
     chunks: &SymFrag,
 ) -> Result<Branches<RecordSym>, AllocError>
-    ensures { IfOk result (λ bs. record_branches_view bs ≡ record_branches_view branches ++ mutate (alternatives_view when.now) (term_view l.now) (term_view p.now) (term_view val.now) (frag_view chunks.now)) }
+    ensures { IfOk result (λ bs. record_branches_view bs ≡ record_branches_view branches ++ mutate (alternatives_view when.now)
+        (term_view l.now) (term_view p.now) (term_view val.now) (frag_view chunks.now)) }
 {
     let mut branches = branches;
     for (index, chunk) in chunks.as_slice().iter().enumerate() {
@@ -235,7 +246,8 @@ fn wrong_kinds(
     p: &Term,
     chunks: &SymFrag,
 ) -> Result<Branches<RecordSym>, AllocError>
-    ensures { IfOk result (λ bs. record_branches_view bs ≡ cases (not_of_kind (term_view l.now) Kind.Sym ++ not_of_kind (term_view p.now) Kind.Str) (frag_view chunks.now) (failure Failure.Kind)) }
+    ensures { IfOk result (λ bs. record_branches_view bs ≡ cases (not_of_kind (term_view l.now) Kind.Sym ++ not_of_kind
+        (term_view p.now) Kind.Str) (frag_view chunks.now) (failure Failure.Kind)) }
 {
     let no_symbol = kind_is_not(alloc, l, Kind::Sym)?;
     let wrong = extend(alloc, no_symbol, &kind_is_not(alloc, p, Kind::Str)?)?;
@@ -257,7 +269,8 @@ fn look_up_any(
     p: &Term,
     chunks: &SymFrag,
 ) -> Result<Branches<RecordSym>, AllocError>
-    ensures { IfOk result (λ bs. record_branches_view bs ≡ property_or_fail (term_view l.now) (term_view p.now) (frag_view chunks.now) (λ when. lookup when (term_view l.now) (term_view p.now) (frag_view chunks.now))) }
+    ensures { IfOk result (λ bs. record_branches_view bs ≡ property_or_fail (term_view l.now) (term_view p.now) (frag_view chunks.now)
+        (λ when. lookup when (term_view l.now) (term_view p.now) (frag_view chunks.now))) }
 {
     let branches = wrong_kinds(alloc, l, p, chunks)?;
     let when = right_kinds(alloc, l, p)?;
@@ -272,7 +285,8 @@ fn assign_any(
     val: &Term,
     chunks: &SymFrag,
 ) -> Result<Branches<RecordSym>, AllocError>
-    ensures { IfOk result (λ bs. record_branches_view bs ≡ property_or_fail (term_view l.now) (term_view p.now) (frag_view chunks.now) (λ when. mutate when (term_view l.now) (term_view p.now) (term_view val.now) (frag_view chunks.now))) }
+    ensures { IfOk result (λ bs. record_branches_view bs ≡ property_or_fail (term_view l.now) (term_view p.now) (frag_view chunks.now)
+        (λ when. mutate when (term_view l.now) (term_view p.now) (term_view val.now) (frag_view chunks.now))) }
 {
     let branches = wrong_kinds(alloc, l, p, chunks)?;
     let when = right_kinds(alloc, l, p)?;

@@ -36,7 +36,8 @@ pub fn branches(
     args: &Terms,
     chunks: &SymFrag,
 ) -> Result<Branches<RecordSym>, AllocError>
-    ensures { IfOk result (λ bs. record_branches_view bs ≡ table (action_of action.now) fresh (terms_view args.now) (frag_view chunks.now)) }
+    ensures { IfOk result (λ bs. record_branches_view bs ≡ table (action_of action.now) fresh (terms_view args.now)
+        (frag_view chunks.now)) }
 {
     match RecordAction::from_name(action) {
         Some(RecordAction::New) => act_new(alloc, fresh, args, chunks),

@@ -22,7 +22,8 @@ is_fresh_above _ t = false
 -- two terms that aren't the same have different values: both are literals, their kinds are known and differ, or one is a Fresh
 -- variable and the other names lower variables alone
 abbrev pub are_apart : PureTerm → PureTerm → Bool
-are_apart s t = (is_literal s && is_literal t) || (are_other_kinds (known_kind s) (known_kind t) || (is_fresh_above s t || is_fresh_above t s))
+are_apart s t = (is_literal s && is_literal t) || (are_other_kinds (known_kind s) (known_kind t) ||
+    (is_fresh_above s t || is_fresh_above t s))
 
 abbrev pub compared : PureTerm → PureTerm → Comparison
 compared s t = if same_term s t then Comparison.Same else if are_apart s t then Comparison.Different else Comparison.Unsure

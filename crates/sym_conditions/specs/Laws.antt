@@ -18,13 +18,17 @@ pub record HaveBoth (vars : List Sort) (v : List PureValue) (s t : PureTerm) (a 
 
 -- `same` holds exactly where the values are equal, `other` exactly where they aren't
 pub record SameIsEqual : Type 0 where
-  pub equal : (vars : List Sort) (v : List PureValue) (s t : PureTerm) (a b : PureValue) → HaveBoth vars v s t a b → Hold v (same s t) ↔ (a ≡ b)
-  pub different : (vars : List Sort) (v : List PureValue) (s t : PureTerm) (a b : PureValue) → HaveBoth vars v s t a b → Hold v (other s t) ↔ (¬ (a ≡ b))
+  pub equal : (vars : List Sort) (v : List PureValue) (s t : PureTerm) (a b : PureValue) → HaveBoth vars v s t a b → Hold v (same s t)
+      ↔ (a ≡ b)
+  pub different : (vars : List Sort) (v : List PureValue) (s t : PureTerm) (a b : PureValue) → HaveBoth vars v s t a b → Hold v
+      (other s t) ↔ (¬ (a ≡ b))
 
 -- `of_kind` holds exactly where the value is of the kind, `not_of_kind` exactly where it isn't
 pub record KindsAreAsked : Type 0 where
-  pub is : (vars : List Sort) (v : List PureValue) (t : PureTerm) (k : Kind) (a : PureValue) → IsProper vars v → IsOver vars t → value v t ≡ Some a → Hold v (of_kind t k) ↔ (kind_of a ≡ k)
-  pub isnt : (vars : List Sort) (v : List PureValue) (t : PureTerm) (k : Kind) (a : PureValue) → IsProper vars v → IsOver vars t → value v t ≡ Some a → Hold v (not_of_kind t k) ↔ (¬ (kind_of a ≡ k))
+  pub is : (vars : List Sort) (v : List PureValue) (t : PureTerm) (k : Kind) (a : PureValue) → IsProper vars v → IsOver vars t
+      → value v t ≡ Some a → Hold v (of_kind t k) ↔ (kind_of a ≡ k)
+  pub isnt : (vars : List Sort) (v : List PureValue) (t : PureTerm) (k : Kind) (a : PureValue) → IsProper vars v → IsOver vars t
+      → value v t ≡ Some a → Hold v (not_of_kind t k) ↔ (¬ (kind_of a ≡ k))
 
 -- what is made of alternatives holds where they do, for elements of a type A
 pub record AlternativesCombine (A : Type 0) : Type 0 where

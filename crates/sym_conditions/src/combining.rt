@@ -78,7 +78,8 @@ fn join_each(
     first: &Atoms,
     second: &Alternatives,
 ) -> Result<Alternatives, AllocError>
-    ensures { IfOk result (λ x. alternatives_view x ≡ alternatives_view alternatives ++ map (λ b. atoms_view first.now ++ b) (alternatives_view second.now)) }
+    ensures { IfOk result (λ x. alternatives_view x ≡ alternatives_view alternatives ++ map (λ b. atoms_view first.now ++ b)
+        (alternatives_view second.now)) }
 {
     let mut alternatives = alternatives;
     for conditions in second.as_slice() {

@@ -27,11 +27,17 @@ HasEntry v cs k w = (i : ℕ) × ((c : PureChunk) × ((slice_get cs i ≡ Some c
 
 -- A union holds what its chunks stand for, and nothing else. It changes as its list does.
 pub record UnionsChange : Type 0 where
-  pub holds : (v : List PureValue) (cs : List PureChunk) (h : Heap) (k : Key) (w : PureValue) → IsUnion v cs h → HasEntry v cs k w → Holds h k w
-  pub nothing_else : (v : List PureValue) (cs : List PureChunk) (h : Heap) (k : Key) (w : PureValue) → IsUnion v cs h → Holds h k w → HasEntry v cs k w
-  pub changed : (v : List PureValue) (cs : List PureChunk) (h : Heap) (i : ℕ) (c : PureChunk) (k : Key) (w : PureValue) (t : PureTerm) (u : PureValue) → IsUnion v cs h → slice_get cs i ≡ Some c → IsEntry v c k w → value v t ≡ Some u → IsUnion v (with_held cs i t) (insert h k u)
-  pub taken : (v : List PureValue) (cs : List PureChunk) (h : Heap) (i : ℕ) (c : PureChunk) (k : Key) (w : PureValue) → IsUnion v cs h → slice_get cs i ≡ Some c → IsEntry v c k w → IsUnion v (remove_at cs i) (remove h k)
-  pub added : (v : List PureValue) (cs : List PureChunk) (h : Heap) (c : PureChunk) (k : Key) (w : PureValue) → IsUnion v cs h → IsEntry v c k w → ¬ HasKey h k → IsUnion v (cs ++ c ∷ []) (insert h k w)
+  pub holds : (v : List PureValue) (cs : List PureChunk) (h : Heap) (k : Key) (w : PureValue) → IsUnion v cs h → HasEntry v cs k w
+      → Holds h k w
+  pub nothing_else : (v : List PureValue) (cs : List PureChunk) (h : Heap) (k : Key) (w : PureValue) → IsUnion v cs h → Holds h k w
+      → HasEntry v cs k w
+  pub changed : (v : List PureValue) (cs : List PureChunk) (h : Heap) (i : ℕ) (c : PureChunk) (k : Key) (w : PureValue) (t : PureTerm)
+      (u : PureValue) → IsUnion v cs h → slice_get cs i ≡ Some c → IsEntry v c k w → value v t ≡ Some u → IsUnion v (with_held cs i t)
+      (insert h k u)
+  pub taken : (v : List PureValue) (cs : List PureChunk) (h : Heap) (i : ℕ) (c : PureChunk) (k : Key) (w : PureValue) → IsUnion v cs h
+      → slice_get cs i ≡ Some c → IsEntry v c k w → IsUnion v (remove_at cs i) (remove h k)
+  pub added : (v : List PureValue) (cs : List PureChunk) (h : Heap) (c : PureChunk) (k : Key) (w : PureValue) → IsUnion v cs h
+      → IsEntry v c k w → ¬ HasKey h k → IsUnion v (cs ++ c ∷ []) (insert h k w)
 
 -- Where a valuation serves, the concrete action may be asked of the heap and the values that it gives.
 abbrev pub ServingMayAct : {S : Type 0} → (S → List PureValue → Heap → Type 0) → (S → StateTerms) → Actions → Type 0

@@ -28,15 +28,18 @@ ComesFrom v n t = (x : Var) × ((w : PureValue) × (Contains (variables t) x × 
 
 -- Locality of meaning: what a state stands for depends only on the values of the variables of its terms. It has one heap at
 -- most, which is one of the memory, and whose symbols all come from those variables. The offsets are among the terms.
-pub record IsMeaning (memory : MemoryName) {S : Type 0} (stands : S → List PureValue → Heap → Type 0) (terms : S → StateTerms) : Type 0 where
-  pub local : (s : S) (v w : List PureValue) (h : Heap) → Each (λ t. AgreeOn (variables t) v w) (all_of (terms s)) → stands s v h → stands s w h
+pub record IsMeaning (memory : MemoryName) {S : Type 0} (stands : S → List PureValue → Heap → Type 0) (terms : S
+    → StateTerms) : Type 0 where
+  pub local : (s : S) (v w : List PureValue) (h : Heap) → Each (λ t. AgreeOn (variables t) v w) (all_of (terms s)) → stands s v h
+      → stands s w h
   pub one_heap : (s : S) (v : List PureValue) (g h : Heap) → stands s v g → stands s v h → g ≡ h
   pub of_memory : (s : S) (v : List PureValue) (h : Heap) → stands s v h → IsHeapOf memory h
   pub symbols : (s : S) (v : List PureValue) (h : Heap) (n : ℕ) → stands s v h → OccursInHeap n h → OneOf (ComesFrom v n) (all_of (terms s))
   pub offsets_placed : (s : S) → Each (λ t. IsAmong t (terms s).placed) (terms s).offsets
 
 -- A copy stands for the same heaps, has the same terms, and is as plain.
-pub record IsCopy {S : Type 0} (stands : S → List PureValue → Heap → Type 0) (terms : S → StateTerms) (plain : S → ℤ → ℤ → Type 0) (s copy : S) : Type 0 where
+pub record IsCopy {S : Type 0} (stands : S → List PureValue → Heap → Type 0) (terms : S → StateTerms) (plain : S → ℤ → ℤ → Type 0)
+    (s copy : S) : Type 0 where
   pub stands_for : (v : List PureValue) (h : Heap) → stands s v h ↔ stands copy v h
   pub same_terms : terms copy ≡ terms s
   pub as_plain : (low high : ℤ) → plain s low high → plain copy low high
@@ -51,7 +54,8 @@ pub record MayBeAsked (m : Actions) (action : List ℕ) (fresh : Option Var) (ar
   pub above : (x : Var) → fresh ≡ Some x → Each (λ t. IsTrue (names_only_below x.number t)) (args ++ all_of terms)
 
 -- A valuation that is proper for a table with all the variables, under which the arguments have values and the state a heap.
-pub record Serves {S : Type 0} (stands : S → List PureValue → Heap → Type 0) (terms : S → StateTerms) (vars : List Sort) (v : List PureValue) (fresh : Option Var) (args : List PureTerm) (s : S) (args' : List PureValue) (h : Heap) : Type 0 where
+pub record Serves {S : Type 0} (stands : S → List PureValue → Heap → Type 0) (terms : S → StateTerms) (vars : List Sort)
+    (v : List PureValue) (fresh : Option Var) (args : List PureTerm) (s : S) (args' : List PureValue) (h : Heap) : Type 0 where
   pub proper : IsProper vars v
   pub over : AreEachOver vars (args ++ all_of (terms s))
   pub fresh_over : IsFreshOver vars fresh
@@ -123,7 +127,8 @@ module _ {S : Type 0} (stands : S → List PureValue → Heap → Type 0) (terms
 
 -- The laws that hold of the branches of every action: `asked` are the arguments that it asks about, and not those that it only
 -- stores.
-pub record ActLaw {S : Type 0} (stands : S → List PureValue → Heap → Type 0) (terms : S → StateTerms) (m : Actions) (action : List ℕ) (fresh : Option Var) (args asked : List PureTerm) (s : S) (bs : List (PureBranch S)) : Type 0 where
+pub record ActLaw {S : Type 0} (stands : S → List PureValue → Heap → Type 0) (terms : S → StateTerms) (m : Actions) (action : List ℕ)
+    (fresh : Option Var) (args asked : List PureTerm) (s : S) (bs : List (PureBranch S)) : Type 0 where
   pub cover : Covers stands terms m action fresh args s bs
   pub exact : AreExact stands terms m action fresh args s bs
   pub variables : NameNoOthers terms (args ++ all_of (terms s)) fresh bs

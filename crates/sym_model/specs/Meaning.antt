@@ -67,6 +67,7 @@ abbrev pub has_open : List PureAtom → Bool
 has_open conds = list_any is_open conds
 
 -- the branch stands for what an action came to: the outcome, and the heap after it
-pub record IsBranchFor {S : Type 0} (stands : S → List PureValue → Heap → Type 0) (v : List PureValue) (r : ActionResult) (b : PureBranch S) : Type 0 where
+pub record IsBranchFor {S : Type 0} (stands : S → List PureValue → Heap → Type 0) (v : List PureValue) (r : ActionResult)
+    (b : PureBranch S) : Type 0 where
   pub result : IsOutcome v b.result r.outcome
   pub state : stands b.state v r.heap

@@ -58,7 +58,8 @@ pub trait SymMemory: Drop {
         args: &Terms,
     ) -> Result<Branches<Self>, AllocError>
         requires { MayBeAsked Self.Local.actions action.now fresh (terms_view args.now) (terms self.now) }
-        ensures laws { IfOk result (λ bs. ActLaw stands terms Self.Local.actions action.now fresh (terms_view args.now) (asked action.now (terms_view args.now)) self.now (branches_view bs)) }
+        ensures laws { IfOk result (λ bs. ActLaw stands terms Self.Local.actions action.now fresh (terms_view args.now)
+            (asked action.now (terms_view args.now)) self.now (branches_view bs)) }
         ensures plain { keeps_plain → IfOk result (λ bs. ActsPlainly plain action.now (terms_view args.now) self.now (branches_view bs)) };
 
     ghost meaning: { IsMeaning Self.Local.memory stands terms };
