@@ -47,3 +47,6 @@ pub fn branches(
         None => unknown(alloc, chunks),
     }
 }
+
+#[cfg(test)]
+mod tests;
