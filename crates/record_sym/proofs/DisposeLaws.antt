@@ -82,7 +82,7 @@ find_first h k ks none = ap (λ o. cond (not (is_some o)) (Some k) (first_missin
 find_later : (h : Heap) (k : Key) (ks : List Key) → HasKey h k → first_missing h (k ∷ ks) ≡ first_missing h ks
 find_later h k ks has = ap (λ b. cond (not b) (Some k) (first_missing h ks)) has
 
-other_by : (vars : List Sort) (v : List PureValue) (h : Heap) (l : PureTerm) (a : ℕ) (asked : AskedLocation vars v l a) (c : PureChunk) (f : Fact vars v h c) (p : PureTerm) (n : List ℕ) (asked_name : AskedName vars v p n) (s : PureSub) → c.sub ≡ s → Hold v (key_elsewhere l p c.loc s) → ¬ (f.k ≡ key a (Name n))
+pub other_by : (vars : List Sort) (v : List PureValue) (h : Heap) (l : PureTerm) (a : ℕ) (asked : AskedLocation vars v l a) (c : PureChunk) (f : Fact vars v h c) (p : PureTerm) (n : List ℕ) (asked_name : AskedName vars v p n) (s : PureSub) → c.sub ≡ s → Hold v (key_elsewhere l p c.loc s) → ¬ (f.k ≡ key a (Name n))
 other_by vars v h l a asked c f p n asked_name (named q) is holds e = place_holds vars v h l a asked c f p n asked_name q is holds e
 other_by vars v h l a asked c f p n asked_name (cell q) is holds e = absurd (omega (arith, key_number vars v h c f (cell q) a (Name n) is e))
 other_by vars v h l a asked c f p n asked_name shape is holds e = absurd (omega (arith, key_number vars v h c f shape a (Name n) is e))

@@ -36,7 +36,9 @@ use Rattle.sym_model.specs.Pure.{PureSub, named, cell, shape, bound, dom, proto,
 use Rattle.sym_model.specs.Terms.{all_of, AreEachOver, IsFreshOver, StandsIn, is_list_term, is_literal, IsMadeOf, Asked, asked_of, IsOwnCondition}
 use Rattle.sym_model.proofs.ChunkMeaning.{ChunkTerms, chunk_val, chunk_by_chunk, from_chunks}
 use Rattle.sym_model.proofs.ListLaws.{not_none, each_to, each_left, each_right, each_flattened, one_left}
-use Rattle.record_sym.proofs.Accepting.{own_accepts, over_accepts, plain_accepts, stands_itself, made_of_given, elements_made, elements_plain, plain_parts, PlainParts}
+use Rattle.sym_model.proofs.MadeLaws.{stands_itself, made_of_given, elements_made}
+use Rattle.sym_model.proofs.PlainLaws.{plain_wider, decided_wider}
+use Rattle.record_sym.proofs.Accepting.{own_accepts, over_accepts, plain_accepts, elements_plain, plain_parts, PlainParts}
 use Rattle.record_sym.proofs.CaseLaws.{Shaped, shaped_cases, covered, Exact}
 use Rattle.record_sym.proofs.LookupLaws.{fails_always, IsRight}
 use Rattle.record_sym.proofs.NameLists.{elements_over}
@@ -220,55 +222,6 @@ module _ (fresh : Option Var) (args : List PureTerm) (cs : List PureChunk) where
         shaped (IsDecidedWithin low high) (IsPlainWithin low high) (λ t. ⊥) (plain_accepts low high) (IsPlainWithin low high) ListsByTerm (λ k. (refl, refl)) (refl, refl) (refl, refl) (elements_plain low high) (λ q t. tt) (λ t. tt) (λ ts. refl)
         cs plain_sides plain_state op fresh args plain_fresh (each_asked (IsPlainWithin low high) op args plain_args) plain_args
         (λ d e no_list. inl (no_list_kind d (subst (λ xs. Each (IsPlainWithin low high) xs) e plain_args).0 no_list))
-
--- ---- wider bounds
-
-int_le-true : (m n : ℤ) → m ≤ℤ n → int_le m n ≡ true
-int_le-true m n h = grind (arith, ints)
-
-le_from_test : (m n : ℤ) → int_le m n ≡ true → m ≤ℤ n
-le_from_test m n h = grind (arith, ints)
-
-lower : (low n : ℤ) → low ≤ℤ n → (low -ℤ pos 10000) ≤ℤ n
-lower low n h = omega (arith, ints, h)
-
-higher : (n high : ℤ) → n ≤ℤ high → n ≤ℤ (high +ℤ pos 10000)
-higher n high h = omega (arith, ints, h)
-
-module _ (low high : ℤ) where
-  between_wider : (n : ℤ) → is_between low high n ≡ true → is_between (low -ℤ growth) (high +ℤ growth) n ≡ true
-  between_wider n is =
-      let parts = and_parts (int_le low n) (int_le n high) is in
-      and_from (int_le (low -ℤ growth) n) (int_le n (high +ℤ growth)) (int_le-true (low -ℤ growth) n (lower low n (le_from_test low n parts.0))) (int_le-true n (high +ℤ growth) (higher n high (le_from_test n high parts.1)))
-
-  literal_wider : (k : Literal) → is_literal_between low high k ≡ true → is_literal_between (low -ℤ growth) (high +ℤ growth) k ≡ true
-  literal_wider (Literal.Int n) is = between_wider n is
-  literal_wider (Literal.Bool b) is = refl
-  literal_wider (Literal.Str s) is = refl
-  literal_wider (Literal.Kind k) is = refl
-  literal_wider (Literal.Proc s) is = refl
-
-  mutual
-    literals_wider : (t : PureTerm) → has_literals_between low high t ≡ true → has_literals_between (low -ℤ growth) (high +ℤ growth) t ≡ true
-    literals_wider (literal k) is = literal_wider k is
-    literals_wider (variable x) is = refl
-    literals_wider (list_of ts) is = all_wider ts is
-    literals_wider (unary_of op t) is = literals_wider t is
-    literals_wider (binary_of op s t) is =
-        let parts = and_parts (has_literals_between low high s) (has_literals_between low high t) is in
-        and_from _ _ (literals_wider s parts.0) (literals_wider t parts.1)
-
-    all_wider : (ts : PureTerms) → have_literals_between low high ts ≡ true → have_literals_between (low -ℤ growth) (high +ℤ growth) ts ≡ true
-    all_wider no_terms is = refl
-    all_wider (term_and t ts) is =
-        let parts = and_parts (has_literals_between low high t) (have_literals_between low high ts) is in
-        and_from _ _ (literals_wider t parts.0) (all_wider ts parts.1)
-
-  plain_wider : (t : PureTerm) → IsPlainWithin low high t → IsPlainWithin (low -ℤ growth) (high +ℤ growth) t
-  plain_wider t is = (is.0, literals_wider t is.1)
-
-  decided_wider : (a : PureAtom) → IsDecidedWithin low high a → IsDecidedWithin (low -ℤ growth) (high +ℤ growth) a
-  decided_wider a is = (is.0, literals_wider (term_of a) is.1)
 
 -- ---- the laws
 

@@ -151,7 +151,7 @@ symbol_or_not (kind k) = inr (refl, λ e. cc)
 symbol_or_not (procedure f) = inr (refl, λ e. cc)
 symbol_or_not (list vs) = inr (refl, λ e. cc)
 
-text_or_not : (x : PureValue) → ((n : List ℕ) × (x ≡ text n)) ⊎ ((text_of x ≡ Err Failure.Kind) × (¬ (kind_of x ≡ Kind.Str)))
+pub text_or_not : (x : PureValue) → ((n : List ℕ) × (x ≡ text n)) ⊎ ((text_of x ≡ Err Failure.Kind) × (¬ (kind_of x ≡ Kind.Str)))
 text_or_not (text n) = inl (n, refl)
 text_or_not (integer i) = inr (refl, λ e. cc)
 text_or_not (boolean b) = inr (refl, λ e. cc)

@@ -5,6 +5,7 @@ use Rattle.mem_model.specs.declared.keys.MemoryName.TheVariants.{Record}
 use Rattle.mem_model.specs.Heaps.{Heap}
 use Rattle.pure_terms.specs.Pure.{PureTerm}
 use Rattle.record_heap.specs.Names.{action_of}
+use Rattle.record_sym.specs.Forms.{DependsOn}
 use Rattle.record_sym.specs.Table.{asked_by}
 use Rattle.record_sym.specs.View.{state_view}
 use Rattle.record_sym.specs.declared.states.RecordSym.{RecordSym}
@@ -37,3 +38,6 @@ record_plain s low high = ArePlainChunks (state_view s) low high
 
 abbrev pub record_asked : List ℕ → List PureTerm → List PureTerm
 record_asked action args = asked_by (action_of action) args
+
+abbrev pub record_depends : RecordSym → List ℕ → List PureTerm → List PureValue → Heap → PureTerm → Type 0
+record_depends s action args v h t = DependsOn (action_of action) (state_view s) args v h t
