@@ -55,3 +55,6 @@ impl SymMemory for RecordSym {
         branches(alloc, action, fresh, args, &self.chunks)
     }
 }
+
+#[cfg(test)]
+mod tests;
