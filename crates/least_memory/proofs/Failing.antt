@@ -1,5 +1,5 @@
 -- One branch, in which an action fails in an equal state, keeps the laws.
-use Rattle.std.proofs.Common.{◌≡◌, inl, inr, ℕ, ℤ, ◌-ℤ◌, ◌+ℤ◌, ◌↔◌, List, [], ◌∷◌, ◌++◌, Option, Some, None, IsTrue, refl, sym, subst}
+use Rattle.std.proofs.Common.{◌≡◌, inl, inr, ℕ, ℤ, ◌-ℤ◌, ◌+ℤ◌, ◌↔◌, List, [], ◌∷◌, ◌++◌, Option, Some, None, IsTrue, refl, sym, ap, subst, ◌∙◌}
 use Rattle.gil_values.proofs.OperatorSymbols.{none_contained}
 use Rattle.gil_values.specs.Pure.{PureValue, text}
 use Rattle.least_memory.specs.Notes.{HasValue, terms_of_note, IsPlainNote, note_of, noted_stands, noted_terms, noted_plain, no_form_matters}
@@ -14,12 +14,14 @@ use Rattle.pure_terms.specs.declared.variables.Sort.{Sort}
 use Rattle.pure_terms.specs.declared.variables.Var.{Var}
 use Rattle.pure_terms.specs.Meaning.{all_true, IsOver}
 use Rattle.pure_terms.specs.Pure.{PureTerm, literal, term_of}
+use Rattle.sym_model.specs.declared.branches.Branch.{Branch}
 use Rattle.sym_model.specs.Forms.{OpensOnly, OpenWhatMatters}
 use Rattle.sym_model.specs.Laws.{Serves, ActLaw, ActsPlainly, IsCopy, IsPlainWithin, IsDecidedWithin, growth}
 use Rattle.sym_model.specs.Lists.{Each}
 use Rattle.sym_model.specs.Meaning.{IsOutcome, fresh_symbol, IsBranchFor}
 use Rattle.sym_model.specs.Pure.{PureBranch, PureResult, failed, result_terms}
 use Rattle.sym_model.specs.Terms.{StateTerms, all_of, IsMadeOf, asked_of, IsOwnCondition}
+use Rattle.sym_model.specs.View.{branch_view, branches_view}
 use Rattle.sym_model.proofs.ListLaws.{each_right, each_to}
 use Rattle.sym_model.proofs.MadeLaws.{made_of_given, stands_itself}
 use Rattle.sym_model.proofs.PlainLaws.{plain_wider}
@@ -36,7 +38,7 @@ module _ (s r : Noted) (same : note_of r ≡ note_of s) where
 abbrev fails : PureResult
 fails = failed (literal (Literal.Str (failure_text Failure.Action)))
 
-record IsFailing (s : Noted) (b : PureBranch Noted) : Type 0 where
+pub record IsFailing (s : Noted) (b : PureBranch Noted) : Type 0 where
   pub conds : b.conds ≡ []
   pub same : note_of b.state ≡ note_of s
   pub result : b.result ≡ fails
@@ -73,9 +75,6 @@ module _ (action : List ℕ) (fresh : Option Var) (args : List PureTerm) (s : No
     ), tt);
   }
 
-  pub forms : OpenWhatMatters noted_stands noted_terms no_form_matters action fresh args s (b ∷ [])
-  forms vars v args' h serves = ((λ all_hold. no_condition (OpensOnly (no_form_matters s action args v h))), tt)
-
   still_plain : (low high : ℤ) (note : Option PureTerm) → IsPlainNote note low high → IsPlainNote note (low -ℤ growth) (high +ℤ growth)
   still_plain low high None plain = tt
   still_plain low high (Some t) plain = plain_wider low high t plain
@@ -88,3 +87,14 @@ module _ (action : List ℕ) (fresh : Option Var) (args : List PureTerm) (s : No
       of_result (IsPlainWithin (low -ℤ growth) (high +ℤ growth)) (refl, refl),
     )
   ), tt)
+
+-- the branches of the code, where they are one that fails
+module _ (action : List ℕ) (fresh : Option Var) (args : List PureTerm) (s : Noted) (none bs : List (Branch Noted)) (b : Branch Noted) (is_none : none ≡ []) (are : bs ≡ none ++ b ∷ []) (is : IsFailing s (branch_view b)) where
+  only : bs ≡ b ∷ []
+  only = are ∙ ap (λ xs. xs ++ b ∷ []) is_none
+
+  pub laws_of : ActLaw noted_stands noted_terms no_memory action fresh args args s (branches_view bs)
+  laws_of = subst (λ rows. ActLaw noted_stands noted_terms no_memory action fresh args args s (branches_view rows)) (sym only) (law action fresh args s (branch_view b) is)
+
+  pub plainly_of : ActsPlainly noted_plain action args s (branches_view bs)
+  plainly_of = subst (λ rows. ActsPlainly noted_plain action args s (branches_view rows)) (sym only) (plainly action fresh args s (branch_view b) is)

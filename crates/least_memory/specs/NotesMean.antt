@@ -10,17 +10,20 @@ use Rattle.mem_model.specs.Heaps.{IsHeapOf, OccursInHeap}
 use Rattle.mem_model.proofs.Joins.{has_key}
 use Rattle.mem_model.proofs.Parts.{no_key, empty_is_heap}
 use Rattle.pure_terms.specs.Laws.{AgreeOn}
-use Rattle.pure_terms.specs.Pure.{variables}
+use Rattle.pure_terms.specs.Pure.{PureTerm, variables}
 use Rattle.pure_terms.proofs.VariableLaws.{depend_on_variables}
 use Rattle.sym_model.specs.Laws.{IsMeaning}
 use Rattle.sym_model.specs.Lists.{Each, IsAmong}
 use Rattle.sym_model.specs.Terms.{all_of}
 
-still_has : (v w : List PureValue) (note : Option _) → Each (λ t. AgreeOn (variables t) v w) (all_of (terms_of_note note)) → HasValue v note → HasValue w note
-still_has v w None agree has = tt
-still_has v w (Some t) agree (u, is) = (u, sym (depend_on_variables.values t v w agree.0) ∙ is)
+only : (P : PureTerm → Type 0) (t : PureTerm) → Each P (t ∷ []) → P t
+only P t each = each.0
 
-no_offsets : (note : Option _) → Each (λ t. IsAmong t (terms_of_note note).placed) (terms_of_note note).offsets
+still_has : (v w : List PureValue) (note : Option PureTerm) → Each (λ t. AgreeOn (variables t) v w) (all_of (terms_of_note note)) → HasValue v note → HasValue w note
+still_has v w None agree has = tt
+still_has v w (Some t) agree (u, is) = (u, sym (depend_on_variables.values t v w (only (λ s. AgreeOn (variables s) v w) t agree)) ∙ is)
+
+no_offsets : (note : Option PureTerm) → Each (λ t. IsAmong t (terms_of_note note).placed) (terms_of_note note).offsets
 no_offsets None = tt
 no_offsets (Some t) = tt
 
