@@ -1,8 +1,8 @@
 -- One branch, in which an action fails in an equal state, keeps the laws.
-use Rattle.std.proofs.Common.{◌≡◌, inl, inr, ℕ, ℤ, ◌-ℤ◌, ◌+ℤ◌, ◌↔◌, List, [], ◌∷◌, ◌++◌, Option, Some, None, IsTrue, refl, sym, ap, subst, ◌∙◌}
+use Rattle.std.proofs.Common.{◌≡◌, inl, inr, ℕ, ℤ, ◌-ℤ◌, ◌+ℤ◌, List, [], ◌∷◌, ◌++◌, Option, Some, None, IsTrue, refl, sym, ap, subst, ◌∙◌}
 use Rattle.gil_values.proofs.OperatorSymbols.{none_contained}
 use Rattle.gil_values.specs.Pure.{PureValue, text}
-use Rattle.least_memory.specs.Notes.{HasValue, terms_of_note, IsPlainNote, note_of, noted_stands, noted_terms, noted_plain, no_form_matters}
+use Rattle.least_memory.specs.Notes.{HasValue, terms_of_note, IsPlainNote, note_of, noted_stands, noted_terms, noted_plain}
 use Rattle.least_memory.specs.declared.noted.Noted.{Noted}
 use Rattle.mem_model.specs.declared.failures.Failure.{Failure}
 use Rattle.mem_model.specs.Actions.{no_memory}
@@ -10,17 +10,15 @@ use Rattle.mem_model.specs.Heaps.{Heap}
 use Rattle.mem_model.specs.Pure as outcome
 use Rattle.mem_model.specs.Tables.{failure_text}
 use Rattle.pure_terms.specs.declared.literals.Literal.{Literal}
-use Rattle.pure_terms.specs.declared.variables.Sort.{Sort}
 use Rattle.pure_terms.specs.declared.variables.Var.{Var}
 use Rattle.pure_terms.specs.Meaning.{all_true, IsOver}
 use Rattle.pure_terms.specs.Pure.{PureTerm, literal, term_of}
 use Rattle.sym_model.specs.declared.branches.Branch.{Branch}
-use Rattle.sym_model.specs.Forms.{OpensOnly, OpenWhatMatters}
-use Rattle.sym_model.specs.Laws.{Serves, ActLaw, ActsPlainly, IsCopy, IsPlainWithin, IsDecidedWithin, growth}
+use Rattle.sym_model.specs.Laws.{ActLaw, ActsPlainly, IsCopy, IsPlainWithin, IsDecidedWithin, growth}
 use Rattle.sym_model.specs.Lists.{Each}
 use Rattle.sym_model.specs.Meaning.{IsOutcome, fresh_symbol, IsBranchFor}
 use Rattle.sym_model.specs.Pure.{PureBranch, PureResult, failed, result_terms}
-use Rattle.sym_model.specs.Terms.{StateTerms, all_of, IsMadeOf, asked_of, IsOwnCondition}
+use Rattle.sym_model.specs.Terms.{all_of, IsMadeOf, asked_of, IsOwnCondition}
 use Rattle.sym_model.specs.View.{branch_view, branches_view}
 use Rattle.sym_model.proofs.ListLaws.{each_right, each_to}
 use Rattle.sym_model.proofs.MadeLaws.{made_of_given, stands_itself}
@@ -68,11 +66,14 @@ module _ (action : List ℕ) (fresh : Option Var) (args : List PureTerm) (s : No
     exact = λ vars v args' h serves. ((λ all_hold no_open. stands_then v args' h serves.has_heap), tt);
     variables = λ vars over fresh_over. ((no_condition (λ a. IsOver vars (term_of a)), (of_state (IsOver vars) over, of_result (IsOver vars) (λ x has. absurd (none_contained x has)))), tt);
     own = (no_condition (IsOwnCondition (asked_of args (noted_terms s))), tt);
-    made = ((
-      of_state (IsMadeOf (args ++ all_of (noted_terms s)) fresh)
-      (each_to _ (IsMadeOf (args ++ all_of (noted_terms s)) fresh) (args ++ all_of (noted_terms s)) (made_of_given (args ++ all_of (noted_terms s)) fresh) (stands_itself (args ++ all_of (noted_terms s)))),
-      of_result (IsMadeOf (args ++ all_of (noted_terms s)) fresh) tt
-    ), tt);
+    made = (
+      (
+        of_state (IsMadeOf (args ++ all_of (noted_terms s)) fresh)
+            (each_to _ (IsMadeOf (args ++ all_of (noted_terms s)) fresh) (args ++ all_of (noted_terms s)) (made_of_given (args ++ all_of (noted_terms s)) fresh) (stands_itself (args ++ all_of (noted_terms s)))),
+        of_result (IsMadeOf (args ++ all_of (noted_terms s)) fresh) tt,
+      ),
+      tt,
+    );
   }
 
   still_plain : (low high : ℤ) (note : Option PureTerm) → IsPlainNote note low high → IsPlainNote note (low -ℤ growth) (high +ℤ growth)
@@ -80,13 +81,16 @@ module _ (action : List ℕ) (fresh : Option Var) (args : List PureTerm) (s : No
   still_plain low high (Some t) plain = plain_wider low high t plain
 
   pub plainly : ActsPlainly noted_plain action args s (b ∷ [])
-  plainly low high plain arguments = ((
-    no_condition (IsDecidedWithin (low -ℤ growth) (high +ℤ growth)),
+  plainly low high plain arguments = (
     (
-      subst (λ note. IsPlainNote note (low -ℤ growth) (high +ℤ growth)) (sym is.same) (still_plain low high (note_of s) plain),
-      of_result (IsPlainWithin (low -ℤ growth) (high +ℤ growth)) (refl, refl),
-    )
-  ), tt)
+      no_condition (IsDecidedWithin (low -ℤ growth) (high +ℤ growth)),
+      (
+        subst (λ note. IsPlainNote note (low -ℤ growth) (high +ℤ growth)) (sym is.same) (still_plain low high (note_of s) plain),
+        of_result (IsPlainWithin (low -ℤ growth) (high +ℤ growth)) (refl, refl),
+      ),
+    ),
+    tt,
+  )
 
 -- the branches of the code, where they are one that fails
 module _ (action : List ℕ) (fresh : Option Var) (args : List PureTerm) (s : Noted) (none bs : List (Branch Noted)) (b : Branch Noted) (is_none : none ≡ []) (are : bs ≡ none ++ b ∷ []) (is : IsFailing s (branch_view b)) where

@@ -1,10 +1,9 @@
 -- States with a note have a meaning.
-use Rattle.std.specs.Prelude.{◌≡◌, ℕ, List, [], ◌∷◌, Option, Some, None}
+use Rattle.std.specs.Prelude.{ℕ, List, [], ◌∷◌, Option, Some, None}
 use Rattle.std.specs.FinMap.{empty}
 use Rattle.std.proofs.Common.{sym, subst, ◌∙◌}
 use Rattle.gil_values.specs.Pure.{PureValue}
 use Rattle.least_memory.specs.Notes.{HasValue, terms_of_note, note_of, noted_stands, noted_terms}
-use Rattle.least_memory.specs.declared.noted.Noted.{Noted}
 use Rattle.mem_model.specs.declared.keys.MemoryName.TheVariants.{Record}
 use Rattle.mem_model.specs.Heaps.{IsHeapOf, OccursInHeap}
 use Rattle.mem_model.proofs.Joins.{has_key}

@@ -1,31 +1,25 @@
 -- The three laws on conditions and terms, as what conditions and terms are made of: they are own and made of what is given; they
 -- name no other variables; they are plain.
-use Rattle.std.proofs.Common.{◌≡◌, ◌⊎◌, ⊎_elim, inl, inr, ℕ, ℤ, List, [], ◌∷◌, ◌++◌, Bool, true, false, not, ◌&&◌, ◌||◌, Option, Some, None, IsTrue, is_some, refl, sym, ap, subst, ◌∙◌, true≢false}
-use Rattle.std.specs.List.{Contains, list_any}
+use Rattle.std.proofs.Common.{◌≡◌, ⊎_elim, inl, inr, ℤ, List, [], Bool, true, false, not, ◌&&◌, ◌||◌, None, IsTrue, is_some, refl, sym, ap, ◌∙◌, true≢false}
 use Rattle.std.proofs.lemmas.Bool.{and_parts, and_from}
-use Rattle.std.proofs.lemmas.List.Elements.{Contains-append_cases, Contains-push}
+use Rattle.std.proofs.lemmas.List.Elements.{Contains-append_cases}
 use Rattle.gil_values.proofs.OperatorSymbols.{none_contained}
 use Rattle.gil_values.specs.declared.kinds.Kind.{Kind}
-use Rattle.gil_values.specs.declared.operators.UnOp.{UnOp}
-use Rattle.gil_values.specs.declared.operators.BinOp.{BinOp}
-use Rattle.pure_terms.specs.declared.literals.Literal.{Literal}
 use Rattle.pure_terms.specs.declared.variables.Sort.{Sort}
-use Rattle.pure_terms.specs.declared.variables.Var.{Var}
 use Rattle.pure_terms.specs.Equality.{same_term}
 use Rattle.pure_terms.specs.EqualityLaws.{same_term-refl}
-use Rattle.pure_terms.specs.Fragment.{is_simple, are_simple, names_sort, name_sort, is_plain, is_kind_test, is_flat, has_literals_between, have_literals_between, has_fragment_form}
+use Rattle.pure_terms.specs.Fragment.{is_simple, are_simple, names_sort, name_sort, is_kind_test, is_flat, has_literals_between, have_literals_between, has_fragment_form}
 use Rattle.pure_terms.specs.Kinds.{known_kind}
 use Rattle.pure_terms.specs.Meaning.{IsOver}
-use Rattle.pure_terms.specs.Pure.{PureTerm, literal, variable, list_of, unary_of, binary_of, PureTerms, no_terms, term_and, to_list, PureAtom, positive, negative, opening, term_of, subterms, subterms_of_all, variables}
+use Rattle.pure_terms.specs.Pure.{PureTerm, list_of, PureTerms, no_terms, term_and, to_list, positive, term_of, variables}
 use Rattle.pure_terms.proofs.SimpleLaws.{simple_terms_have_kinds}
 use Rattle.sym_conditions.specs.declared.comparing.Comparison.{Comparison}
 use Rattle.sym_conditions.specs.Alternatives.{equal, kind_is}
-use Rattle.sym_conditions.specs.Comparing.{are_apart, compared}
+use Rattle.sym_conditions.specs.Comparing.{compared}
 use Rattle.sym_conditions.proofs.Telling.{Compared, are_same, are_different, are_unsure, comparison_of}
 use Rattle.sym_model.specs.Laws.{IsPlainWithin, IsDecidedWithin}
-use Rattle.sym_model.specs.Lists.{Each, OneOf, IsAmong}
-use Rattle.sym_model.specs.Terms.{StandsIn, is_literal, is_list_term, IsPart, IsMadeOf, AreMadeOf, Asked, IsOwnCondition}
-use Rattle.sym_model.proofs.ListLaws.{each_to, one_to, one_left, one_right, one_parts}
+use Rattle.sym_model.specs.Lists.{Each, IsAmong}
+use Rattle.sym_model.specs.Terms.{StandsIn, is_literal, Asked, IsOwnCondition}
 use Rattle.sym_model.proofs.MadeLaws.{stands_elements}
 use Rattle.record_sym.proofs.NameLists.{elements_over}
 use Rattle.record_sym.proofs.Shapes.{Accepts}

@@ -1,11 +1,11 @@
 -- A branch needs the literal form of a term only where the action depends on it.
-use Rattle.std.proofs.Common.{◌≡◌, ◌⊎◌, ⊎_elim, inl, inr, ℕ, ◌+◌, List, [], ◌∷◌, ◌++◌, map, Bool, true, false, ◌&&◌, if◌then◌else◌, Option, Some, None, IsTrue, refl, sym, ap, subst, ◌∙◌, true≢false}
+use Rattle.std.proofs.Common.{◌≡◌, ⊎_elim, inl, inr, ℕ, ◌+◌, List, [], ◌∷◌, ◌++◌, map, Bool, true, false, if◌then◌else◌, Option, Some, None, IsTrue, refl, sym, ap, subst, ◌∙◌}
 use Rattle.std.specs.List.{list_any, flat_map}
 use Rattle.std.proofs.lemmas.Bool.{and_parts}
 use Rattle.std.proofs.lemmas.List.Folds.{list_all-append}
 use Rattle.gil_values.specs.declared.kinds.Kind.{Kind}
 use Rattle.gil_values.specs.Equality.{same_kind}
-use Rattle.gil_values.specs.Pure.{PureValue, symbol, text, kind_of}
+use Rattle.gil_values.specs.Pure.{PureValue}
 use Rattle.mem_model.specs.declared.failures.Failure.{Failure}
 use Rattle.mem_model.specs.declared.keys.MemoryName.TheVariants.{Record}
 use Rattle.mem_model.specs.declared.keys.Sub.TheVariants.{Name}
@@ -20,7 +20,7 @@ use Rattle.pure_terms.specs.Pure.{PureTerm, literal, variable, list_of, unary_of
 use Rattle.record_heap.specs.declared.actions.RecordAction.{RecordAction}
 use Rattle.record_sym.specs.Forms.{MakesFrom, LooksAmong, DisposesOf, DependsOn}
 use Rattle.record_sym.specs.Places.{gone_there, gone_at, key_there, at_key, other_place, key_elsewhere, other_key, listed, unlisted, tells_not, lacks, absent_there, absent_at, form_of_names, opened_there, opened_at, undescribed_there, undescribed_at}
-use Rattle.record_sym.specs.Table.{RecordBranches, cases, failure, true_term, asked_by, branches_of, unknown_action, table, PureTaking, taking, takings_from, next_takings, missing_name, disposed, dispose_names, dispose_there, dispose_from, dispose, found, lookup, changes_from, mutate, gone_cases, absent_cases, opened_names, missed_names, missed_name, without_property, wrong_number, property_or_fail, faulty, distinct_from, made_cases, created, make, act_new, act_lookup, act_mutate, act_dispose}
+use Rattle.record_sym.specs.Table.{RecordBranches, cases, failure, true_term, table, PureTaking, taking, takings_from, next_takings, missing_name, disposed, dispose_names, dispose_there, dispose_from, dispose, found, lookup, changes_from, mutate, gone_cases, absent_cases, opened_names, missed_names, missed_name, without_property, wrong_number, property_or_fail, faulty, distinct_from, made_cases, created, make, act_dispose}
 use Rattle.sym_conditions.specs.declared.comparing.Comparison.{Comparison}
 use Rattle.sym_conditions.specs.Alternatives.{Alternatives, Hold, never, always, given, both, any, all, all_from, settled, is_empty, equal, same, other, by_comparison, kind_is, by_kind, of_kind, not_of_kind, with_form}
 use Rattle.sym_conditions.specs.Comparing.{compared}
@@ -31,7 +31,7 @@ use Rattle.sym_model.specs.Forms.{OpensOnly}
 use Rattle.sym_model.specs.Laws.{Serves}
 use Rattle.sym_model.specs.Lists.{Each, OneOf}
 use Rattle.sym_model.specs.Meaning.{location_of, name_of, key_of}
-use Rattle.sym_model.specs.Pure.{PureSub, named, cell, shape, bound, dom, proto, gone, PureChunk, PureResult, PureBranch, done, missed}
+use Rattle.sym_model.specs.Pure.{PureSub, named, cell, shape, bound, dom, proto, gone, PureChunk, PureResult, done, missed}
 use Rattle.sym_model.specs.Terms.{all_of}
 use Rattle.sym_model.proofs.ChunkMeaning.{ChunkTerms, chunk_by_chunk, loc_value}
 use Rattle.sym_model.proofs.ListLaws.{each_append, each_left, each_right, each_to, each_at, each_flat, each_map}

@@ -1,45 +1,39 @@
 -- The branches of every action keep the laws of a symbolic memory.
-use Rattle.std.proofs.Common.{◌≡◌, ◌⊎◌, ⊎_elim, inl, inr, ℕ, ℤ, pos, ◌-ℤ◌, ◌+ℤ◌, ◌≤ℤ◌, List, [], ◌∷◌, ◌++◌, map, Bool, true, false, not, ◌&&◌, Option, Some, None, IsTrue, refl, sym, ap, subst, ◌∙◌, true≢false, arith}
-use Rattle.std.specs.List.{Contains}
-use Rattle.std.specs.Prelude.{int_le}
-use Rattle.std.proofs.lemmas.Bool.{and_parts, and_from, false≢true}
-use Rattle.std.proofs.lemmas.Int.{ints}
+use Rattle.std.proofs.Common.{◌≡◌, inl, inr, ℕ, ℤ, ◌-ℤ◌, ◌+ℤ◌, List, [], ◌∷◌, ◌++◌, true, false, not, ◌&&◌, Option, Some, None, refl, sym, ap, subst, ◌∙◌, true≢false}
+use Rattle.std.proofs.lemmas.Bool.{and_parts, false≢true}
 use Rattle.gil_values.proofs.OperatorSymbols.{none_contained}
 use Rattle.gil_values.specs.declared.kinds.Kind.{Kind}
-use Rattle.gil_values.specs.declared.operators.UnOp.{UnOp}
 use Rattle.gil_values.specs.declared.operators.BinOp.{BinOp}
 use Rattle.gil_values.specs.Pure.{PureValue}
 use Rattle.mem_model.specs.declared.failures.Failure.{Failure}
 use Rattle.mem_model.specs.declared.keys.MemoryName.TheVariants.{Record}
 use Rattle.mem_model.specs.Heaps.{Heap}
-use Rattle.mem_model.specs.Actions.{ActionResult}
 use Rattle.pure_terms.specs.declared.literals.Literal.{Literal}
 use Rattle.pure_terms.specs.declared.variables.Sort.{Sort}
 use Rattle.pure_terms.specs.declared.variables.Var.{Var}
-use Rattle.pure_terms.specs.Fragment.{is_simple, is_shift, is_literal_between, has_literals_between, have_literals_between, is_plain}
+use Rattle.pure_terms.specs.Fragment.{is_shift}
 use Rattle.pure_terms.specs.Kinds.{same_sort, kind_of_sort}
 use Rattle.pure_terms.specs.Meaning.{IsOver}
-use Rattle.pure_terms.specs.Numbers.{is_between}
-use Rattle.pure_terms.specs.Pure.{PureTerm, literal, variable, list_of, unary_of, binary_of, PureTerms, no_terms, term_and, PureAtom, term_of, variables}
+use Rattle.pure_terms.specs.Pure.{PureTerm, literal, variable, list_of, unary_of, binary_of, PureAtom, term_of}
 use Rattle.record_heap.specs.declared.actions.RecordAction.{RecordAction}
 use Rattle.record_heap.specs.Names.{action_of}
 use Rattle.record_heap.specs.Table.{act_of, record_actions}
 use Rattle.record_sym.specs.Laws.{AreRight}
 use Rattle.record_sym.specs.Plain.{ListsByTerm, ArePlainChunks}
-use Rattle.record_sym.specs.Table.{RecordBranches, cases, failure, asked_by, branches_of, unknown_action, table}
+use Rattle.record_sym.specs.Table.{failure, asked_by, branches_of, unknown_action, table}
 use Rattle.sym_conditions.specs.Alternatives.{Alternatives, always, never, by_kind, of_kind}
 use Rattle.sym_model.specs.Chunks.{StandFor, placed_in, value_where_described, terms_of}
-use Rattle.sym_model.specs.Laws.{MayBeAsked, Serves, ActLaw, ActsPlainly, EachTerm, NameNoOthers, HaveOwnConditions, AreMade, ArePlain, ArePlainArguments, IsPlainWithin, IsDecidedWithin, growth}
-use Rattle.sym_model.specs.Lists.{Each, OneOf, IsAmong}
+use Rattle.sym_model.specs.Laws.{MayBeAsked, Serves, ActLaw, ActsPlainly, EachTerm, IsPlainWithin, IsDecidedWithin, growth}
+use Rattle.sym_model.specs.Lists.{Each, IsAmong}
 use Rattle.sym_model.specs.Meaning.{fresh_symbol}
-use Rattle.sym_model.specs.Pure.{PureSub, named, cell, shape, bound, dom, proto, gone, PureChunk, PureBranch, result_terms}
-use Rattle.sym_model.specs.Terms.{all_of, AreEachOver, IsFreshOver, StandsIn, is_list_term, is_literal, IsMadeOf, Asked, asked_of, IsOwnCondition}
+use Rattle.sym_model.specs.Pure.{PureSub, PureChunk, result_terms}
+use Rattle.sym_model.specs.Terms.{all_of, AreEachOver, IsFreshOver, StandsIn, is_list_term, IsMadeOf, Asked, asked_of, IsOwnCondition}
 use Rattle.sym_model.proofs.ChunkMeaning.{ChunkTerms, chunk_val, chunk_by_chunk, from_chunks}
 use Rattle.sym_model.proofs.ListLaws.{not_none, each_to, each_left, each_right, each_flattened, one_left}
 use Rattle.sym_model.proofs.MadeLaws.{stands_itself, made_of_given, elements_made}
 use Rattle.sym_model.proofs.PlainLaws.{plain_wider, decided_wider}
-use Rattle.record_sym.proofs.Accepting.{own_accepts, over_accepts, plain_accepts, elements_plain, plain_parts, PlainParts}
-use Rattle.record_sym.proofs.CaseLaws.{Shaped, shaped_cases, covered, Exact}
+use Rattle.record_sym.proofs.Accepting.{own_accepts, over_accepts, plain_accepts, elements_plain, plain_parts}
+use Rattle.record_sym.proofs.CaseLaws.{Shaped, shaped_cases, covered}
 use Rattle.record_sym.proofs.LookupLaws.{fails_always, IsRight}
 use Rattle.record_sym.proofs.NameLists.{elements_over}
 use Rattle.record_sym.proofs.Right.{new_is_right, lookup_is_right, mutate_is_right, dispose_is_right}

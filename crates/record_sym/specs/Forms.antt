@@ -1,5 +1,5 @@
 -- Where what an action of records comes to depends on a list of names that a term gives.
-use Rattle.std.specs.Prelude.{◌≡◌, ℕ, List, [], ◌∷◌, Option, Some, None}
+use Rattle.std.specs.Prelude.{◌≡◌, ℕ, List, [], ◌∷◌, Option, Some}
 use Rattle.gil_values.specs.declared.kinds.Kind.{Kind}
 use Rattle.gil_values.specs.Pure.{PureValue, kind_of}
 use Rattle.mem_model.specs.declared.keys.Key.{Key}

@@ -1,5 +1,5 @@
 -- Plain states of records, and the states themselves as symbolic states.
-use Rattle.std.specs.Prelude.{ℕ, ℤ, List, Option, Some, None, IsTrue, ⊤}
+use Rattle.std.specs.Prelude.{ℕ, ℤ, List, IsTrue, ⊤}
 use Rattle.gil_values.specs.Pure.{PureValue}
 use Rattle.mem_model.specs.declared.keys.MemoryName.TheVariants.{Record}
 use Rattle.mem_model.specs.Heaps.{Heap}
@@ -12,7 +12,7 @@ use Rattle.record_sym.specs.declared.states.RecordSym.{RecordSym}
 use Rattle.sym_model.specs.Chunks.{StandFor, terms_of}
 use Rattle.sym_model.specs.Laws.{IsPlainWithin}
 use Rattle.sym_model.specs.Lists.{Each}
-use Rattle.sym_model.specs.Pure.{PureSub, named, cell, shape, bound, dom, proto, gone, PureChunk}
+use Rattle.sym_model.specs.Pure.{PureSub, shape, PureChunk}
 use Rattle.sym_model.specs.Terms.{StateTerms, all_of, is_list_term}
 
 -- where a chunk lists names, it does so by a list term

@@ -1,8 +1,8 @@
 -- What terms are made of: the terms that are given, their elements, and what stands in them.
-use Rattle.std.proofs.Common.{◌≡◌, ◌⊎◌, ⊎_elim, inl, inr, List, [], ◌∷◌, Option, Some, None, refl, sym, subst, true≢false}
+use Rattle.std.proofs.Common.{◌≡◌, ⊎_elim, inl, inr, List, [], ◌∷◌, Option, refl, sym, subst, true≢false}
 use Rattle.pure_terms.specs.declared.variables.Var.{Var}
 use Rattle.pure_terms.specs.Pure.{PureTerm, literal, variable, list_of, unary_of, binary_of, PureTerms, no_terms, term_and, to_list, subterms, subterms_of_all}
-use Rattle.sym_model.specs.Lists.{Each, OneOf, IsAmong}
+use Rattle.sym_model.specs.Lists.{Each, IsAmong}
 use Rattle.sym_model.specs.Terms.{StandsIn, IsMadeOf, AreMadeOf}
 use Rattle.sym_model.proofs.ListLaws.{each_to, one_to, one_left, one_right, one_parts}
 
