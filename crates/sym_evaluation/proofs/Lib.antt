@@ -1,0 +1,10 @@
+pub mod CheckLaws
+pub mod EvaluationLaws
+pub mod Found
+pub mod Listing
+pub mod OperatorLaws
+pub mod Placed
+pub mod SideLaws
+pub mod Sizes
+pub mod Stages
+pub mod Views

@@ -1,0 +1,102 @@
+-- Where the terms and conditions of an evaluation come from: what may be asked of the operands of an expression.
+use Rattle.std.specs.Prelude.{◌≡◌, ◌⊎◌, ℕ, pos, List, [], ◌∷◌, Option, Some, None}
+use Rattle.std.specs.Option.{option_map, option_and_then}
+use Rattle.gil_values.specs.declared.kinds.Kind.{Kind}
+use Rattle.gil_values.specs.declared.operators.BinOp.{BinOp}
+use Rattle.gil_syntax.specs.Pure.{PureExpr, literal as value_literal, name, logical, list_of as list_expr, unary_of as unary_expr, binary_of as binary_expr, PureExprs, no_exprs, expr_and}
+use Rattle.gil_syntax.specs.Subexpressions.{subexpressions}
+use Rattle.pure_terms.specs.declared.variables.Sort.{Sort}
+use Rattle.pure_terms.specs.Kinds.{known_kind}
+use Rattle.pure_terms.specs.Meaning.{IsOver}
+use Rattle.pure_terms.specs.Pure.{PureTerm, list_of, unary_of, binary_of, from_list, PureAtom, positive, negative, opening, term_of}
+use Rattle.pure_terms.specs.Rewriting.{Replaces}
+use Rattle.sym_evaluation.specs.Checks.{is_of_kind, are_of_one_kind, is_zero, is_negative, length_of, is_below}
+use Rattle.sym_evaluation.specs.Evaluating.{spelled, literal_term}
+use Rattle.sym_evaluation.specs.Pure.{PureStore, term_at, PureFaultCase, PureGoodCase, PureCases}
+use Rattle.sym_model.specs.Lists.{Each, OneOf}
+
+-- the expression with each name replaced by its term
+abbrev mutual
+  pub substituted : PureStore → PureExpr → Option PureTerm
+  substituted bs (value_literal v) = literal_term (spelled v)
+  substituted bs (name x) = term_at bs x
+  substituted bs (logical x) = term_at bs x
+  substituted bs (list_expr es) = option_map (λ ts. list_of (from_list ts)) (all_substituted bs es)
+  substituted bs (unary_expr op e) = option_map (unary_of op) (substituted bs e)
+  substituted bs (binary_expr op d e) = option_and_then (λ s. option_map (binary_of op s) (substituted bs e)) (substituted bs d)
+
+  pub all_substituted : PureStore → PureExprs → Option (List PureTerm)
+  all_substituted bs no_exprs = Some []
+  all_substituted bs (expr_and e es) = option_and_then (λ t. option_map (λ ts. t ∷ ts) (all_substituted bs es)) (substituted bs e)
+
+-- The term is from the expression: it is the expression with each name replaced by its term, or may stand in the place of that.
+abbrev pub IsFrom : PureStore → PureExpr → PureTerm → Type 0
+IsFrom bs e t = (u : PureTerm) × ((substituted bs e ≡ Some u) × Replaces u t)
+
+-- ---- questions
+
+-- the atom says that the term is true, or that it is false
+abbrev pub IsAbout : PureTerm → PureAtom → Type 0
+IsAbout u (positive t) = t ≡ u
+IsAbout u (negative t) = t ≡ u
+IsAbout u (opening t) = ⊥
+
+-- that an operand has a kind, where form and sorts leave its kind open
+abbrev pub AsksKind : PureStore → PureExpr → PureAtom → Type 0
+AsksKind bs e a = (t : PureTerm) × ((k : Kind) × (IsFrom bs e t × (known_kind t ≡ None) × IsAbout (is_of_kind t k) a))
+
+-- that two operands have one kind, where both kinds are open
+abbrev pub AsksOneKind : PureStore → PureExpr → PureExpr → PureAtom → Type 0
+AsksOneKind bs d e a =
+    (s : PureTerm) × ((t : PureTerm) × (IsFrom bs d s × IsFrom bs e t × (known_kind s ≡ None) × (known_kind t ≡ None)
+    × IsAbout (are_of_one_kind s t) a))
+
+-- that a divisor is 0
+abbrev pub AsksZero : PureStore → PureExpr → PureAtom → Type 0
+AsksZero bs e a = (t : PureTerm) × (IsFrom bs e t × IsAbout (is_zero t) a)
+
+-- that a place is below 0, or below the length of a list
+abbrev pub AsksPlace : PureStore → PureExpr → PureExpr → PureAtom → Type 0
+AsksPlace bs d e a =
+    (s : PureTerm) × ((t : PureTerm) × (IsFrom bs d s × IsFrom bs e t × (IsAbout (is_negative t) a ⊎ IsAbout (is_below t (length_of s)) a)))
+
+-- what is asked of two operands
+abbrev pub AsksTwo : PureStore → BinOp → PureExpr → PureExpr → PureAtom → Type 0
+AsksTwo bs BinOp.Append d e a = AsksOneKind bs d e a
+AsksTwo bs BinOp.Divide d e a = AsksZero bs e a
+AsksTwo bs BinOp.Remainder d e a = AsksZero bs e a
+AsksTwo bs BinOp.Nth d e a = AsksPlace bs d e a
+AsksTwo bs _ d e a = ⊥
+
+-- what is asked of the operands of one operator
+abbrev pub IsAskedOf : PureStore → PureAtom → PureExpr → Type 0
+IsAskedOf bs a (unary_expr op e) = AsksKind bs e a
+IsAskedOf bs a (binary_expr op d e) = AsksKind bs d a ⊎ (AsksKind bs e a ⊎ AsksTwo bs op d e a)
+IsAskedOf bs a _ = ⊥
+
+-- The condition is one that the expression asks of the operands of an operator in it.
+abbrev pub IsAsked : PureStore → PureExpr → PureAtom → Type 0
+IsAsked bs e a = OneOf (IsAskedOf bs a) (subexpressions e)
+
+-- ---- laws of cases
+
+-- what holds of each condition, and of the result
+abbrev pub OnResult : {X : Type 0} → (X → Type 0) → Option (PureGoodCase X) → Type 0
+OnResult P None = Unit {0}
+OnResult P (Some g) = P g.result
+
+abbrev pub OnConditions : {X : Type 0} → (PureAtom → Type 0) → Option (PureGoodCase X) → Type 0
+OnConditions P None = Unit {0}
+OnConditions P (Some g) = Each P g.conds
+
+abbrev pub EachCondition : {X : Type 0} → (PureAtom → Type 0) → PureCases X → Type 0
+EachCondition P cases = Each (λ c. Each P c.conds) cases.faults × OnConditions P cases.good
+
+-- Each condition is one that the expression asks, and the result is from the expression.
+abbrev pub ComesFrom : PureStore → PureExpr → PureCases PureTerm → Type 0
+ComesFrom bs e cases = EachCondition (IsAsked bs e) cases × OnResult (IsFrom bs e) cases.good
+
+-- conditions and result name only variables of the table, where the store does
+abbrev pub NameNoOthers : PureStore → PureCases PureTerm → Type 0
+NameNoOthers bs cases =
+    (vars : List Sort) → Each (λ b. IsOver vars b.term) bs → EachCondition (λ a. IsOver vars (term_of a)) cases × OnResult (IsOver vars) cases.good
