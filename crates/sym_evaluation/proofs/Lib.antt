@@ -1,9 +1,12 @@
 pub mod CheckLaws
 pub mod EvaluationLaws
 pub mod Found
+pub mod FromLaws
 pub mod Listing
+pub mod NameLaws
 pub mod OperatorLaws
 pub mod Placed
+pub mod Replacing
 pub mod SideLaws
 pub mod Sizes
 pub mod Stages

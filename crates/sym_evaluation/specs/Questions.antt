@@ -12,6 +12,7 @@ use Rattle.pure_terms.specs.Pure.{PureTerm, list_of, unary_of, binary_of, from_l
 use Rattle.pure_terms.specs.Rewriting.{Replaces}
 use Rattle.sym_evaluation.specs.Checks.{is_of_kind, are_of_one_kind, is_zero, is_negative, length_of, is_below}
 use Rattle.sym_evaluation.specs.Evaluating.{spelled, literal_term}
+use Rattle.sym_evaluation.specs.Meaning.{IsStoreOver}
 use Rattle.sym_evaluation.specs.Pure.{PureStore, term_at, PureFaultCase, PureGoodCase, PureCases}
 use Rattle.sym_model.specs.Lists.{Each, OneOf}
 
@@ -96,7 +97,19 @@ EachCondition P cases = Each (λ c. Each P c.conds) cases.faults × OnConditions
 abbrev pub ComesFrom : PureStore → PureExpr → PureCases PureTerm → Type 0
 ComesFrom bs e cases = EachCondition (IsAsked bs e) cases × OnResult (IsFrom bs e) cases.good
 
+abbrev pub AreEachFrom : PureStore → List PureExpr → List PureTerm → Type 0
+AreEachFrom bs [] [] = Unit {0}
+AreEachFrom bs (e ∷ es) (t ∷ ts) = IsFrom bs e t × AreEachFrom bs es ts
+AreEachFrom bs _ _ = ⊥
+
+-- the same of a list of expressions
+abbrev pub AllComeFrom : PureStore → List PureExpr → PureCases (List PureTerm) → Type 0
+AllComeFrom bs es cases = EachCondition (λ a. OneOf (λ e. IsAsked bs e a) es) cases × OnResult (AreEachFrom bs es) cases.good
+
 -- conditions and result name only variables of the table, where the store does
-abbrev pub NameNoOthers : PureStore → PureCases PureTerm → Type 0
-NameNoOthers bs cases =
-    (vars : List Sort) → Each (λ b. IsOver vars b.term) bs → EachCondition (λ a. IsOver vars (term_of a)) cases × OnResult (IsOver vars) cases.good
+abbrev pub NameNoOthers : {X : Type 0} → (List Sort → X → Type 0) → PureStore → PureCases X → Type 0
+NameNoOthers Over bs cases =
+    (vars : List Sort) → IsStoreOver vars bs → EachCondition (λ a. IsOver vars (term_of a)) cases × OnResult (Over vars) cases.good
+
+abbrev pub AreEachOver : List Sort → List PureTerm → Type 0
+AreEachOver vars ts = Each (IsOver vars) ts
