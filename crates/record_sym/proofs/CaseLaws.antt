@@ -1,6 +1,6 @@
 -- What holds of the branches of one case.
-use Rattle.std.proofs.Common.{◌≡◌, ◌⊎◌, ⊎_elim, inl, inr, List, [], ◌∷◌, ◌++◌, map, Bool, true, false, ◌||◌, if◌then◌else◌, Some, IsTrue, is_some, refl, sym, ap, subst, ◌∙◌, true≢false}
-use Rattle.std.specs.List.{list_any, flat_map}
+use Rattle.std.proofs.Common.{◌≡◌, ◌⊎◌, ⊎_elim, inl, inr, List, [], ◌∷◌, ◌++◌, map, Bool, true, false, ◌||◌, if◌then◌else◌, Some, IsTrue, is_some, refl, sym, ap, ◌∙◌, true≢false}
+use Rattle.std.specs.List.{list_any}
 use Rattle.std.proofs.lemmas.Bool.{and_from}
 use Rattle.std.proofs.lemmas.List.Folds.{list_any-append}
 use Rattle.gil_values.specs.Pure.{PureValue}
@@ -8,14 +8,14 @@ use Rattle.mem_model.specs.declared.keys.MemoryName.TheVariants.{Record}
 use Rattle.mem_model.specs.Actions.{ActionResult}
 use Rattle.pure_terms.specs.Meaning.{value, truth, all_true}
 use Rattle.pure_terms.specs.Pure.{PureTerm, PureAtom, opening}
-use Rattle.record_sym.specs.Table.{RecordBranches, cases}
+use Rattle.record_sym.specs.Table.{cases}
 use Rattle.sym_conditions.specs.Alternatives.{Alternatives, Hold, always, both, any, is_empty, settled, with_form}
 use Rattle.sym_conditions.proofs.Combined.{settled_parts, settled_from}
 use Rattle.sym_model.specs.Chunks.{StandFor}
 use Rattle.sym_model.specs.Lists.{Each, OneOf}
 use Rattle.sym_model.specs.Meaning.{IsOutcome, is_open, has_open, IsBranchFor}
 use Rattle.sym_model.specs.Pure.{PureChunk, PureResult, PureBranch, result_terms}
-use Rattle.sym_model.proofs.ListLaws.{each_map, each_to, each_flat, each_append, one_map, one_to, one_with}
+use Rattle.sym_model.proofs.ListLaws.{each_map, each_to, each_append, one_map, one_to}
 
 abbrev pub Branch : Type 0
 Branch = PureBranch (List PureChunk)

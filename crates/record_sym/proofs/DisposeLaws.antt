@@ -1,43 +1,39 @@
 -- The branches of `dispose` are right.
-use Rattle.std.proofs.Common.{◌≡◌, ◌⊎◌, ⊎_elim, inl, inr, ℕ, zero, suc, ◌+◌, nat_eq, List, [], ◌∷◌, ◌++◌, map, Bool, true, false, not, ◌&&◌, ◌||◌, cond, Option, Some, None, IsSome, IsTrue, is_some, Ok, Err, slice_get, refl, sym, ap, subst, ◌∙◌, true≢false, arith}
+use Rattle.std.proofs.Common.{◌≡◌, ◌⊎◌, ⊎_elim, inl, inr, ℕ, zero, suc, ◌+◌, nat_eq, List, [], ◌∷◌, ◌++◌, Bool, true, false, not, ◌||◌, cond, Option, Some, None, IsSome, IsTrue, is_some, slice_get, refl, sym, ap, subst, ◌∙◌, true≢false, arith}
 use Rattle.std.specs.FinMap.{get, insert, remove, get-remove}
 use Rattle.std.specs.List.{flat_map, list_any, remove as remove_at}
 use Rattle.std.proofs.lemmas.Bool.Decides.{Decides-eqb}
-use Rattle.gil_values.specs.declared.kinds.Kind.{Kind}
 use Rattle.gil_values.specs.Equality.{same_value}
 use Rattle.gil_values.specs.EqualityLaws.{same_value-Decides}
-use Rattle.gil_values.specs.Pure.{PureValue, boolean, text, symbol, list, kind_of, from_list as list_values, to_list-from_list as values_back}
-use Rattle.mem_model.specs.declared.failures.Failure.{Failure}
+use Rattle.gil_values.specs.Pure.{PureValue, boolean, text}
 use Rattle.mem_model.specs.declared.keys.Key.{Key}
 use Rattle.mem_model.specs.declared.keys.Sub.{Sub}
-use Rattle.mem_model.specs.declared.keys.Sub.TheVariants.{Name, Shape, Gone}
+use Rattle.mem_model.specs.declared.keys.Sub.TheVariants.{Name, Gone}
 use Rattle.mem_model.specs.declared.keys.MemoryName.TheVariants.{Record}
 use Rattle.mem_model.specs.Actions.{ActionResult}
 use Rattle.mem_model.specs.Heaps.{Heap, Holds, HasKey, IsHeapOf}
 use Rattle.mem_model.specs.Keys.{key}
-use Rattle.mem_model.specs.KeyOrder.{key_cmp-total, key_eq, variant_number}
-use Rattle.mem_model.specs.Names.{are_distinct_texts, is_text, is_name_list}
-use Rattle.mem_model.specs.Tables.{does, fails, misses, names_of, texts_of, name_keys, is_among, without_keys, without_location, disposed as disposed_heap, first_missing, missed_or, dispose_whole}
+use Rattle.mem_model.specs.KeyOrder.{key_cmp-total, key_eq}
+use Rattle.mem_model.specs.Names.{are_distinct_texts, is_text}
+use Rattle.mem_model.specs.Tables.{does, misses, texts_of, name_keys, is_among, without_keys, without_location, disposed as disposed_heap, first_missing, missed_or}
 use Rattle.mem_model.proofs.Changes.{get-without_keys, get-without_location}
 use Rattle.mem_model.proofs.Joins.{same_heap, has_key, value_at}
-use Rattle.mem_model.proofs.Holding.{same_key, itself, different_keys}
+use Rattle.mem_model.proofs.Holding.{same_key}
 use Rattle.mem_model.proofs.NameKeys.{or_of, or_first, or_second}
 use Rattle.pure_terms.specs.declared.variables.Sort.{Sort}
-use Rattle.pure_terms.specs.Meaning.{value, values, all_true, IsProper, IsOver}
-use Rattle.pure_terms.specs.Pure.{PureTerm, list_of, PureTerms, no_terms, term_and, to_list}
-use Rattle.record_heap.specs.Table.{dispose as disposes}
-use Rattle.record_heap.specs.Records.{record_whole}
+use Rattle.pure_terms.specs.Meaning.{value, values, IsProper, IsOver}
+use Rattle.pure_terms.specs.Pure.{PureTerm, PureTerms, no_terms, term_and, to_list}
 use Rattle.record_sym.specs.Places.{key_elsewhere, other_key, at_key}
-use Rattle.record_sym.specs.Table.{RecordBranches, cases, missed_name, true_term, PureTaking, taking, takings_from, next_takings, missing_name, disposed, dispose_names}
-use Rattle.sym_conditions.specs.Alternatives.{Alternatives, Hold, always, both, all, same}
+use Rattle.record_sym.specs.Table.{missed_name, true_term, PureTaking, taking, takings_from, next_takings, missing_name, disposed, dispose_names}
+use Rattle.sym_conditions.specs.Alternatives.{Alternatives, Hold, always, both, all}
 use Rattle.sym_conditions.proofs.Combined.{both_from, both_parts, all_from_from, all_from_parts, always_true}
 use Rattle.sym_model.specs.Chunks.{IsUnion, StandFor}
 use Rattle.sym_model.specs.Lists.{Each, OneOf}
-use Rattle.sym_model.specs.Meaning.{location_of, name_of, key_of, key_value}
+use Rattle.sym_model.specs.Meaning.{location_of, name_of, key_of}
 use Rattle.sym_model.specs.Pure.{PureSub, named, cell, shape, bound, dom, proto, gone, PureChunk, done}
 use Rattle.sym_model.proofs.Asking.{both_parts as value_parts}
 use Rattle.sym_model.proofs.ChunkMeaning.{ChunkTerms}
-use Rattle.sym_model.proofs.ListLaws.{same_some, not_none, each_append, each_to, each_at, each_flat, one_left, one_right, one_flat, one_at, one_with}
+use Rattle.sym_model.proofs.ListLaws.{same_some, not_none, each_append, each_to, each_at, each_flat, one_left, one_right, one_flat}
 use Rattle.sym_model.proofs.Unions.{taken_out, put_last, found_chunk, same_entry}
 use Rattle.record_sym.proofs.CaseLaws.{Exact, IsFor, IsTaken, exact_cases, taken_case}
 use Rattle.record_sym.proofs.Facts.{Fact, AskedLocation, AskedName, each_fact, key_number, key_holds, holds_key, place_holds, holds_other, same_names}
@@ -82,7 +78,7 @@ find_first h k ks none = ap (λ o. cond (not (is_some o)) (Some k) (first_missin
 find_later : (h : Heap) (k : Key) (ks : List Key) → HasKey h k → first_missing h (k ∷ ks) ≡ first_missing h ks
 find_later h k ks has = ap (λ b. cond (not b) (Some k) (first_missing h ks)) has
 
-other_by : (vars : List Sort) (v : List PureValue) (h : Heap) (l : PureTerm) (a : ℕ) (asked : AskedLocation vars v l a) (c : PureChunk) (f : Fact vars v h c) (p : PureTerm) (n : List ℕ) (asked_name : AskedName vars v p n) (s : PureSub) → c.sub ≡ s → Hold v (key_elsewhere l p c.loc s) → ¬ (f.k ≡ key a (Name n))
+pub other_by : (vars : List Sort) (v : List PureValue) (h : Heap) (l : PureTerm) (a : ℕ) (asked : AskedLocation vars v l a) (c : PureChunk) (f : Fact vars v h c) (p : PureTerm) (n : List ℕ) (asked_name : AskedName vars v p n) (s : PureSub) → c.sub ≡ s → Hold v (key_elsewhere l p c.loc s) → ¬ (f.k ≡ key a (Name n))
 other_by vars v h l a asked c f p n asked_name (named q) is holds e = place_holds vars v h l a asked c f p n asked_name q is holds e
 other_by vars v h l a asked c f p n asked_name (cell q) is holds e = absurd (omega (arith, key_number vars v h c f (cell q) a (Name n) is e))
 other_by vars v h l a asked c f p n asked_name shape is holds e = absurd (omega (arith, key_number vars v h c f shape a (Name n) is e))

@@ -1,22 +1,21 @@
 -- The branches of `dispose` are right, for every argument.
-use Rattle.std.proofs.Common.{◌≡◌, ◌⊎◌, ⊎_elim, inl, inr, ℕ, zero, suc, ◌+◌, List, [], ◌∷◌, ◌++◌, Bool, true, false, ◌||◌, Option, Some, None, IsSome, IsTrue, is_some, Err, slice_get, refl, sym, ap, subst, ◌∙◌, true≢false, arith}
+use Rattle.std.proofs.Common.{◌≡◌, ⊎_elim, inl, inr, ℕ, zero, suc, ◌+◌, List, [], ◌∷◌, ◌++◌, Bool, true, false, ◌||◌, Option, Some, None, IsTrue, is_some, slice_get, refl, sym, ap, subst, ◌∙◌, true≢false, arith}
 use Rattle.std.specs.FinMap.{get, remove}
-use Rattle.std.specs.List.{flat_map, list_any, remove as remove_at}
+use Rattle.std.specs.List.{flat_map, remove as remove_at}
 use Rattle.gil_values.specs.declared.kinds.Kind.{Kind}
-use Rattle.gil_values.specs.Equality.{same_value}
-use Rattle.gil_values.specs.Pure.{PureValue, boolean, text, symbol, list, kind_of, from_list as list_values, to_list-from_list as values_back}
+use Rattle.gil_values.specs.Pure.{PureValue, boolean, list, kind_of, from_list as list_values, to_list-from_list as values_back}
 use Rattle.mem_model.specs.declared.failures.Failure.{Failure}
 use Rattle.mem_model.specs.declared.keys.Key.{Key}
 use Rattle.mem_model.specs.declared.keys.Sub.{Sub}
 use Rattle.mem_model.specs.declared.keys.Sub.TheVariants.{Name, Shape, Gone}
 use Rattle.mem_model.specs.declared.keys.MemoryName.TheVariants.{Record}
 use Rattle.mem_model.specs.Actions.{ActionResult}
-use Rattle.mem_model.specs.Arguments.{and_then, symbol_of, location_in}
+use Rattle.mem_model.specs.Arguments.{location_in}
 use Rattle.mem_model.specs.Heaps.{Heap, Holds, HasKey, IsHeapOf}
 use Rattle.mem_model.specs.Keys.{key}
 use Rattle.mem_model.specs.KeyOrder.{key_eq, variant_number}
 use Rattle.mem_model.specs.Names.{are_distinct_texts, is_name_list}
-use Rattle.mem_model.specs.Tables.{does, fails, misses, read_or_fail, names_of, texts_of, name_keys, is_among, without_keys, disposed as disposed_heap, first_missing, missed_or, dispose_whole}
+use Rattle.mem_model.specs.Tables.{does, misses, read_or_fail, names_of, texts_of, name_keys, is_among, disposed as disposed_heap, first_missing, missed_or}
 use Rattle.mem_model.proofs.Joins.{has_key, value_at}
 use Rattle.mem_model.proofs.Holding.{same_key, different_keys}
 use Rattle.mem_model.proofs.NameKeys.{or_of}
@@ -29,7 +28,7 @@ use Rattle.record_heap.specs.Records.{record_whole}
 use Rattle.record_heap.specs.Table.{dispose as disposes}
 use Rattle.record_sym.specs.Places.{at_key, other_key, gone_at, form_of_names, opened_there, opened_at, undescribed_there, undescribed_at}
 use Rattle.record_sym.specs.Table.{RecordBranches, cases, failure, true_term, gone_cases, PureTaking, taking, takings_from, next_takings, missing_name, missed_name, disposed, dispose_names, dispose_there, dispose_from, dispose, act_dispose}
-use Rattle.sym_conditions.specs.Alternatives.{Alternatives, Hold, always, both, any, all, same, other, of_kind, not_of_kind}
+use Rattle.sym_conditions.specs.Alternatives.{Alternatives, Hold, always, both, any, all, same, of_kind, not_of_kind}
 use Rattle.sym_conditions.proofs.Combined.{both_from, both_parts, all_from_from, all_from_parts, always_true}
 use Rattle.sym_conditions.proofs.Telling.{of_kind_tells, not_of_kind_tells}
 use Rattle.sym_model.specs.Chunks.{IsUnion, StandFor}
@@ -42,7 +41,7 @@ use Rattle.sym_model.proofs.ChunkMeaning.{ChunkTerms, chunk_val, loc_value}
 use Rattle.sym_model.proofs.ListLaws.{same_some, not_none, each_append, each_to, each_at, each_flat, one_left, one_right, one_at, one_with, one_flat, one_flattened}
 use Rattle.sym_model.proofs.Unions.{taken_out, found_chunk, same_entry}
 use Rattle.record_sym.proofs.CaseLaws.{Exact, IsFor, IsTaken, AreOpen, exact_cases, open_cases, taken_case, form_open, both_open, any_open}
-use Rattle.record_sym.proofs.DisposeLaws.{Left, IsRightTaking, each_removed, names_exact, names_covered, one_more_taken, no_key_taken, none_of_option, not_true_false}
+use Rattle.record_sym.proofs.DisposeLaws.{Left, IsRightTaking, each_removed, names_exact, names_covered, one_more_taken, no_key_taken, none_of_option}
 use Rattle.record_sym.proofs.Facts.{Fact, AskedLocation, each_fact, key_number, keys_equal, sub_is, gone_holds, holds_gone, shape_key, same_loc, loc_same, other_loc, loc_other, loc_of}
 use Rattle.record_sym.proofs.LookupLaws.{IsRight, values_one, fails_always, failure_for, symbol_or_not}
 use Rattle.record_sym.proofs.NameLists.{elements_over, list_value}

@@ -1,5 +1,5 @@
 -- List terms of the code and their elements, and what is known of answers.
-use Rattle.std.proofs.Common.{◌≡◌, ℕ, ◌<◌, ◌≤◌, List, [], ◌∷◌, ◌++◌, map, get_or, length, Result, Ok, Err, IfOk, refl, sym, ap, ◌∙◌, arith, rules}
+use Rattle.std.proofs.Common.{◌≡◌, ◌<◌, ◌≤◌, List, [], ◌∷◌, ◌++◌, map, get_or, length, Result, Ok, Err, IfOk, sym, ap, ◌∙◌, arith, rules}
 use Rattle.std.proofs.lemmas.List.{append_assoc}
 use Rattle.pure_terms.specs.declared.terms.Term
 use Rattle.pure_terms.specs.declared.terms.Term.{Term, the_lemmas}
@@ -7,7 +7,7 @@ use Rattle.pure_terms.specs.declared.terms.Terms.{Terms}
 use Rattle.pure_terms.specs.declared.variables.Var.{Var}
 use Rattle.pure_terms.specs.Pure.{PureTerm, list_of, from_list, to_list, to_list-from_list}
 use Rattle.pure_terms.specs.View.{term_view, terms_view}
-use Rattle.record_sym.specs.Table.{RecordBranches, cases, failure, faulty, made_cases, make}
+use Rattle.record_sym.specs.Table.{cases, failure, faulty, made_cases, make}
 use Rattle.mem_model.specs.declared.failures.Failure.{Failure}
 use Rattle.sym_model.specs.Pure.{PureChunk}
 

@@ -1,10 +1,10 @@
 -- What the conditions on a chunk say of its key, under a valuation that serves.
-use Rattle.std.proofs.Common.{◌≡◌, ◌↔◌, ◌⊎◌, ⊎_elim, inl, inr, ℕ, nat_eq, List, [], ◌∷◌, ◌++◌, Bool, true, false, Option, Some, None, IsTrue, slice_get, refl, sym, ap, subst, ◌∙◌, true≢false, arith}
+use Rattle.std.proofs.Common.{◌≡◌, ◌⊎◌, ⊎_elim, inl, inr, ℕ, nat_eq, List, ◌++◌, Bool, true, false, Option, Some, None, IsTrue, refl, sym, ap, subst, ◌∙◌, true≢false, arith}
 use Rattle.std.proofs.lemmas.Bool.Decides.{Decides-eqb}
 use Rattle.gil_values.specs.Pure.{PureValue, symbol, text, integer}
 use Rattle.mem_model.specs.declared.keys.Key.{Key}
 use Rattle.mem_model.specs.declared.keys.Sub.{Sub}
-use Rattle.mem_model.specs.declared.keys.Sub.TheVariants.{Name, At, Shape, Bound, Dom, Proto, Gone}
+use Rattle.mem_model.specs.declared.keys.Sub.TheVariants.{Name, Shape, Gone}
 use Rattle.mem_model.specs.Keys.{key}
 use Rattle.mem_model.specs.KeyOrder.{variant_number}
 use Rattle.mem_model.specs.Heaps.{Heap, Holds}
@@ -13,14 +13,14 @@ use Rattle.pure_terms.specs.Meaning.{value, IsProper, IsOver}
 use Rattle.pure_terms.specs.Pure.{PureTerm, positive, negative}
 use Rattle.record_sym.specs.Places.{gone_there, gone_at, key_there, at_key, other_place, key_elsewhere, other_key}
 use Rattle.sym_conditions.specs.declared.comparing.Comparison.{Comparison}
-use Rattle.sym_conditions.specs.Alternatives.{Alternatives, Hold, always, never, given, both, equal, by_comparison, same, other}
+use Rattle.sym_conditions.specs.Alternatives.{Hold, always, never, given, both, equal, by_comparison, same, other}
 use Rattle.sym_conditions.specs.Comparing.{compared}
 use Rattle.sym_conditions.specs.Laws.{HaveBoth}
 use Rattle.sym_conditions.proofs.Combined.{both_from, both_parts, always_true}
 use Rattle.sym_conditions.proofs.Telling.{same_tells, other_tells}
 use Rattle.sym_model.specs.Chunks.{IsEntry, IsUnion}
-use Rattle.sym_model.specs.Lists.{Each, OneOf}
-use Rattle.sym_model.specs.Meaning.{location_of, name_of, cell_of, sub_value, key_of, key_value}
+use Rattle.sym_model.specs.Lists.{Each}
+use Rattle.sym_model.specs.Meaning.{location_of, name_of, cell_of, sub_value, key_of}
 use Rattle.sym_model.specs.Pure.{PureSub, named, cell, shape, bound, dom, proto, gone, PureChunk, sub_terms}
 use Rattle.sym_model.proofs.ListLaws.{same_some, not_none, each_by_place, each_at, one_left, one_right, one_parts}
 use Rattle.sym_model.proofs.ChunkMeaning.{ChunkTerms, loc_value}

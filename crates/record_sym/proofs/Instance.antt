@@ -1,25 +1,26 @@
 -- The laws, from the table to the branches of the code.
-use Rattle.std.proofs.Common.{◌≡◌, ◌↔◌, ◌⊎◌, ⊎_elim, inl, inr, ℕ, ℤ, List, [], ◌∷◌, map, Option, IsTrue, refl, sym, ap, subst, ◌∙◌}
+use Rattle.std.proofs.Common.{◌≡◌, ⊎_elim, inl, inr, ℕ, List, [], ◌∷◌, Option, refl, sym, subst}
 use Rattle.gil_values.specs.Pure.{PureValue}
 use Rattle.mem_model.specs.declared.keys.MemoryName.TheVariants.{Record}
 use Rattle.mem_model.specs.Heaps.{Heap}
 use Rattle.pure_terms.specs.declared.variables.Sort.{Sort}
 use Rattle.pure_terms.specs.declared.variables.Var.{Var}
-use Rattle.pure_terms.specs.Meaning.{all_true, IsOver}
-use Rattle.pure_terms.specs.Pure.{PureTerm, PureAtom, term_of}
+use Rattle.pure_terms.specs.Pure.{PureTerm}
 use Rattle.record_heap.specs.Names.{action_of}
 use Rattle.record_heap.specs.Table.{record_actions}
 use Rattle.record_sym.specs.declared.states.RecordSym.{RecordSym}
-use Rattle.record_sym.specs.Plain.{record_stands, record_terms, record_plain, record_asked, ArePlainChunks}
-use Rattle.record_sym.specs.Table.{RecordBranches, table}
+use Rattle.record_sym.specs.Plain.{record_stands, record_terms, record_plain, record_asked, record_depends, ArePlainChunks}
+use Rattle.record_sym.specs.Table.{table}
 use Rattle.record_sym.specs.View.{state_view, record_branch_view, record_branches_view}
 use Rattle.sym_model.specs.declared.branches.Branch.{Branch}
 use Rattle.sym_model.specs.Chunks.{StandFor, terms_of}
-use Rattle.sym_model.specs.Laws.{MayBeAsked, Serves, ActLaw, ActsPlainly, IsCopy}
+use Rattle.sym_model.specs.Forms.{OpenWhatMatters}
+use Rattle.sym_model.specs.Laws.{MayBeAsked, Serves, ActLaw, ActsPlainly}
 use Rattle.sym_model.specs.Lists.{Each, OneOf}
-use Rattle.sym_model.specs.Meaning.{has_open, IsBranchFor}
 use Rattle.sym_model.specs.Pure.{PureChunk, PureBranch}
 use Rattle.sym_model.specs.View.{branch_view, branches_view}
+use Rattle.record_sym.proofs.FormLaws.{Opens, table_depends}
+use Rattle.record_sym.specs.Forms.{DependsOn}
 use Rattle.record_sym.proofs.Law.{table_law, table_plain}
 
 module _ (P : PureBranch (List PureChunk) → Type 0) (P' : PureBranch RecordSym → Type 0) (f : (b : Branch RecordSym) → P (record_branch_view b) → P' (branch_view b)) where
@@ -58,3 +59,9 @@ module _ (action : List ℕ) (fresh : Option Var) (args : List PureTerm) (s : Re
 
   pub acts_plainly : ActsPlainly record_plain action args s (branches_view bs)
   acts_plainly low high plain arguments = each_branch _ _ (λ b is. is) bs (plainly low high plain arguments)
+
+  pub opens : OpenWhatMatters record_stands record_terms record_depends action fresh args s (branches_view bs)
+  opens vars v args' h serves =
+      each_branch (Opens v (DependsOn (action_of action) (state_view s) args v h)) _ (λ b is. is) bs
+      (subst (λ rows. Each (Opens v (DependsOn (action_of action) (state_view s) args v h)) rows) (sym are)
+      (table_depends (action_of action) fresh args (state_view s) vars v args' h (serves_chunks vars v args' h serves)))

@@ -1,43 +1,39 @@
 -- The branches of every action keep the laws of a symbolic memory.
-use Rattle.std.proofs.Common.{◌≡◌, ◌⊎◌, ⊎_elim, inl, inr, ℕ, ℤ, pos, ◌-ℤ◌, ◌+ℤ◌, ◌≤ℤ◌, List, [], ◌∷◌, ◌++◌, map, Bool, true, false, not, ◌&&◌, Option, Some, None, IsTrue, refl, sym, ap, subst, ◌∙◌, true≢false, arith}
-use Rattle.std.specs.List.{Contains}
-use Rattle.std.specs.Prelude.{int_le}
-use Rattle.std.proofs.lemmas.Bool.{and_parts, and_from, false≢true}
-use Rattle.std.proofs.lemmas.Int.{ints}
+use Rattle.std.proofs.Common.{◌≡◌, inl, inr, ℕ, ℤ, ◌-ℤ◌, ◌+ℤ◌, List, [], ◌∷◌, ◌++◌, true, false, not, ◌&&◌, Option, Some, None, refl, sym, ap, subst, ◌∙◌, true≢false}
+use Rattle.std.proofs.lemmas.Bool.{and_parts, false≢true}
 use Rattle.gil_values.proofs.OperatorSymbols.{none_contained}
 use Rattle.gil_values.specs.declared.kinds.Kind.{Kind}
-use Rattle.gil_values.specs.declared.operators.UnOp.{UnOp}
 use Rattle.gil_values.specs.declared.operators.BinOp.{BinOp}
 use Rattle.gil_values.specs.Pure.{PureValue}
 use Rattle.mem_model.specs.declared.failures.Failure.{Failure}
 use Rattle.mem_model.specs.declared.keys.MemoryName.TheVariants.{Record}
 use Rattle.mem_model.specs.Heaps.{Heap}
-use Rattle.mem_model.specs.Actions.{ActionResult}
 use Rattle.pure_terms.specs.declared.literals.Literal.{Literal}
 use Rattle.pure_terms.specs.declared.variables.Sort.{Sort}
 use Rattle.pure_terms.specs.declared.variables.Var.{Var}
-use Rattle.pure_terms.specs.Fragment.{is_simple, is_shift, is_literal_between, has_literals_between, have_literals_between, is_plain}
+use Rattle.pure_terms.specs.Fragment.{is_shift}
 use Rattle.pure_terms.specs.Kinds.{same_sort, kind_of_sort}
 use Rattle.pure_terms.specs.Meaning.{IsOver}
-use Rattle.pure_terms.specs.Numbers.{is_between}
-use Rattle.pure_terms.specs.Pure.{PureTerm, literal, variable, list_of, unary_of, binary_of, PureTerms, no_terms, term_and, PureAtom, term_of, variables}
+use Rattle.pure_terms.specs.Pure.{PureTerm, literal, variable, list_of, unary_of, binary_of, PureAtom, term_of}
 use Rattle.record_heap.specs.declared.actions.RecordAction.{RecordAction}
 use Rattle.record_heap.specs.Names.{action_of}
 use Rattle.record_heap.specs.Table.{act_of, record_actions}
 use Rattle.record_sym.specs.Laws.{AreRight}
 use Rattle.record_sym.specs.Plain.{ListsByTerm, ArePlainChunks}
-use Rattle.record_sym.specs.Table.{RecordBranches, cases, failure, asked_by, branches_of, unknown_action, table}
+use Rattle.record_sym.specs.Table.{failure, asked_by, branches_of, unknown_action, table}
 use Rattle.sym_conditions.specs.Alternatives.{Alternatives, always, never, by_kind, of_kind}
 use Rattle.sym_model.specs.Chunks.{StandFor, placed_in, value_where_described, terms_of}
-use Rattle.sym_model.specs.Laws.{MayBeAsked, Serves, ActLaw, ActsPlainly, EachTerm, NameNoOthers, HaveOwnConditions, AreMade, ArePlain, ArePlainArguments, IsPlainWithin, IsDecidedWithin, growth}
-use Rattle.sym_model.specs.Lists.{Each, OneOf, IsAmong}
+use Rattle.sym_model.specs.Laws.{MayBeAsked, Serves, ActLaw, ActsPlainly, EachTerm, IsPlainWithin, IsDecidedWithin, growth}
+use Rattle.sym_model.specs.Lists.{Each, IsAmong}
 use Rattle.sym_model.specs.Meaning.{fresh_symbol}
-use Rattle.sym_model.specs.Pure.{PureSub, named, cell, shape, bound, dom, proto, gone, PureChunk, PureBranch, result_terms}
-use Rattle.sym_model.specs.Terms.{all_of, AreEachOver, IsFreshOver, StandsIn, is_list_term, is_literal, IsMadeOf, Asked, asked_of, IsOwnCondition}
+use Rattle.sym_model.specs.Pure.{PureSub, PureChunk, result_terms}
+use Rattle.sym_model.specs.Terms.{all_of, AreEachOver, IsFreshOver, StandsIn, is_list_term, IsMadeOf, Asked, asked_of, IsOwnCondition}
 use Rattle.sym_model.proofs.ChunkMeaning.{ChunkTerms, chunk_val, chunk_by_chunk, from_chunks}
 use Rattle.sym_model.proofs.ListLaws.{not_none, each_to, each_left, each_right, each_flattened, one_left}
-use Rattle.record_sym.proofs.Accepting.{own_accepts, over_accepts, plain_accepts, stands_itself, made_of_given, elements_made, elements_plain, plain_parts, PlainParts}
-use Rattle.record_sym.proofs.CaseLaws.{Shaped, shaped_cases, covered, Exact}
+use Rattle.sym_model.proofs.MadeLaws.{stands_itself, made_of_given, elements_made}
+use Rattle.sym_model.proofs.PlainLaws.{plain_wider, decided_wider}
+use Rattle.record_sym.proofs.Accepting.{own_accepts, over_accepts, plain_accepts, elements_plain, plain_parts}
+use Rattle.record_sym.proofs.CaseLaws.{Shaped, shaped_cases, covered}
 use Rattle.record_sym.proofs.LookupLaws.{fails_always, IsRight}
 use Rattle.record_sym.proofs.NameLists.{elements_over}
 use Rattle.record_sym.proofs.Right.{new_is_right, lookup_is_right, mutate_is_right, dispose_is_right}
@@ -220,55 +216,6 @@ module _ (fresh : Option Var) (args : List PureTerm) (cs : List PureChunk) where
         shaped (IsDecidedWithin low high) (IsPlainWithin low high) (λ t. ⊥) (plain_accepts low high) (IsPlainWithin low high) ListsByTerm (λ k. (refl, refl)) (refl, refl) (refl, refl) (elements_plain low high) (λ q t. tt) (λ t. tt) (λ ts. refl)
         cs plain_sides plain_state op fresh args plain_fresh (each_asked (IsPlainWithin low high) op args plain_args) plain_args
         (λ d e no_list. inl (no_list_kind d (subst (λ xs. Each (IsPlainWithin low high) xs) e plain_args).0 no_list))
-
--- ---- wider bounds
-
-int_le-true : (m n : ℤ) → m ≤ℤ n → int_le m n ≡ true
-int_le-true m n h = grind (arith, ints)
-
-le_from_test : (m n : ℤ) → int_le m n ≡ true → m ≤ℤ n
-le_from_test m n h = grind (arith, ints)
-
-lower : (low n : ℤ) → low ≤ℤ n → (low -ℤ pos 10000) ≤ℤ n
-lower low n h = omega (arith, ints, h)
-
-higher : (n high : ℤ) → n ≤ℤ high → n ≤ℤ (high +ℤ pos 10000)
-higher n high h = omega (arith, ints, h)
-
-module _ (low high : ℤ) where
-  between_wider : (n : ℤ) → is_between low high n ≡ true → is_between (low -ℤ growth) (high +ℤ growth) n ≡ true
-  between_wider n is =
-      let parts = and_parts (int_le low n) (int_le n high) is in
-      and_from (int_le (low -ℤ growth) n) (int_le n (high +ℤ growth)) (int_le-true (low -ℤ growth) n (lower low n (le_from_test low n parts.0))) (int_le-true n (high +ℤ growth) (higher n high (le_from_test n high parts.1)))
-
-  literal_wider : (k : Literal) → is_literal_between low high k ≡ true → is_literal_between (low -ℤ growth) (high +ℤ growth) k ≡ true
-  literal_wider (Literal.Int n) is = between_wider n is
-  literal_wider (Literal.Bool b) is = refl
-  literal_wider (Literal.Str s) is = refl
-  literal_wider (Literal.Kind k) is = refl
-  literal_wider (Literal.Proc s) is = refl
-
-  mutual
-    literals_wider : (t : PureTerm) → has_literals_between low high t ≡ true → has_literals_between (low -ℤ growth) (high +ℤ growth) t ≡ true
-    literals_wider (literal k) is = literal_wider k is
-    literals_wider (variable x) is = refl
-    literals_wider (list_of ts) is = all_wider ts is
-    literals_wider (unary_of op t) is = literals_wider t is
-    literals_wider (binary_of op s t) is =
-        let parts = and_parts (has_literals_between low high s) (has_literals_between low high t) is in
-        and_from _ _ (literals_wider s parts.0) (literals_wider t parts.1)
-
-    all_wider : (ts : PureTerms) → have_literals_between low high ts ≡ true → have_literals_between (low -ℤ growth) (high +ℤ growth) ts ≡ true
-    all_wider no_terms is = refl
-    all_wider (term_and t ts) is =
-        let parts = and_parts (has_literals_between low high t) (have_literals_between low high ts) is in
-        and_from _ _ (literals_wider t parts.0) (all_wider ts parts.1)
-
-  plain_wider : (t : PureTerm) → IsPlainWithin low high t → IsPlainWithin (low -ℤ growth) (high +ℤ growth) t
-  plain_wider t is = (is.0, literals_wider t is.1)
-
-  decided_wider : (a : PureAtom) → IsDecidedWithin low high a → IsDecidedWithin (low -ℤ growth) (high +ℤ growth) a
-  decided_wider a is = (is.0, literals_wider (term_of a) is.1)
 
 -- ---- the laws
 

@@ -4,6 +4,7 @@ pub mod DisposeLaws
 pub mod DisposeRight
 pub mod Elements
 pub mod Facts
+pub mod FormLaws
 pub mod Instance
 pub mod Law
 pub mod LookupLaws

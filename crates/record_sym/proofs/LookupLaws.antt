@@ -1,5 +1,5 @@
 -- The branches of `lookup` and `mutate` are right.
-use Rattle.std.proofs.Common.{◌≡◌, ◌⊎◌, ⊎_elim, inl, inr, ℕ, zero, suc, ◌+◌, List, [], ◌∷◌, ◌++◌, Bool, true, false, Option, Some, None, IsTrue, Result, Ok, Err, slice_get, refl, sym, ap, subst, ◌∙◌, true≢false, arith}
+use Rattle.std.proofs.Common.{◌≡◌, ◌⊎◌, ⊎_elim, inl, inr, ℕ, zero, suc, ◌+◌, List, [], ◌∷◌, ◌++◌, Option, Some, None, IsTrue, Ok, Err, slice_get, refl, sym, ap, subst, ◌∙◌, arith}
 use Rattle.std.specs.FinMap.{get, insert}
 use Rattle.std.specs.List.{flat_map}
 use Rattle.gil_values.specs.declared.kinds.Kind.{Kind}
@@ -17,7 +17,7 @@ use Rattle.pure_terms.specs.Meaning.{value, values, all_true, IsProper, IsOver}
 use Rattle.pure_terms.specs.Pure.{PureTerm, from_list}
 use Rattle.record_heap.specs.Table.{lookup as looked_up, mutate as mutated}
 use Rattle.record_sym.specs.Places.{gone_at, at_key, other_key, lacks, absent_at, opened_at}
-use Rattle.record_sym.specs.Table.{RecordBranches, cases, failure, found, lookup, changes_from, mutate, gone_cases, absent_cases, opened_names, missed_names, missed_name, without_property, wrong_number, property_or_fail, act_lookup, act_mutate}
+use Rattle.record_sym.specs.Table.{RecordBranches, cases, failure, found, lookup, changes_from, mutate, gone_cases, absent_cases, opened_names, missed_names, missed_name, without_property, property_or_fail, act_lookup, act_mutate}
 use Rattle.sym_conditions.specs.Alternatives.{Alternatives, Hold, always, both, any, all, of_kind, not_of_kind}
 use Rattle.sym_conditions.proofs.Combined.{both_from, both_parts, always_true}
 use Rattle.sym_conditions.proofs.Telling.{of_kind_tells, not_of_kind_tells}
@@ -28,7 +28,7 @@ use Rattle.sym_model.proofs.Asking.{both_parts as value_parts}
 use Rattle.sym_model.proofs.ChunkMeaning.{ChunkTerms}
 use Rattle.sym_model.proofs.ListLaws.{same_some, not_none, each_append, each_to, each_at, each_flat, one_left, one_right, one_parts, one_flat, one_at}
 use Rattle.sym_model.proofs.Unions.{held_changes, found_chunk, same_entry}
-use Rattle.record_sym.proofs.CaseLaws.{Exact, IsFor, IsTaken, exact_cases, open_cases, taken_case}
+use Rattle.record_sym.proofs.CaseLaws.{Exact, IsFor, IsTaken, exact_cases, taken_case}
 use Rattle.record_sym.proofs.Facts.{Fact, AskedLocation, AskedName, each_fact, key_holds, holds_key}
 use Rattle.record_sym.proofs.PropertyLaws.{at_some, at_none, without_exact, without_covers}
 
@@ -151,7 +151,7 @@ symbol_or_not (kind k) = inr (refl, λ e. cc)
 symbol_or_not (procedure f) = inr (refl, λ e. cc)
 symbol_or_not (list vs) = inr (refl, λ e. cc)
 
-text_or_not : (x : PureValue) → ((n : List ℕ) × (x ≡ text n)) ⊎ ((text_of x ≡ Err Failure.Kind) × (¬ (kind_of x ≡ Kind.Str)))
+pub text_or_not : (x : PureValue) → ((n : List ℕ) × (x ≡ text n)) ⊎ ((text_of x ≡ Err Failure.Kind) × (¬ (kind_of x ≡ Kind.Str)))
 text_or_not (text n) = inl (n, refl)
 text_or_not (integer i) = inr (refl, λ e. cc)
 text_or_not (boolean b) = inr (refl, λ e. cc)

@@ -1,20 +1,19 @@
 -- What the conditions on the elements of a list term say of its value.
-use Rattle.std.proofs.Common.{◌≡◌, ◌⊎◌, ⊎_elim, inl, inr, ℕ, List, [], ◌∷◌, ◌++◌, Bool, true, false, not, ◌||◌, ◌&&◌, Option, Some, None, IsTrue, refl, sym, ap, subst, ◌∙◌, true≢false}
+use Rattle.std.proofs.Common.{◌≡◌, ◌⊎◌, ⊎_elim, inl, inr, ℕ, List, ◌++◌, Bool, true, false, not, ◌||◌, ◌&&◌, Option, Some, None, IsTrue, refl, sym, ap, ◌∙◌, true≢false}
 use Rattle.std.specs.Option.{option_map}
 use Rattle.std.specs.List.{list_any}
 use Rattle.gil_values.specs.declared.kinds.Kind.{Kind}
 use Rattle.gil_values.specs.Equality.{same_value}
 use Rattle.gil_values.specs.EqualityLaws.{same_value-Decides}
-use Rattle.gil_values.specs.Pure.{PureValue, integer, boolean, text, symbol, kind, procedure, list, kind_of, from_list as list_values, to_list as values_in, to_list-from_list as values_back}
-use Rattle.mem_model.specs.Names.{is_text, are_distinct_texts, is_name_list, lists_name}
+use Rattle.gil_values.specs.Pure.{PureValue, integer, boolean, text, symbol, kind, procedure, list, kind_of, from_list as list_values, to_list-from_list as values_back}
+use Rattle.mem_model.specs.Names.{is_text, are_distinct_texts, lists_name}
 use Rattle.pure_terms.specs.declared.variables.Sort.{Sort}
-use Rattle.pure_terms.specs.declared.variables.Var.{Var}
 use Rattle.pure_terms.specs.Meaning.{value, values, all_true, IsProper, IsOver, AreVariablesOf}
 use Rattle.pure_terms.specs.Pure.{PureTerm, list_of, PureTerms, no_terms, term_and, to_list, variables, variables_of_all}
 use Rattle.pure_terms.proofs.KindLaws.{over_left, over_right}
 use Rattle.record_sym.specs.Places.{listed, unlisted}
 use Rattle.record_sym.specs.Table.{faulty, distinct_from}
-use Rattle.sym_conditions.specs.Alternatives.{Alternatives, Hold, always, both, any, all, all_from, same, other, of_kind, not_of_kind}
+use Rattle.sym_conditions.specs.Alternatives.{Alternatives, Hold, always, both, any, all_from, same, other, of_kind, not_of_kind}
 use Rattle.sym_conditions.specs.Laws.{HaveBoth}
 use Rattle.sym_conditions.proofs.Combined.{both_from, both_parts, all_from_from, all_from_parts, always_true}
 use Rattle.sym_conditions.proofs.Telling.{same_tells, other_tells, of_kind_tells, not_of_kind_tells}

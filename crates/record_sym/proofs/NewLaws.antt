@@ -1,5 +1,5 @@
 -- The branches of `new` are right.
-use Rattle.std.proofs.Common.{◌≡◌, ◌⊎◌, ⊎_elim, inl, inr, ℕ, List, [], ◌∷◌, ◌++◌, map, Bool, true, false, not, ◌&&◌, cond, ◌||◌, if◌then◌else◌, Option, Some, None, IsSome, IsTrue, Ok, Err, refl, sym, ap, subst, ◌∙◌, true≢false, arith}
+use Rattle.std.proofs.Common.{◌≡◌, ◌⊎◌, ⊎_elim, inl, inr, ℕ, List, [], ◌∷◌, ◌++◌, map, Bool, true, false, not, ◌&&◌, cond, ◌||◌, if◌then◌else◌, Option, Some, IsTrue, Ok, Err, refl, sym, ap, subst, ◌∙◌, true≢false, arith}
 use Rattle.std.specs.FinMap.{get, insert, get-insert}
 use Rattle.std.specs.List.{list_any}
 use Rattle.std.specs.Option.{option_map}
@@ -14,27 +14,26 @@ use Rattle.mem_model.specs.declared.keys.Sub.{Sub}
 use Rattle.mem_model.specs.declared.keys.Sub.TheVariants.{Name, Shape}
 use Rattle.mem_model.specs.declared.keys.MemoryName.TheVariants.{Record}
 use Rattle.mem_model.specs.Actions.{ActionResult}
-use Rattle.mem_model.specs.Arguments.{and_then, one_of}
-use Rattle.mem_model.specs.Heaps.{Heap, Holds, HasKey, IsHeapOf, OccursInHeap}
+use Rattle.mem_model.specs.Heaps.{Heap, HasKey, IsHeapOf}
 use Rattle.mem_model.specs.Keys.{key}
 use Rattle.mem_model.specs.KeyOrder.{key_cmp-total, key_eq, variant_number}
 use Rattle.mem_model.specs.Names.{are_distinct_texts, is_name_list, is_text}
-use Rattle.mem_model.specs.Tables.{does, fails, read_or_fail, names_of, texts_of, name_keys, is_among, with_all, created as created_heap}
+use Rattle.mem_model.specs.Tables.{fails, read_or_fail, names_of, texts_of, name_keys, is_among, with_all, created as created_heap}
 use Rattle.mem_model.proofs.Changes.{get-with_all, with_none}
 use Rattle.mem_model.proofs.Joins.{same_heap, value_at, has_key}
 use Rattle.mem_model.proofs.Holding.{same_key, held_inserted, held_with_all}
 use Rattle.mem_model.proofs.NameKeys.{or_of}
 use Rattle.pure_terms.specs.declared.variables.Sort.{Sort}
 use Rattle.pure_terms.specs.declared.variables.Var.{Var}
-use Rattle.pure_terms.specs.Meaning.{value, values, all_true, IsProper, IsOver}
+use Rattle.pure_terms.specs.Meaning.{value, values, IsProper, IsOver}
 use Rattle.pure_terms.specs.Pure.{PureTerm, literal, variable, list_of, unary_of, binary_of, PureTerms, no_terms, term_and, to_list, from_list}
-use Rattle.record_heap.specs.Table.{name_list_of, name_list_in, new}
-use Rattle.record_sym.specs.Table.{RecordBranches, cases, failure, faulty, distinct_from, null, name_chunk, created, made_cases, make, act_new}
-use Rattle.sym_conditions.specs.Alternatives.{Alternatives, Hold, always, of_kind, not_of_kind, with_form}
+use Rattle.record_heap.specs.Table.{name_list_in, new}
+use Rattle.record_sym.specs.Table.{cases, failure, faulty, distinct_from, name_chunk, created, made_cases, make, act_new}
+use Rattle.sym_conditions.specs.Alternatives.{always, of_kind, not_of_kind, with_form}
 use Rattle.sym_conditions.proofs.Combined.{always_true}
 use Rattle.sym_conditions.proofs.Telling.{of_kind_tells, not_of_kind_tells}
 use Rattle.sym_model.specs.Chunks.{IsUnion, StandFor}
-use Rattle.sym_model.specs.Lists.{Each, OneOf}
+use Rattle.sym_model.specs.Lists.{Each}
 use Rattle.sym_model.specs.Meaning.{location_of, name_of, key_of, key_value}
 use Rattle.sym_model.specs.Pure.{named, shape, PureChunk, done}
 use Rattle.sym_model.proofs.Asking.{both_parts as value_parts}

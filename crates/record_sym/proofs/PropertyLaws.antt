@@ -1,41 +1,39 @@
 -- The branches of looking up a name and of giving it a value are right.
-use Rattle.std.proofs.Common.{◌≡◌, ◌⊎◌, ⊎_elim, inl, inr, ℕ, suc, ◌+◌, List, [], ◌∷◌, ◌++◌, Bool, true, false, if◌then◌else◌, Option, Some, None, IsSome, IsTrue, is_some, slice_get, refl, sym, ap, subst, ◌∙◌, true≢false, arith}
-use Rattle.std.proofs.lemmas.Bool.{and_from}
-use Rattle.std.specs.FinMap.{get, insert}
-use Rattle.std.specs.List.{flat_map}
-use Rattle.gil_values.specs.Pure.{PureValue, symbol, text}
+use Rattle.std.proofs.Common.{◌≡◌, ◌⊎◌, ⊎_elim, inl, inr, ℕ, List, [], ◌∷◌, ◌++◌, Bool, true, false, if◌then◌else◌, Option, Some, None, IsSome, IsTrue, is_some, slice_get, refl, sym, ap, subst, ◌∙◌, true≢false, arith}
+use Rattle.std.specs.FinMap.{get}
+use Rattle.gil_values.specs.Pure.{PureValue}
 use Rattle.mem_model.specs.declared.failures.Failure.{Failure}
 use Rattle.mem_model.specs.declared.keys.Key.{Key}
 use Rattle.mem_model.specs.declared.keys.Sub.{Sub}
-use Rattle.mem_model.specs.declared.keys.Sub.TheVariants.{Name, At, Shape, Bound, Dom, Proto, Gone}
+use Rattle.mem_model.specs.declared.keys.Sub.TheVariants.{Name, Shape, Gone}
 use Rattle.mem_model.specs.declared.keys.MemoryName.TheVariants.{Record}
 use Rattle.mem_model.specs.Actions.{ActionResult}
 use Rattle.mem_model.specs.Heaps.{Heap, Holds, HasKey, IsHeapOf}
 use Rattle.mem_model.specs.Keys.{key}
 use Rattle.mem_model.specs.KeyOrder.{key_eq, variant_number}
 use Rattle.mem_model.specs.Names.{is_name_list, lists_name}
-use Rattle.mem_model.specs.Tables.{does, fails, misses, found_or, at, unlisted_at}
+use Rattle.mem_model.specs.Tables.{fails, misses, found_or, at}
 use Rattle.mem_model.proofs.Holding.{same_key, itself}
 use Rattle.mem_model.proofs.Joins.{has_key, value_at}
 use Rattle.pure_terms.specs.declared.variables.Sort.{Sort}
 use Rattle.pure_terms.specs.declared.literals.Literal.{Literal}
-use Rattle.pure_terms.specs.Meaning.{literal_value, value, all_true, IsProper, IsOver}
-use Rattle.pure_terms.specs.Pure.{PureTerm, literal, variable, list_of, unary_of, binary_of, PureAtom, opening}
+use Rattle.pure_terms.specs.Meaning.{literal_value, value, all_true, IsOver}
+use Rattle.pure_terms.specs.Pure.{PureTerm, literal, variable, list_of, unary_of, binary_of}
 use Rattle.record_heap.specs.Table.{no_property}
-use Rattle.record_sym.specs.Places.{gone_at, at_key, other_place, other_key, listed, unlisted, tells_not, lacks, absent_there, absent_at, form_of_names, opened_there, opened_at}
-use Rattle.record_sym.specs.Table.{RecordBranches, cases, failure, gone_cases, absent_cases, missed_name, opened_names, missed_names, without_property}
-use Rattle.sym_conditions.specs.Alternatives.{Alternatives, Hold, always, both, any, all, same, other, with_form}
+use Rattle.record_sym.specs.Places.{gone_at, other_key, listed, unlisted, tells_not, lacks, absent_there, absent_at, form_of_names, opened_there, opened_at}
+use Rattle.record_sym.specs.Table.{failure, gone_cases, absent_cases, missed_name, opened_names, missed_names, without_property}
+use Rattle.sym_conditions.specs.Alternatives.{Alternatives, Hold, always, both, any, all, same, other}
 use Rattle.sym_conditions.proofs.Combined.{both_from, both_parts, all_from_from, all_from_parts, always_true}
-use Rattle.sym_model.specs.Chunks.{IsEntry, IsUnion, StandFor}
+use Rattle.sym_model.specs.Chunks.{IsUnion, StandFor}
 use Rattle.sym_model.specs.Lists.{Each, OneOf}
 use Rattle.sym_model.specs.Meaning.{location_of, name_of, sub_value, key_of}
 use Rattle.sym_model.specs.Pure.{PureSub, named, cell, shape, bound, dom, proto, gone, PureChunk}
 use Rattle.sym_model.specs.Terms.{is_list_term}
 use Rattle.sym_model.proofs.ChunkMeaning.{chunk_val}
-use Rattle.sym_model.proofs.ListLaws.{same_some, each_append, each_to, each_at, one_left, one_right, one_parts, one_map, one_to, one_with, one_at, one_flat, one_flattened}
+use Rattle.sym_model.proofs.ListLaws.{same_some, each_append, each_to, each_at, one_left, one_right, one_parts, one_with, one_at, one_flat, one_flattened}
 use Rattle.sym_model.proofs.Unions.{found_chunk, same_entry}
 use Rattle.record_sym.proofs.CaseLaws.{Exact, IsFor, IsTaken, exact_cases, open_cases, taken_case, form_open, form_holds, both_open, any_open, AreOpen}
-use Rattle.record_sym.proofs.Facts.{keys_equal, sub_is, Fact, AskedLocation, AskedName, key_number, gone_holds, holds_gone, shape_key, same_loc, loc_same, other_loc, loc_other, loc_or_not, loc_of, key_holds, holds_key, place_holds, holds_place, holds_other}
+use Rattle.record_sym.proofs.Facts.{keys_equal, sub_is, Fact, AskedLocation, AskedName, key_number, gone_holds, holds_gone, shape_key, same_loc, loc_same, other_loc, loc_other, loc_or_not, loc_of, place_holds, holds_place, holds_other}
 use Rattle.record_sym.proofs.NameLists.{listed_holds, holds_listed, unlisted_holds, holds_unlisted}
 
 none_from : {X : Type 0} (o : Option X) → ¬ IsSome o → o ≡ None

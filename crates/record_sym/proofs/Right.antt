@@ -1,31 +1,30 @@
 -- The branches of each action are right, wherever the action may be asked.
-use Rattle.std.proofs.Common.{◌≡◌, ⊎_elim, ℕ, List, [], ◌∷◌, ◌++◌, Bool, true, false, Option, Some, None, IsSome, IsTrue, is_some, slice_get, refl, sym, ap, subst, ◌∙◌, true≢false, inl}
-use Rattle.gil_values.specs.Pure.{PureValue, symbol}
-use Rattle.mem_model.specs.declared.keys.Sub.{Sub}
+use Rattle.std.proofs.Common.{◌≡◌, ℕ, List, true, Option, Some, None, refl, sym, ap, subst, true≢false, inl}
+use Rattle.gil_values.specs.Pure.{PureValue}
 use Rattle.mem_model.specs.declared.keys.MemoryName.TheVariants.{Record}
 use Rattle.mem_model.specs.Actions.{ActionResult, MayAct}
-use Rattle.mem_model.specs.Heaps.{Heap, HasKey, IsHeapOf}
+use Rattle.mem_model.specs.Heaps.{Heap, IsHeapOf}
 use Rattle.mem_model.specs.Keys.{key}
 use Rattle.mem_model.proofs.Joins.{value_at}
 use Rattle.pure_terms.specs.declared.variables.Sort.{Sort}
 use Rattle.pure_terms.specs.declared.variables.Var.{Var}
-use Rattle.pure_terms.specs.Meaning.{value, values, IsOver}
-use Rattle.pure_terms.specs.Pure.{PureTerm, variable}
+use Rattle.pure_terms.specs.Meaning.{IsOver}
+use Rattle.pure_terms.specs.Pure.{PureTerm}
 use Rattle.record_heap.specs.declared.actions.RecordAction.{RecordAction}
 use Rattle.record_heap.specs.Names.{action_of, takes_symbol_of}
 use Rattle.record_heap.specs.RecordLaws.{record_is_memory}
 use Rattle.record_heap.specs.Table.{act_of, record_actions}
 use Rattle.record_sym.specs.Laws.{AreRight, IsRightAction}
-use Rattle.record_sym.specs.Table.{RecordBranches, branches_of}
+use Rattle.record_sym.specs.Table.{branches_of}
 use Rattle.sym_model.specs.Chunks.{StandFor, terms_of}
 use Rattle.sym_model.specs.Laws.{MayBeAsked, Serves}
-use Rattle.sym_model.specs.Lists.{Each, OneOf}
-use Rattle.sym_model.specs.Meaning.{location_of, fresh_symbol, has_open, IsBranchFor}
+use Rattle.sym_model.specs.Lists.{Each}
+use Rattle.sym_model.specs.Meaning.{location_of, fresh_symbol}
 use Rattle.sym_model.specs.Pure.{PureChunk}
 use Rattle.sym_model.specs.Terms.{all_of}
 use Rattle.sym_model.proofs.Asking.{serving_may_act, fresh_value}
 use Rattle.sym_model.proofs.ChunkMeaning.{ChunkTerms, chunk_by_chunk, chunks_have_meaning}
-use Rattle.sym_model.proofs.ListLaws.{not_none, each_left, each_right}
+use Rattle.sym_model.proofs.ListLaws.{each_left, each_right}
 use Rattle.record_sym.proofs.CaseLaws.{Exact, covered}
 use Rattle.record_sym.proofs.LookupLaws.{IsRight, lookup_right, mutate_right}
 use Rattle.record_sym.proofs.DisposeRight.{dispose_right}

@@ -8,9 +8,9 @@ use Rattle.pure_terms.specs.declared.literals.Literal.{Literal}
 use Rattle.pure_terms.specs.declared.variables.Var.{Var}
 use Rattle.pure_terms.specs.Kinds.{known_kind}
 use Rattle.pure_terms.specs.Pure.{PureTerm, literal, variable, list_of, unary_of, binary_of, PureTerms, to_list, PureAtom, positive, negative, opening}
-use Rattle.record_sym.specs.Places.{gone_there, gone_at, key_there, at_key, other_place, key_elsewhere, other_key, listed, unlisted, tells_not, lacks, absent_there, absent_at, form_of_names, opened_there, opened_at, undescribed_there, undescribed_at}
+use Rattle.record_sym.specs.Places.{gone_there, gone_at, key_there, at_key, key_elsewhere, other_key, listed, unlisted, tells_not, lacks, absent_there, absent_at, form_of_names, opened_there, opened_at, undescribed_there, undescribed_at}
 use Rattle.record_heap.specs.declared.actions.RecordAction.{RecordAction}
-use Rattle.record_sym.specs.Table.{RecordBranches, cases, failure, null, true_term, asked_by, branches_of, PureTaking, taking, takings_from, next_takings, missing_name, disposed, dispose_names, dispose_there, dispose_from, dispose, found, lookup, changes_from, mutate, gone_cases, absent_cases, opened_names, missed_names, missed_name, without_property, wrong_number, property_or_fail, faulty, distinct_from, name_chunk, created, made_cases, make, act_new, act_lookup, act_mutate}
+use Rattle.record_sym.specs.Table.{RecordBranches, cases, failure, null, true_term, asked_by, branches_of, PureTaking, taking, takings_from, next_takings, missing_name, disposed, dispose_names, dispose_there, dispose_from, dispose, found, lookup, changes_from, mutate, gone_cases, absent_cases, opened_names, missed_names, missed_name, without_property, wrong_number, property_or_fail, faulty, distinct_from, name_chunk, created, made_cases, make}
 use Rattle.sym_conditions.specs.declared.comparing.Comparison.{Comparison}
 use Rattle.sym_conditions.specs.Alternatives.{Alternatives, never, always, given, both, any, all_from, all, equal, same, other, by_comparison, kind_is, by_kind, of_kind, not_of_kind, with_form}
 use Rattle.sym_conditions.specs.Comparing.{compared}

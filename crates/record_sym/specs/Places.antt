@@ -1,11 +1,10 @@
 -- The conditions under which a chunk of records is at a location or at a key, or tells of another one. l is the location that is
 -- asked for, p the name.
-use Rattle.std.specs.Prelude.{List, [], ◌∷◌, ◌++◌, if◌then◌else◌}
-use Rattle.pure_terms.specs.Pure.{PureTerm, literal, variable, list_of, unary_of, binary_of, to_list}
-use Rattle.sym_conditions.specs.declared.comparing.Comparison.{Comparison}
+use Rattle.std.specs.Prelude.{◌++◌}
+use Rattle.pure_terms.specs.Pure.{PureTerm, literal, list_of, to_list}
 use Rattle.sym_conditions.specs.Alternatives.{Alternatives, never, always, both, any, all, same, other, by_comparison, with_form}
 use Rattle.sym_conditions.specs.Comparing.{compared}
-use Rattle.sym_model.specs.Pure.{PureSub, named, cell, shape, bound, dom, proto, gone, PureChunk}
+use Rattle.sym_model.specs.Pure.{PureSub, named, shape, gone, PureChunk}
 
 -- the chunk says that l is gone
 abbrev pub gone_there : PureTerm → PureTerm → PureSub → Alternatives

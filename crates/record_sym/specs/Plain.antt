@@ -1,17 +1,18 @@
 -- Plain states of records, and the states themselves as symbolic states.
-use Rattle.std.specs.Prelude.{ℕ, ℤ, List, Option, Some, None, IsTrue, ⊤}
+use Rattle.std.specs.Prelude.{ℕ, ℤ, List, IsTrue, ⊤}
 use Rattle.gil_values.specs.Pure.{PureValue}
 use Rattle.mem_model.specs.declared.keys.MemoryName.TheVariants.{Record}
 use Rattle.mem_model.specs.Heaps.{Heap}
 use Rattle.pure_terms.specs.Pure.{PureTerm}
 use Rattle.record_heap.specs.Names.{action_of}
+use Rattle.record_sym.specs.Forms.{DependsOn}
 use Rattle.record_sym.specs.Table.{asked_by}
 use Rattle.record_sym.specs.View.{state_view}
 use Rattle.record_sym.specs.declared.states.RecordSym.{RecordSym}
 use Rattle.sym_model.specs.Chunks.{StandFor, terms_of}
 use Rattle.sym_model.specs.Laws.{IsPlainWithin}
 use Rattle.sym_model.specs.Lists.{Each}
-use Rattle.sym_model.specs.Pure.{PureSub, named, cell, shape, bound, dom, proto, gone, PureChunk}
+use Rattle.sym_model.specs.Pure.{PureSub, shape, PureChunk}
 use Rattle.sym_model.specs.Terms.{StateTerms, all_of, is_list_term}
 
 -- where a chunk lists names, it does so by a list term
@@ -37,3 +38,6 @@ record_plain s low high = ArePlainChunks (state_view s) low high
 
 abbrev pub record_asked : List ℕ → List PureTerm → List PureTerm
 record_asked action args = asked_by (action_of action) args
+
+abbrev pub record_depends : RecordSym → List ℕ → List PureTerm → List PureValue → Heap → PureTerm → Type 0
+record_depends s action args v h t = DependsOn (action_of action) (state_view s) args v h t

@@ -2,7 +2,6 @@
 use Rattle.mem_model.specs.declared.keys.MemoryName.TheVariants.{Record}
 use Rattle.record_sym.specs.Plain.{record_stands, record_terms}
 use Rattle.record_sym.specs.View.{state_view}
-use Rattle.sym_model.specs.Chunks.{StandFor, terms_of}
 use Rattle.sym_model.specs.Laws.{IsMeaning}
 use Rattle.sym_model.proofs.ChunkMeaning.{chunks_have_meaning}
 

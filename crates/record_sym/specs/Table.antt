@@ -1,17 +1,17 @@
 -- The branches of the actions of records. Each case has the conditions under which it comes, the chunks after it and its result.
-use Rattle.std.specs.Prelude.{ℕ, suc, ◌+◌, true, List, [], ◌∷◌, ◌++◌, map, Option, Some, None}
+use Rattle.std.specs.Prelude.{ℕ, ◌+◌, true, List, [], ◌∷◌, ◌++◌, map, Option, Some, None}
 use Rattle.std.specs.List.{flat_map, remove}
 use Rattle.gil_values.specs.declared.kinds.Kind.{Kind}
 use Rattle.mem_model.specs.declared.failures.Failure.{Failure}
 use Rattle.mem_model.specs.Tables.{failure_text}
 use Rattle.pure_terms.specs.declared.literals.Literal.{Literal}
 use Rattle.pure_terms.specs.declared.variables.Var.{Var}
-use Rattle.pure_terms.specs.Pure.{PureTerm, literal, variable, list_of, unary_of, binary_of, to_list}
+use Rattle.pure_terms.specs.Pure.{PureTerm, literal, variable, list_of, to_list}
 use Rattle.record_heap.specs.declared.actions.RecordAction.{RecordAction}
 use Rattle.record_sym.specs.Places.{gone_at, at_key, other_key, lacks, absent_at, opened_at, undescribed_at}
 use Rattle.sym_conditions.specs.Alternatives.{Alternatives, always, both, any, all, all_from, settled, same, other, of_kind, not_of_kind, with_form}
 use Rattle.sym_model.specs.Chunks.{with_held}
-use Rattle.sym_model.specs.Pure.{PureSub, named, cell, shape, bound, dom, proto, gone, PureChunk, PureResult, done, failed, missed, PureBranch}
+use Rattle.sym_model.specs.Pure.{PureSub, named, shape, gone, PureChunk, PureResult, done, failed, missed, PureBranch}
 
 abbrev pub RecordBranches : Type 0
 RecordBranches = List (PureBranch (List PureChunk))

@@ -14,16 +14,6 @@ use std::alloc::{AllocError, Global};
 use sym_conditions::{Alternatives, copy_conditions, settle};
 use sym_model::{Branch, Branches, SymFrag, SymResult};
 
-/// The result of an action that fails so.
-pub fn failed_with(alloc: Global, why: Failure) -> Result<SymResult, AllocError>
-    ensures { IfOk result (λ r. result_view r ≡ failure why) }
-{
-    match Text::from_str(alloc, why.as_str())? {
-        Some(text) => Ok(SymResult::Failed(Term::Lit(Literal::Str(text)))),
-        None => unreachable!(),
-    }
-}
-
 /// The branches, and one for each of these alternatives, with equal chunks and results.
 pub fn with_cases(
     alloc: Global,
@@ -63,6 +53,6 @@ pub fn with_failure(
     ensures { IfOk result (λ bs. record_branches_view bs ≡ record_branches_view branches ++ cases (alternatives_view when)
         (frag_view chunks.now) (failure why)) }
 {
-    let outcome = failed_with(alloc, why)?;
+    let outcome = SymResult::failed_with(alloc, why)?;
     with_cases(alloc, branches, when, chunks, &outcome)
 }

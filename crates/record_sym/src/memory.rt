@@ -10,7 +10,7 @@ use sym_model::{Branches, SymFrag, SymMemory};
 
 impl SymMemory for RecordSym {
     ghost use Rattle.std.specs.Prelude.{⊤};
-    ghost use Rattle.record_sym.specs.Plain.{record_stands, record_terms, record_plain, record_asked};
+    ghost use Rattle.record_sym.specs.Plain.{record_stands, record_terms, record_plain, record_asked, record_depends};
     ghost use Rattle.record_sym.specs.RecordMeaning.{record_meaning};
 
     type Local = RecordHeap;
@@ -20,6 +20,8 @@ impl SymMemory for RecordSym {
     ghost terms = { record_terms };
 
     ghost asked = { record_asked };
+
+    ghost depends = { record_depends };
 
     ghost plain = { record_plain };
 
@@ -53,3 +55,6 @@ impl SymMemory for RecordSym {
         branches(alloc, action, fresh, args, &self.chunks)
     }
 }
+
+#[cfg(test)]
+mod tests;

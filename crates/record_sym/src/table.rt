@@ -47,6 +47,3 @@ pub fn branches(
         None => unknown(alloc, chunks),
     }
 }
-
-#[cfg(test)]
-mod tests;

@@ -1,15 +1,15 @@
 -- Where a valuation serves, the concrete action may be asked.
-use Rattle.std.proofs.Common.{◌≡◌, ◌↔◌, ⊎_elim, inl, inr, ℕ, zero, suc, ◌<◌, List, [], ◌∷◌, ◌++◌, Bool, true, false, Option, Some, None, IsSome, IsTrue, is_some, slice_get, ltb, refl, sym, ap, subst, ◌∙◌, arith}
+use Rattle.std.proofs.Common.{◌≡◌, ⊎_elim, inl, inr, ℕ, zero, suc, ◌<◌, List, [], ◌∷◌, true, Option, Some, None, IsTrue, is_some, slice_get, ltb, refl, sym, ap, subst, ◌∙◌, arith}
 use Rattle.std.specs.List.{Contains, list_all}
 use Rattle.std.proofs.lemmas.Bool.{and_parts, ltb-true}
 use Rattle.std.proofs.lemmas.List.Elements.{Contains-append_cases}
 use Rattle.gil_values.specs.declared.kinds.Kind.{Kind}
-use Rattle.gil_values.specs.Pure.{PureValue, symbol, integer, boolean, text, kind, procedure, list, kind_of}
-use Rattle.gil_values.specs.Symbols.{OccursIn, OccursAmong, symbols, symbols_of_all}
-use Rattle.gil_values.proofs.OperatorSymbols.{none_contained, HoldsOfAll}
+use Rattle.gil_values.specs.Pure.{PureValue, symbol, kind_of}
+use Rattle.gil_values.specs.Symbols.{OccursAmong, symbols, symbols_of_all}
+use Rattle.gil_values.proofs.OperatorSymbols.{none_contained}
 use Rattle.mem_model.specs.declared.keys.MemoryName.{MemoryName}
 use Rattle.mem_model.specs.Actions.{Actions, MayAct}
-use Rattle.mem_model.specs.Heaps.{Heap, OccursInHeap}
+use Rattle.mem_model.specs.Heaps.{Heap}
 use Rattle.pure_terms.specs.declared.variables.Sort.{Sort}
 use Rattle.pure_terms.specs.declared.variables.Var.{Var}
 use Rattle.pure_terms.specs.Kinds.{kind_of_sort}
@@ -23,7 +23,7 @@ use Rattle.sym_model.specs.ChunkLaws.{ServingMayAct}
 use Rattle.sym_model.specs.Laws.{IsMeaning, MayBeAsked, Serves, ComesFrom}
 use Rattle.sym_model.specs.Lists.{Each, OneOf}
 use Rattle.sym_model.specs.Meaning.{location_of, fresh_symbol}
-use Rattle.sym_model.specs.Terms.{StateTerms, all_of, AreEachOver, IsFreshOver}
+use Rattle.sym_model.specs.Terms.{StateTerms, all_of}
 use Rattle.sym_model.proofs.ListLaws.{same_some, not_none, each_left, each_right, one_with}
 
 -- a variable of a term that names lower ones alone

@@ -1,11 +1,10 @@
 -- Lists of chunks of the code as lists of pure data.
-use Rattle.std.proofs.Common.{◌≡◌, ℕ, zero, suc, ◌<◌, List, [], ◌∷◌, map, set, get_or, length, refl, sym, ap, ◌∙◌, subst, arith}
+use Rattle.std.proofs.Common.{◌≡◌, ℕ, zero, suc, ◌<◌, List, [], ◌∷◌, map, set, get_or, length, refl, ap, arith}
 use Rattle.std.specs.List.{remove}
 use Rattle.pure_terms.specs.declared.terms.Term.{Term}
 use Rattle.pure_terms.specs.View.{term_view}
 use Rattle.sym_model.specs.declared.chunks.Chunk.{Chunk}
 use Rattle.sym_model.specs.Chunks.{with_held}
-use Rattle.sym_model.specs.Pure.{PureChunk}
 use Rattle.sym_model.specs.View.{chunk_view, chunks_view}
 
 pub map-remove : {X Y : Type 0} (f : X → Y) (xs : List X) (i : ℕ) → map f (remove xs i) ≡ remove (map f xs) i

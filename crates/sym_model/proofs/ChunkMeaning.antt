@@ -1,10 +1,8 @@
 -- Lists of chunks have a meaning.
-use Rattle.std.proofs.Common.{◌≡◌, ◌⊎◌, ⊎_elim, inl, inr, ℕ, zero, suc, List, [], ◌∷◌, ◌++◌, Option, Some, None, slice_get, refl, sym, ap, subst, ◌∙◌}
-use Rattle.std.specs.List.{Contains, flat_map}
+use Rattle.std.proofs.Common.{◌≡◌, ◌⊎◌, ⊎_elim, inl, inr, ℕ, List, [], ◌∷◌, ◌++◌, Option, Some, None, slice_get, refl, sym, ap, ◌∙◌}
 use Rattle.std.specs.FinMap.{remove}
-use Rattle.gil_values.specs.Pure.{PureValue, symbol, text, integer}
+use Rattle.gil_values.specs.Pure.{PureValue, symbol}
 use Rattle.gil_values.specs.Symbols.{OccursIn}
-use Rattle.gil_values.proofs.OperatorSymbols.{none_contained}
 use Rattle.std.proofs.lemmas.List.Elements.{Contains-push}
 use Rattle.mem_model.specs.declared.keys.Key.{Key}
 use Rattle.mem_model.specs.declared.keys.Sub.{Sub}

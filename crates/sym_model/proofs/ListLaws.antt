@@ -1,7 +1,7 @@
 -- What holds of each element of a list, or of one of them, as lists are joined, mapped and read by place.
-use Rattle.std.proofs.Common.{◌≡◌, ◌⊎◌, ⊎_elim, inl, inr, ℕ, zero, suc, List, [], ◌∷◌, ◌++◌, map, Option, Some, None, is_some, slice_get, refl, sym, ap, subst, ◌∙◌, true≢false}
+use Rattle.std.proofs.Common.{◌≡◌, ◌⊎◌, ⊎_elim, inl, inr, ℕ, zero, suc, List, [], ◌∷◌, ◌++◌, map, Some, None, is_some, slice_get, refl, sym, ap, subst, true≢false}
 use Rattle.std.specs.List.{flat_map}
-use Rattle.sym_model.specs.Lists.{Each, OneOf, IsAmong}
+use Rattle.sym_model.specs.Lists.{Each, OneOf}
 
 pub same_some : {X : Type 0} {x y : X} → Some x ≡ Some y → x ≡ y
 same_some e = cc

@@ -1,5 +1,5 @@
 -- What holds of every list of chunks, and of asking every symbolic memory.
-use Rattle.std.specs.Prelude.{◌≡◌, ℕ, ℤ, List, [], ◌∷◌, ◌++◌, slice_get, Option, Some}
+use Rattle.std.specs.Prelude.{◌≡◌, ℕ, List, [], ◌∷◌, ◌++◌, slice_get, Option, Some}
 use Rattle.std.specs.List.{remove as remove_at}
 use Rattle.std.specs.FinMap.{insert, remove}
 use Rattle.gil_values.specs.Pure.{PureValue}

@@ -1,5 +1,5 @@
 -- Lists of chunks: the heap that they stand for, and their terms.
-use Rattle.std.specs.Prelude.{◌≡◌, ℕ, zero, suc, List, [], ◌∷◌, ◌++◌, map, Option, Some}
+use Rattle.std.specs.Prelude.{◌≡◌, ℕ, zero, suc, List, [], ◌∷◌, Some}
 use Rattle.std.specs.List.{flat_map}
 use Rattle.std.specs.FinMap.{empty, remove}
 use Rattle.gil_values.specs.Pure.{PureValue}

@@ -1,6 +1,6 @@
 -- The laws of a symbolic memory, over its meaning: the relation `stands` of a state, a valuation and a heap. Symbolic memories
 -- with their soundness are those of Gillian, Part I (PLDI 2020).
-use Rattle.std.specs.Prelude.{◌≡◌, ◌⊎◌, ◌↔◌, ℕ, ◌<◌, ℤ, pos, ◌-ℤ◌, ◌+ℤ◌, ◌≤ℤ◌, List, ◌++◌, slice_get, Bool, false, Option, Some, None, IsSome, IsTrue, codes}
+use Rattle.std.specs.Prelude.{◌≡◌, ◌⊎◌, ◌↔◌, ℕ, ℤ, pos, ◌-ℤ◌, ◌+ℤ◌, ◌≤ℤ◌, List, ◌++◌, slice_get, false, Option, Some, IsSome, IsTrue, codes}
 use Rattle.std.specs.List.{Contains}
 use Rattle.std.specs.Str.{bytes_eq}
 use Rattle.gil_values.specs.Pure.{PureValue}

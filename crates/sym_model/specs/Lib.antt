@@ -1,5 +1,6 @@
 pub mod ChunkLaws
 pub mod Chunks
+pub mod Forms
 pub mod Laws
 pub mod Lists
 pub mod Meaning

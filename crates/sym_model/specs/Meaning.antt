@@ -1,5 +1,5 @@
 -- What symbolic keys, results and branches stand for under a valuation.
-use Rattle.std.specs.Prelude.{◌≡◌, ℕ, List, slice_get, Bool, true, false, Option, Some, None, IsTrue}
+use Rattle.std.specs.Prelude.{◌≡◌, ℕ, List, slice_get, Bool, true, false, Option, Some, None}
 use Rattle.std.specs.List.{list_any}
 use Rattle.gil_values.specs.Pure.{PureValue, symbol, text, integer}
 use Rattle.mem_model.specs.declared.keys.Key.{Key}
@@ -13,7 +13,7 @@ use Rattle.mem_model.specs.Actions.{ActionResult}
 use Rattle.pure_terms.specs.declared.variables.Var.{Var}
 use Rattle.pure_terms.specs.Meaning.{value}
 use Rattle.pure_terms.specs.Pure.{PureTerm, PureAtom, positive, negative, opening}
-use Rattle.sym_model.specs.Pure.{PureSub, named, cell, shape, bound, dom, proto, gone, PureKey, PureResult, done, failed, missed, PureBranch}
+use Rattle.sym_model.specs.Pure.{PureSub, named, cell, shape, bound, dom, proto, gone, PureResult, done, failed, missed, PureBranch}
 
 -- a location is a symbol, a name a text, an offset a number
 abbrev pub location_of : Option PureValue → Option ℕ

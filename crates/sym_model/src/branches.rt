@@ -1,9 +1,15 @@
 //! What an action on symbolic states may come to.
 ghost use Rattle.std.specs.Prelude.{◌≡◌, IfOk};
+ghost use Rattle.mem_model.specs.Tables.{failure_text};
+ghost use Rattle.pure_terms.specs.declared.literals.Literal.TheVariants.{Str};
+ghost use Rattle.pure_terms.specs.Pure.{literal};
+ghost use Rattle.sym_model.specs.Pure.{failed};
 ghost use Rattle.sym_model.specs.View.{result_view};
 
 use crate::keys::SymKey;
-use pure_terms::{Atoms, Term};
+use gil_values::Text;
+use mem_model::Failure;
+use pure_terms::{Atoms, Literal, Term};
 use sequence::Sequence;
 use std::alloc::{AllocError, Global};
 
@@ -16,6 +22,16 @@ pub enum SymResult {
 }
 
 impl SymResult {
+    /// That the action fails, with the text that names why.
+    pub fn failed_with(alloc: Global, why: Failure) -> Result<SymResult, AllocError>
+        ensures { IfOk result (λ r. result_view r ≡ failed (literal (Str (failure_text why)))) }
+    {
+        match Text::from_str(alloc, why.as_str())? {
+            Some(text) => Ok(SymResult::Failed(Term::Lit(Literal::Str(text)))),
+            None => unreachable!(),
+        }
+    }
+
     /// An equal result.
     pub fn copy(&self, alloc: Global) -> Result<SymResult, AllocError>
         ensures { IfOk result (λ r. result_view r ≡ result_view self.now) }

@@ -5,6 +5,7 @@ ghost use Rattle.gil_values.specs.Pure.{PureValue};
 ghost use Rattle.mem_model.specs.Heaps.{Heap};
 ghost use Rattle.pure_terms.specs.Pure.{PureTerm};
 ghost use Rattle.pure_terms.specs.View.{terms_view};
+ghost use Rattle.sym_model.specs.Forms.{OpenWhatMatters};
 ghost use Rattle.sym_model.specs.Terms.{StateTerms, no_state_terms};
 ghost use Rattle.sym_model.specs.Laws.{IsMeaning, IsCopy, MayBeAsked, ActLaw, ActsPlainly};
 ghost use Rattle.sym_model.specs.View.{branches_view};
@@ -28,6 +29,9 @@ pub trait SymMemory: Drop {
 
     /// The arguments that an action asks about, and not those that it only stores.
     ghost asked: { List ℕ → List PureTerm → List PureTerm };
+
+    /// What an action comes to depends on the literal form of a term, under a valuation that gives the state this heap.
+    ghost depends: { Self → List ℕ → List PureTerm → List PureValue → Heap → PureTerm → Type 0 };
 
     /// What the law of plain memories needs of a state, with the bounds of its literals.
     ghost plain: { Self → ℤ → ℤ → Type 0 };
@@ -60,6 +64,8 @@ pub trait SymMemory: Drop {
         requires { MayBeAsked Self.Local.actions action.now fresh (terms_view args.now) (terms self.now) }
         ensures laws { IfOk result (λ bs. ActLaw stands terms Self.Local.actions action.now fresh (terms_view args.now)
             (asked action.now (terms_view args.now)) self.now (branches_view bs)) }
+        ensures forms { IfOk result (λ bs. OpenWhatMatters stands terms depends action.now fresh (terms_view args.now) self.now
+            (branches_view bs)) }
         ensures plain { keeps_plain → IfOk result (λ bs. ActsPlainly plain action.now (terms_view args.now) self.now (branches_view bs)) };
 
     ghost meaning: { IsMeaning Self.Local.memory stands terms };

@@ -1,5 +1,4 @@
 use Rattle.std.proofs.Common.{◌≡◌, ◌++◌, take, map}
-use Rattle.pure_terms.specs.View.{atoms_view}
 use Rattle.record_sym.specs.View.{record_branches_view}
 use Rattle.sym_conditions.specs.Alternatives.{alternatives_view}
 use Rattle.sym_model.specs.View.{frag_view, result_view}

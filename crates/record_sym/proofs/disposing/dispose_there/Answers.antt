@@ -1,4 +1,4 @@
-use Rattle.std.proofs.Common.{◌≡◌, ◌++◌, refl, sym, ap, ◌∙◌}
+use Rattle.std.proofs.Common.{◌++◌, refl, sym, ap, ◌∙◌}
 use Rattle.std.specs.List.{remove}
 use Rattle.pure_terms.specs.View.{term_view, terms_view}
 use Rattle.record_sym.specs.Table.{taking, dispose_names, dispose_there}

@@ -1,10 +1,8 @@
-use Rattle.std.proofs.Common.{◌≡◌, ◌++◌, take, drop, map}
+use Rattle.std.proofs.Common.{◌≡◌, ◌++◌, take, map}
 use Rattle.std.specs.List.{flat_map}
 use Rattle.pure_terms.specs.View.{term_view}
-use Rattle.record_sym.specs.Table.{takings_from, next_takings, missing_name, disposed, dispose_names, dispose_from}
-use Rattle.record_sym.specs.View.{record_branches_view, taking_view, takings_view}
-use Rattle.sym_conditions.specs.Alternatives.{alternatives_view}
-use Rattle.sym_model.specs.View.{frag_view, chunk_view}
+use Rattle.record_sym.specs.Table.{disposed}
+use Rattle.record_sym.specs.View.{record_branches_view, taking_view}
 use Rattle.record_sym.proofs.disposing.with_all_disposed.Given as goal
 
 abbrev pub invariant-loop-taking : goal.invariant-loop-taking

@@ -1,8 +1,6 @@
 use Rattle.std.proofs.Common.{◌≡◌, take, map}
 use Rattle.pure_terms.specs.View.{term_view}
-use Rattle.record_sym.specs.Places.{gone_at, other_key, lacks, absent_at, opened_at, undescribed_at}
-use Rattle.sym_conditions.specs.Alternatives.{alternatives_view, any, all, all_from, same, other}
-use Rattle.sym_model.specs.View.{chunk_view}
+use Rattle.sym_conditions.specs.Alternatives.{alternatives_view, any, same}
 use Rattle.record_sym.proofs.folds.equal_to_one.Given as goal
 
 abbrev pub invariant-loop-term : goal.invariant-loop-term

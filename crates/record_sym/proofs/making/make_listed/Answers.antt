@@ -1,4 +1,4 @@
-use Rattle.std.proofs.Common.{◌≡◌, ◌++◌, sym, ap, ◌∙◌}
+use Rattle.std.proofs.Common.{◌++◌, ap, ◌∙◌}
 use Rattle.pure_terms.specs.Pure.{list_of, from_list}
 use Rattle.pure_terms.specs.View.{terms_view}
 use Rattle.record_sym.specs.Table.{made_cases}

@@ -1,7 +1,7 @@
-use Rattle.std.proofs.Common.{◌≡◌, sym, ap, ◌∙◌}
+use Rattle.std.proofs.Common.{sym, ap, ◌∙◌}
 use Rattle.pure_terms.specs.View.{term_view, terms_view}
 use Rattle.record_sym.specs.Places.{listed}
-use Rattle.sym_conditions.specs.Alternatives.{alternatives_view, any, same}
+use Rattle.sym_conditions.specs.Alternatives.{any, same}
 use Rattle.record_sym.proofs.Elements.{ok_to, of_elements, term_view-List}
 use Rattle.record_sym.proofs.places.listed.Goals as goal
 

@@ -1,7 +1,7 @@
-use Rattle.std.proofs.Common.{◌≡◌, sym, ap, ◌∙◌, map}
+use Rattle.std.proofs.Common.{sym, ap, ◌∙◌, map}
 use Rattle.pure_terms.specs.View.{term_view, terms_view}
 use Rattle.record_sym.specs.Places.{unlisted}
-use Rattle.sym_conditions.specs.Alternatives.{alternatives_view, all, all_from, other}
+use Rattle.sym_conditions.specs.Alternatives.{all, all_from, other}
 use Rattle.record_sym.proofs.Elements.{ok_to, of_elements, term_view-List}
 use Rattle.record_sym.proofs.places.unlisted.Goals as goal
 

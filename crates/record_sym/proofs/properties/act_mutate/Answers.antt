@@ -1,4 +1,4 @@
-use Rattle.std.proofs.Common.{◌≡◌, ap, ◌∙◌}
+use Rattle.std.proofs.Common.{ap, ◌∙◌}
 use Rattle.pure_terms.specs.View.{terms_view}
 use Rattle.record_sym.specs.Table.{act_mutate}
 use Rattle.sym_model.specs.View.{frag_view}

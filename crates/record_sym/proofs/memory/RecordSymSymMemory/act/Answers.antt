@@ -1,6 +1,6 @@
 use Rattle.pure_terms.specs.View.{terms_view}
 use Rattle.record_sym.proofs.Elements.{ok_to}
-use Rattle.record_sym.proofs.Instance.{act_law, acts_plainly}
+use Rattle.record_sym.proofs.Instance.{act_law, acts_plainly, opens}
 use Rattle.record_sym.proofs.memory.RecordSymSymMemory.act.Goals as goal
 
 pub returns-clause-laws : goal.returns-clause-laws
@@ -10,3 +10,7 @@ returns-clause-laws c =
 pub returns-clause-plain : goal.returns-clause-plain
 returns-clause-plain c =
     λ kept. ok_to c.branches.result _ _ (λ bs is. acts_plainly c.args.action.now c.args.fresh (terms_view c.args.args.now) c.args.self.now bs is c.requires) c.branches.ensures
+
+pub returns-clause-forms : goal.returns-clause-forms
+returns-clause-forms c =
+    ok_to c.branches.result _ _ (λ bs is. opens c.args.action.now c.args.fresh (terms_view c.args.args.now) c.args.self.now bs is c.requires) c.branches.ensures

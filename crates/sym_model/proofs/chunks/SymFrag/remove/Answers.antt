@@ -1,4 +1,4 @@
-use Rattle.std.proofs.Common.{◌≡◌, ap, ◌∙◌}
+use Rattle.std.proofs.Common.{ap, ◌∙◌}
 use Rattle.sym_model.specs.View.{chunk_view, chunks_view}
 use Rattle.sym_model.proofs.ChunkLists.{map-remove}
 use Rattle.sym_model.proofs.chunks.SymFrag.remove.Goals as goal

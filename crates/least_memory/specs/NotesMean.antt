@@ -1,0 +1,39 @@
+-- States with a note have a meaning.
+use Rattle.std.specs.Prelude.{ℕ, List, [], ◌∷◌, Option, Some, None}
+use Rattle.std.specs.FinMap.{empty}
+use Rattle.std.proofs.Common.{sym, subst, ◌∙◌}
+use Rattle.gil_values.specs.Pure.{PureValue}
+use Rattle.least_memory.specs.Notes.{HasValue, terms_of_note, note_of, noted_stands, noted_terms}
+use Rattle.mem_model.specs.declared.keys.MemoryName.TheVariants.{Record}
+use Rattle.mem_model.specs.Heaps.{IsHeapOf, OccursInHeap}
+use Rattle.mem_model.proofs.Joins.{has_key}
+use Rattle.mem_model.proofs.Parts.{no_key, empty_is_heap}
+use Rattle.pure_terms.specs.Laws.{AgreeOn}
+use Rattle.pure_terms.specs.Pure.{PureTerm, variables}
+use Rattle.pure_terms.proofs.VariableLaws.{depend_on_variables}
+use Rattle.sym_model.specs.Laws.{IsMeaning}
+use Rattle.sym_model.specs.Lists.{Each, IsAmong}
+use Rattle.sym_model.specs.Terms.{all_of}
+
+only : (P : PureTerm → Type 0) (t : PureTerm) → Each P (t ∷ []) → P t
+only P t each = each.0
+
+still_has : (v w : List PureValue) (note : Option PureTerm) → Each (λ t. AgreeOn (variables t) v w) (all_of (terms_of_note note)) → HasValue v note → HasValue w note
+still_has v w None agree has = tt
+still_has v w (Some t) agree (u, is) = (u, sym (depend_on_variables.values t v w (only (λ s. AgreeOn (variables s) v w) t agree)) ∙ is)
+
+no_offsets : (note : Option PureTerm) → Each (λ t. IsAmong t (terms_of_note note).placed) (terms_of_note note).offsets
+no_offsets None = tt
+no_offsets (Some t) = tt
+
+nothing_occurs : {X : Type 0} (n : ℕ) → OccursInHeap n empty → X
+nothing_occurs n (k, (w, (holds, occurs))) = absurd (no_key k (has_key empty k w holds))
+
+pub notes_mean : IsMeaning Record noted_stands noted_terms
+notes_mean = record {
+  local = λ s v w h agree stands. (stands.0, still_has v w (note_of s) agree stands.1);
+  one_heap = λ s v g h first second. first.0 ∙ sym second.0;
+  of_memory = λ s v h stands. subst (IsHeapOf Record) (sym stands.0) (empty_is_heap Record);
+  symbols = λ s v h n stands occurs. nothing_occurs n (subst (OccursInHeap n) stands.0 occurs);
+  offsets_placed = λ s. no_offsets (note_of s);
+}
