@@ -8,6 +8,7 @@ pub mod OperatorLaws
 pub mod Placed
 pub mod Replacing
 pub mod SideLaws
+pub mod SideOrigins
 pub mod Sizes
 pub mod Stages
 pub mod Views

@@ -33,7 +33,11 @@ use std::alloc::{AllocError, Global};
 
 /// The cases of an expression over a store of terms: the faults that its evaluation may come to, each with its conditions, and the
 /// term of its value with the conditions under which there is one. Operands are evaluated from left to right.
-pub fn evaluate(alloc: Global, store: &SymStore, expression: &Expr) -> Result<Cases<Term>, AllocError>
+pub fn evaluate(
+    alloc: Global,
+    store: &SymStore,
+    expression: &Expr,
+) -> Result<Cases<Term>, AllocError>
     requires { IsTrue (list_all is_spellable (literals_of (expr_view expression.now))) }
     ensures cases { IfOk result (λ c. AreCasesOf (store_view store.now) (expr_view expression.now) (cases_view c)) }
     ensures origin { IfOk result (λ c. ComesFrom (store_view store.now) (expr_view expression.now) (cases_view c)) }
@@ -132,10 +136,12 @@ fn evaluate_all_after(
         } = evaluate_after(alloc, store, faults, conds, expression)?;
         faults = so_far;
         match good {
-            Some(GoodCase {
-                conds: more,
-                result,
-            }) => {
+            Some(
+                GoodCase {
+                    conds: more,
+                    result,
+                },
+            ) => {
                 conds = more;
                 terms.push(result)?;
             }
