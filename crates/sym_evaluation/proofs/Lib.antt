@@ -1,10 +1,14 @@
 pub mod CheckLaws
 pub mod EvaluationLaws
 pub mod Found
+pub mod FromLaws
 pub mod Listing
+pub mod NameLaws
 pub mod OperatorLaws
 pub mod Placed
+pub mod Replacing
 pub mod SideLaws
+pub mod SideOrigins
 pub mod Sizes
 pub mod Stages
 pub mod Views

@@ -1,18 +1,22 @@
 -- Where the terms and conditions of an evaluation come from: what may be asked of the operands of an expression.
-use Rattle.std.specs.Prelude.{◌≡◌, ◌⊎◌, ℕ, pos, List, [], ◌∷◌, Option, Some, None}
+use Rattle.std.specs.Prelude.{◌≡◌, ◌⊎◌, ℕ, pos, List, [], ◌∷◌, ◌++◌, Bool, Option, Some, None}
 use Rattle.std.specs.Option.{option_map, option_and_then}
 use Rattle.gil_values.specs.declared.kinds.Kind.{Kind}
+use Rattle.gil_values.specs.declared.operators.UnOp.{UnOp}
 use Rattle.gil_values.specs.declared.operators.BinOp.{BinOp}
 use Rattle.gil_syntax.specs.Pure.{PureExpr, literal as value_literal, name, logical, list_of as list_expr, unary_of as unary_expr, binary_of as binary_expr, PureExprs, no_exprs, expr_and}
 use Rattle.gil_syntax.specs.Subexpressions.{subexpressions}
 use Rattle.pure_terms.specs.declared.variables.Sort.{Sort}
+use Rattle.pure_terms.specs.declared.variables.Var.{Var}
 use Rattle.pure_terms.specs.Kinds.{known_kind}
 use Rattle.pure_terms.specs.Meaning.{IsOver}
-use Rattle.pure_terms.specs.Pure.{PureTerm, list_of, unary_of, binary_of, from_list, PureAtom, positive, negative, opening, term_of}
+use Rattle.pure_terms.specs.Pure.{PureTerm, literal, variable, list_of, unary_of, binary_of, from_list, PureAtom, positive, negative, opening, term_of}
 use Rattle.pure_terms.specs.Rewriting.{Replaces}
 use Rattle.sym_evaluation.specs.Checks.{is_of_kind, are_of_one_kind, is_zero, is_negative, length_of, is_below}
 use Rattle.sym_evaluation.specs.Evaluating.{spelled, literal_term}
-use Rattle.sym_evaluation.specs.Pure.{PureStore, term_at, PureFaultCase, PureGoodCase, PureCases}
+use Rattle.sym_evaluation.specs.Meaning.{IsStoreOver}
+use Rattle.sym_evaluation.specs.Pure.{PureStore, term_at, PureFaultCase, PureGoodCase, PureCases, PureSides}
+use Rattle.sym_evaluation.specs.Sides.{is_boolean}
 use Rattle.sym_model.specs.Lists.{Each, OneOf}
 
 -- the expression with each name replaced by its term
@@ -96,7 +100,52 @@ EachCondition P cases = Each (λ c. Each P c.conds) cases.faults × OnConditions
 abbrev pub ComesFrom : PureStore → PureExpr → PureCases PureTerm → Type 0
 ComesFrom bs e cases = EachCondition (IsAsked bs e) cases × OnResult (IsFrom bs e) cases.good
 
+abbrev pub AreEachFrom : PureStore → List PureExpr → List PureTerm → Type 0
+AreEachFrom bs [] [] = Unit {0}
+AreEachFrom bs (e ∷ es) (t ∷ ts) = IsFrom bs e t × AreEachFrom bs es ts
+AreEachFrom bs _ _ = ⊥
+
+-- the same of a list of expressions
+abbrev pub AllComeFrom : PureStore → List PureExpr → PureCases (List PureTerm) → Type 0
+AllComeFrom bs es cases = EachCondition (λ a. OneOf (λ e. IsAsked bs e a) es) cases × OnResult (AreEachFrom bs es) cases.good
+
 -- conditions and result name only variables of the table, where the store does
-abbrev pub NameNoOthers : PureStore → PureCases PureTerm → Type 0
-NameNoOthers bs cases =
-    (vars : List Sort) → Each (λ b. IsOver vars b.term) bs → EachCondition (λ a. IsOver vars (term_of a)) cases × OnResult (IsOver vars) cases.good
+abbrev pub NameNoOthers : {X : Type 0} → (List Sort → X → Type 0) → PureStore → PureCases X → Type 0
+NameNoOthers Over bs cases =
+    (vars : List Sort) → IsStoreOver vars bs → EachCondition (λ a. IsOver vars (term_of a)) cases × OnResult (Over vars) cases.good
+
+abbrev pub AreEachOver : List Sort → List PureTerm → Type 0
+AreEachOver vars ts = Each (IsOver vars) ts
+
+-- ---- guards
+
+-- a term, and its parts under `not`, `and` and `or`
+abbrev pub boolean_parts : PureTerm → List PureTerm
+boolean_parts (literal l) = literal l ∷ []
+boolean_parts (variable x) = variable x ∷ []
+boolean_parts (list_of ts) = list_of ts ∷ []
+boolean_parts (unary_of UnOp.Not t) = unary_of UnOp.Not t ∷ boolean_parts t
+boolean_parts (unary_of op t) = unary_of op t ∷ []
+boolean_parts (binary_of BinOp.And s t) = binary_of BinOp.And s t ∷ (boolean_parts s ++ boolean_parts t)
+boolean_parts (binary_of BinOp.Or s t) = binary_of BinOp.Or s t ∷ (boolean_parts s ++ boolean_parts t)
+boolean_parts (binary_of op s t) = binary_of op s t ∷ []
+
+-- the atom says that a variable of sort any is true or false, by comparing it with the literal
+abbrev pub IsCompared : PureTerm → PureAtom → Type 0
+IsCompared u a = (x : Var) × ((b : Bool) × ((u ≡ variable x) × (x.sort ≡ Sort.Any) × (a ≡ positive (is_boolean u b))))
+
+-- The condition says that the guard or a part of it is true or false, or asks whether the guard is a boolean where its kind is open.
+abbrev pub IsGuardCondition : PureTerm → PureAtom → Type 0
+IsGuardCondition t a =
+    OneOf (λ u. IsAbout u a ⊎ IsCompared u a) (boolean_parts t) ⊎ ((known_kind t ≡ None) × IsAbout (is_of_kind t Kind.Bool) a)
+
+abbrev pub OnSide : (PureAtom → Type 0) → Option (List PureAtom) → Type 0
+OnSide P None = Unit {0}
+OnSide P (Some conds) = Each P conds
+
+-- what holds of each condition of a side
+abbrev pub EachSide : (PureAtom → Type 0) → PureSides → Type 0
+EachSide P sides = OnSide P sides.when_true × OnSide P sides.when_false × OnSide P sides.when_no_boolean
+
+abbrev pub SidesComeFrom : PureTerm → PureSides → Type 0
+SidesComeFrom t sides = EachSide (IsGuardCondition t) sides

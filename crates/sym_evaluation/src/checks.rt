@@ -236,7 +236,10 @@ fn below_check(alloc: Global, place: &Term, length: Term) -> Result<Check, Alloc
 {
     match (place, &length) {
         (Term::Lit(Literal::Int(i)), Term::Lit(Literal::Int(n))) => Ok(decided(*i < *n)),
-        _ => needs(alloc, binary_term(alloc, BinOp::Less, place.copy(alloc)?, length)?),
+        _ => needs(
+            alloc,
+            binary_term(alloc, BinOp::Less, place.copy(alloc)?, length)?,
+        ),
     }
 }
 

@@ -15,7 +15,9 @@ ghost use Rattle.sym_evaluation.specs.Checks.{unary_required, binary_required};
 ghost use Rattle.sym_evaluation.specs.CheckView.{stage_view};
 ghost use Rattle.sym_evaluation.specs.Evaluating.{spelled, literal_term, given_or, result_given, sure_fault, finished, followed, at_stage, cases_after, all_cases_after};
 ghost use Rattle.sym_evaluation.specs.Meaning.{AreCasesOf, AreCasesOfAll};
+ghost use Rattle.pure_terms.specs.Meaning.{IsOver};
 ghost use Rattle.sym_evaluation.specs.Pure.{term_at};
+ghost use Rattle.sym_evaluation.specs.Questions.{ComesFrom, AllComeFrom, NameNoOthers, AreEachOver};
 ghost use Rattle.sym_evaluation.specs.View.{store_view, fault_view, faults_view, cases_view, all_cases_view};
 
 use crate::cases::{Cases, FaultCase, FaultCases, GoodCase};
@@ -31,9 +33,15 @@ use std::alloc::{AllocError, Global};
 
 /// The cases of an expression over a store of terms: the faults that its evaluation may come to, each with its conditions, and the
 /// term of its value with the conditions under which there is one. Operands are evaluated from left to right.
-pub fn evaluate(alloc: Global, store: &SymStore, expression: &Expr) -> Result<Cases<Term>, AllocError>
+pub fn evaluate(
+    alloc: Global,
+    store: &SymStore,
+    expression: &Expr,
+) -> Result<Cases<Term>, AllocError>
     requires { IsTrue (list_all is_spellable (literals_of (expr_view expression.now))) }
     ensures cases { IfOk result (λ c. AreCasesOf (store_view store.now) (expr_view expression.now) (cases_view c)) }
+    ensures origin { IfOk result (λ c. ComesFrom (store_view store.now) (expr_view expression.now) (cases_view c)) }
+    ensures names { IfOk result (λ c. NameNoOthers IsOver (store_view store.now) (cases_view c)) }
 {
     folding_replaces();
     evaluate_after(
@@ -53,6 +61,8 @@ pub fn evaluate_all(
 ) -> Result<Cases<Terms>, AllocError>
     requires { IsTrue (list_all (λ e. list_all is_spellable (literals_of e)) (exprs_view expressions.now)) }
     ensures cases { IfOk result (λ c. AreCasesOfAll (store_view store.now) (exprs_view expressions.now) (all_cases_view c)) }
+    ensures origin { IfOk result (λ c. AllComeFrom (store_view store.now) (exprs_view expressions.now) (all_cases_view c)) }
+    ensures names { IfOk result (λ c. NameNoOthers AreEachOver (store_view store.now) (all_cases_view c)) }
 {
     folding_replaces();
     evaluate_all_after(
@@ -126,10 +136,12 @@ fn evaluate_all_after(
         } = evaluate_after(alloc, store, faults, conds, expression)?;
         faults = so_far;
         match good {
-            Some(GoodCase {
-                conds: more,
-                result,
-            }) => {
+            Some(
+                GoodCase {
+                    conds: more,
+                    result,
+                },
+            ) => {
                 conds = more;
                 terms.push(result)?;
             }

@@ -5,6 +5,7 @@ ghost use Rattle.gil_values.specs.declared.operators.BinOp.{BinOp};
 ghost use Rattle.gil_values.specs.declared.operators.UnOp.{UnOp};
 ghost use Rattle.pure_terms.specs.View.{term_view, atoms_view};
 ghost use Rattle.sym_evaluation.specs.Meaning.{AreSidesOf};
+ghost use Rattle.sym_evaluation.specs.Questions.{SidesComeFrom};
 ghost use Rattle.sym_evaluation.specs.Sides as sides;
 ghost use Rattle.sym_evaluation.specs.View.{sides_view};
 
@@ -26,6 +27,7 @@ pub struct Sides {
 /// The sides of a guard whose term has a value.
 pub fn guard_sides(alloc: Global, term: &Term) -> Result<Sides, AllocError>
     ensures sides { IfOk result (λ s. AreSidesOf (term_view term.now) (sides_view s)) }
+    ensures origin { IfOk result (λ s. SidesComeFrom (term_view term.now) (sides_view s)) }
 {
     sides_of(alloc, term)
 }
@@ -89,12 +91,7 @@ fn both_sides(alloc: Global, term: &Term, otherwise: Option<Atoms>) -> Result<Si
 
 /// Adds the conditions under which a term is true, or false. A conjunction that is true is split, and so is a disjunction that is
 /// false.
-fn add_conditions(
-    alloc: Global,
-    conds: Atoms,
-    side: bool,
-    term: &Term,
-) -> Result<Atoms, AllocError>
+fn add_conditions(alloc: Global, conds: Atoms, side: bool, term: &Term) -> Result<Atoms, AllocError>
     ensures { IfOk result (λ all. atoms_view all ≡ atoms_view conds ++ sides.conditions_of side (term_view term.now)) }
 {
     match term {
@@ -133,12 +130,7 @@ fn add_said(conds: Atoms, side: bool, term: Term) -> Result<Atoms, AllocError>
 }
 
 /// Adds that a variable is true, or false. One of sort any is compared, since it is no atom of the fragment by itself.
-fn add_variable(
-    alloc: Global,
-    conds: Atoms,
-    side: bool,
-    variable: Var,
-) -> Result<Atoms, AllocError>
+fn add_variable(alloc: Global, conds: Atoms, side: bool, variable: Var) -> Result<Atoms, AllocError>
     ensures { IfOk result (λ all. atoms_view all ≡ atoms_view conds ++ sides.variable_said side variable variable.sort) }
 {
     if variable.sort == Sort::Any {

@@ -6,7 +6,9 @@ ghost use Rattle.pure_terms.specs.View.{term_view};
 ghost use Rattle.sym_evaluation.specs.Checks as checks;
 ghost use Rattle.sym_evaluation.specs.CheckView.{stage_view};
 
-use crate::checks::{append_check, divisor_check, end_check, kind_check, length_check, start_check};
+use crate::checks::{
+    append_check, divisor_check, end_check, kind_check, length_check, start_check,
+};
 use crate::faults::Fault;
 use crate::requiring::{Stage, require};
 use gil_values::{BinOp, Kind, UnOp};
@@ -98,11 +100,8 @@ pub fn require_operands(
         (λ s. stage_view s ≡ checks.binary_required op (term_view left.now) (term_view right.now) (stage_view stage)) }
 {
     match op {
-        BinOp::Add
-        | BinOp::Subtract
-        | BinOp::Multiply
-        | BinOp::Less
-        | BinOp::LessOrEqual => require_kinds(alloc, Kind::Int, Kind::Int, left, right, stage),
+        BinOp::Add | BinOp::Subtract | BinOp::Multiply | BinOp::Less | BinOp::LessOrEqual =>
+            require_kinds(alloc, Kind::Int, Kind::Int, left, right, stage),
         BinOp::Divide | BinOp::Remainder => require_divisible(alloc, left, right, stage),
         BinOp::Equal => Ok(stage),
         BinOp::And | BinOp::Or => {

@@ -70,12 +70,7 @@ fn ask(
 }
 
 /// Requires that a check passes; where it doesn't, there is the fault.
-pub fn require(
-    alloc: Global,
-    fault: Fault,
-    check: Check,
-    stage: Stage,
-) -> Result<Stage, AllocError>
+pub fn require(alloc: Global, fault: Fault, check: Check, stage: Stage) -> Result<Stage, AllocError>
     ensures { IfOk result (λ s. stage_view s ≡ checks.required (fault_view fault) (check_view check) (stage_view stage)) }
 {
     let Stage { mut faults, conds } = stage;

@@ -1,0 +1,139 @@
+-- Conditions and results name only variables of the store.
+use Rattle.std.proofs.Common.{◌≡◌, ◌⊎◌, ⊎_elim, inl, inr, ℕ, List, [], ◌∷◌, ◌++◌, Bool, true, false, if◌then◌else◌, Option, Some, None, refl, sym, ap, subst, ◌∙◌}
+use Rattle.std.specs.List.{Contains}
+use Rattle.std.specs.Option.{option_and_then, option_map}
+use Rattle.std.specs.Str.{bytes_eq}
+use Rattle.std.proofs.lemmas.List.Elements.{Contains-append_cases}
+use Rattle.gil_values.proofs.OperatorSymbols.{none_contained}
+use Rattle.gil_values.specs.declared.operators.BinOp.{BinOp}
+use Rattle.gil_syntax.specs.Pure.{PureExpr, literal as value_literal, name, logical, list_of as list_expr, unary_of as unary_expr, binary_of as binary_expr, PureExprs, no_exprs, expr_and, from_list as exprs_from}
+use Rattle.gil_syntax.specs.Subexpressions.{subexpressions, subexpressions_of_all}
+use Rattle.pure_terms.specs.declared.literals.Literal.{Literal}
+use Rattle.pure_terms.specs.declared.variables.Sort.{Sort}
+use Rattle.pure_terms.specs.declared.variables.Var.{Var}
+use Rattle.pure_terms.specs.Laws.{FoldingReplaces}
+use Rattle.pure_terms.specs.Meaning.{IsOver, AreVariablesOf}
+use Rattle.pure_terms.specs.Pure.{PureTerm, literal, variable, list_of, unary_of, binary_of, from_list, PureAtom, positive, negative, opening, term_of, variables, variables_of_all}
+use Rattle.pure_terms.proofs.KindLaws.{over_left, over_right}
+use Rattle.sym_model.specs.Lists.{Each, OneOf}
+use Rattle.sym_model.proofs.ListLaws.{same_some, not_none}
+use Rattle.sym_evaluation.specs.Checks.{is_of_kind, are_of_one_kind, is_zero, is_negative, length_of, is_below}
+use Rattle.sym_evaluation.specs.Evaluating.{spelled, literal_term, cases_after, all_cases_after}
+use Rattle.sym_evaluation.specs.Meaning.{IsStoreOver}
+use Rattle.sym_evaluation.specs.Pure.{PureStore, term_at, PureGoodCase, PureCases}
+use Rattle.sym_evaluation.specs.Questions.{substituted, all_substituted, IsFrom, IsAbout, AsksKind, AsksOneKind, AsksZero, AsksPlace, AsksTwo, IsAskedOf, IsAsked, OnResult, NameNoOthers, AreEachOver}
+use Rattle.sym_evaluation.proofs.Replacing.{some_of, some_mapped}
+use Rattle.sym_evaluation.proofs.FromLaws.{on_result, from_after, all_from_after}
+use Rattle.sym_evaluation.proofs.EvaluationLaws.{over_after, all_over_after}
+
+module _ (vars : List Sort) where
+  joined_over : (xs ys : List Var) → AreVariablesOf vars xs → AreVariablesOf vars ys → AreVariablesOf vars (xs ++ ys)
+  joined_over xs ys first second x has = ⊎_elim (first x) (second x) (Contains-append_cases xs ys x has)
+
+  no_variables : AreVariablesOf vars []
+  no_variables x has = absurd (none_contained x has)
+
+  module _ (bs : PureStore) (over : IsStoreOver vars bs) where
+    found_by : (test : Bool) (t u : PureTerm) (o : Option PureTerm) → IsOver vars t → ((w : PureTerm) → o ≡ Some w → IsOver vars w) → (if test then Some t else o) ≡ Some u → IsOver vars u
+    found_by true t u o first later is = subst (IsOver vars) (same_some is) first
+    found_by false t u o first later is = later u is
+
+    found_over : (cs : PureStore) → IsStoreOver vars cs → (x : List ℕ) (u : PureTerm) → term_at cs x ≡ Some u → IsOver vars u
+    found_over [] all x u is = not_none is
+    found_over (c ∷ cs) all x u is = found_by (bytes_eq c.name x) c.term u (term_at cs x) all.0 (found_over cs all.1 x) is
+
+    literal_over : (o : Option Literal) (u : PureTerm) → literal_term o ≡ Some u → IsOver vars u
+    literal_over (Some l) u is = subst (IsOver vars) (same_some is) no_variables
+    literal_over None u is = not_none is
+
+    mutual
+      substituted_over : (e : PureExpr) (u : PureTerm) → substituted bs e ≡ Some u → IsOver vars u
+      substituted_over (value_literal v) u is = literal_over (spelled v) u is
+      substituted_over (name x) u is = found_over bs over x u is
+      substituted_over (logical x) u is = found_over bs over x u is
+      substituted_over (list_expr es) u is =
+          let (ts, (inner, whole)) = some_mapped (λ ts. list_of (from_list ts)) (all_substituted bs es) u is in
+          subst (IsOver vars) whole (all_substituted_over es ts inner)
+      substituted_over (unary_expr op e) u is =
+          let (t, (inner, whole)) = some_mapped (unary_of op) (substituted bs e) u is in
+          subst (IsOver vars) whole (substituted_over e t inner)
+      substituted_over (binary_expr op d e) u is =
+          let (s, (first, rest)) = some_of (λ s. option_map (binary_of op s) (substituted bs e)) (substituted bs d) u is in
+          let (t, (second, whole)) = some_mapped (binary_of op s) (substituted bs e) u rest in
+          subst (IsOver vars) whole (joined_over (variables s) (variables t) (substituted_over d s first) (substituted_over e t second))
+
+      all_substituted_over : (es : PureExprs) (ts : List PureTerm) → all_substituted bs es ≡ Some ts → AreVariablesOf vars (variables_of_all (from_list ts))
+      all_substituted_over no_exprs ts is = subst (λ xs. AreVariablesOf vars (variables_of_all (from_list xs))) (same_some is) no_variables
+      all_substituted_over (expr_and e es) ts is =
+          let (t, (first, rest)) = some_of (λ t. option_map (λ us. t ∷ us) (all_substituted bs es)) (substituted bs e) ts is in
+          let (us, (second, whole)) = some_mapped (λ us. t ∷ us) (all_substituted bs es) ts rest in
+          subst (λ xs. AreVariablesOf vars (variables_of_all (from_list xs))) whole (joined_over (variables t) (variables_of_all (from_list us)) (substituted_over e t first) (all_substituted_over es us second))
+
+    from_over : (e : PureExpr) (t : PureTerm) → IsFrom bs e t → IsOver vars t
+    from_over e t (u, (is, replaces)) x has = substituted_over e u is x (replaces.no_more_names x has)
+
+    about_over : (u : PureTerm) (a : PureAtom) → IsAbout u a → IsOver vars u → IsOver vars (term_of a)
+    about_over u (positive t) about over_u = subst (IsOver vars) (sym about) over_u
+    about_over u (negative t) about over_u = subst (IsOver vars) (sym about) over_u
+    about_over u (opening t) about over_u = absurd about
+
+    with_literal : (t : PureTerm) → IsOver vars t → AreVariablesOf vars (variables t ++ [])
+    with_literal t over_t = joined_over (variables t) [] over_t no_variables
+
+    kind_over : (e : PureExpr) (a : PureAtom) → AsksKind bs e a → IsOver vars (term_of a)
+    kind_over e a (t, (k, (from, known, about))) = about_over (is_of_kind t k) a about (with_literal t (from_over e t from))
+
+    length_over : (s : PureTerm) → IsOver vars s → IsOver vars (length_of s)
+    length_over (list_of ts) over_s = no_variables
+    length_over (literal l) over_s = over_s
+    length_over (variable x) over_s = over_s
+    length_over (unary_of op t) over_s = over_s
+    length_over (binary_of op s t) over_s = over_s
+
+    zero_over : (e : PureExpr) (a : PureAtom) → AsksZero bs e a → IsOver vars (term_of a)
+    zero_over e a (t, (from, about)) = about_over (is_zero t) a about (with_literal t (from_over e t from))
+
+    place_over : (d e : PureExpr) (a : PureAtom) → AsksPlace bs d e a → IsOver vars (term_of a)
+    place_over d e a (s, (t, (first, second, inl about))) = about_over (is_negative t) a about (with_literal t (from_over e t second))
+    place_over d e a (s, (t, (first, second, inr about))) = about_over (is_below t (length_of s)) a about (joined_over (variables t) (variables (length_of s)) (from_over e t second) (length_over s (from_over d s first)))
+
+    two_over : (op : BinOp) (d e : PureExpr) (a : PureAtom) → AsksTwo bs op d e a → IsOver vars (term_of a)
+    two_over BinOp.Append d e a (s, (t, (first, second, known_s, known_t, about))) = about_over (are_of_one_kind s t) a about (joined_over (variables s) (variables t) (from_over d s first) (from_over e t second))
+    two_over BinOp.Divide d e a asks = zero_over e a asks
+    two_over BinOp.Remainder d e a asks = zero_over e a asks
+    two_over BinOp.Nth d e a asks = place_over d e a asks
+    two_over BinOp.Add d e a asks = absurd asks
+    two_over BinOp.Subtract d e a asks = absurd asks
+    two_over BinOp.Multiply d e a asks = absurd asks
+    two_over BinOp.Equal d e a asks = absurd asks
+    two_over BinOp.Less d e a asks = absurd asks
+    two_over BinOp.LessOrEqual d e a asks = absurd asks
+    two_over BinOp.And d e a asks = absurd asks
+    two_over BinOp.Or d e a asks = absurd asks
+
+    asked_of_over : (e : PureExpr) (a : PureAtom) → IsAskedOf bs a e → IsOver vars (term_of a)
+    asked_of_over (unary_expr op e) a asked = kind_over e a asked
+    asked_of_over (binary_expr op d e) a asked = ⊎_elim (kind_over d a) (λ rest. ⊎_elim (kind_over e a) (two_over op d e a) rest) asked
+    asked_of_over (value_literal v) a asked = absurd asked
+    asked_of_over (name x) a asked = absurd asked
+    asked_of_over (logical x) a asked = absurd asked
+    asked_of_over (list_expr es) a asked = absurd asked
+
+    asked_over : (es : List PureExpr) (a : PureAtom) → OneOf (IsAskedOf bs a) es → IsOver vars (term_of a)
+    asked_over [] a one = absurd one
+    asked_over (e ∷ es) a one = ⊎_elim (asked_of_over e a) (asked_over es a) one
+
+  each_over : (ts : List PureTerm) → IsOver vars (list_of (from_list ts)) → AreEachOver vars ts
+  each_over [] over = tt
+  each_over (t ∷ ts) over = (over_left vars (variables t) (variables_of_all (from_list ts)) over, each_over ts (over_right vars (variables t) (variables_of_all (from_list ts)) over))
+
+pub names_no_others : (folding : FoldingReplaces) (bs : PureStore) (e : PureExpr) → NameNoOthers IsOver bs (cases_after bs [] [] e)
+names_no_others folding bs e vars over =
+    let found = from_after (λ a. IsOver vars (term_of a)) folding bs e [] [] (λ a one. asked_over vars bs over (subexpressions e) a one) tt tt in
+    (found.0, on_result (cases_after bs [] [] e).good (λ t from. from_over vars bs over e t from) found.1)
+
+pub all_name_no_others : (folding : FoldingReplaces) (bs : PureStore) (es : List PureExpr) → NameNoOthers AreEachOver bs (all_cases_after bs [] [] (exprs_from es))
+all_name_no_others folding bs es vars over =
+    let cases = all_cases_after bs [] [] (exprs_from es) in
+    let found = all_from_after (λ a. IsOver vars (term_of a)) folding bs (exprs_from es) [] [] (λ a one. asked_over vars bs over (subexpressions_of_all (exprs_from es)) a one) tt tt in
+    (found.0, on_result cases.good (λ ts. each_over vars ts) (all_over_after folding vars bs over [] [] (exprs_from es)))
