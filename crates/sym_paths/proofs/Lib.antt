@@ -1,0 +1,4 @@
+pub mod Binding
+pub mod Growing
+pub mod Starting
+pub mod Valuations

@@ -1,0 +1,5 @@
+pub mod Laws
+pub mod Meaning
+pub mod Pure
+pub mod Steps
+pub mod View
