@@ -16,7 +16,7 @@ same_by : (v : List PureValue) (b : Bool) (t : PureTerm) (w : PureValue) (o : Op
 same_by v true t w o u is same = is
 same_by v false t w o u is same = same
 
-agree_bound : (v : List PureValue) (bs cs : PureStore) (s : Store) (x : List ℕ) (t : PureTerm) (w : PureValue) → IsBound bs x t cs → value v t ≡ Some w → StandsFor v bs s → StandsFor v cs (bind x w s)
+pub agree_bound : (v : List PureValue) (bs cs : PureStore) (s : Store) (x : List ℕ) (t : PureTerm) (w : PureValue) → IsBound bs x t cs → value v t ≡ Some w → StandsFor v bs s → StandsFor v cs (bind x w s)
 agree_bound v bs cs s x t w bound is stands y =
     subst (λ o. AreSame v o (if bytes_eq x y then Some w else value_of s y)) (sym (bound y)) (same_by v (bytes_eq x y) t w (term_at bs y) (value_of s y) is (stands y))
 
@@ -24,7 +24,7 @@ picked_by : (P : PureTerm → Type 0) (b : Bool) (t u : PureTerm) (o : Option Pu
 picked_by P true t u o new old is = subst P (same_some is) new
 picked_by P false t u o new old is = old u is
 
-each_bound : (P : PureTerm → Type 0) (bs cs : PureStore) (x : List ℕ) (t : PureTerm) → IsBound bs x t cs → P t → OfEachName P bs → OfEachName P cs
+pub each_bound : (P : PureTerm → Type 0) (bs cs : PureStore) (x : List ℕ) (t : PureTerm) → IsBound bs x t cs → P t → OfEachName P bs → OfEachName P cs
 each_bound P bs cs x t bound new old y u is =
     picked_by P (bytes_eq x y) t u (term_at bs y) new (old y) (subst (λ o. o ≡ Some u) (bound y) is)
 

@@ -24,7 +24,7 @@ use Rattle.sym_paths.specs.Pure.{PureFrame, PurePath}
 use Rattle.sym_paths.proofs.Valuations.{below_both, below_higher}
 
 module _ (vars : List Sort) (v more : List PureValue) (one_each : length v ≡ length vars) where
-  all_true-more : (atoms : List PureAtom) → Each (λ a. IsOver vars (term_of a)) atoms → all_true (v ++ more) atoms ≡ all_true v atoms
+  pub all_true-more : (atoms : List PureAtom) → Each (λ a. IsOver vars (term_of a)) atoms → all_true (v ++ more) atoms ≡ all_true v atoms
   all_true-more [] over = refl
   all_true-more (a ∷ atoms) over = λ i. stay_when_tables_grow.truths a vars v more over.0 one_each i && all_true-more atoms over.1 i
 
@@ -59,7 +59,7 @@ module _ (vars : List Sort) (v more : List PureValue) (one_each : length v ≡ l
 over_more : (vars sorts : List Sort) (t : PureTerm) → IsOver vars t → IsOver (vars ++ sorts) t
 over_more vars sorts t over = stay_when_tables_grow.over t vars sorts over
 
-path_over : {S : Type 0} (terms : S → StateTerms) (path : PurePath S) (sorts : List Sort) → IsOverTable terms path → IsOverTable terms (with_more path sorts)
+pub path_over : {S : Type 0} (terms : S → StateTerms) (path : PurePath S) (sorts : List Sort) → IsOverTable terms path → IsOverTable terms (with_more path sorts)
 path_over terms path sorts over = record {
   conds = each_to (λ a. IsOver path.vars (term_of a)) (λ a. IsOver (path.vars ++ sorts) (term_of a)) path.conds (λ a. over_more path.vars sorts (term_of a)) over.conds;
   given = each_to (λ a. IsOver path.vars (term_of a)) (λ a. IsOver (path.vars ++ sorts) (term_of a)) path.given (λ a. over_more path.vars sorts (term_of a)) over.given;
@@ -69,7 +69,7 @@ path_over terms path sorts over = record {
   ending = each_to (IsOver path.vars) (IsOver (path.vars ++ sorts)) (end_terms path.ending) (over_more path.vars sorts) over.ending;
 }
 
-path_stands : {S : Type 0} (memory : MemoryName) (stands : S → List PureValue → Heap → Type 0) (terms : S → StateTerms) → IsMeaning memory stands terms
+pub path_stands : {S : Type 0} (memory : MemoryName) (stands : S → List PureValue → Heap → Type 0) (terms : S → StateTerms) → IsMeaning memory stands terms
     → (path : PurePath S) (v : List PureValue) (s : State) (sorts : List Sort) (values : List PureValue) (counter : ℕ) → IsOverTable terms path → Stands stands path v s
     → IsProper (path.vars ++ sorts) (v ++ values) → s.counter ≤ counter → AreBelow counter values → Stands stands (with_more path sorts) (v ++ values) (record s { counter = counter })
 path_stands memory stands terms meaning path v s sorts values counter over is proper higher below = record {

@@ -1,4 +1,6 @@
 pub mod Binding
 pub mod Growing
+pub mod Moving
+pub mod Silent
 pub mod Starting
 pub mod Valuations

@@ -26,7 +26,7 @@ below_both n (u ∷ v) w first second m occurs =
 pub below_higher : (n m : ℕ) (v : List PureValue) → n ≤ m → AreBelow n v → AreBelow m v
 below_higher n m v higher below k occurs = let less : k < n = below k occurs in omega (arith, less, higher)
 
-below_next : (n : ℕ) → AreBelow (suc n) (symbol n ∷ [])
+pub below_next : (n : ℕ) → AreBelow (suc n) (symbol n ∷ [])
 below_next n m occurs = ⊎_elim (λ none. absurd (none_contained m none)) (λ (is : n ≡ m). omega (arith, is)) (Contains-push_cases [] n m occurs)
 
 among : (v : List PureValue) (y : ℕ) (w : PureValue) (n : ℕ) → slice_get v y ≡ Some w → OccursIn n w → OccursAmong n v
@@ -100,7 +100,7 @@ counter_is_new v n below fresh m is y u at occurs =
     let less : m < n = below m (among v y u m at occurs) in
     omega (arith, same, less)
 
-next_fresh : (vars : List Sort) (v : List PureValue) (n : ℕ) → IsProper vars v → AreBelow n v
+pub next_fresh : (vars : List Sort) (v : List PureValue) (n : ℕ) → IsProper vars v → AreBelow n v
     → IsProper (vars ++ Sort.Fresh ∷ []) (v ++ symbol n ∷ []) × AreBelow (suc n) (v ++ symbol n ∷ [])
 next_fresh vars v n proper below = (
   one_more vars v Sort.Fresh (symbol n) proper refl (counter_is_new v n below),

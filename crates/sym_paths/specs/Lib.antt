@@ -1,5 +1,6 @@
 pub mod Laws
 pub mod Meaning
+pub mod Moves
 pub mod Pure
 pub mod Steps
 pub mod View

@@ -1,4 +1,5 @@
 //! What holds of every path: laws of the definitions, which no code is needed for.
+ghost use Rattle.sym_paths.specs.Moves.{AskNothing};
 ghost use Rattle.sym_paths.specs.Laws.{PathsMayGrow, PathsStandAtCommands, BindingsKeepStores, LaterVariablesAreProper, VariablesFollowInTurn};
 
 use sym_model::SymMemory;
@@ -26,4 +27,9 @@ pub fn later_variables_are_proper()
 /// The values of the variables of one step and those of the next are those of both.
 pub fn variables_follow_in_turn()
     ensures { VariablesFollowInTurn }
+{}
+
+/// At `vanish`, at a logic command and at `usym` a path has one next path, without a new condition.
+pub fn some_commands_ask_nothing<M: SymMemory>()
+    ensures { AskNothing M.stands M.terms }
 {}

@@ -11,7 +11,7 @@ pub use ends::PathEnd;
 pub use frames::{Frame, Frames};
 pub use laws::{
     bindings_keep_stores, later_variables_are_proper, paths_may_grow, paths_stand_at_commands,
-    variables_follow_in_turn,
+    some_commands_ask_nothing, variables_follow_in_turn,
 };
 pub use path::{Path, Paths};
 
