@@ -1,4 +1,5 @@
 pub mod Binding
+pub mod Drawing
 pub mod Growing
 pub mod Moving
 pub mod Silent

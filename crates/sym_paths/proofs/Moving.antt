@@ -1,11 +1,12 @@
 -- The commands that ask nothing lead to one path, without a new condition.
 use Rattle.std.proofs.Common.{◌≡◌, ◌⊎◌, ⊎_elim, inl, inr, ℕ, zero, suc, ◌+◌, ◌<◌, ◌≤◌, List, [], ◌∷◌, ◌++◌, length, slice_get, Option, Some, None, true, IsTrue, refl, sym, ap, subst, ◌∙◌, arith}
 use Rattle.std.specs.List.{Contains}
-use Rattle.std.proofs.lemmas.List.{append-nil}
+use Rattle.std.proofs.lemmas.List.{append-nil, length_push}
 use Rattle.std.proofs.lemmas.List.Elements.{Contains-append_cases, Contains-push_cases}
 use Rattle.gil_values.specs.declared.places.Place.{Place}
-use Rattle.gil_values.specs.Pure.{PureValue, symbol}
-use Rattle.gil_values.specs.Symbols.{symbols_of_all, AreBelow}
+use Rattle.gil_values.specs.declared.kinds.Kind.{Kind}
+use Rattle.gil_values.specs.Pure.{PureValue, symbol, kind_of}
+use Rattle.gil_values.specs.Symbols.{symbols, symbols_of_all, AreBelow}
 use Rattle.gil_values.proofs.OperatorSymbols.{none_contained}
 use Rattle.gil_syntax.specs.Evaluation.{Store, bind}
 use Rattle.gil_syntax.specs.Pure.{PureParts, PureCommand, assign, call, act, usym, isym, ifgoto, return, fail, vanish, fold_use, unfold_use, assert_that, loop_invariant, PureNumberedCommand}
@@ -25,16 +26,17 @@ use Rattle.sym_evaluation.specs.Pure.{PureStore}
 use Rattle.sym_model.specs.Laws.{IsMeaning}
 use Rattle.sym_model.specs.Lists.{Each}
 use Rattle.sym_model.specs.Terms.{StateTerms}
-use Rattle.sym_model.proofs.ListLaws.{not_none}
+use Rattle.sym_model.proofs.ListLaws.{not_none, each_append}
 use Rattle.sym_paths.specs.Laws.{with_more, IsBound}
 use Rattle.sym_paths.specs.Meaning.{AreFrames, frames_of, Stands, StandsForEnd, StandsForStep, OfEachName, IsOverTable, command_of_path}
-use Rattle.sym_paths.specs.Moves.{NoOwn, IsLogic, running_store, advanced, vanishing, passing, next_variable, with_fresh, AskNothing}
+use Rattle.sym_paths.specs.Moves.{NoOwn, IsLogic, running_store, advanced, draw_sort, vanishing, passing, next_variable, with_fresh, with_draw, AskNothing}
 use Rattle.sym_paths.specs.Pure.{PureFrame, PureEnd, vanished, PurePath}
-use Rattle.sym_paths.specs.Steps.{IsUnknown, AreNext, IsNext, AreNextPaths}
+use Rattle.sym_paths.specs.Steps.{HasInput, IsUnknown, AreNext, IsNext, AreNextPaths}
 use Rattle.sym_paths.proofs.Binding.{agree_bound, each_bound}
+use Rattle.sym_paths.proofs.Drawing.{drawn_is, drawn_next, next_drawn, not_fresh, some_fits, fits_kind, kind_fits, no_symbols, no_symbol_below, draws_this, input_there}
 use Rattle.sym_paths.proofs.Growing.{path_stands, path_over}
 use Rattle.sym_paths.proofs.Silent.{stands_at, step-is, choice-is, IsSilent, IsUnasked, same_and_none, silent_step}
-use Rattle.sym_paths.proofs.Valuations.{below_higher, below_next, next_fresh}
+use Rattle.sym_paths.proofs.Valuations.{below_higher, below_next, next_fresh, later_variables_are_proper}
 
 -- ---- values of new variables
 
@@ -278,9 +280,83 @@ module _ {S : Type 0} (memory : MemoryName) (stands : S → List PureValue → H
           may_follow = λ v proper. let (n, below) = above (symbols_of_all v) in (symbol n ∷ [], (next_fresh path.vars v n proper below).0);
         })
 
+    -- ---- draws
+
+    module _ (x : List ℕ) (k : Kind) (sort : Sort) (drawable : draw_sort k ≡ Some sort) (bs : PureStore) (bound : IsBound (running_store path.stack) x (next_variable path sort) bs) where
+      draw_stands : (v : List PureValue) (w : PureValue) (s : State) → Stands stands path v s → symbols w ≡ [] → IsProper (path.vars ++ sort ∷ []) (v ++ w ∷ [])
+          → Stands stands (with_draw path sort bs) (v ++ w ∷ []) (record s { draws = s.draws + 1; current = record s.current { next = s.current.next + 1; store = bind x w s.current.store } })
+      draw_stands v w s is none proper =
+          let u = v ++ w ∷ [] in
+          let grown : Stands stands (with_more path (sort ∷ [])) u (record s { counter = s.counter }) =
+              path_stands memory stands terms meaning path v s (sort ∷ []) (w ∷ []) s.counter over is proper (omega arith) (no_symbol_below s.counter w none) in
+          record {
+            proper = grown.proper;
+            meets = grown.meets;
+            frames = advanced_frames u path.stack s.current s.callers bs (bind x w s.current.store) grown.frames
+                (agree_bound u (running_store path.stack) bs s.current.store x (next_variable path sort) w bound
+                (last_of v w (length path.vars) (sym is.proper.one_each))
+                (running_stands u path.stack s.current s.callers grown.frames));
+            memory = grown.memory;
+            symbols_below = grown.symbols_below;
+            draws = ap (λ n. n + 1) is.draws ∙ sym (length_push path.drawn (next_variable path sort));
+          }
+
+      draw_fits : (v : List PureValue) (w : PureValue) → length v ≡ length path.vars → IsProper (path.vars ++ sort ∷ []) (v ++ w ∷ []) → kind_of w ≡ k
+      draw_fits v w one_each proper =
+          fits_kind k sort drawable w (proper.sorts (length path.vars) sort w (last_of path.vars sort (length path.vars) (λ i. length path.vars)) (last_of v w (length path.vars) (sym one_each)))
+
+      draw_leads : c.command ≡ isym x k → (inputs v ws : List PureValue) (s : State) → Stands stands path v s → AreNext inputs s.counter s.draws (sort ∷ []) ws
+          → IsProper (path.vars ++ sort ∷ []) (v ++ ws) → StandsForStep p m stands (with_draw path sort bs) (v ++ ws) s path.ending (step p m inputs s)
+      draw_leads command inputs v ws s is in_turn proper =
+          let (w, (one, new)) = one_next inputs s.counter s.draws sort ws in_turn in
+          let same : v ++ ws ≡ v ++ w ∷ [] = ap (λ us. v ++ us) one in
+          let proper_w : IsProper (path.vars ++ sort ∷ []) (v ++ w ∷ []) = subst (IsProper (path.vars ++ sort ∷ [])) same proper in
+          let kind : kind_of w ≡ k = draw_fits v w is.proper.one_each proper_w in
+          subst (λ o. StandsForStep p m stands (with_draw path sort bs) (v ++ ws) s o (step p m inputs s)) (sym no_end)
+          (subst (StandsForStep p m stands (with_draw path sort bs) (v ++ ws) s None)
+          (sym (step-is p m inputs s c (isym x k) (standing v s is) command ∙ draws_this (slice_get inputs s.draws) w x k (record s { draws = s.draws + 1 }) (drawn_next k sort drawable inputs s.counter s.draws w new) kind))
+          (subst (λ u. Stands stands (with_draw path sort bs) u (record s { draws = s.draws + 1; current = record s.current { next = s.current.next + 1; store = bind x w s.current.store } })) (sym same)
+          (draw_stands v w s is (no_symbols k sort drawable w kind) proper_w)))
+
+      draw_exists : c.command ≡ isym x k → (inputs v : List PureValue) (s : State) → Stands stands path v s → HasInput (step p m inputs s)
+          → (ws : List PureValue) × (AreNext inputs s.counter s.draws (sort ∷ []) ws × IsProper (path.vars ++ sort ∷ []) (v ++ ws))
+      draw_exists command inputs v s is has =
+          let (w, (there, kind)) = input_there (slice_get inputs s.draws) x k (record s { draws = s.draws + 1 }) (subst HasInput (step-is p m inputs s c (isym x k) (standing v s is) command) has) in
+          (w ∷ [], ((next_drawn k sort drawable inputs s.counter s.draws w there, tt),
+          later_variables_are_proper.drawn path.vars v sort w is.proper (not_fresh k sort drawable) (kind_fits k sort drawable w kind)))
+
+      draw_over : IsOverTable terms (with_draw path sort bs)
+      draw_over =
+          let more : IsOverTable terms (with_more path (sort ∷ [])) = path_over terms path (sort ∷ []) over in
+          let Over = IsOver (path.vars ++ sort ∷ []) in
+          record {
+            conds = more.conds; given = more.given;
+            stores = advanced_each Over path.stack bs more.stores (each_bound Over (running_store path.stack) bs x (next_variable path sort) bound (next_over sort) (running_each Over path.stack more.stores));
+            memory = more.memory; drawn = each_append Over path.drawn (next_variable path sort ∷ []) more.drawn (next_over sort, tt); ending = more.ending }
+
+      isym_is : c.command ≡ isym x k → AreNextPaths p m stands terms NoOwn path (with_draw path sort bs ∷ [])
+      isym_is command = silent_step p m stands terms path (with_draw path sort bs) (sort ∷ []) over
+        (record {
+          vars = refl;
+          conds = refl;
+          given = refl;
+          choices = refl;
+          drawn = ap (λ ts. path.drawn ++ ts) (sym (drawn_is k sort drawable (length path.vars)));
+          steps = refl;
+          over = draw_over;
+          known = open_is_known path.ending no_end;
+        })
+        (record {
+          leads = draw_leads command;
+          exists = draw_exists command;
+          chooses_nothing = λ v s is. choice-is p m [] s c (isym x k) (standing v s is) command;
+          may_follow = λ v proper. let (w, fits) = some_fits k sort drawable in (w ∷ [], later_variables_are_proper.drawn path.vars v sort w proper (not_fresh k sort drawable) fits);
+        })
+
   pub ask_nothing : AskNothing stands terms
   ask_nothing = record {
     vanish_ends = vanish_is;
     logic_passes = logic_is;
     usym_adds_a_symbol = λ p m path c x bs over no_end at command bound. usym_is p m path c over no_end at x bs bound command;
+    isym_adds_a_draw = λ p m path c x k sort bs over no_end at command drawable bound. isym_is p m path c over no_end at x k sort drawable bs bound command;
   }

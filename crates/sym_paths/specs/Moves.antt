@@ -2,11 +2,11 @@
 -- commands that do nothing in a run.
 use Rattle.std.specs.Prelude.{◌≡◌, ℕ, ◌+◌, List, [], ◌∷◌, ◌++◌, length, Option, Some, None, ⊤}
 use Rattle.gil_syntax.specs.Pure.{PureParts, PureCommand, PureNumberedCommand, usym, isym, vanish, fold_use, unfold_use, assert_that, loop_invariant}
+use Rattle.gil_values.specs.declared.kinds.Kind.{Kind}
 use Rattle.gil_values.specs.Pure.{PureValue}
 use Rattle.mem_model.specs.Actions.{Actions}
 use Rattle.mem_model.specs.Heaps.{Heap}
 use Rattle.pure_terms.specs.declared.variables.Sort.{Sort}
-use Rattle.pure_terms.specs.Kinds.{kind_of_sort}
 use Rattle.pure_terms.specs.Pure.{PureTerm, variable, PureAtom}
 use Rattle.sym_evaluation.specs.Pure.{PureStore}
 use Rattle.sym_model.specs.Terms.{StateTerms}
@@ -32,6 +32,13 @@ running_store (f ∷ fs) = f.store
 abbrev pub advanced : PureStore → List PureFrame → List PureFrame
 advanced bs [] = []
 advanced bs (f ∷ fs) = record f { next = f.next + 1; store = bs } ∷ fs
+
+-- the sort of the draws of a kind
+abbrev pub draw_sort : Kind → Option Sort
+draw_sort Kind.Int = Some Sort.Int
+draw_sort Kind.Bool = Some Sort.Bool
+draw_sort Kind.Str = Some Sort.Str
+draw_sort _ = None
 
 module _ {S : Type 0} (path : PurePath S) where
   abbrev pub vanishing : PurePath S
@@ -60,8 +67,7 @@ module _ {S : Type 0} (path : PurePath S) where
 abbrev pub NoOwn : PureAtom → Type 0
 NoOwn a = ⊥
 
--- A path without an end at such a command has one next path, without a new condition. A draw is of a sort that has its kind, other
--- than Fresh, and of which some value is.
+-- A path without an end at such a command has one next path, without a new condition.
 pub record AskNothing {S : Type 0} (stands : S → List PureValue → Heap → Type 0) (terms : S → StateTerms) : Type 0 where
   pub vanish_ends : (p : PureParts) (m : Actions) (path : PurePath S) (c : PureNumberedCommand) → IsOverTable terms path → path.ending ≡ None
       → command_of_path p path ≡ Some c → c.command ≡ vanish → AreNextPaths p m stands terms NoOwn path (vanishing path ∷ [])
@@ -72,3 +78,7 @@ pub record AskNothing {S : Type 0} (stands : S → List PureValue → Heap → T
       → IsOverTable terms path → path.ending ≡ None → command_of_path p path ≡ Some c → c.command ≡ usym x
       → IsBound (running_store path.stack) x (next_variable path Sort.Fresh) bs
       → AreNextPaths p m stands terms NoOwn path (with_fresh path bs ∷ [])
+  pub isym_adds_a_draw : (p : PureParts) (m : Actions) (path : PurePath S) (c : PureNumberedCommand) (x : List ℕ) (k : Kind) (sort : Sort)
+      (bs : PureStore) → IsOverTable terms path → path.ending ≡ None → command_of_path p path ≡ Some c → c.command ≡ isym x k
+      → draw_sort k ≡ Some sort → IsBound (running_store path.stack) x (next_variable path sort) bs
+      → AreNextPaths p m stands terms NoOwn path (with_draw path sort bs ∷ [])
