@@ -65,7 +65,7 @@ pub record IsUnasked {S : Type 0} (terms : S → StateTerms) (path next : PurePa
   pub over : IsOverTable terms next
   pub known : ¬ IsUnknown next.ending
 
-rightly : {S : Type 0} (p : PureParts) (path next : PurePath S) (o : Option PureEnd) → ¬ IsUnknown o → IsRightlyUnknown p path next o
+pub rightly : {S : Type 0} (p : PureParts) (path next : PurePath S) (o : Option PureEnd) → ¬ IsUnknown o → IsRightlyUnknown p path next o
 rightly p path next None known = tt
 rightly p path next (Some (returned t)) known = tt
 rightly p path next (Some (failed t place)) known = tt

@@ -1,5 +1,6 @@
 //! What holds of every path: laws of the definitions, which no code is needed for.
 ghost use Rattle.sym_paths.specs.Moves.{AskNothing};
+ghost use Rattle.sym_paths.specs.Settling.{CandidatesSettle};
 ghost use Rattle.sym_paths.specs.Laws.{PathsMayGrow, PathsStandAtCommands, BindingsKeepStores, LaterVariablesAreProper, VariablesFollowInTurn};
 
 use sym_model::SymMemory;
@@ -32,4 +33,9 @@ pub fn variables_follow_in_turn()
 /// At `vanish`, at a logic command and at `usym` a path has one next path, without a new condition.
 pub fn some_commands_ask_nothing<M: SymMemory>()
     ensures { AskNothing M.stands M.terms }
+{}
+
+/// Where the laws hold of the candidates of a step, they hold of what a decider makes of them.
+pub fn candidates_settle<M: SymMemory>()
+    ensures { CandidatesSettle M.stands M.terms }
 {}
