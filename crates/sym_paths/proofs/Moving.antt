@@ -58,11 +58,13 @@ proper_as_it_is vars v proper = subst (λ xs. IsProper xs (v ++ [])) (sym (appen
 above : (ns : List ℕ) → (b : ℕ) × ((n : ℕ) → Contains ns n → n < b)
 above [] = (0, λ n has. absurd (none_contained n has))
 above (k ∷ ns) =
-    let (b, less) = above ns in
-    (suc k + b, λ n has. ⊎_elim
-      (λ here. ⊎_elim (λ none. absurd (none_contained n none)) (λ (is : k ≡ n). omega (arith, is)) (Contains-push_cases [] k n here))
-      (λ later. let below : n < b = less n later in omega (arith, below))
-      (Contains-append_cases (k ∷ []) ns n has))
+    let (b, less) = above ns in (
+      suc k + b,
+      λ n has. ⊎_elim
+          (λ here. ⊎_elim (λ none. absurd (none_contained n none)) (λ (is : k ≡ n). omega (arith, is)) (Contains-push_cases [] k n here))
+          (λ later. let below : n < b = less n later in omega (arith, below))
+          (Contains-append_cases (k ∷ []) ns n has),
+    )
 
 below_counted : (n : ℕ) → AreBelow (n + 1) (symbol n ∷ [])
 below_counted n = below_higher (suc n) (n + 1) (symbol n ∷ []) (omega arith) (below_next n)
@@ -78,12 +80,15 @@ last_of (x ∷ xs) y (suc n) is = let same : suc n ≡ suc (length xs) = is in l
 advanced_frames : (v : List PureValue) (fs : List PureFrame) (g : Frame) (gs : List Frame) (bs : PureStore) (s : Store) → AreFrames v fs (g ∷ gs) → StandsFor v bs s
     → AreFrames v (advanced bs fs) (record g { next = g.next + 1; store = s } ∷ gs)
 advanced_frames v [] g gs bs s are same = absurd are
-advanced_frames v (f ∷ fs) g gs bs s are same = (record {
-  procedure = are.0.procedure;
-  next = ap (λ n. n + 1) are.0.next;
-  store = same;
-  waits = are.0.waits;
-}, are.1)
+advanced_frames v (f ∷ fs) g gs bs s are same = (
+  record {
+    procedure = are.0.procedure;
+    next = ap (λ n. n + 1) are.0.next;
+    store = same;
+    waits = are.0.waits;
+  },
+  are.1,
+)
 
 running_stands : (v : List PureValue) (fs : List PureFrame) (g : Frame) (gs : List Frame) → AreFrames v fs (g ∷ gs) → StandsFor v (running_store fs) g.store
 running_stands v [] g gs are = absurd are
@@ -157,22 +162,22 @@ module _ {S : Type 0} (memory : MemoryName) (stands : S → List PureValue → H
 
     vanish_is : c.command ≡ vanish → AreNextPaths p m stands terms NoOwn path (vanishing path ∷ [])
     vanish_is command = silent_step p m stands terms path (vanishing path) [] over
-      (record {
-        vars = same_and_none path.vars path.vars refl;
-        conds = refl;
-        given = refl;
-        choices = refl;
-        drawn = same_and_none path.drawn path.drawn refl;
-        steps = refl;
-        over = record { conds = over.conds; given = over.given; stores = over.stores; memory = over.memory; drawn = over.drawn; ending = tt };
-        known = λ unknown. unknown;
-      })
-      (record {
-        leads = λ inputs v ws s is in_turn proper. vanished_leads command inputs v ws s is (none_next inputs s.counter s.draws ws in_turn);
-        exists = λ inputs v s is has. ([], (tt, proper_as_it_is path.vars v is.proper));
-        chooses_nothing = λ v s is. choice-is p m [] s c vanish (standing v s is) command;
-        may_follow = λ v proper. ([], proper_as_it_is path.vars v proper);
-      })
+        (record {
+          vars = same_and_none path.vars path.vars refl;
+          conds = refl;
+          given = refl;
+          choices = refl;
+          drawn = same_and_none path.drawn path.drawn refl;
+          steps = refl;
+          over = record { conds = over.conds; given = over.given; stores = over.stores; memory = over.memory; drawn = over.drawn; ending = tt };
+          known = λ unknown. unknown;
+        })
+        (record {
+          leads = λ inputs v ws s is in_turn proper. vanished_leads command inputs v ws s is (none_next inputs s.counter s.draws ws in_turn);
+          exists = λ inputs v s is has. ([], (tt, proper_as_it_is path.vars v is.proper));
+          chooses_nothing = λ v s is. choice-is p m [] s c vanish (standing v s is) command;
+          may_follow = λ v proper. ([], proper_as_it_is path.vars v proper);
+        })
 
     -- ---- logic commands
 
@@ -195,25 +200,29 @@ module _ {S : Type 0} (memory : MemoryName) (stands : S → List PureValue → H
 
     logic_is : IsLogic c.command → AreNextPaths p m stands terms NoOwn path (passing path ∷ [])
     logic_is logic = silent_step p m stands terms path (passing path) [] over
-      (record {
-        vars = same_and_none path.vars path.vars refl;
-        conds = refl;
-        given = refl;
-        choices = refl;
-        drawn = same_and_none path.drawn path.drawn refl;
-        steps = refl;
-        over = record {
-          conds = over.conds; given = over.given;
-          stores = advanced_each (IsOver path.vars) path.stack (running_store path.stack) over.stores (running_each (IsOver path.vars) path.stack over.stores);
-          memory = over.memory; drawn = over.drawn; ending = over.ending };
-        known = open_is_known path.ending no_end;
-      })
-      (record {
-        leads = λ inputs v ws s is in_turn proper. passed_leads logic inputs v ws s is (none_next inputs s.counter s.draws ws in_turn);
-        exists = λ inputs v s is has. ([], (tt, proper_as_it_is path.vars v is.proper));
-        chooses_nothing = λ v s is. choice-is p m [] s c c.command (standing v s is) refl ∙ logic_chooses_nothing p m c.command s logic;
-        may_follow = λ v proper. ([], proper_as_it_is path.vars v proper);
-      })
+        (record {
+          vars = same_and_none path.vars path.vars refl;
+          conds = refl;
+          given = refl;
+          choices = refl;
+          drawn = same_and_none path.drawn path.drawn refl;
+          steps = refl;
+          over = record {
+            conds = over.conds;
+            given = over.given;
+            stores = advanced_each (IsOver path.vars) path.stack (running_store path.stack) over.stores (running_each (IsOver path.vars) path.stack over.stores);
+            memory = over.memory;
+            drawn = over.drawn;
+            ending = over.ending;
+          };
+          known = open_is_known path.ending no_end;
+        })
+        (record {
+          leads = λ inputs v ws s is in_turn proper. passed_leads logic inputs v ws s is (none_next inputs s.counter s.draws ws in_turn);
+          exists = λ inputs v s is has. ([], (tt, proper_as_it_is path.vars v is.proper));
+          chooses_nothing = λ v s is. choice-is p m [] s c c.command (standing v s is) refl ∙ logic_chooses_nothing p m c.command s logic;
+          may_follow = λ v proper. ([], proper_as_it_is path.vars v proper);
+        })
 
     -- ---- new symbols
 
@@ -229,7 +238,7 @@ module _ {S : Type 0} (memory : MemoryName) (stands : S → List PureValue → H
       symbol_stands v s is proper =
           let w = v ++ symbol s.counter ∷ [] in
           let grown : Stands stands (with_more path (Sort.Fresh ∷ [])) w (record s { counter = s.counter + 1 }) =
-              path_stands memory stands terms meaning path v s (Sort.Fresh ∷ []) (symbol s.counter ∷ []) (s.counter + 1) over is proper (omega arith) (below_counted s.counter) in
+          path_stands memory stands terms meaning path v s (Sort.Fresh ∷ []) (symbol s.counter ∷ []) (s.counter + 1) over is proper (omega arith) (below_counted s.counter) in
           record {
             proper = grown.proper;
             meets = grown.meets;
@@ -257,28 +266,32 @@ module _ {S : Type 0} (memory : MemoryName) (stands : S → List PureValue → H
           let more : IsOverTable terms (with_more path (Sort.Fresh ∷ [])) = path_over terms path (Sort.Fresh ∷ []) over in
           let Over = IsOver (path.vars ++ Sort.Fresh ∷ []) in
           record {
-            conds = more.conds; given = more.given;
+            conds = more.conds;
+            given = more.given;
             stores = advanced_each Over path.stack bs more.stores (each_bound Over (running_store path.stack) bs x (next_variable path Sort.Fresh) bound (next_over Sort.Fresh) (running_each Over path.stack more.stores));
-            memory = more.memory; drawn = more.drawn; ending = more.ending }
+            memory = more.memory;
+            drawn = more.drawn;
+            ending = more.ending;
+          }
 
       usym_is : c.command ≡ usym x → AreNextPaths p m stands terms NoOwn path (with_fresh path bs ∷ [])
       usym_is command = silent_step p m stands terms path (with_fresh path bs) (Sort.Fresh ∷ []) over
-        (record {
-          vars = refl;
-          conds = refl;
-          given = refl;
-          choices = refl;
-          drawn = same_and_none path.drawn path.drawn refl;
-          steps = refl;
-          over = symbol_over;
-          known = open_is_known path.ending no_end;
-        })
-        (record {
-          leads = symbol_leads command;
-          exists = λ inputs v s is has. (symbol s.counter ∷ [], ((refl, tt), (next_fresh path.vars v s.counter is.proper is.symbols_below).0));
-          chooses_nothing = λ v s is. choice-is p m [] s c (usym x) (standing v s is) command;
-          may_follow = λ v proper. let (n, below) = above (symbols_of_all v) in (symbol n ∷ [], (next_fresh path.vars v n proper below).0);
-        })
+          (record {
+            vars = refl;
+            conds = refl;
+            given = refl;
+            choices = refl;
+            drawn = same_and_none path.drawn path.drawn refl;
+            steps = refl;
+            over = symbol_over;
+            known = open_is_known path.ending no_end;
+          })
+          (record {
+            leads = symbol_leads command;
+            exists = λ inputs v s is has. (symbol s.counter ∷ [], ((refl, tt), (next_fresh path.vars v s.counter is.proper is.symbols_below).0));
+            chooses_nothing = λ v s is. choice-is p m [] s c (usym x) (standing v s is) command;
+            may_follow = λ v proper. let (n, below) = above (symbols_of_all v) in (symbol n ∷ [], (next_fresh path.vars v n proper below).0);
+          })
 
     -- ---- draws
 
@@ -288,7 +301,7 @@ module _ {S : Type 0} (memory : MemoryName) (stands : S → List PureValue → H
       draw_stands v w s is none proper =
           let u = v ++ w ∷ [] in
           let grown : Stands stands (with_more path (sort ∷ [])) u (record s { counter = s.counter }) =
-              path_stands memory stands terms meaning path v s (sort ∷ []) (w ∷ []) s.counter over is proper (omega arith) (no_symbol_below s.counter w none) in
+          path_stands memory stands terms meaning path v s (sort ∷ []) (w ∷ []) s.counter over is proper (omega arith) (no_symbol_below s.counter w none) in
           record {
             proper = grown.proper;
             meets = grown.meets;
@@ -321,37 +334,45 @@ module _ {S : Type 0} (memory : MemoryName) (stands : S → List PureValue → H
       draw_exists : c.command ≡ isym x k → (inputs v : List PureValue) (s : State) → Stands stands path v s → HasInput (step p m inputs s)
           → (ws : List PureValue) × (AreNext inputs s.counter s.draws (sort ∷ []) ws × IsProper (path.vars ++ sort ∷ []) (v ++ ws))
       draw_exists command inputs v s is has =
-          let (w, (there, kind)) = input_there (slice_get inputs s.draws) x k (record s { draws = s.draws + 1 }) (subst HasInput (step-is p m inputs s c (isym x k) (standing v s is) command) has) in
-          (w ∷ [], ((next_drawn k sort drawable inputs s.counter s.draws w there, tt),
-          later_variables_are_proper.drawn path.vars v sort w is.proper (not_fresh k sort drawable) (kind_fits k sort drawable w kind)))
+          let (w, (there, kind)) = input_there (slice_get inputs s.draws) x k (record s { draws = s.draws + 1 }) (subst HasInput (step-is p m inputs s c (isym x k) (standing v s is) command) has) in (
+            w ∷ [],
+            (
+              (next_drawn k sort drawable inputs s.counter s.draws w there, tt),
+              later_variables_are_proper.drawn path.vars v sort w is.proper (not_fresh k sort drawable) (kind_fits k sort drawable w kind),
+            ),
+          )
 
       draw_over : IsOverTable terms (with_draw path sort bs)
       draw_over =
           let more : IsOverTable terms (with_more path (sort ∷ [])) = path_over terms path (sort ∷ []) over in
           let Over = IsOver (path.vars ++ sort ∷ []) in
           record {
-            conds = more.conds; given = more.given;
+            conds = more.conds;
+            given = more.given;
             stores = advanced_each Over path.stack bs more.stores (each_bound Over (running_store path.stack) bs x (next_variable path sort) bound (next_over sort) (running_each Over path.stack more.stores));
-            memory = more.memory; drawn = each_append Over path.drawn (next_variable path sort ∷ []) more.drawn (next_over sort, tt); ending = more.ending }
+            memory = more.memory;
+            drawn = each_append Over path.drawn (next_variable path sort ∷ []) more.drawn (next_over sort, tt);
+            ending = more.ending;
+          }
 
       isym_is : c.command ≡ isym x k → AreNextPaths p m stands terms NoOwn path (with_draw path sort bs ∷ [])
       isym_is command = silent_step p m stands terms path (with_draw path sort bs) (sort ∷ []) over
-        (record {
-          vars = refl;
-          conds = refl;
-          given = refl;
-          choices = refl;
-          drawn = ap (λ ts. path.drawn ++ ts) (sym (drawn_is k sort drawable (length path.vars)));
-          steps = refl;
-          over = draw_over;
-          known = open_is_known path.ending no_end;
-        })
-        (record {
-          leads = draw_leads command;
-          exists = draw_exists command;
-          chooses_nothing = λ v s is. choice-is p m [] s c (isym x k) (standing v s is) command;
-          may_follow = λ v proper. let (w, fits) = some_fits k sort drawable in (w ∷ [], later_variables_are_proper.drawn path.vars v sort w proper (not_fresh k sort drawable) fits);
-        })
+          (record {
+            vars = refl;
+            conds = refl;
+            given = refl;
+            choices = refl;
+            drawn = ap (λ ts. path.drawn ++ ts) (sym (drawn_is k sort drawable (length path.vars)));
+            steps = refl;
+            over = draw_over;
+            known = open_is_known path.ending no_end;
+          })
+          (record {
+            leads = draw_leads command;
+            exists = draw_exists command;
+            chooses_nothing = λ v s is. choice-is p m [] s c (isym x k) (standing v s is) command;
+            may_follow = λ v proper. let (w, fits) = some_fits k sort drawable in (w ∷ [], later_variables_are_proper.drawn path.vars v sort w proper (not_fresh k sort drawable) fits);
+          })
 
   pub ask_nothing : AskNothing stands terms
   ask_nothing = record {
