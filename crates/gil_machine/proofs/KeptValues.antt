@@ -9,23 +9,31 @@ use Rattle.gil_values.specs.View.{value_view}
 use Rattle.gil_machine.specs.Kept.{Kept, kept_value}
 
 abbrev pub Entries : Type 0
-Entries = List (List ℕ × Value)
+Entries = List (Bor (List ℕ) × Value)
 
 -- entries as they are kept
 abbrev pub seen : Entries → Kept
-seen es = map (λ e. (e.0, value_view e.1)) es
+seen es = map (λ e. (e.0.now, value_view e.1)) es
+
+-- a name as a key
+abbrev pub key_of : List ℕ → Bor (List ℕ)
+key_of x = record { ref_ptr = (0, 0); now = x }
+
+-- whether a key of the map is this name
+abbrev pub is_key : List ℕ → Bor (List ℕ) → Bool
+is_key x k = bytes_eq x k.now
 
 choice_seen : (b : Bool) (v : Value) (k : Option PureValue) (o : Option Value) → k ≡ option_map value_view o → cond b (Some (value_view v)) k ≡ option_map value_view (cond b (Some v) o)
 choice_seen true v k o e = refl
 choice_seen false v k o e = e
 
-pub kept-lookup : (es : Entries) (x : List ℕ) → kept_value (seen es) x ≡ option_map value_view (lookup (bytes_eq x) es)
+pub kept-lookup : (es : Entries) (x : List ℕ) → kept_value (seen es) x ≡ option_map value_view (lookup (is_key x) es)
 kept-lookup [] x = refl
-kept-lookup (e ∷ es) x = choice_seen (bytes_eq x e.0) e.1 _ _ (kept-lookup es x)
+kept-lookup (e ∷ es) x = choice_seen (bytes_eq x e.0.now) e.1 _ _ (kept-lookup es x)
 
 -- the value of one name is set
 pub kept-set : (old new : Entries) (x : List ℕ) (v : Value)
-    → ((y : List ℕ) → lookup (bytes_eq y) new ≡ cond (bytes_eq x y) (Some v) (lookup (bytes_eq y) old))
+    → ((y : List ℕ) → lookup (is_key y) new ≡ cond (bytes_eq x y) (Some v) (lookup (is_key y) old))
     → (y : List ℕ) → kept_value (seen new) y ≡ cond (bytes_eq x y) (Some (value_view v)) (kept_value (seen old) y)
 kept-set old new x v sets y =
     kept-lookup new y ∙ ap (option_map value_view) (sets y)

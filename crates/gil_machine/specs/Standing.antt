@@ -73,6 +73,10 @@ Comes p None (goes_on s) (Some ending) c h = ⊥
 Comes p None (ends e) None c h = ⊥
 Comes p None (ends e) (Some ending) c h = EndsAs ending e.ending × (e.heap ≡ h) × (e.counter ≡ c.counter) × (e.draws ≡ c.draws)
 
+-- the place of a command of the call that runs
+abbrev pub place_of : Control → ℕ → Place
+place_of c at = record { proc = c.current.proc.now.name; at = at }
+
 -- how a run ends at a fault of evaluation at this place
 abbrev pub FaultEnds : EvaluationFault → Place → KeptEnding → Type 0
 FaultEnds faults.WrongKind place ending = EndsAs ending (failed (text (fault_text wrong_kind)) place)

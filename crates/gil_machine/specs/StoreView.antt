@@ -5,4 +5,4 @@ use Rattle.gil_machine.specs.declared.store.Store.{Store}
 use Rattle.gil_machine.specs.Kept.{Kept}
 
 abbrev pub store_view : Store → Kept
-store_view s = map (λ e. (e.0, value_view e.1)) s.values.entries
+store_view s = map (λ e. (e.0.now, value_view e.1)) s.values.entries

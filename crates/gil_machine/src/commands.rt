@@ -1,5 +1,6 @@
 //! What each command does with the calls in progress.
 ghost use Rattle.std.specs.Prelude.{◌≡◌, ℕ, ◌+◌, ◌^◌, ◌<◌, List, Some, IfOk, OnOk};
+ghost use Rattle.gil_values.specs.declared.places.Place.{Place as PurePlace};
 ghost use Rattle.gil_values.specs.Pure.{PureValue};
 ghost use Rattle.gil_values.specs.View.{value_view, values_view};
 ghost use Rattle.gil_syntax.specs.Pure.{
@@ -15,15 +16,15 @@ ghost use Rattle.gil_syntax.specs.Pure.{
 ghost use Rattle.gil_syntax.specs.View.{expr_view, exprs_view};
 ghost use Rattle.gil_program.specs.Program.{prog_view};
 ghost use Rattle.mem_model.specs.Actions.{Actions};
-ghost use Rattle.gil_machine.specs.Standing.{DoesAnywhere, DoesBeside, GrowsByOne, LeadsAnywhere, LeadsTo};
+ghost use Rattle.gil_machine.specs.Standing.{DoesAnywhere, DoesBeside, GrowsByOne, LeadsAnywhere, LeadsTo, place_of};
 ghost use Rattle.gil_machine.specs.Step.{branch as pure_branch, draw as pure_draw, enter_value};
 
 use crate::control::Control;
-use crate::endings::{Ending, failure, fault_ending};
+use crate::endings::Ending;
 use crate::evaluation::{evaluate, evaluate_all};
 use gil_program::Prog;
 use gil_syntax::{Expr, Exprs};
-use gil_values::{Kind, Place, Text, Value, Values};
+use gil_values::{Kind, Text, Value, Values};
 use std::alloc::{AllocError, Global};
 
 impl<'p> Control<'p> {
@@ -31,20 +32,20 @@ impl<'p> Control<'p> {
     pub(crate) fn do_assign(
         &mut self,
         alloc: Global,
-        name: &Text,
+        name: &'p Text,
         expression: &Expr,
-        place: Place,
+        at: u32,
     ) -> Result<Option<Ending>, AllocError>
         requires { self.old.current.next + 1 < 2 ^ 64 }
-        ensures does { IfOk result (λ end. DoesAnywhere (pure_assign name.now (expr_view expression.now)) place self.old end self.new) }
+        ensures does { IfOk result (λ end. DoesAnywhere (pure_assign name.now (expr_view expression.now)) (place_of self.old at) self.old end self.new) }
         ensures grows { OnOk result (GrowsByOne self.old self.new) }
     {
         match evaluate(alloc, expression, &self.current.store) {
             Ok(value) => {
-                self.assign(alloc, name, value)?;
+                self.assign(name, value)?;
                 Ok(None)
             }
-            Err(fault) => Ok(Some(fault_ending(alloc, fault, place)?)),
+            Err(fault) => Ok(Some(self.fault_ending(alloc, fault, at)?)),
         }
     }
 
@@ -54,15 +55,15 @@ impl<'p> Control<'p> {
         alloc: Global,
         guard: &Expr,
         label: &i64,
-        place: Place,
+        at: u32,
     ) -> Result<Option<Ending>, AllocError>
         requires { self.old.current.next + 1 < 2 ^ 64 }
-        ensures does { IfOk result (λ end. DoesAnywhere (pure_ifgoto (expr_view guard.now) label.now) place self.old end self.new) }
+        ensures does { IfOk result (λ end. DoesAnywhere (pure_ifgoto (expr_view guard.now) label.now) (place_of self.old at) self.old end self.new) }
         ensures grows { OnOk result (GrowsByOne self.old self.new) }
     {
         match evaluate(alloc, guard, &self.current.store) {
-            Ok(guard) => self.branch(alloc, &guard, label, place),
-            Err(fault) => Ok(Some(fault_ending(alloc, fault, place)?)),
+            Ok(guard) => self.branch(alloc, &guard, label, at),
+            Err(fault) => Ok(Some(self.fault_ending(alloc, fault, at)?)),
         }
     }
 
@@ -72,10 +73,10 @@ impl<'p> Control<'p> {
         alloc: Global,
         guard: &Value,
         label: &i64,
-        place: Place,
+        at: u32,
     ) -> Result<Option<Ending>, AllocError>
         requires { self.old.current.next + 1 < 2 ^ 64 }
-        ensures does { IfOk result (λ end. LeadsAnywhere self.old (pure_branch (value_view guard.now) label.now place) end self.new) }
+        ensures does { IfOk result (λ end. LeadsAnywhere self.old (pure_branch (value_view guard.now) label.now (place_of self.old at)) end self.new) }
         ensures grows { OnOk result (GrowsByOne self.old self.new) }
     {
         match guard {
@@ -87,7 +88,7 @@ impl<'p> Control<'p> {
                 self.go_on();
                 Ok(None)
             }
-            _ => Ok(Some(failure(alloc, "type", place)?)),
+            _ => Ok(Some(self.failure(alloc, "type", at)?)),
         }
     }
 
@@ -96,14 +97,14 @@ impl<'p> Control<'p> {
         &mut self,
         alloc: Global,
         expression: &Expr,
-        place: Place,
+        at: u32,
     ) -> Result<Option<Ending>, AllocError>
-        ensures does { IfOk result (λ end. DoesAnywhere (pure_return (expr_view expression.now)) place self.old end self.new) }
+        ensures does { IfOk result (λ end. DoesAnywhere (pure_return (expr_view expression.now)) (place_of self.old at) self.old end self.new) }
         ensures grows { OnOk result (GrowsByOne self.old self.new) }
     {
         match evaluate(alloc, expression, &self.current.store) {
-            Ok(value) => self.leave(alloc, value),
-            Err(fault) => Ok(Some(fault_ending(alloc, fault, place)?)),
+            Ok(value) => self.leave(value),
+            Err(fault) => Ok(Some(self.fault_ending(alloc, fault, at)?)),
         }
     }
 
@@ -112,32 +113,30 @@ impl<'p> Control<'p> {
         &mut self,
         alloc: Global,
         expression: &Expr,
-        place: Place,
+        at: u32,
     ) -> Result<Option<Ending>, AllocError>
-        ensures does { IfOk result (λ end. DoesAnywhere (pure_fail (expr_view expression.now)) place self.old end self.new) }
+        ensures does { IfOk result (λ end. DoesAnywhere (pure_fail (expr_view expression.now)) (place_of self.old at) self.old end self.new) }
         ensures grows { OnOk result (GrowsByOne self.old self.new) }
     {
         match evaluate(alloc, expression, &self.current.store) {
-            Ok(value) => Ok(Some(Ending::Failed(value, place))),
-            Err(fault) => Ok(Some(fault_ending(alloc, fault, place)?)),
+            Ok(value) => {
+                let place = self.place(alloc, at)?;
+                Ok(Some(Ending::Failed(value, place)))
+            }
+            Err(fault) => Ok(Some(self.fault_ending(alloc, fault, at)?)),
         }
     }
 
     /// `x := usym`.
-    pub(crate) fn do_symbol(
-        &mut self,
-        alloc: Global,
-        name: &Text,
-        place: &Place,
-    ) -> Result<Option<Ending>, AllocError>
+    pub(crate) fn do_symbol(&mut self, name: &'p Text) -> Result<Option<Ending>, AllocError>
         requires next { self.old.current.next + 1 < 2 ^ 64 }
         requires counter { self.old.counter + 1 < 2 ^ 64 }
-        ensures does { IfOk result (λ end. DoesAnywhere (pure_usym name.now) place.now self.old end self.new) }
+        ensures does { IfOk result (λ end. (here : PurePlace) → DoesAnywhere (pure_usym name.now) here self.old end self.new) }
         ensures grows { OnOk result (GrowsByOne self.old self.new) }
     {
         let symbol = self.counter;
         self.counter += 1;
-        self.assign(alloc, name, Value::Sym(symbol))?;
+        self.assign(name, Value::Sym(symbol))?;
         Ok(None)
     }
 
@@ -145,15 +144,14 @@ impl<'p> Control<'p> {
     pub(crate) fn do_draw(
         &mut self,
         alloc: Global,
-        name: &Text,
+        name: &'p Text,
         kind: Kind,
         inputs: &Values,
-        place: &Place,
     ) -> Result<Option<Ending>, AllocError>
         requires next { self.old.current.next + 1 < 2 ^ 64 }
         requires draws { self.old.draws + 1 < 2 ^ 32 }
         ensures does { IfOk result (λ end. (p : PureParts) (m : Actions)
-            → DoesBeside p m (values_view inputs.now) (pure_isym name.now kind) place.now self.old end self.new) }
+            (here : PurePlace) → DoesBeside p m (values_view inputs.now) (pure_isym name.now kind) here self.old end self.new) }
         ensures grows { OnOk result (GrowsByOne self.old self.new) }
     {
         let input = inputs.as_slice().get(self.draws as usize);
@@ -168,7 +166,7 @@ impl<'p> Control<'p> {
     fn draw(
         &mut self,
         alloc: Global,
-        name: &Text,
+        name: &'p Text,
         kind: Kind,
         input: &Value,
     ) -> Result<Option<Ending>, AllocError>
@@ -179,7 +177,7 @@ impl<'p> Control<'p> {
     {
         if input.kind() == kind {
             let value = input.copy(alloc)?;
-            self.assign(alloc, name, value)?;
+            self.assign(name, value)?;
             Ok(None)
         } else {
             Ok(Some(Ending::BadInput(self.draws)))
@@ -194,23 +192,23 @@ impl<'p> Control<'p> {
         name: &'p Text,
         callee: &Expr,
         expressions: &Exprs,
-        place: Place,
+        at: u32,
     ) -> Result<Option<Ending>, AllocError>
         requires { self.old.current.next + 1 < 2 ^ 64 }
         ensures does { IfOk result (λ end. (m : Actions) (inputs : List PureValue)
             → DoesBeside (prog_view prog.now) m inputs (pure_call name.now (expr_view callee.now) (exprs_view expressions.now))
-            place self.old end self.new) }
+            (place_of self.old at) self.old end self.new) }
         ensures grows { OnOk result (GrowsByOne self.old self.new) }
     {
         let called = match evaluate(alloc, callee, &self.current.store) {
             Ok(called) => called,
-            Err(fault) => return Ok(Some(fault_ending(alloc, fault, place)?)),
+            Err(fault) => return Ok(Some(self.fault_ending(alloc, fault, at)?)),
         };
         let args = match evaluate_all(alloc, expressions, &self.current.store) {
             Ok(args) => args,
-            Err(fault) => return Ok(Some(fault_ending(alloc, fault, place)?)),
+            Err(fault) => return Ok(Some(self.fault_ending(alloc, fault, at)?)),
         };
-        self.begin(alloc, prog, name, &called, &args, place)
+        self.begin(alloc, prog, name, &called, &args, at)
     }
 
     /// The call of a value with arguments.
@@ -221,24 +219,24 @@ impl<'p> Control<'p> {
         name: &'p Text,
         called: &Value,
         args: &Values,
-        place: Place,
+        at: u32,
     ) -> Result<Option<Ending>, AllocError>
         requires { self.old.current.next + 1 < 2 ^ 64 }
         ensures does { IfOk result
             (λ end. LeadsTo (prog_view prog.now) self.old
-            (enter_value (prog_view prog.now) (value_view called.now) name.now (values_view args.now) place) end self.new) }
+            (enter_value (prog_view prog.now) (value_view called.now) name.now (values_view args.now) (place_of self.old at)) end self.new) }
         ensures grows { OnOk result (GrowsByOne self.old self.new) }
     {
         let Value::Proc(proc) = called else {
-            return Ok(Some(failure(alloc, "proc", place)?));
+            return Ok(Some(self.failure(alloc, "proc", at)?));
         };
         match prog.proc(proc) {
-            None => Ok(Some(failure(alloc, "proc", place)?)),
+            None => Ok(Some(self.failure(alloc, "proc", at)?)),
             Some(proc) if proc.params.len() == args.as_slice().len() => {
                 self.enter(alloc, name, proc, args)?;
                 Ok(None)
             }
-            Some(_) => Ok(Some(failure(alloc, "arity", place)?)),
+            Some(_) => Ok(Some(self.failure(alloc, "arity", at)?)),
         }
     }
 }

@@ -1,17 +1,20 @@
 //! The calls in progress, the next symbol and the draws made: a state of the machine without its heap.
 ghost use Rattle.std.specs.Prelude.{◌≡◌, ◌+◌, ◌^◌, ◌<◌, slice_get, length, pos, Some, None, IfOk, IfSome, OnOk};
 ghost use Rattle.std.specs.Option.{option_map};
+ghost use Rattle.gil_values.specs.Characters.{IsText};
+ghost use Rattle.gil_values.specs.Pure.{text as pure_text};
 ghost use Rattle.gil_values.specs.View.{value_view, values_view};
 ghost use Rattle.gil_syntax.specs.Programs.{find_proc};
 ghost use Rattle.gil_syntax.specs.Pure.{PureParts};
 ghost use Rattle.gil_syntax.specs.View.{numbered_command_view, proc_view};
 ghost use Rattle.gil_machine.specs.Kept.{Keeps};
-ghost use Rattle.gil_machine.specs.Standing.{Comes, FrameStands, GrowsByOne, LeadsAnywhere, Stands};
-ghost use Rattle.gil_machine.specs.State.{Frame as PureFrame, State};
+ghost use Rattle.gil_machine.specs.Standing.{Comes, EndsAs, FaultEnds, FrameStands, GrowsByOne, LeadsAnywhere, Stands, place_of};
+ghost use Rattle.gil_machine.specs.State.{Frame as PureFrame, State, failed};
 ghost use Rattle.gil_machine.specs.Step.{assigned, bind_all, enter, leave, resumed, to_label, to_next};
 ghost use Rattle.gil_machine.specs.StoreView.{store_view};
 
-use crate::endings::Ending;
+use crate::endings::{Ending, failure, fault_ending};
+use crate::faults::EvaluationFault;
 use crate::store::Store;
 use gil_syntax::{NumberedCommand, Proc};
 use gil_values::{Place, Text, Value, Values};
@@ -24,7 +27,7 @@ pub(crate) struct Frame<'p> {
     pub(crate) proc: &'p Proc,
     /// The index of the command at which the call stands.
     pub(crate) next: usize,
-    pub(crate) store: Store,
+    pub(crate) store: Store<'p>,
     /// The variable that waits for the result of the call that this one made.
     pub(crate) waits: Option<&'p Text>,
 }
@@ -53,10 +56,32 @@ impl<'p> Control<'p> {
 
     /// The place of a command of the current call.
     pub(crate) fn place(&self, alloc: Global, at: u32) -> Result<Place, AllocError>
-        ensures { IfOk result (λ place. place ≡ record { proc = self.now.current.proc.now.name; at = at }) }
+        ensures { IfOk result (λ place. place ≡ place_of self.now at) }
     {
         let proc = self.current.proc.name.copy(alloc)?;
         Ok(Place { proc, at })
+    }
+
+    /// The failure with a text at a command of the current call.
+    pub(crate) fn failure(&self, alloc: Global, text: &str, at: u32) -> Result<Ending, AllocError>
+        requires { IsText text.now }
+        ensures { IfOk result (λ ending. EndsAs ending (failed (pure_text text.now) (place_of self.now at))) }
+    {
+        let place = self.place(alloc, at)?;
+        failure(alloc, text, place)
+    }
+
+    /// How the run ends at a fault of evaluation at a command of the current call.
+    pub(crate) fn fault_ending(
+        &self,
+        alloc: Global,
+        fault: EvaluationFault,
+        at: u32,
+    ) -> Result<Ending, AllocError>
+        ensures { IfOk result (λ ending. FaultEnds fault (place_of self.now at) ending) }
+    {
+        let place = self.place(alloc, at)?;
+        fault_ending(alloc, fault, place)
     }
 
     /// Goes to the next command.
@@ -69,18 +94,13 @@ impl<'p> Control<'p> {
     }
 
     /// Gives a variable a value, and goes to the next command.
-    pub(crate) fn assign(
-        &mut self,
-        alloc: Global,
-        name: &Text,
-        value: Value,
-    ) -> Result<(), AllocError>
+    pub(crate) fn assign(&mut self, name: &'p Text, value: Value) -> Result<(), AllocError>
         requires { self.old.current.next + 1 < 2 ^ 64 }
         ensures goes { OnOk result (LeadsAnywhere self.old (assigned name.now (value_view value)) None self.new) }
         ensures counter { self.new.counter ≡ self.old.counter }
         ensures draws { self.new.draws ≡ self.old.draws }
     {
-        self.current.store.set(alloc, name, value)?;
+        self.current.store.set(name, value)?;
         self.current.next += 1;
         Ok(())
     }
@@ -125,18 +145,14 @@ impl<'p> Control<'p> {
     }
 
     /// Ends a call with its value: the variable that waits gets it, and the entry's return ends the run.
-    pub(crate) fn leave(
-        &mut self,
-        alloc: Global,
-        value: Value,
-    ) -> Result<Option<Ending>, AllocError>
+    pub(crate) fn leave(&mut self, value: Value) -> Result<Option<Ending>, AllocError>
         ensures goes { IfOk result (λ end. LeadsAnywhere self.old (λ s. leave s.callers (value_view value) s) end self.new) }
         ensures grows { OnOk result (GrowsByOne self.old self.new) }
     {
         match self.callers.pop() {
             None => Ok(Some(Ending::Returned(value))),
             Some(caller) => {
-                self.current = resume(alloc, caller, value)?;
+                self.current = resume(caller, value)?;
                 Ok(None)
             }
         }
@@ -144,19 +160,23 @@ impl<'p> Control<'p> {
 }
 
 /// The frame that waits gets the value.
-fn resume(alloc: Global, mut caller: Frame, value: Value) -> Result<Frame, AllocError>
+fn resume<'p>(mut caller: Frame<'p>, value: Value) -> Result<Frame<'p>, AllocError>
     ensures { IfOk result (λ frame. (p : PureParts) (g : PureFrame) → FrameStands p caller.entry g
         → FrameStands p frame (resumed g.waits (value_view value) g)) }
 {
     if let Some(name) = caller.waits {
-        caller.store.set(alloc, name, value)?;
+        caller.store.set(name, value)?;
         caller.waits = None;
     }
     Ok(caller)
 }
 
 /// The store of a call that begins: the parameters with their arguments.
-pub(crate) fn store_of(alloc: Global, proc: &Proc, args: &Values) -> Result<Store, AllocError>
+pub(crate) fn store_of<'p>(
+    alloc: Global,
+    proc: &'p Proc,
+    args: &Values,
+) -> Result<Store<'p>, AllocError>
     requires { length (values_view args.now) ≡ length proc.now.params }
     ensures { IfOk result (λ store. Keeps (store_view store) (bind_all proc.now.params (values_view args.now))) }
 {
@@ -165,7 +185,7 @@ pub(crate) fn store_of(alloc: Global, proc: &Proc, args: &Values) -> Result<Stor
     let values = args.as_slice();
     for i in (0..values.len()).rev() {
         let value = values[i].copy(alloc)?;
-        store.set(alloc, &params[i], value)?;
+        store.set(&params[i], value)?;
     }
     Ok(store)
 }

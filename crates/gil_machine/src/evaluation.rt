@@ -1,5 +1,5 @@
 //! The values of expressions.
-ghost use Rattle.std.specs.Prelude.{IfOk};
+ghost use Rattle.std.specs.Prelude.{◌≡◌, IfOk, IfSome};
 ghost use Rattle.gil_values.specs.Answers.{Answers};
 ghost use Rattle.gil_values.specs.Operators.{Outcome, binary, unary};
 ghost use Rattle.gil_values.specs.View.{value_view};
@@ -26,11 +26,35 @@ pub fn evaluate(alloc: Global, expression: &Expr, store: &Store) -> Result<Value
         Expr::Name(name) => value_of(alloc, store, name),
         Expr::Logical(name) => value_of(alloc, store, name),
         Expr::List(elements) => as_list(evaluate_all(alloc, elements, store)),
-        Expr::Op1(op, operand) => one_operand(alloc, *op, evaluate(alloc, operand, store)),
-        Expr::Op2(op, left, right) => match evaluate(alloc, left, store) {
-            Ok(left) => two_operands(alloc, *op, &left, evaluate(alloc, right, store)),
-            Err(fault) => Err(fault),
+        Expr::Op1(op, operand) => match kept(operand, store) {
+            Some(operand) => of_table(apply1(alloc, *op, operand)),
+            None => one_operand(alloc, *op, evaluate(alloc, operand, store)),
         },
+        Expr::Op2(op, left, right) => match kept(left, store) {
+            Some(left) => with_left(alloc, *op, left, right, store),
+            None => match evaluate(alloc, left, store) {
+                Ok(left) => with_left(alloc, *op, &left, right, store),
+                Err(fault) => Err(fault),
+            },
+        },
+    }
+}
+
+/// What an operator of two operands gives, where the left one has its value.
+#[cycle(evaluation)]
+fn with_left(
+    alloc: Global,
+    op: BinOp,
+    left: &Value,
+    right: &Expr,
+    store: &Store,
+) -> Result<Value, EvaluationFault>
+    ensures { (s : PureStore) → Keeps (store_view store.now) s
+        → Gives result (after_held (evaluate_held (expr_view right.now) s) (λ v. held (binary op (value_view left.now) v))) }
+{
+    match kept(&*right, &*store) {
+        Some(right) => of_table(apply2(alloc, op, left, right)),
+        None => two_operands(alloc, op, left, evaluate(alloc, right, store)),
     }
 }
 
@@ -51,6 +75,19 @@ pub fn evaluate_all(
         }
     }
     Ok(values)
+}
+
+/// The value of an operand where it stands: a literal, or that of a name.
+fn kept<'a>(operand: &'a Expr, store: &'a Store) -> Option<&'a Value>
+    ensures { IfSome result
+        (λ v. (s : PureStore) → Keeps (store_view store.now) s → evaluate_held (expr_view operand.now) s ≡ Ok (value_view v.now)) }
+{
+    match operand {
+        Expr::Lit(value) => Some(value),
+        Expr::Name(name) => store.get(name),
+        Expr::Logical(name) => store.get(name),
+        _ => None,
+    }
 }
 
 /// The value of a name.

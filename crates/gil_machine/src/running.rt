@@ -10,7 +10,7 @@ ghost use Rattle.gil_program.specs.Program.{prog_view};
 ghost use Rattle.mem_model.specs.Heaps.{Heap};
 ghost use Rattle.gil_machine.specs.Held.{held_run_of, number_at};
 ghost use Rattle.gil_machine.specs.Run.{IsEntry, IsProperStart, start};
-ghost use Rattle.gil_machine.specs.Standing.{Comes, Does, GrowsByOne, HasMemory, IsAtNumber, IsEndOf, IsStanding, Stands};
+ghost use Rattle.gil_machine.specs.Standing.{Comes, Does, GrowsByOne, HasMemory, IsAtNumber, IsEndOf, IsStanding, Stands, place_of};
 ghost use Rattle.gil_machine.specs.State.{State};
 ghost use Rattle.gil_machine.specs.Step.{step as pure_step};
 
@@ -166,8 +166,7 @@ impl<'p> Control<'p> {
         match self.command() {
             None => Ok(None),
             Some(numbered) => {
-                let place = self.place(alloc, numbered.at)?;
-                self.do_command(alloc, prog, memory, inputs, &numbered.command, place)
+                self.do_command(alloc, prog, memory, inputs, &numbered.command, numbered.at)
             }
         }
     }
@@ -180,7 +179,7 @@ impl<'p> Control<'p> {
         memory: &mut M,
         inputs: &Values,
         command: &'p Command,
-        place: Place,
+        at: u32,
     ) -> Result<Option<Ending>, AllocError>
         requires next { self.old.current.next + 1 < 2 ^ 64 }
         requires counter { self.old.counter + 1 < 2 ^ 64 }
@@ -188,24 +187,20 @@ impl<'p> Control<'p> {
         requires made { IsTrue (is_well_made_command (command_view command.now)) }
         requires standing { IsStanding (prog_view prog.now) M.memory self.old (M.heap memory.old) }
         ensures does { IfOk result
-            (λ end. Does (prog_view prog.now) M.actions (values_view inputs.now) (command_view command.now) place self.old
+            (λ end. Does (prog_view prog.now) M.actions (values_view inputs.now) (command_view command.now) (place_of self.old at) self.old
             (M.heap memory.old) end self.new (M.heap memory.new)) }
         ensures at_number { IfOk result (λ end. IsAtNumber end → M.heap memory.new ≡ M.heap memory.old) }
         ensures grows { OnOk result (GrowsByOne self.old self.new) }
     {
         match command {
-            Command::Assign(name, expression) => self.do_assign(alloc, name, expression, place),
-            Command::Call(name, callee, args) => {
-                self.do_call(alloc, prog, name, callee, args, place)
-            }
-            Command::Act(name, action, args) => {
-                self.do_act(alloc, memory, name, action, args, place)
-            }
-            Command::Usym(name) => self.do_symbol(alloc, name, &place),
-            Command::Isym(name, kind) => self.do_draw(alloc, name, *kind, inputs, &place),
-            Command::IfGoto(guard, label) => self.do_branch(alloc, guard, label, place),
-            Command::Return(expression) => self.do_return(alloc, expression, place),
-            Command::Fail(expression) => self.do_fail(alloc, expression, place),
+            Command::Assign(name, expression) => self.do_assign(alloc, name, expression, at),
+            Command::Call(name, callee, args) => self.do_call(alloc, prog, name, callee, args, at),
+            Command::Act(name, action, args) => self.do_act(alloc, memory, name, action, args, at),
+            Command::Usym(name) => self.do_symbol(name),
+            Command::Isym(name, kind) => self.do_draw(alloc, name, *kind, inputs),
+            Command::IfGoto(guard, label) => self.do_branch(alloc, guard, label, at),
+            Command::Return(expression) => self.do_return(alloc, expression, at),
+            Command::Fail(expression) => self.do_fail(alloc, expression, at),
             Command::Vanish => Ok(Some(Ending::Vanished)),
             Command::Fold(_)
             | Command::Unfold(_)

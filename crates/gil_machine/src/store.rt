@@ -11,13 +11,13 @@ use std::collections::HashMap;
 
 /// The values of names, each name once. Contracts see it as a list of names with their values, by `store_view`.
 #[derive(Drop)]
-pub struct Store {
-    values: HashMap<Text, Value>,
+pub struct Store<'p> {
+    values: HashMap<&'p str, Value>,
 }
 
-impl Store {
+impl<'p> Store<'p> {
     /// The store without values.
-    pub fn new(alloc: Global) -> Store
+    pub fn new(alloc: Global) -> Store<'p>
         ensures { store_view result ≡ [] }
     {
         Store {
@@ -29,16 +29,15 @@ impl Store {
     pub fn get(&self, name: &Text) -> Option<&Value>
         ensures { option_map (λ v. value_view v.now) result ≡ kept_value (store_view self.now) name.now }
     {
-        self.values.get(name)
+        self.values.get(name.as_str())
     }
 
     /// Gives a name a value.
-    pub fn set(&mut self, alloc: Global, name: &Text, value: Value) -> Result<(), AllocError>
+    pub fn set(&mut self, name: &'p Text, value: Value) -> Result<(), AllocError>
         ensures ok { OnOk result (Sets (store_view self.old) (store_view self.new) name.now (value_view value)) }
         ensures err { OnErr result (store_view self.new ≡ store_view self.old) }
     {
-        let name = name.copy(alloc)?;
-        self.values.insert(name, value)?;
+        self.values.insert(name.as_str(), value)?;
         Ok(())
     }
 }

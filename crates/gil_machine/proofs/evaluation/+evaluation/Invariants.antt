@@ -12,6 +12,9 @@ use Rattle.gil_machine.proofs.evaluation.+evaluation.Given as goal
 abbrev pub decreases-evaluate : goal.decreases-evaluate
 decreases-evaluate l = 2 * expr_size (expr_view l.expression.now)
 
+abbrev pub decreases-with_left : goal.decreases-with_left
+decreases-with_left l = 2 * expr_size (expr_view l.right.now) + 1
+
 abbrev pub decreases-evaluate_all : goal.decreases-evaluate_all
 decreases-evaluate_all l = 2 * exprs_size (from_list (exprs_view l.expressions.now)) + 1
 

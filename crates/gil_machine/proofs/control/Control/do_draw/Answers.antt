@@ -8,7 +8,7 @@ use Rattle.gil_machine.specs.Step.{draw}
 use Rattle.gil_machine.proofs.control.Control.do_draw.Goals as goal
 
 pub returns-in-Some-clause-does : goal.returns-in-Some-clause-does
-returns-in-Some-clause-does c = IfOk-weaker c.draw.result _ _ (λ end goes. λ p m h s stands heap.
+returns-in-Some-clause-does c = IfOk-weaker c.draw.result _ _ (λ end goes. λ p m here h s stands heap.
     let there : slice_get (values_view c.args.inputs.now) s.draws ≡ Some (value_view c.in-Some.input.now) =
     subst (λ n. slice_get (values_view c.args.inputs.now) n ≡ Some (value_view c.in-Some.input.now)) (sym stands.draws)
     (subst (λ vs. slice_get vs c.args.self.now.draws ≡ Some (value_view c.in-Some.input.now)) c.as_slice.ensures

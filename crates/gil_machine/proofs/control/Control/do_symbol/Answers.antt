@@ -7,7 +7,7 @@ use Rattle.gil_machine.proofs.Outcomes.{symbol_seen}
 use Rattle.gil_machine.proofs.control.Control.do_symbol.Goals as goal
 
 pub returns-clause-does : goal.returns-clause-does
-returns-clause-does c = λ p m inputs h s stands heap.
+returns-clause-does c = λ here p m inputs h s stands heap.
     subst (λ n. Comes p None (assigned c.args.name.now (symbol n) (record s { counter = s.counter + 1 })) None c.assign.new.self h) (sym stands.counter)
     (subst (Comes p None (assigned c.args.name.now (symbol c.args.self.now.counter) (record s { counter = s.counter + 1 })) None c.assign.new.self) heap
     (subst (λ v. Comes p None (assigned c.args.name.now v (record s { counter = s.counter + 1 })) None c.assign.new.self s.heap) (symbol_seen c.args.self.now.counter) (c.in_ok-assign.ensures.goes p (record s { counter = s.counter + 1 })
