@@ -3,3 +3,5 @@ pub mod Equating
 pub mod Linking
 pub mod Nodes
 pub mod Solved
+pub mod Valued
+pub mod Values

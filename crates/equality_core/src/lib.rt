@@ -6,9 +6,11 @@ mod classes;
 mod closing;
 mod copying;
 mod forms;
+mod letters;
 mod linking;
 mod nodes;
 mod opening;
+mod rooting;
 mod sides;
 mod solving;
 
