@@ -149,14 +149,14 @@ clash_closes_in c place vars found nodes same taken =
 
 -- ---- classes without a clash
 
-record Found (nodes : List PureNode) (t : PureTerm) (r : ℕ) : Type 0 where
-  place : ℕ
-  node : PureNode
-  at : slice_get nodes place ≡ Some node
-  term : node.term ≡ t
-  root : node.root ≡ r
+pub record Found (nodes : List PureNode) (t : PureTerm) (r : ℕ) : Type 0 where
+  pub place : ℕ
+  pub node : PureNode
+  pub at : slice_get nodes place ≡ Some node
+  pub term : node.term ≡ t
+  pub root : node.root ≡ r
 
-root_found : (nodes : List PureNode) (t : PureTerm) (r : ℕ) → root_of nodes t ≡ Some r → Found nodes t r
+pub root_found : (nodes : List PureNode) (t : PureTerm) (r : ℕ) → root_of nodes t ≡ Some r → Found nodes t r
 root_found [] t r is = cc
 root_found (n ∷ ns) t r is = by_test (same_term n.term t) refl is (root_found ns t r) where
   by_test : (b : Bool) → same_term n.term t ≡ b → (if b then Some n.root else root_of ns t) ≡ Some r → (root_of ns t ≡ Some r → Found ns t r) → Found (n ∷ ns) t r

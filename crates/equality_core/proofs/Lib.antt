@@ -1,4 +1,5 @@
 pub mod Answering
+pub mod Classing
 pub mod Differing
 pub mod Equaling
 pub mod Exact

@@ -7,7 +7,8 @@ use Rattle.pure_terms.specs.declared.variables.Sort.{Sort}
 use Rattle.pure_terms.specs.declared.variables.Var.{Var}
 use Rattle.pure_terms.specs.Meaning.{literal_value}
 use Rattle.pure_terms.specs.Pure.{PureTerm, literal, variable, binary_of, PureAtom, term_of}
-use Rattle.equality_core.specs.Equating.{Equates}
+use Rattle.equality_core.specs.Classes.{PureClasses, given_list, IsTaken}
+use Rattle.equality_core.specs.Equating.{Equates, EquatesNoClash, HaveFragmentForms}
 use Rattle.equality_core.specs.Nodes.{PureNode, root_of}
 
 -- the variable is one of the table, with its sort there
@@ -132,3 +133,10 @@ HasNoLiteralIn nodes root = (i : ℕ) (n : PureNode) (l : Literal) → slice_get
 -- no literal among the terms of the nodes has more letters
 abbrev pub HaveFewLetters : ℕ → List PureNode → Type 0
 HaveFewLetters long nodes = (i : ℕ) (n : PureNode) → slice_get nodes i ≡ Some n → letters_of_term n.term ≤ long
+
+-- all equalities were taken in, there is no clash, and these are the roots of the variables
+pub record IsClassed (vars : List Sort) (c : PureClasses) (roots : List (Option ℕ)) : Type 0 where
+  pub taken : IsTaken c (length c.list)
+  pub forms : HaveFragmentForms (given_list c)
+  pub clear : EquatesNoClash (given_list c)
+  pub rooted : roots ≡ roots_from c.nodes 0 vars
