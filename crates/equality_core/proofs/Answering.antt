@@ -268,3 +268,10 @@ link_from c atoms s t same clear (Some p) (closes, e) = (equates_back atoms s t 
 link_from c atoms s t same clear None h = λ forms e.
     let never : HaveFragmentForms (differing atoms s t) → EquatesNoClash (differing atoms s t) → Equates (differing atoms s t) s t → ⊥ = subst (λ l. HaveFragmentForms l → EquatesNoClash l → Equates l s t → ⊥) same h in
     never (forms_on atoms s t forms) (λ u w f. clear forms u w (equates_back atoms s t u w f)) (equates_on atoms s t s t e)
+
+-- a list without a clash doesn't equate terms of different length
+pub not_apart : (atoms : List PureAtom) → EquatesNoClash atoms → EquatesApart atoms → ⊥
+not_apart atoms clear apart =
+    let none = clear (list_of apart.left) (list_of apart.right) apart.equated in
+    let lengths : have_other_lengths (list_of apart.left) (list_of apart.right) ≡ false = other_lengths (list_of apart.left) (list_of apart.right) none in
+    apart.apart (eqb-true (length (to_list apart.left)) (length (to_list apart.right)) (not-false _ lengths))

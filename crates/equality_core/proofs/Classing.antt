@@ -1,7 +1,8 @@
 -- Roots and nodes tell what is equated with a variable.
-use Rattle.std.proofs.Common.{◌≡◌, ⊎_elim, ◌⊎◌, inl, inr, ℕ, zero, suc, ◌+◌, ◌<◌, ◌≤◌, List, [], ◌∷◌, length, Bool, true, false, if◌then◌else◌, Option, Some, None, slice_get, refl, sym, ap, ◌∙◌, subst, arith}
-use Rattle.std.specs.Option.{option_map}
-use Rattle.std.proofs.lemmas.Option.{same_Some, slice_get_within, slice_get_past}
+use Rattle.std.proofs.Common.{◌≡◌, ⊎_elim, ◌⊎◌, inl, inr, ℕ, zero, suc, ◌+◌, ◌<◌, ◌≤◌, List, [], ◌∷◌, ◌++◌, length, Bool, true, false, if◌then◌else◌, Option, Some, None, slice_get, refl, sym, ap, ◌∙◌, subst, arith, length-append}
+use Rattle.std.specs.Option.{option_map, IsSome}
+use Rattle.std.proofs.lemmas.Bool.{cases_eq}
+use Rattle.std.proofs.lemmas.Option.{same_Some, slice_get_within}
 use Rattle.gil_values.specs.declared.kinds.Kind.{Kind}
 use Rattle.gil_values.specs.Pure.{PureValue}
 use Rattle.pure_terms.specs.declared.literals.Literal.{Literal}
@@ -10,10 +11,13 @@ use Rattle.pure_terms.specs.declared.variables.Var.{Var}
 use Rattle.pure_terms.specs.Kinds.{known_kind}
 use Rattle.pure_terms.specs.Meaning.{literal_value}
 use Rattle.pure_terms.specs.Pure.{PureTerm, literal, variable, PureAtom}
+use Rattle.pure_terms.proofs.VariableLaws.{slice_get-append}
 use Rattle.solver_proof.specs.Chains.{Sides, equality_at, are_other_kinds, Leads}
+use Rattle.solver_proof.proofs.Growing.{found_right}
 use Rattle.equality_core.specs.Classes.{PureClasses, given_list}
 use Rattle.equality_core.specs.Equating.{Equates, itself}
 use Rattle.equality_core.specs.Nodes.{PureNode, root_of, IsUnited}
+use Rattle.equality_core.specs.Valued.{FitNumbers}
 use Rattle.equality_core.specs.Values.{IsInTable, letters_of_term, new_value, IsKey, HasNoLiteral, HasNoIntVariable, IsValueOf, roots_from, HasRoot, IsFirstWith, IsIntWith, HasNoIntWith, IsLiteralIn, HasNoLiteralIn, HaveFewLetters, IsClassed}
 use Rattle.equality_core.proofs.Answering.{Found, root_found, two_lead}
 use Rattle.equality_core.proofs.Exact.{leads_equates, leads_united, equated_leads}
@@ -151,3 +155,90 @@ module _ (vars : List Sort) (c : PureClasses) (roots : List (Option ℕ)) (h : I
 
       lower : (y : Var) → y.number < x.number → x.number ≡ y.number → ⊥
       lower y less e = omega (arith, less, e)
+
+-- ---- values
+
+module _ (vars : List Sort) (c : PureClasses) (roots : List (Option ℕ)) (h : IsClassed vars c roots) (numbers : List PureValue) (kinds : List Kind) (long : ℕ) (x : Var) (there : IsInTable vars x) where
+  abbrev Has : PureValue → Type 0
+  Has w = IsValueOf vars (given_list c) numbers kinds long x w
+
+  pub by_literal : (r : ℕ) (l : Literal) (w : PureValue) → HasRoot roots r x.number → HaveFewLetters long c.nodes → IsLiteralIn c.nodes r l → w ≡ literal_value l → Has w
+  by_literal r l w has few is same = inl (record {
+    of = l;
+    equated = literal_equated vars c roots h x r there has l is;
+    short = subst (λ t. letters_of_term t ≤ long) is.is (few is.place is.node is.at);
+    is = same;
+  })
+
+  pub by_number : (r y : ℕ) (w : PureValue) → HasRoot roots r x.number → HasNoLiteralIn c.nodes r → IsIntWith vars roots r y → slice_get numbers y ≡ Some w → Has w
+  by_number r y w has none is at = inr (no_literal vars c roots h x r there has none, inl (record {
+    of = record { number = y; sort = Sort.Int };
+    there = is.whole;
+    whole = refl;
+    equated = int_equated vars c roots h x r there has y is;
+    is = at;
+  }))
+
+  pub by_new : (r k : ℕ) (kind : Kind) (w : PureValue) → HasRoot roots r x.number → HasNoLiteralIn c.nodes r → HasNoIntWith vars roots r → IsFirstWith roots r x.number k → slice_get kinds x.number ≡ Some kind → w ≡ new_value long kind k → Has w
+  by_new r k kind w has none no_whole first at same = inr (no_literal vars c roots h x r there has none, inr (record {
+    none = no_int vars c roots h x r there has no_whole;
+    key = k;
+    is_key = first_key vars c roots h x r there has k first;
+    of = kind;
+    there = at;
+    is = same;
+  }))
+
+  pub alone_number : (w : PureValue) → slice_get roots x.number ≡ Some None → x.sort ≡ Sort.Int → slice_get numbers x.number ≡ Some w → Has w
+  alone_number w none whole at = inr (alone_no_literal vars c roots h x there none, inl (record { of = x; there = there; whole = whole; equated = itself; is = at }))
+
+  pub alone_new : (kind : Kind) (w : PureValue) → slice_get roots x.number ≡ Some None → (x.sort ≡ Sort.Int → ⊥) → slice_get kinds x.number ≡ Some kind → w ≡ new_value long kind x.number → Has w
+  alone_new kind w none other at same = inr (alone_no_literal vars c roots h x there none, inr (record {
+    none = alone_no_int vars c roots h x there none other;
+    key = x.number;
+    is_key = alone_key vars c roots h x there none;
+    of = kind;
+    there = at;
+    is = same;
+  }))
+
+pub rooted_length : (vars : List Sort) (c : PureClasses) (roots : List (Option ℕ)) → IsClassed vars c roots → length roots ≡ length vars
+rooted_length vars c roots h = ap length h.rooted ∙ length-roots c.nodes 0 vars
+
+pub in_roots : (vars : List Sort) (c : PureClasses) (roots : List (Option ℕ)) (x : Var) → IsClassed vars c roots → IsInTable vars x → x.number < length roots
+in_roots vars c roots x h there = subst (λ n. x.number < n) (sym (rooted_length vars c roots h)) (slice_get_within vars x.number x.sort there)
+
+-- Int variables have numbers
+pub has_number : (vars : List Sort) (atoms : List PureAtom) (numbers : List PureValue) (n : ℕ) → FitNumbers vars atoms numbers → slice_get vars n ≡ Some Sort.Int → IsSome (slice_get numbers n)
+has_number vars atoms numbers n fit at = let given = fit.each n at in subst IsSome (sym given.is) refl
+
+-- one more value at the end
+module _ (vars : List Sort) (us vs : List PureValue) (u : PureValue) (n : ℕ) (P : Var → PureValue → Type 0) (pushed : us ≡ vs ++ u ∷ []) (size : length vs ≡ n) where
+  pub longer_size : length us ≡ n + 1
+  longer_size = ap length pushed ∙ length-append vs (u ∷ []) ∙ ap (λ m. m + 1) size
+
+  pub one_more : ((x : Var) (w : PureValue) → x.number < n → IsInTable vars x → slice_get vs x.number ≡ Some w → P x w) → ((x : Var) → x.number ≡ n → IsInTable vars x → P x u)
+      → (x : Var) (w : PureValue) → x.number < n + 1 → IsInTable vars x → slice_get us x.number ≡ Some w → P x w
+  one_more before here x w below there at = ⊎_elim (λ e. last e) (λ other. earlier other) (cases_eq x.number n) where
+    at_longer : slice_get (vs ++ u ∷ []) x.number ≡ Some w
+    at_longer = subst (λ (ws : List PureValue). slice_get ws x.number ≡ Some w) pushed at
+
+    last : x.number ≡ n → P x w
+    last e =
+        let place : x.number ≡ length vs + 0 = omega (arith, e, size) in
+        let found : slice_get (vs ++ u ∷ []) x.number ≡ Some u = found_right vs (u ∷ []) x.number 0 place in
+        subst (P x) (same_Some u w (sym found ∙ at_longer)) (here x e there)
+
+    earlier : (x.number ≡ n → ⊥) → P x w
+    earlier other = before x w (less x.number other below) there (sym (slice_get-append vs (u ∷ []) x.number (in_old x.number other below)) ∙ at_longer) where
+      less : (a : ℕ) → (a ≡ n → ⊥) → a < n + 1 → a < n
+      less a other below = omega (arith, other, below)
+
+      in_old : (a : ℕ) → (a ≡ n → ⊥) → a < n + 1 → a < length vs
+      in_old a other below = omega (arith, other, below, size)
+
+-- the variable with this number in the table
+pub in_table : (vars : List Sort) (x y : Var) → IsInTable vars x → IsInTable vars y → x.number ≡ y.number → x ≡ y
+in_table vars x y there also e =
+    let sorts : x.sort ≡ y.sort = same_Some x.sort y.sort (sym there ∙ ap (slice_get vars) e ∙ also) in
+    λ i. record { number = e i; sort = sorts i }

@@ -5,6 +5,7 @@ mod clashes;
 mod classes;
 mod closing;
 mod copying;
+mod distinct;
 mod forms;
 mod letters;
 mod linking;
@@ -13,9 +14,12 @@ mod opening;
 mod rooting;
 mod sides;
 mod solving;
+mod values;
 
+pub use distinct::distinct_values;
 pub use forms::{Solved, SolvedForm};
 pub use solving::equal;
+pub use values::Kinds;
 
 #[cfg(test)]
 mod tests;
