@@ -21,6 +21,7 @@ use Rattle.equality_core.specs.declared.clashes.Clash.{Clash}
 use Rattle.equality_core.specs.Equating.{Equates, itself, by_atom, turned, joined, by_elements, have_other_lengths, clash, EquatesNoClash, HaveFragmentForms}
 use Rattle.equality_core.specs.Nodes.{PureNode, AreNodes, root_of, IsUnited, end_between, clash_end, ClashesWithNone, IsClash}
 use Rattle.equality_core.specs.Classes.{PureClasses, given_list, under_parts, IsTaken, EquatesApart}
+use Rattle.equality_core.specs.Classified.{IsChained}
 use Rattle.equality_core.specs.Linking.{both_sides, IsLinkedIn}
 use Rattle.equality_core.specs.Solved.{IsLinked}
 use Rattle.equality_core.proofs.Exact.{given_atom, leads_equates, leads_united, equated_leads, one_length}
@@ -275,3 +276,11 @@ not_apart atoms clear apart =
     let none = clear (list_of apart.left) (list_of apart.right) apart.equated in
     let lengths : have_other_lengths (list_of apart.left) (list_of apart.right) ≡ false = other_lengths (list_of apart.left) (list_of apart.right) none in
     apart.apart (eqb-true (length (to_list apart.left)) (length (to_list apart.right)) (not-false _ lengths))
+
+-- a chain between two terms, with an end
+module _ (c : PureClasses) (taken : IsTaken c (length c.list)) (s t : PureTerm) (end : ChainEnd) where
+  pub chain_closes : (is : List ℕ) → Leads c.list is s t → IsChained c s t end (Some (under_parts c.opened (chain is end)))
+  chain_closes is leads = (leads_equates c taken is s t leads, λ ends vars. under-closes vars (given_list c) c.opened c.list (chain is end) taken.opened (s, (t, (leads, ends))))
+
+  pub not_chained : (s ≡ t → ⊥) → (IsUnited c.nodes s t → ⊥) → IsChained c s t end None
+  not_chained other apart = not_linked c taken s t other apart

@@ -7,6 +7,7 @@ pub mod Finding
 pub mod Leading
 pub mod Noding
 pub mod Saying
+pub mod Seeking
 pub mod Separating
 pub mod Taking
 pub mod Valuing

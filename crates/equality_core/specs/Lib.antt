@@ -1,4 +1,5 @@
 pub mod Classes
+pub mod Classified
 pub mod Equating
 pub mod Linking
 pub mod Nodes

@@ -49,6 +49,29 @@ fn valued(
     )
 }
 
+impl Classes {
+    /// A valuation under which the equalities of the classes are true, and so are disequalities of terms that they don't equate.
+    /// Int variables have the given numbers, and all variables the given kinds.
+    pub fn values(
+        &self,
+        alloc: Global,
+        vars: &VarTable,
+        numbers: &Valuation,
+        kinds: &Kinds,
+        apart: &Atoms,
+    ) -> Result<Valuation, AllocError>
+        requires taken { IsTaken (classes_view self.now) (length (classes_view self.now).list) }
+        requires clear { EquatesNoClash (given_list (classes_view self.now)) }
+        requires fragment { AreFragmentEqualities vars.now (given_list (classes_view self.now)) }
+        requires numbers { FitNumbers vars.now (given_list (classes_view self.now)) (values_view numbers.now) }
+        requires kinds { FitKinds vars.now (given_list (classes_view self.now)) kinds.now }
+        requires apart { MayAllDiffer vars.now (given_list (classes_view self.now)) kinds.now (atoms_view apart.now) }
+        ensures { IfOk result (λ v. MeetsApart vars.now (given_list (classes_view self.now)) (values_view numbers.now) kinds.now (atoms_view apart.now) (values_view v)) }
+    {
+        valued(alloc, self, vars, numbers, kinds, apart)
+    }
+}
+
 /// A valuation under which the equalities of a form are true, and so are disequalities of terms that it doesn't equate. Int
 /// variables have the given numbers, and all variables the given kinds.
 pub fn distinct_values(

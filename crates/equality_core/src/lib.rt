@@ -3,6 +3,7 @@
 
 mod clashes;
 mod classes;
+mod classifying;
 mod closing;
 mod copying;
 mod distinct;
@@ -16,6 +17,8 @@ mod sides;
 mod solving;
 mod values;
 
+pub use classes::{Classes, Wanted};
+pub use classifying::{Classified, classify};
 pub use distinct::distinct_values;
 pub use forms::{Solved, SolvedForm};
 pub use solving::equal;
