@@ -57,3 +57,8 @@ first_in_class nodes w t = first_at nodes w t (root_of nodes t)
 abbrev pub IsChained : PureClasses → PureTerm → PureTerm → ChainEnd → Option PureProof → Type 0
 IsChained c s t end (Some p) = Equates (given_list c) s t × (end_closes c.list end s t ≡ true → (vars : List Sort) → Closes vars (given_list c) p)
 IsChained c s t end None = HaveFragmentForms (given_list c) → EquatesNoClash (given_list c) → Equates (given_list c) s t → ⊥
+
+-- the terms are equated; or they aren't, where there is no clash and the equalities have forms of the fragment
+abbrev pub IsEquating : PureClasses → PureTerm → PureTerm → Bool → Type 0
+IsEquating c s t true = Equates (given_list c) s t
+IsEquating c s t false = HaveFragmentForms (given_list c) → EquatesNoClash (given_list c) → Equates (given_list c) s t → ⊥

@@ -4,10 +4,10 @@ ghost use Rattle.std.specs.Option.{option_map};
 ghost use Rattle.pure_terms.specs.View.{term_view, atoms_view};
 ghost use Rattle.solver_proof.specs.View.{proof_view};
 ghost use Rattle.equality_core.specs.Classes.{classes_view};
-ghost use Rattle.equality_core.specs.Classified.{IsWhole, is_wanted, first_of, first_in_class, IsChained};
+ghost use Rattle.equality_core.specs.Classified.{IsWhole, is_wanted, first_of, first_in_class, IsChained, IsEquating};
 ghost use Rattle.equality_core.specs.Nodes.{node_view};
 
-use crate::linking::chained;
+use crate::linking::{are_linked, chained};
 use crate::nodes::{Node, Nodes, find};
 use pure_terms::{Atoms, Sort, Term};
 use solver_proof::{ChainEnd, Proof};
@@ -88,6 +88,14 @@ impl Classes {
                 None
             }
         }
+    }
+
+    /// Whether two terms are equated.
+    pub fn equates(&self, s: &Term, t: &Term) -> bool
+        requires { IsWhole (classes_view self.now) }
+        ensures { IsEquating (classes_view self.now) (term_view s.now) (term_view t.now) result }
+    {
+        are_linked(self, s, t)
     }
 
     /// A proof by a chain from one term to another, where they are equated and the end says why they can't be.

@@ -6,7 +6,7 @@ ghost use Rattle.solver_proof.specs.Chains.{disequality_at};
 ghost use Rattle.solver_proof.specs.Pure.{chain};
 ghost use Rattle.solver_proof.specs.View.{proof_view};
 ghost use Rattle.equality_core.specs.Classes.{classes_view, given_list, under_parts, IsTaken};
-ghost use Rattle.equality_core.specs.Classified.{IsChained};
+ghost use Rattle.equality_core.specs.Classified.{IsChained, IsEquating};
 ghost use Rattle.equality_core.specs.Linking.{IsCleared, IsLinkedIn, IsPair, both_sides};
 ghost use Rattle.equality_core.specs.Nodes.{node_view, nodes_view, IsUnited};
 
@@ -147,5 +147,19 @@ pub(crate) fn chained(
             Ok(Some(chain_proof(alloc, opened, first, second, end)?))
         }
         None => Ok(None),
+    }
+}
+
+/// Whether two terms are equated.
+pub(crate) fn are_linked(classes: &Classes, s: &Term, t: &Term) -> bool
+    requires { IsTaken (classes_view classes.now) (length (classes_view classes.now).list) }
+    ensures { IsEquating (classes_view classes.now) (term_view s.now) (term_view t.now) result }
+{
+    if *s == *t {
+        return true;
+    }
+    match find_pair(&classes.nodes, s, t) {
+        Some(_) => true,
+        None => false,
     }
 }
