@@ -13,6 +13,7 @@ returns-in-Err-clause-limit c =
 pub loop-function-preserved : goal.loop-function-preserved
 loop-function-preserved c =
     let items = c.as_slice-functions.result.now in
-    let index = c.loop-function.function-index in
-    (procs-next items index c.function-item.result c.loop-function-test.true c.function-item.is c.loop-function.procs c.push.new.self c.in-Ok.proc c.loop-function.invariant.0 c.in_ok-push-in-Ok.ensures.ok c.in-Ok.ensures.proc,
-    short-next items index c.function-item.result c.loop-function-test.true c.function-item.is c.loop-function.invariant.1 c.in-Ok.ensures.short)
+    let index = c.loop-function.function-index in (
+      procs-next items index c.function-item.result c.loop-function-test.true c.function-item.is c.loop-function.procs c.push.new.self c.in-Ok.proc c.loop-function.invariant.0 c.in_ok-push-in-Ok.ensures.ok c.in-Ok.ensures.proc,
+      short-next items index c.function-item.result c.loop-function-test.true c.function-item.is c.loop-function.invariant.1 c.in-Ok.ensures.short,
+    )
