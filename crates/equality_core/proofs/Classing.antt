@@ -1,5 +1,5 @@
 -- Roots and nodes tell what is equated with a variable.
-use Rattle.std.proofs.Common.{◌≡◌, ⊎_elim, ◌⊎◌, inl, inr, ℕ, zero, suc, ◌+◌, ◌<◌, ◌≤◌, List, [], ◌∷◌, ◌++◌, length, Bool, true, false, if◌then◌else◌, Option, Some, None, slice_get, refl, sym, ap, ◌∙◌, subst, arith, length-append}
+use Rattle.std.proofs.Common.{◌≡◌, ⊎_elim, ◌⊎◌, inl, inr, ℕ, zero, suc, ◌+◌, ◌<◌, ◌≤◌, List, [], ◌∷◌, ◌++◌, length, false, Option, Some, None, slice_get, refl, sym, ap, ◌∙◌, subst, arith, length-append}
 use Rattle.std.specs.Option.{option_map, IsSome}
 use Rattle.std.proofs.lemmas.Bool.{cases_eq}
 use Rattle.std.proofs.lemmas.Option.{same_Some, slice_get_within}
@@ -19,7 +19,7 @@ use Rattle.equality_core.specs.Equating.{Equates, itself}
 use Rattle.equality_core.specs.Nodes.{PureNode, root_of, IsUnited}
 use Rattle.equality_core.specs.Valued.{FitNumbers}
 use Rattle.equality_core.specs.Values.{IsInTable, letters_of_term, new_value, IsKey, HasNoLiteral, HasNoIntVariable, IsValueOf, roots_from, HasRoot, IsFirstWith, IsIntWith, HasNoIntWith, IsLiteralIn, HasNoLiteralIn, HaveFewLetters, IsClassed}
-use Rattle.equality_core.proofs.Answering.{Found, root_found, two_lead}
+use Rattle.equality_core.proofs.Answering.{root_found, two_lead}
 use Rattle.equality_core.proofs.Exact.{leads_equates, leads_united, equated_leads}
 use Rattle.equality_core.proofs.Valuing.{no_clash}
 
@@ -171,36 +171,45 @@ module _ (vars : List Sort) (c : PureClasses) (roots : List (Option ℕ)) (h : I
   })
 
   pub by_number : (r y : ℕ) (w : PureValue) → HasRoot roots r x.number → HasNoLiteralIn c.nodes r → IsIntWith vars roots r y → slice_get numbers y ≡ Some w → Has w
-  by_number r y w has none is at = inr (no_literal vars c roots h x r there has none, inl (record {
-    of = record { number = y; sort = Sort.Int };
-    there = is.whole;
-    whole = refl;
-    equated = int_equated vars c roots h x r there has y is;
-    is = at;
-  }))
+  by_number r y w has none is at = inr (
+    no_literal vars c roots h x r there has none,
+    inl (record {
+      of = record { number = y; sort = Sort.Int };
+      there = is.whole;
+      whole = refl;
+      equated = int_equated vars c roots h x r there has y is;
+      is = at;
+    }),
+  )
 
   pub by_new : (r k : ℕ) (kind : Kind) (w : PureValue) → HasRoot roots r x.number → HasNoLiteralIn c.nodes r → HasNoIntWith vars roots r → IsFirstWith roots r x.number k → slice_get kinds x.number ≡ Some kind → w ≡ new_value long kind k → Has w
-  by_new r k kind w has none no_whole first at same = inr (no_literal vars c roots h x r there has none, inr (record {
-    none = no_int vars c roots h x r there has no_whole;
-    key = k;
-    is_key = first_key vars c roots h x r there has k first;
-    of = kind;
-    there = at;
-    is = same;
-  }))
+  by_new r k kind w has none no_whole first at same = inr (
+    no_literal vars c roots h x r there has none,
+    inr (record {
+      none = no_int vars c roots h x r there has no_whole;
+      key = k;
+      is_key = first_key vars c roots h x r there has k first;
+      of = kind;
+      there = at;
+      is = same;
+    }),
+  )
 
   pub alone_number : (w : PureValue) → slice_get roots x.number ≡ Some None → x.sort ≡ Sort.Int → slice_get numbers x.number ≡ Some w → Has w
   alone_number w none whole at = inr (alone_no_literal vars c roots h x there none, inl (record { of = x; there = there; whole = whole; equated = itself; is = at }))
 
   pub alone_new : (kind : Kind) (w : PureValue) → slice_get roots x.number ≡ Some None → (x.sort ≡ Sort.Int → ⊥) → slice_get kinds x.number ≡ Some kind → w ≡ new_value long kind x.number → Has w
-  alone_new kind w none other at same = inr (alone_no_literal vars c roots h x there none, inr (record {
-    none = alone_no_int vars c roots h x there none other;
-    key = x.number;
-    is_key = alone_key vars c roots h x there none;
-    of = kind;
-    there = at;
-    is = same;
-  }))
+  alone_new kind w none other at same = inr (
+    alone_no_literal vars c roots h x there none,
+    inr (record {
+      none = alone_no_int vars c roots h x there none other;
+      key = x.number;
+      is_key = alone_key vars c roots h x there none;
+      of = kind;
+      there = at;
+      is = same;
+    }),
+  )
 
 pub rooted_length : (vars : List Sort) (c : PureClasses) (roots : List (Option ℕ)) → IsClassed vars c roots → length roots ≡ length vars
 rooted_length vars c roots h = ap length h.rooted ∙ length-roots c.nodes 0 vars

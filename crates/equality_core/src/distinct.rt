@@ -38,15 +38,7 @@ fn valued(
     let roots = roots_of(alloc, vars, &classes.nodes)?;
     let nodes = classes.nodes.items.as_slice();
     let long = longest_of_nodes(nodes).max(longest_of_sides(apart));
-    values_of(
-        alloc,
-        classes,
-        vars,
-        roots.as_slice(),
-        numbers,
-        kinds,
-        long,
-    )
+    values_of(alloc, classes, vars, roots.as_slice(), numbers, kinds, long)
 }
 
 impl Classes {

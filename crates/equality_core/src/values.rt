@@ -96,7 +96,12 @@ fn value_in_class(
     }
     match int_with(vars.as_slice(), roots, root) {
         Some(other) => value_at(alloc, numbers, other),
-        None => new_value(alloc, long, kind, first_with(roots, root, x.number as usize)),
+        None => new_value(
+            alloc,
+            long,
+            kind,
+            first_with(roots, root, x.number as usize),
+        ),
     }
 }
 
@@ -184,9 +189,7 @@ pub(crate) fn values_of(
             sort: *sort,
         };
         let kind = kind_list[number];
-        let value = value_of(
-            alloc, classes, vars, roots, numbers, kinds, long, x, kind,
-        )?;
+        let value = value_of(alloc, classes, vars, roots, numbers, kinds, long, x, kind)?;
         values.push(value)?;
     }
     Ok(values)
