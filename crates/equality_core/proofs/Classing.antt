@@ -1,5 +1,5 @@
 -- Roots and nodes tell what is equated with a variable.
-use Rattle.std.proofs.Common.{◌≡◌, ⊎_elim, ◌⊎◌, inl, inr, ℕ, zero, suc, ◌+◌, ◌<◌, ◌≤◌, List, [], ◌∷◌, ◌++◌, length, Bool, true, false, if◌then◌else◌, Option, Some, None, slice_get, refl, sym, ap, ◌∙◌, subst, arith, length-append}
+use Rattle.std.proofs.Common.{◌≡◌, ⊎_elim, ◌⊎◌, inl, inr, ℕ, zero, suc, ◌+◌, ◌<◌, ◌≤◌, List, [], ◌∷◌, ◌++◌, length, false, Option, Some, None, slice_get, refl, sym, ap, ◌∙◌, subst, arith, length-append}
 use Rattle.std.specs.Option.{option_map, IsSome}
 use Rattle.std.proofs.lemmas.Bool.{cases_eq}
 use Rattle.std.proofs.lemmas.Option.{same_Some, slice_get_within}
@@ -19,7 +19,7 @@ use Rattle.equality_core.specs.Equating.{Equates, itself}
 use Rattle.equality_core.specs.Nodes.{PureNode, root_of, IsUnited}
 use Rattle.equality_core.specs.Valued.{FitNumbers}
 use Rattle.equality_core.specs.Values.{IsInTable, letters_of_term, new_value, IsKey, HasNoLiteral, HasNoIntVariable, IsValueOf, roots_from, HasRoot, IsFirstWith, IsIntWith, HasNoIntWith, IsLiteralIn, HasNoLiteralIn, HaveFewLetters, IsClassed}
-use Rattle.equality_core.proofs.Answering.{Found, root_found, two_lead}
+use Rattle.equality_core.proofs.Answering.{root_found, two_lead}
 use Rattle.equality_core.proofs.Exact.{leads_equates, leads_united, equated_leads}
 use Rattle.equality_core.proofs.Valuing.{no_clash}
 

@@ -1,12 +1,11 @@
 -- A valuation by classes is proper and moderate, and makes true what it is to meet.
-use Rattle.std.proofs.Common.{◌≡◌, ⊎_elim, ◌⊎◌, inl, inr, ℕ, zero, suc, ◌+◌, ◌^◌, ◌<◌, ◌≤◌, max, ℤ, pos, neg_ℤ, List, [], ◌∷◌, length, Bool, true, false, Option, Some, None, slice_get, refl, sym, ap, ◌∙◌, subst, arith}
+use Rattle.std.proofs.Common.{◌≡◌, ⊎_elim, ◌⊎◌, inl, inr, ℕ, zero, suc, ◌^◌, ◌<◌, ◌≤◌, max, ℤ, pos, neg_ℤ, List, [], ◌∷◌, length, true, false, Option, Some, None, slice_get, refl, sym, ap, ◌∙◌, subst, arith}
 use Rattle.std.specs.List.{list_all, Contains}
-use Rattle.std.specs.Option.{option_map, is_some}
-use Rattle.std.proofs.lemmas.Bool.{false≢true, true≢false, and_from, lt-ltb, false_from_ne_true, both_ways}
+use Rattle.std.specs.Option.{option_map}
+use Rattle.std.proofs.lemmas.Bool.{false≢true, and_from, lt-ltb, false_from_ne_true, both_ways}
 use Rattle.std.proofs.lemmas.List.Elements.{Contains-push}
 use Rattle.std.proofs.lemmas.Option.{same_Some, slice_get_within, slice_get_past}
 use Rattle.gil_values.specs.declared.kinds.Kind.{Kind}
-use Rattle.gil_values.specs.declared.operators.BinOp.{BinOp}
 use Rattle.gil_values.specs.EqualityLaws.{same_value-same, same_value-refl}
 use Rattle.gil_values.specs.Equality.{same_value}
 use Rattle.gil_values.specs.Pure.{PureValue, integer, symbol, kind_of}
@@ -16,18 +15,18 @@ use Rattle.pure_terms.specs.declared.variables.Sort.{Sort}
 use Rattle.pure_terms.specs.declared.variables.Var.{Var}
 use Rattle.pure_terms.specs.Deciding.{has_moderate_numbers}
 use Rattle.pure_terms.specs.EqualityLaws.{same_literal-same}
-use Rattle.pure_terms.specs.Fragment.{is_flat, is_variable_of, is_integer_literal, has_literals_between}
+use Rattle.pure_terms.specs.Fragment.{is_variable_of, is_integer_literal}
 use Rattle.pure_terms.specs.Kinds.{same_sort, has_sort}
-use Rattle.pure_terms.specs.Meaning.{literal_value, value, truth, all_true, IsProper, IsOver}
+use Rattle.pure_terms.specs.Meaning.{literal_value, value, truth, IsProper}
 use Rattle.pure_terms.specs.Numbers.{is_between}
-use Rattle.pure_terms.specs.Pure.{PureTerm, literal, variable, list_of, unary_of, binary_of, PureAtom, negative, term_of}
+use Rattle.pure_terms.specs.Pure.{PureTerm, literal, variable, list_of, unary_of, binary_of, PureAtom, term_of}
 use Rattle.pure_terms.proofs.FragmentLaws.{all_pass}
 use Rattle.pure_terms.proofs.KindLaws.{over_variable}
 use Rattle.pure_terms.proofs.SimpleLaws.{found}
-use Rattle.solver_proof.specs.Chains.{equals, is_fresh_over, is_empty_kind}
+use Rattle.solver_proof.specs.Chains.{is_fresh_over, is_empty_kind}
 use Rattle.solver_proof.proofs.Truths.{equality_false}
 use Rattle.equality_core.specs.Equating.{Equates, itself, turned, joined, EquatesNoClash}
-use Rattle.equality_core.specs.Valued.{AreFragmentEqualities, IsModerateNumber, FitNumbers, FitKinds, kind_with, is_small_kind, IsSide, HasNoNumber, MayDiffer, MayAllDiffer, MeetsApart}
+use Rattle.equality_core.specs.Valued.{AreFragmentEqualities, FitNumbers, FitKinds, is_small_kind, IsSide, HasNoNumber, MayDiffer, MayAllDiffer, MeetsApart}
 use Rattle.equality_core.specs.Values.{IsInTable, letters_of, letters_of_term, letters_of_sides, AreShort, new_value, IsKey, IsNew, IsValueOf, AreValues}
 use Rattle.equality_core.proofs.Equaling.{equalities_true}
 use Rattle.equality_core.proofs.Separating.{IsNarrow, from_narrow, from_moderate, small_between, new_between, literal_not_new, number_not_new, new_same, literal_narrow}

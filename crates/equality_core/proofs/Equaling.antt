@@ -1,31 +1,29 @@
 -- Equated terms have equal values, and so the equalities of the list are true.
-use Rattle.std.proofs.Common.{◌≡◌, ⊎_elim, ◌⊎◌, inl, inr, ℕ, zero, suc, ◌<◌, ◌^◌, ℤ, pos, neg_ℤ, List, [], ◌∷◌, length, Bool, true, false, not, ◌&&◌, ◌||◌, if◌then◌else◌, Option, Some, None, slice_get, refl, sym, ap, ◌∙◌, subst, arith}
+use Rattle.std.proofs.Common.{◌≡◌, ⊎_elim, ◌⊎◌, inl, inr, ℕ, suc, List, length, Bool, true, false, ◌&&◌, Option, Some, None, slice_get, refl, sym, ap, ◌∙◌, subst, arith}
 use Rattle.std.specs.Option.{option_map, option_and_then, is_some}
-use Rattle.std.proofs.lemmas.Bool.{false≢true, true≢false, and_parts, and_from, and_right, not-true, not-false, eqb-true}
-use Rattle.std.proofs.lemmas.Option.{option_and_then_some, same_Some}
+use Rattle.std.proofs.lemmas.Bool.{false≢true, and_from, and_right, not-false, eqb-true}
+use Rattle.std.proofs.lemmas.Option.{same_Some}
 use Rattle.gil_values.specs.declared.kinds.Kind.{Kind}
 use Rattle.gil_values.specs.declared.operators.BinOp.{BinOp}
-use Rattle.gil_values.specs.Equality.{same_kind}
 use Rattle.gil_values.specs.Pure.{PureValue, boolean, list, from_list}
 use Rattle.pure_terms.specs.declared.literals.Literal.{Literal}
 use Rattle.pure_terms.specs.declared.variables.Sort.{Sort}
 use Rattle.pure_terms.specs.declared.variables.Var.{Var}
-use Rattle.pure_terms.specs.Fragment.{is_simple, is_flat, is_shift, is_variable_of, is_integer_literal, is_integer_side, names_sort}
+use Rattle.pure_terms.specs.Fragment.{is_simple, is_flat, is_integer_side}
 use Rattle.pure_terms.specs.Kinds.{same_sort, is_of_kind, known_kind}
 use Rattle.pure_terms.specs.Meaning.{literal_value, both, value, values, truth, is_that_boolean, IsProper, IsOver, AreVariablesOf}
 use Rattle.pure_terms.specs.Pure.{PureTerm, literal, variable, list_of, unary_of, binary_of, PureTerms, no_terms, term_and, to_list, PureAtom, positive, negative, variables_of_all, variables, term_of}
 use Rattle.pure_terms.proofs.KindLaws.{same_kinds, over_left, over_right, over_variable}
 use Rattle.pure_terms.proofs.SimpleLaws.{simple_terms_have_kinds, simple_terms_have_values}
-use Rattle.solver_proof.specs.Chains.{equals, truth_term, Sides, sides_of_variable, equality_of, equality_at, are_other_kinds}
-use Rattle.solver_proof.specs.Closing.{HaveOneLength}
+use Rattle.solver_proof.specs.Chains.{truth_term, Sides, sides_of_variable, equality_of, equality_at, are_other_kinds}
 use Rattle.solver_proof.proofs.Truths.{chosen, equality_true, over_sides}
 use Rattle.equality_core.specs.Classes.{are_plain}
-use Rattle.equality_core.specs.Equating.{Equates, by_atom, turned, by_elements, EquatesNoClash, HaveFragmentForms}
+use Rattle.equality_core.specs.Equating.{Equates, by_atom, turned, by_elements, EquatesNoClash}
 use Rattle.equality_core.specs.Valued.{AreFragmentEqualities, FitNumbers, FitKinds}
 use Rattle.equality_core.specs.Values.{AreValues}
-use Rattle.equality_core.proofs.Exact.{IsListTerm, list_term, PlainSides, plain_sides, no_any_there}
-use Rattle.equality_core.proofs.Saying.{SaysEqual, SaysTruth, says, plain, plain_element}
-use Rattle.equality_core.proofs.Valuing.{NoClash, no_clash, same_literals, class_same, class_literal, HasClassValue, value_in, integer_value}
+use Rattle.equality_core.proofs.Exact.{IsListTerm, list_term, plain_sides, no_any_there}
+use Rattle.equality_core.proofs.Saying.{SaysEqual, says, plain, plain_element}
+use Rattle.equality_core.proofs.Valuing.{NoClash, no_clash, same_literals, class_same, class_literal, value_in, integer_value}
 
 shift_kind : (op : BinOp) (s t : PureTerm) → is_simple (binary_of op s t) ≡ true → known_kind (binary_of op s t) ≡ Some Kind.Int
 shift_kind BinOp.Add s t simple = refl

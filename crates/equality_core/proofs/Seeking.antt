@@ -1,6 +1,6 @@
 -- The first term of a class that is sought is equated with each term of the class, and is the same for all of them.
-use Rattle.std.proofs.Common.{◌≡◌, ⊎_elim, ◌⊎◌, inl, inr, ℕ, zero, suc, List, [], ◌∷◌, length, Bool, true, false, ◌&&◌, if◌then◌else◌, Option, Some, None, slice_get, eqb, refl, sym, ap, ◌∙◌, subst}
-use Rattle.std.proofs.lemmas.Bool.{true≢false, false≢true, and_parts, and_from, eqb-true, eq-eqb, false_from_ne_true}
+use Rattle.std.proofs.Common.{◌≡◌, ⊎_elim, ◌⊎◌, ℕ, zero, suc, List, [], ◌∷◌, length, Bool, true, false, ◌&&◌, if◌then◌else◌, Option, Some, None, slice_get, eqb, refl, sym, ap, ◌∙◌, subst}
+use Rattle.std.proofs.lemmas.Bool.{true≢false, and_parts, and_from, eqb-true, eq-eqb, false_from_ne_true}
 use Rattle.std.proofs.lemmas.Option.{same_Some}
 use Rattle.pure_terms.specs.Kinds.{known_kind}
 use Rattle.pure_terms.specs.Pure.{PureTerm}
@@ -8,9 +8,9 @@ use Rattle.solver_proof.specs.Chains.{Sides, equality_at, are_other_kinds, Leads
 use Rattle.equality_core.specs.declared.classes.Wanted.{Wanted}
 use Rattle.equality_core.specs.Classes.{PureClasses, given_list, IsTaken}
 use Rattle.equality_core.specs.Classified.{is_wanted, first_of, itself_if, first_at, first_in_class}
-use Rattle.equality_core.specs.Equating.{Equates, itself, turned, EquatesNoClash, HaveFragmentForms}
+use Rattle.equality_core.specs.Equating.{Equates, itself, EquatesNoClash, HaveFragmentForms}
 use Rattle.equality_core.specs.Nodes.{PureNode, root_of, IsUnited}
-use Rattle.equality_core.proofs.Answering.{Found, root_found, two_lead}
+use Rattle.equality_core.proofs.Answering.{root_found, two_lead}
 use Rattle.equality_core.proofs.Exact.{leads_equates, leads_united, equated_leads}
 use Rattle.equality_core.proofs.Valuing.{no_clash}
 

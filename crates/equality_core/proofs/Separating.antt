@@ -1,38 +1,24 @@
 -- The values of classes are proper and moderate, and differ where they may.
-use Rattle.std.proofs.Common.{◌≡◌, ⊎_elim, ◌⊎◌, inl, inr, ℕ, zero, suc, ◌+◌, ◌^◌, ◌<◌, ◌≤◌, max, ℤ, pos, neg_ℤ, ◌≤ℤ◌, List, [], ◌∷◌, ◌++◌, length, Bool, true, false, not, ◌&&◌, Option, Some, None, slice_get, refl, sym, ap, ◌∙◌, subst, arith, length-append}
+use Rattle.std.proofs.Common.{◌≡◌, ⊎_elim, ◌⊎◌, inl, inr, ℕ, zero, suc, ◌+◌, ◌^◌, ◌<◌, ◌≤◌, ℤ, pos, neg_ℤ, ◌≤ℤ◌, List, [], ◌∷◌, length, true, false, Some, slice_get, refl, sym, ap, ◌∙◌, subst, arith, length-append}
 use Rattle.std.specs.Prelude.{int_le}
-use Rattle.std.specs.List.{list_all, Contains}
-use Rattle.std.specs.Option.{option_map, is_some}
-use Rattle.std.proofs.lemmas.Bool.{false≢true, true≢false, and_parts, and_from, lt-ltb, false_from_ne_true, both_ways}
+use Rattle.std.specs.Option.{is_some}
+use Rattle.std.proofs.lemmas.Bool.{true≢false, and_parts, and_from}
 use Rattle.std.proofs.lemmas.Int.{ints}
-use Rattle.std.proofs.lemmas.List.Elements.{Contains-push}
-use Rattle.std.proofs.lemmas.Option.{option_and_then_some, same_Some, slice_get_within}
+use Rattle.std.proofs.lemmas.Option.{option_and_then_some, same_Some}
 use Rattle.gil_values.specs.declared.kinds.Kind.{Kind}
-use Rattle.gil_values.specs.declared.operators.BinOp.{BinOp}
-use Rattle.gil_values.specs.EqualityLaws.{same_value-same, same_value-refl}
-use Rattle.gil_values.specs.Equality.{same_value}
-use Rattle.gil_values.specs.Pure.{PureValue, integer, symbol, kind_of}
-use Rattle.gil_values.specs.Symbols.{OccursIn}
+use Rattle.gil_values.specs.Pure.{integer}
 use Rattle.pure_terms.specs.declared.literals.Literal.{Literal}
 use Rattle.pure_terms.specs.declared.variables.Sort.{Sort}
 use Rattle.pure_terms.specs.declared.variables.Var.{Var}
-use Rattle.pure_terms.specs.Deciding.{has_moderate_numbers}
-use Rattle.pure_terms.specs.EqualityLaws.{same_literal-same}
-use Rattle.pure_terms.specs.Fragment.{is_flat, is_variable_of, is_integer_literal, has_literals_between, have_literals_between, is_literal_between, has_narrow_literals}
-use Rattle.pure_terms.specs.Kinds.{same_sort, has_sort}
-use Rattle.pure_terms.specs.Meaning.{literal_value, value, truth, all_true, IsProper}
+use Rattle.pure_terms.specs.Fragment.{has_literals_between, have_literals_between, has_narrow_literals}
+use Rattle.pure_terms.specs.Meaning.{literal_value}
 use Rattle.pure_terms.specs.Numbers.{is_between}
-use Rattle.pure_terms.specs.Pure.{PureTerm, literal, variable, list_of, unary_of, binary_of, PureTerms, no_terms, term_and, to_list, PureAtom, positive, negative, term_of}
-use Rattle.pure_terms.proofs.FragmentLaws.{all_pass}
-use Rattle.pure_terms.proofs.KindLaws.{over_variable}
-use Rattle.pure_terms.proofs.SimpleLaws.{found}
-use Rattle.solver_proof.specs.Chains.{equals, Sides, equality_of, is_empty_kind}
-use Rattle.solver_proof.proofs.Truths.{equality_false}
-use Rattle.equality_core.specs.Equating.{Equates, itself, by_atom, turned, joined, by_elements, EquatesNoClash}
-use Rattle.equality_core.specs.Valued.{AreFragmentEqualities, IsModerateNumber, FitNumbers, FitKinds, kind_with, is_small_kind, IsSide, HasNoNumber, MayDiffer, MayAllDiffer}
-use Rattle.equality_core.specs.Values.{IsInTable, letters_of, letters_of_term, letters_of_sides, AreShort, letters, new_value, IsKey, IsNew, IsValueOf, AreValues}
+use Rattle.pure_terms.specs.Pure.{PureTerm, literal, variable, list_of, PureTerms, no_terms, term_and, to_list, PureAtom}
+use Rattle.solver_proof.specs.Chains.{Sides, equality_of, is_empty_kind}
+use Rattle.equality_core.specs.Equating.{Equates, itself, by_atom, turned, joined, by_elements}
+use Rattle.equality_core.specs.Valued.{AreFragmentEqualities, is_small_kind}
+use Rattle.equality_core.specs.Values.{letters_of, letters, new_value}
 use Rattle.equality_core.proofs.Saying.{SaysEqual, SaysTruth, says}
-use Rattle.equality_core.proofs.Valuing.{no_clash, kind-new, keys_equate, class_kind, value_in}
 
 -- ---- ranges
 

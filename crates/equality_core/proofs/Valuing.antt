@@ -1,28 +1,26 @@
 -- The values of classes: variables of one class have the same, and the given numbers and kinds.
-use Rattle.std.proofs.Common.{◌≡◌, ⊎_elim, ◌⊎◌, inl, inr, ℕ, zero, suc, ◌+◌, ◌^◌, ◌<◌, ◌≤◌, ℤ, pos, neg_ℤ, List, [], ◌∷◌, length, Bool, true, false, not, ◌&&◌, ◌||◌, Option, Some, None, slice_get, refl, sym, ap, ◌∙◌, subst, arith}
+use Rattle.std.proofs.Common.{◌≡◌, ⊎_elim, inl, inr, ℕ, zero, suc, ◌<◌, List, [], ◌∷◌, true, false, ◌&&◌, ◌||◌, Some, slice_get, refl, sym, ap, ◌∙◌, subst, arith}
 use Rattle.std.specs.List.{Contains}
-use Rattle.std.specs.Option.{option_and_then, is_some}
-use Rattle.std.proofs.lemmas.Bool.{false≢true, true≢false, or_parts, and_parts, and_from, not-false, cases_order}
+use Rattle.std.proofs.lemmas.Bool.{false≢true, true≢false, or_parts, and_parts, not-false, cases_order}
 use Rattle.std.proofs.lemmas.List.Elements.{Contains-append_cases}
-use Rattle.std.proofs.lemmas.Option.{option_and_then_some, same_Some, slice_get_within}
+use Rattle.std.proofs.lemmas.Option.{same_Some, slice_get_within}
 use Rattle.gil_values.specs.declared.kinds.Kind.{Kind}
-use Rattle.gil_values.specs.declared.operators.BinOp.{BinOp}
 use Rattle.gil_values.specs.Equality.{same_kind}
 use Rattle.gil_values.specs.Pure.{PureValue, integer, kind_of}
 use Rattle.pure_terms.specs.declared.literals.Literal.{Literal}
 use Rattle.pure_terms.specs.declared.variables.Sort.{Sort}
 use Rattle.pure_terms.specs.declared.variables.Var.{Var}
 use Rattle.pure_terms.specs.EqualityLaws.{same_literal-same}
-use Rattle.pure_terms.specs.Fragment.{is_simple, are_simple, is_variable_of, is_integer_literal, is_shift, is_integer_side}
-use Rattle.pure_terms.specs.Kinds.{kind_of_sort, kind_of_literal, is_of_kind, allows, known_kind}
+use Rattle.pure_terms.specs.Fragment.{are_simple, is_variable_of, is_integer_literal, is_shift, is_integer_side}
+use Rattle.pure_terms.specs.Kinds.{kind_of_sort, kind_of_literal, is_of_kind, known_kind}
 use Rattle.pure_terms.specs.Meaning.{literal_value, value, IsOver}
-use Rattle.pure_terms.specs.Pure.{PureTerm, literal, variable, list_of, unary_of, binary_of, PureTerms, PureAtom, variables}
+use Rattle.pure_terms.specs.Pure.{PureTerm, literal, variable, list_of, unary_of, binary_of, PureAtom, variables}
 use Rattle.pure_terms.proofs.KindLaws.{same_kinds}
 use Rattle.pure_terms.proofs.SimpleLaws.{from_is_variable_of, from_is_integer_literal, from_is_of_kind, found}
 use Rattle.pure_terms.proofs.VariableLaws.{depend_on_variables}
 use Rattle.solver_proof.specs.Chains.{are_different_literals, are_other_kinds, is_fresh_over, is_empty_kind}
 use Rattle.equality_core.specs.Equating.{Equates, itself, turned, joined, have_other_lengths, clash, EquatesNoClash}
-use Rattle.equality_core.specs.Valued.{IsModerateNumber, FitNumbers, FitKinds}
+use Rattle.equality_core.specs.Valued.{FitNumbers, FitKinds}
 use Rattle.equality_core.specs.Values.{IsInTable, new_value, IsKey, IsValueOf, AreValues}
 
 -- ---- what there is where there is no clash

@@ -1,5 +1,5 @@
 -- The value of a class: its literal, else the number of an Int variable, else one of its kind that no other class has.
-use Rattle.std.specs.Prelude.{◌≡◌, ◌⊎◌, ℕ, zero, suc, ◌+◌, ◌^◌, ◌<◌, ◌≤◌, max, pos, List, [], ◌∷◌, ◌++◌, length, slice_get, Bool, false, Option, Some}
+use Rattle.std.specs.Prelude.{◌≡◌, ◌⊎◌, ℕ, zero, suc, ◌+◌, ◌^◌, ◌<◌, ◌≤◌, max, pos, List, [], ◌∷◌, ◌++◌, length, slice_get, false, Option, Some}
 use Rattle.gil_values.specs.declared.kinds.Kind.{Kind}
 use Rattle.gil_values.specs.Pure.{PureValue, integer, boolean, text, symbol, kind, procedure, list, no_values, value_and}
 use Rattle.pure_terms.specs.declared.literals.Literal.{Literal}

@@ -32,7 +32,8 @@ fn valued(
     requires numbers { FitNumbers vars.now (given_list (classes_view classes.now)) (values_view numbers.now) }
     requires kinds { FitKinds vars.now (given_list (classes_view classes.now)) kinds.now }
     requires apart { MayAllDiffer vars.now (given_list (classes_view classes.now)) kinds.now (atoms_view apart.now) }
-    ensures { IfOk result (λ v. MeetsApart vars.now (given_list (classes_view classes.now)) (values_view numbers.now) kinds.now (atoms_view apart.now) (values_view v)) }
+    ensures { IfOk result (λ v. MeetsApart vars.now (given_list (classes_view classes.now))
+        (values_view numbers.now) kinds.now (atoms_view apart.now) (values_view v)) }
 {
     let _count = vars.len();
     let roots = roots_of(alloc, vars, &classes.nodes)?;
@@ -58,7 +59,8 @@ impl Classes {
         requires numbers { FitNumbers vars.now (given_list (classes_view self.now)) (values_view numbers.now) }
         requires kinds { FitKinds vars.now (given_list (classes_view self.now)) kinds.now }
         requires apart { MayAllDiffer vars.now (given_list (classes_view self.now)) kinds.now (atoms_view apart.now) }
-        ensures { IfOk result (λ v. MeetsApart vars.now (given_list (classes_view self.now)) (values_view numbers.now) kinds.now (atoms_view apart.now) (values_view v)) }
+        ensures { IfOk result (λ v. MeetsApart vars.now (given_list (classes_view self.now))
+            (values_view numbers.now) kinds.now (atoms_view apart.now) (values_view v)) }
     {
         valued(alloc, self, vars, numbers, kinds, apart)
     }
@@ -77,7 +79,8 @@ pub fn distinct_values(
     requires numbers { FitNumbers (table form.now) (equalities form.now) (values_view numbers.now) }
     requires kinds { FitKinds (table form.now) (equalities form.now) kinds.now }
     requires apart { MayAllDiffer (table form.now) (equalities form.now) kinds.now (atoms_view apart.now) }
-    ensures { IfOk result (λ v. MeetsApart (table form.now) (equalities form.now) (values_view numbers.now) kinds.now (atoms_view apart.now) (values_view v)) }
+    ensures { IfOk result (λ v. MeetsApart (table form.now) (equalities form.now)
+        (values_view numbers.now) kinds.now (atoms_view apart.now) (values_view v)) }
 {
     let list = copy_of(alloc, &form.atoms)?;
     match close(alloc, list)? {

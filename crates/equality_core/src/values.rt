@@ -89,7 +89,8 @@ fn value_in_class(
     requires there { IsInTable vars.now x }
     requires kind { slice_get kinds.now x.number ≡ Some kind }
     requires has { HasRoot roots.now root x.number }
-    ensures { IfOk result (λ w. IsValueOf vars.now (given_list (classes_view classes.now)) (values_view numbers.now) kinds.now long x (value_view w)) }
+    ensures { IfOk result (λ w. IsValueOf vars.now (given_list (classes_view classes.now))
+        (values_view numbers.now) kinds.now long x (value_view w)) }
 {
     if let Some(literal) = literal_with(classes.nodes.items.as_slice(), root) {
         return literal.value(alloc);
@@ -122,7 +123,8 @@ fn value_alone(
     requires there { IsInTable vars.now x }
     requires kind { slice_get kinds.now x.number ≡ Some kind }
     requires none { slice_get roots.now x.number ≡ Some None }
-    ensures { IfOk result (λ w. IsValueOf vars.now (given_list (classes_view classes.now)) (values_view numbers.now) kinds.now long x (value_view w)) }
+    ensures { IfOk result (λ w. IsValueOf vars.now (given_list (classes_view classes.now))
+        (values_view numbers.now) kinds.now long x (value_view w)) }
 {
     match x.sort {
         Sort::Int => value_at(alloc, numbers, x.number as usize),
@@ -154,7 +156,8 @@ fn value_of(
     requires long { HaveFewLetters long (classes_view classes.now).nodes }
     requires there { IsInTable vars.now x }
     requires kind { slice_get kinds.now x.number ≡ Some kind }
-    ensures { IfOk result (λ w. IsValueOf vars.now (given_list (classes_view classes.now)) (values_view numbers.now) kinds.now long x (value_view w)) }
+    ensures { IfOk result (λ w. IsValueOf vars.now (given_list (classes_view classes.now))
+        (values_view numbers.now) kinds.now long x (value_view w)) }
 {
     match root_at(roots, x.number as usize) {
         Some(root) => value_in_class(
@@ -178,7 +181,8 @@ pub(crate) fn values_of(
     requires numbers { FitNumbers vars.now (given_list (classes_view classes.now)) (values_view numbers.now) }
     requires long { HaveFewLetters long (classes_view classes.now).nodes }
     requires one_each { length kinds.now ≡ length vars.now }
-    ensures { IfOk result (λ v. AreValues vars.now (given_list (classes_view classes.now)) (values_view numbers.now) kinds.now long (values_view v)) }
+    ensures { IfOk result (λ v. AreValues vars.now (given_list (classes_view classes.now))
+        (values_view numbers.now) kinds.now long (values_view v)) }
 {
     let sorts = vars.as_slice();
     let kind_list = kinds.as_slice();

@@ -1,7 +1,6 @@
-use Rattle.std.proofs.Common.{◌≡◌, List, length, sym, ap, ◌∙◌, subst}
+use Rattle.std.proofs.Common.{◌≡◌, sym, ◌∙◌, subst}
 use Rattle.gil_values.specs.declared.tree.Values.{Values}
 use Rattle.gil_values.specs.View.{values_view}
-use Rattle.pure_terms.specs.Pure.{PureAtom}
 use Rattle.pure_terms.specs.View.{atoms_view}
 use Rattle.equality_core.specs.declared.closing.Closing.{Closing}
 use Rattle.equality_core.specs.Classes.{classes_view, given_list, IsClosing}

@@ -1,4 +1,4 @@
-use Rattle.std.proofs.Common.{◌≡◌, ◌<◌, ◌≤◌, ◌^◌, ℕ, List, length, max, map, Some, slice_get, sym, ap, ◌∙◌, subst, arith}
+use Rattle.std.proofs.Common.{◌≡◌, ◌<◌, ◌≤◌, ◌^◌, ℕ, List, length, max, map, ◌∙◌, subst, arith}
 use Rattle.gil_values.specs.declared.tree.Values.{Values}
 use Rattle.gil_values.specs.View.{values_view}
 use Rattle.pure_terms.specs.View.{atoms_view}

@@ -1,5 +1,5 @@
-use Rattle.std.proofs.Common.{◌≡◌, ◌<◌, ◌≤◌, ℕ, max, map, Some, slice_get, arith}
-use Rattle.equality_core.specs.Nodes.{PureNode, node_view}
+use Rattle.std.proofs.Common.{◌≤◌, ℕ, arith}
+use Rattle.equality_core.specs.Nodes.{node_view}
 use Rattle.equality_core.specs.Values.{letters_of_term}
 use Rattle.equality_core.proofs.Finding.{each_more, each_all}
 use Rattle.equality_core.proofs.letters.longest_of_nodes.Goals as goal

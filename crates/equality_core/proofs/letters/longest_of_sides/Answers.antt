@@ -1,6 +1,6 @@
-use Rattle.std.proofs.Common.{◌≡◌, ◌<◌, ◌≤◌, ℕ, List, max, map, Some, slice_get, sym, ap, ◌∙◌, subst, arith}
+use Rattle.std.proofs.Common.{◌≡◌, ◌≤◌, ℕ, List, map, ap, ◌∙◌, subst, arith}
 use Rattle.pure_terms.specs.declared.atoms.Atom.{Atom}
-use Rattle.pure_terms.specs.Pure.{PureAtom, term_of}
+use Rattle.pure_terms.specs.Pure.{term_of}
 use Rattle.pure_terms.specs.View.{atom_view}
 use Rattle.equality_core.specs.Values.{letters_of_sides, AreShort}
 use Rattle.equality_core.proofs.Finding.{each_more, each_all}

@@ -4,7 +4,6 @@ use Rattle.pure_terms.specs.Equality.{same_term}
 use Rattle.pure_terms.specs.EqualityLaws.{same_term-same, same_term-refl}
 use Rattle.pure_terms.specs.Pure.{PureTerm}
 use Rattle.pure_terms.specs.View.{term_view}
-use Rattle.solver_proof.specs.declared.proofs.ChainEnd.{ChainEnd}
 use Rattle.solver_proof.specs.declared.proofs.Proof
 use Rattle.solver_proof.specs.declared.proofs.Proof.{the_lemmas}
 use Rattle.solver_proof.specs.Pure.{chain}

@@ -1,4 +1,4 @@
-use Rattle.std.proofs.Common.{◌≡◌, ◌<◌, ℕ}
+use Rattle.std.proofs.Common.{◌<◌, ℕ}
 use Rattle.equality_core.specs.Values.{HasRoot}
 use Rattle.equality_core.proofs.rooting.first_with.Given as goal
 

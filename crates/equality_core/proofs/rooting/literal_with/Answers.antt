@@ -1,7 +1,7 @@
-use Rattle.std.proofs.Common.{◌≡◌, ℕ, Some, slice_get}
+use Rattle.std.proofs.Common.{◌≡◌}
 use Rattle.pure_terms.specs.declared.literals.Literal.{Literal}
 use Rattle.pure_terms.specs.Pure.{literal}
-use Rattle.equality_core.specs.Nodes.{PureNode, node_view}
+use Rattle.equality_core.specs.Nodes.{node_view}
 use Rattle.equality_core.proofs.Finding.{view_at, each_more, each_all}
 use Rattle.equality_core.proofs.rooting.literal_with.Goals as goal
 

@@ -1,7 +1,6 @@
 use Rattle.std.proofs.Common.{◌≡◌, Some, sym, ap, ◌∙◌, rules}
-use Rattle.pure_terms.specs.declared.terms.Term
 use Rattle.pure_terms.specs.declared.terms.Term.{Term, the_lemmas}
-use Rattle.pure_terms.specs.Pure.{PureTerm, variable}
+use Rattle.pure_terms.specs.Pure.{variable}
 use Rattle.pure_terms.specs.View.{term_view}
 use Rattle.equality_core.specs.Nodes.{PureNode, node_view, nodes_view, root_of}
 use Rattle.equality_core.proofs.Finding.{node_is}

@@ -1,10 +1,10 @@
-use Rattle.std.proofs.Common.{◌≡◌, Some, slice_get, sym, ap, ◌∙◌}
+use Rattle.std.proofs.Common.{◌≡◌, Some, slice_get}
 use Rattle.gil_values.specs.declared.tree.Value.{Value}
 use Rattle.gil_values.specs.View.{value_view, values_view}
 use Rattle.pure_terms.specs.declared.variables.Sort.{Sort}
 use Rattle.equality_core.specs.Classes.{classes_view, given_list}
 use Rattle.equality_core.specs.Values.{new_value, IsValueOf}
-use Rattle.equality_core.proofs.Classing.{alone_number, alone_new, has_number}
+use Rattle.equality_core.proofs.Classing.{alone_number, alone_new}
 use Rattle.equality_core.proofs.Finding.{ok_then}
 use Rattle.equality_core.proofs.values.value_alone.Goals as goal
 

@@ -1,6 +1,5 @@
 use Rattle.std.proofs.Common.{◌≡◌, List, length, map, Some, slice_get, sym, ap, ◌∙◌, subst}
 use Rattle.gil_values.specs.declared.tree.Value.{Value}
-use Rattle.gil_values.specs.Pure.{PureValue}
 use Rattle.gil_values.specs.View.{value_view, values_view}
 use Rattle.pure_terms.specs.declared.variables.Sort.{Sort}
 use Rattle.pure_terms.specs.Meaning.{literal_value}

@@ -1,4 +1,3 @@
-use Rattle.std.proofs.Common.{Some, ap, ◌∙◌}
 use Rattle.equality_core.specs.Classes.{classes_view}
 use Rattle.equality_core.proofs.Classing.{in_roots}
 use Rattle.equality_core.proofs.values.value_of.Goals as goal
