@@ -1,7 +1,9 @@
 //! The values of expressions.
-ghost use Rattle.std.specs.Prelude.{◌≡◌, IfOk, IfSome};
+ghost use Rattle.std.specs.Prelude.{◌≡◌, Ok, IfSome};
+ghost use Rattle.std.specs.Option.{option_map};
 ghost use Rattle.gil_values.specs.Answers.{Answers};
 ghost use Rattle.gil_values.specs.Operators.{Outcome, binary, unary};
+ghost use Rattle.gil_values.specs.Pure.{integer};
 ghost use Rattle.gil_values.specs.View.{value_view};
 ghost use Rattle.gil_syntax.specs.Evaluation.{Store as PureStore};
 ghost use Rattle.gil_machine.specs.Gives.{Gives, GivesAll};
@@ -18,8 +20,78 @@ use gil_values::{BinOp, OpFault, UnOp, Value, Values, apply1, apply2};
 use std::alloc::Global;
 
 /// The value of an expression: left to right, the value or the first fault, a result that leaves 128 bits among them.
-#[cycle(evaluation)]
+/// Sums, differences and comparisons of two numbers that stand already are found first.
+#[inline(always)]
 pub(crate) fn evaluate(
+    alloc: Global,
+    expression: &Resolved,
+    store: &Store,
+) -> Result<Value, EvaluationFault>
+    ensures { (names : Names) (s : PureStore) → Keeps names (store_view store.now) s
+        → Gives result (evaluate_held (resolved_view names expression.now) s) }
+{
+    match of_two_numbers(expression, store) {
+        Some(value) => Ok(value),
+        None => evaluate_whole(alloc, expression, store),
+    }
+}
+
+/// The value of an operator of two operands whose numbers stand already, where it is quickly known.
+#[inline(always)]
+fn of_two_numbers(expression: &Resolved, store: &Store) -> Option<Value>
+    ensures { IfSome result (λ v. (names : Names) (s : PureStore) → Keeps names (store_view store.now) s
+        → evaluate_held (resolved_view names expression.now) s ≡ Ok (value_view v)) }
+{
+    match expression {
+        Resolved::Op2(op, left, right) => {
+            let m = number(left, store)?;
+            let n = number(right, store)?;
+            apply_to_numbers(*op, m, n)
+        }
+        _ => None,
+    }
+}
+
+/// The number of an operand where it stands.
+#[inline(always)]
+fn number<'a>(operand: &'a Resolved, store: &'a Store) -> Option<&'a i128>
+    ensures { IfSome result (λ n. (names : Names) (s : PureStore) → Keeps names (store_view store.now) s
+        → evaluate_held (resolved_view names operand.now) s ≡ Ok (integer n.now)) }
+{
+    match kept(&*operand, &*store) {
+        Some(Value::Int(n)) => Some(n),
+        _ => None,
+    }
+}
+
+/// Sums and differences that stay in 128 bits, and comparisons.
+#[inline(always)]
+fn apply_to_numbers(op: BinOp, m: &i128, n: &i128) -> Option<Value>
+    ensures { IfSome result (λ v. held (binary op (integer m.now) (integer n.now)) ≡ Ok (value_view v)) }
+{
+    match op {
+        BinOp::Add => as_value(m.checked_add(*n)),
+        BinOp::Subtract => as_value(m.checked_sub(*n)),
+        BinOp::Equal => Some(Value::Bool(*m == *n)),
+        BinOp::Less => Some(Value::Bool(*m < *n)),
+        BinOp::LessOrEqual => Some(Value::Bool(*m <= *n)),
+        _ => None,
+    }
+}
+
+#[inline(always)]
+fn as_value(number: Option<i128>) -> Option<Value>
+    ensures { result ≡ option_map (λ n. Value.Int n) number }
+{
+    match number {
+        Some(n) => Some(Value::Int(n)),
+        None => None,
+    }
+}
+
+/// The value of any expression.
+#[cycle(evaluation)]
+fn evaluate_whole(
     alloc: Global,
     expression: &Resolved,
     store: &Store,
@@ -33,11 +105,11 @@ pub(crate) fn evaluate(
         Resolved::List(elements) => as_list(evaluate_all(alloc, elements, store)),
         Resolved::Op1(op, operand) => match kept(operand, store) {
             Some(operand) => of_table(apply1(alloc, *op, operand)),
-            None => one_operand(alloc, *op, evaluate(alloc, operand, store)),
+            None => one_operand(alloc, *op, evaluate_whole(alloc, operand, store)),
         },
         Resolved::Op2(op, left, right) => match kept(left, store) {
             Some(left) => with_left(alloc, *op, left, right, store),
-            None => match evaluate(alloc, left, store) {
+            None => match evaluate_whole(alloc, left, store) {
                 Ok(left) => with_left(alloc, *op, &left, right, store),
                 Err(fault) => Err(fault),
             },
@@ -59,7 +131,7 @@ fn with_left(
 {
     match kept(&*right, &*store) {
         Some(right) => of_table(apply2(alloc, op, left, right)),
-        None => two_operands(alloc, op, left, evaluate(alloc, right, store)),
+        None => two_operands(alloc, op, left, evaluate_whole(alloc, right, store)),
     }
 }
 
@@ -74,7 +146,7 @@ pub(crate) fn evaluate_all(
 {
     let mut values = Values::new(alloc);
     for expression in expressions.as_slice() {
-        match evaluate(alloc, expression, store) {
+        match evaluate_whole(alloc, expression, store) {
             Ok(value) => values.push(value)?,
             Err(fault) => return Err(fault),
         }
@@ -83,6 +155,7 @@ pub(crate) fn evaluate_all(
 }
 
 /// The value of an operand where it stands: a literal, or that of a slot.
+#[inline(always)]
 fn kept<'a>(operand: &'a Resolved, store: &'a Store) -> Option<&'a Value>
     ensures { IfSome result
         (λ v. (names : Names) (s : PureStore) → Keeps names (store_view store.now) s → evaluate_held (resolved_view names operand.now) s ≡ Ok (value_view v.now)) }
