@@ -28,7 +28,8 @@ has_source_fault_if_there kind p before None = false
 
 -- whether the item with this number has a fault of this kind
 abbrev pub source_fault_at : PureSource → InvalidKind → ℕ → Bool
-source_fault_at source kind i = has_source_fault_if_there kind (compiled source) (take i (items_of (compiled source))) (slice_get (items_of (compiled source)) i)
+source_fault_at source kind i = has_source_fault_if_there kind (compiled source) (take i (items_of (compiled source)))
+    (slice_get (items_of (compiled source)) i)
 
 abbrev pub IsValidSource : PureSource → Type 0
 IsValidSource source = (kind : InvalidKind) (i : ℕ) → ¬ IsTrue (source_fault_at source kind i)

@@ -45,7 +45,10 @@ pub(crate) fn while_code(
     ensures { IfOk result
         (λ code. code_view code ≡ compiled.while_code label at (expr_view condition.now) (code_view invariant) (code_view body)) }
 {
-    let start = label_after(label_after(label_after(label, code_len(&invariant))?, 1)?, 1)?;
+    let start = label_after(
+        label_after(label_after(label, code_len(&invariant))?, 1)?,
+        1,
+    )?;
     let end = label_after(label_after(start, code_len(&body))?, 1)?;
     let mut code = invariant;
     jump(&mut code, at, copy_of_expression(alloc, condition)?, start)?;
@@ -70,7 +73,11 @@ pub(crate) fn invariant_code(
         push_temporaries(alloc, &mut names, temporaries)?;
         let logicals = copy_params(alloc, &invariant.logicals)?;
         let assertion = copy_assertion(alloc, &invariant.assertion)?;
-        put(&mut code, at, Command::LoopInvariant(names, logicals, assertion))?;
+        put(
+            &mut code,
+            at,
+            Command::LoopInvariant(names, logicals, assertion),
+        )?;
     }
     Ok(code)
 }

@@ -11,9 +11,7 @@ ghost use Rattle.while_compiler.specs.Compiled as compiled;
 
 use gil_syntax::{Body, Command, Expr, Exprs};
 use gil_values::Text;
-use source_meaning::{
-    append, label_after, put, temporary, temporary_variable, text, text_literal,
-};
+use source_meaning::{append, label_after, put, temporary, temporary_variable, text, text_literal};
 use std::alloc::{AllocError, Global};
 use syntax_copy::copy_of_expression;
 use while_syntax::{Field, Fields};
@@ -36,7 +34,11 @@ fn field_values_code(alloc: Global, at: u32, fields: &[Field]) -> Result<Body, A
     let mut code = Body::new(alloc);
     for (number, field) in fields.iter().enumerate() {
         let value = copy_of_expression(alloc, &field.value)?;
-        put(&mut code, at, Command::Assign(temporary(alloc, number)?, value))?;
+        put(
+            &mut code,
+            at,
+            Command::Assign(temporary(alloc, number)?, value),
+        )?;
     }
     Ok(code)
 }
@@ -72,7 +74,11 @@ fn fill_code(
     for (number, field) in fields.iter().enumerate() {
         let arguments = fill_arguments(alloc, made, &field.name, number)?;
         let action = text(alloc, "mutate")?;
-        put(&mut code, at, Command::Act(temporary(alloc, written)?, action, arguments))?;
+        put(
+            &mut code,
+            at,
+            Command::Act(temporary(alloc, written)?, action, arguments),
+        )?;
     }
     Ok(code)
 }
@@ -102,7 +108,10 @@ pub(crate) fn new_code(
     let made = fields.len();
     let mut code = field_values_code(alloc, at, fields)?;
     put(&mut code, at, make_command(alloc, made, fields)?)?;
-    append(&mut code, fill_code(alloc, at, made, label_after(made, 1)?, fields)?)?;
+    append(
+        &mut code,
+        fill_code(alloc, at, made, label_after(made, 1)?, fields)?,
+    )?;
     let record = temporary_variable(alloc, made)?;
     put(&mut code, at, Command::Assign(x.copy(alloc)?, record))?;
     Ok(code)

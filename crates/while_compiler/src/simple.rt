@@ -66,12 +66,7 @@ fn place_arguments(alloc: Global, y: &Text, p: &Text) -> Result<Exprs, AllocErro
 }
 
 /// The arguments of a mutation.
-fn written_arguments(
-    alloc: Global,
-    y: &Text,
-    p: &Text,
-    value: &Expr,
-) -> Result<Exprs, AllocError>
+fn written_arguments(alloc: Global, y: &Text, p: &Text, value: &Expr) -> Result<Exprs, AllocError>
     ensures { IfOk result (λ es. exprs_view es ≡ name y.now ∷ property p.now ∷ expr_view value.now ∷ []) }
 {
     let mut arguments = place_arguments(alloc, y, p)?;
@@ -123,7 +118,11 @@ pub(crate) fn mutate_code(
 {
     let arguments = written_arguments(alloc, y, p, value)?;
     let action = text(alloc, "mutate")?;
-    one(alloc, at, Command::Act(temporary(alloc, 0)?, action, arguments))
+    one(
+        alloc,
+        at,
+        Command::Act(temporary(alloc, 0)?, action, arguments),
+    )
 }
 
 /// `dispose e`
@@ -134,14 +133,22 @@ pub(crate) fn dispose_code(alloc: Global, at: u32, record: &Expr) -> Result<Body
     let mut arguments = Exprs::new(alloc);
     arguments.push(copy_of_expression(alloc, record)?)?;
     let action = text(alloc, "dispose")?;
-    one(alloc, at, Command::Act(temporary(alloc, 0)?, action, arguments))
+    one(
+        alloc,
+        at,
+        Command::Act(temporary(alloc, 0)?, action, arguments),
+    )
 }
 
 /// `return e`
 pub(crate) fn return_code(alloc: Global, at: u32, value: &Expr) -> Result<Body, AllocError>
     ensures { IfOk result (λ code. code_view code ≡ placed at (return (expr_view value.now)) ∷ []) }
 {
-    one(alloc, at, Command::Return(copy_of_expression(alloc, value)?))
+    one(
+        alloc,
+        at,
+        Command::Return(copy_of_expression(alloc, value)?),
+    )
 }
 
 /// `fail e`
@@ -166,12 +173,7 @@ pub(crate) fn logic_code(alloc: Global, at: u32, logic: &Logic) -> Result<Body, 
 }
 
 /// A jump past the next command where a condition is true.
-fn jump_past(
-    alloc: Global,
-    label: usize,
-    at: u32,
-    condition: &Expr,
-) -> Result<Body, AllocError>
+fn jump_past(alloc: Global, label: usize, at: u32, condition: &Expr) -> Result<Body, AllocError>
     ensures { IfOk result (λ code. code_view code ≡ jump_to at (expr_view condition.now) (label + 2) ∷ []) }
 {
     let mut code = Body::new(alloc);
