@@ -1,5 +1,5 @@
 -- A While program and its compiled program have the same ends.
-use Rattle.std.proofs.Common.{◌≡◌, ◌⊎◌, ◌↔◌, inl, inr, ⊎_elim, ℕ, zero, suc, ◌+◌, ◌-◌, ◌<◌, ◌≤◌, List, [], ◌∷◌, Bool, true, false, cond, Option, Some, None, length, map, is_some, refl, sym, ap, subst, ◌∙◌, true≢false, arith}
+use Rattle.std.proofs.Common.{◌≡◌, ⊎_elim, ℕ, zero, suc, ◌-◌, ◌≤◌, List, [], ◌∷◌, Bool, true, false, cond, Option, Some, None, length, map, is_some, refl, sym, ap, subst, ◌∙◌, true≢false, arith}
 use Rattle.std.specs.Option.{option_map}
 use Rattle.std.specs.List.{list_all}
 use Rattle.std.specs.Str.{bytes_eq}
@@ -12,16 +12,16 @@ use Rattle.mem_model.specs.declared.keys.MemoryName.TheVariants.{Record}
 use Rattle.mem_model.specs.Heaps.{Heap}
 use Rattle.mem_model.specs.Actions.{Actions}
 use Rattle.record_heap.specs.Table.{record_actions}
-use Rattle.gil_machine.specs.State.{Frame, State, End, Step, ends, cut, IsOver}
+use Rattle.gil_machine.specs.State.{State, End, ends, IsOver}
 use Rattle.gil_machine.specs.Step.{bind_all, first_frame}
 use Rattle.gil_machine.specs.Run.{run, params_of, start, run_of, IsProperStart as IsProperStartOfRun}
 use Rattle.gil_machine.proofs.Runs.{stays_over}
 use Rattle.source_meaning.specs.Completions.{Situation, Completion, normal, returns, over, unfinished, after_body, returned_from_entry, end_if_over}
-use Rattle.source_meaning.specs.Names.{is_source_name, IsExtendedBy}
+use Rattle.source_meaning.specs.Names.{is_source_name}
 use Rattle.source_meaning.specs.SameEnds.{AreSameEnds}
 use Rattle.source_meaning.proofs.Following.{state_at, Leads, Finishes, procedure_finishes, entry_runs}
 use Rattle.while_syntax.specs.Pure.{PureFunction, PureSource, find_function}
-use Rattle.while_syntax.specs.Meaning.{Calls, block, calls_within, at_entry, entered, source_end}
+use Rattle.while_syntax.specs.Meaning.{block, calls_within, at_entry, entered, source_end}
 use Rattle.while_syntax.specs.Names.{is_source_function, is_source_block}
 use Rattle.while_syntax.specs.Start.{IsProperStart}
 use Rattle.while_compiler.specs.Compiled.{block_temporaries, block_code, compiled_function, compiled}

@@ -1,29 +1,28 @@
 -- The commands of each statement follow what the statement does.
-use Rattle.std.proofs.Common.{◌≡◌, ◌≢◌, ℕ, zero, suc, ◌+◌, ◌-◌, ◌<◌, ◌≤◌, List, [], ◌∷◌, ◌++◌, pos, Bool, true, false, cond, Option, Some, None, Ok, Err, length, map, slice_get, is_some, refl, sym, ap, subst, ◌∙◌, true≢false, arith, length-append}
+use Rattle.std.proofs.Common.{◌≡◌, ℕ, zero, suc, ◌+◌, ◌-◌, ◌≤◌, List, [], ◌∷◌, ◌++◌, pos, Bool, true, false, cond, Option, Some, None, Ok, Err, length, slice_get, refl, sym, ap, subst, ◌∙◌, arith, length-append}
 use Rattle.std.specs.Prelude.{codes, ◌==◌, ◌&&◌}
 use Rattle.std.specs.Option.{option_map}
 use Rattle.std.proofs.lemmas.Bool.{and_parts}
 use Rattle.gil_values.specs.declared.places.Place.{Place}
-use Rattle.gil_values.specs.declared.kinds.Kind.TheVariants.{Null}
-use Rattle.gil_values.specs.Pure.{PureValue, integer, boolean, text, symbol, kind, procedure, list}
+use Rattle.gil_values.specs.Pure.{PureValue, text, symbol}
 use Rattle.gil_values.specs.Operators.{Outcome}
-use Rattle.gil_syntax.specs.Pure.{PureExpr, literal, name, PureNumberedCommand, PureProc, PureParts, from_list}
+use Rattle.gil_syntax.specs.Pure.{PureExpr, name, PureNumberedCommand, PureProc, PureParts, from_list}
 use Rattle.gil_syntax.specs.Programs.{find_proc}
-use Rattle.gil_syntax.specs.Evaluation.{Store, bind, both, Outcomes, evaluate, evaluate_all}
-use Rattle.mem_model.specs.Actions.{Actions, ActionResult}
-use Rattle.gil_machine.specs.State.{Frame, State, Step, goes_on, End, vanished}
+use Rattle.gil_syntax.specs.Evaluation.{Store, bind, both, evaluate, evaluate_all}
+use Rattle.mem_model.specs.Actions.{Actions}
+use Rattle.gil_machine.specs.State.{Frame, State, Step, goes_on, vanished}
 use Rattle.gil_machine.specs.Step as machine
 use Rattle.gil_machine.specs.Run.{run}
-use Rattle.source_meaning.specs.Completions.{Situation, Completion, normal, returns, over, unfinished, then_do, end_of, fails, sets, with_value, with_values, choose, after_action, draws_input, new_symbol, turns, after_body, back_in}
-use Rattle.source_meaning.specs.Names.{is_source_expr, are_source_exprs, is_source_name, temporary, IsExtendedBy}
+use Rattle.source_meaning.specs.Completions.{Situation, Completion, normal, returns, over, unfinished, then_do, end_of, fails, sets, with_value, after_action, draws_input, new_symbol, turns, after_body, back_in}
+use Rattle.source_meaning.specs.Names.{is_source_expr, is_source_name, temporary, IsExtendedBy}
 use Rattle.source_meaning.specs.Code.{truth, jump}
 use Rattle.source_meaning.proofs.Stores.{same_value, same_elements, extended_both, extended_more}
 use Rattle.source_meaning.proofs.Stretches.{HasAt, has_front, has_back}
-use Rattle.source_meaning.proofs.Following.{state_at, left, leaves, Leads, leads, leads_on, stays, Runs, Finishes, fewer, runs_after, runs_on, runs_then, at_place, call_runs, Matches, value_matches, values_match, input_matches, steps, one_step, matched, value_runs, values_run, choice_runs, outcome_runs}
-use Rattle.while_syntax.specs.Pure.{PureField, PureLogic, PureInvariant, PureStatement, assign, input, symbol as new_symbol_in, new, lookup, call, mutate, dispose, assert, assume, if_else, while, return, fail, logic, fold_use, unfold_use, assert_that, PureBlock, no_statements, statement_and, PureFunction, find_function}
-use Rattle.while_syntax.specs.Meaning.{field_values, Calls, call_found, statement, block}
+use Rattle.source_meaning.proofs.Following.{state_at, leaves, Leads, leads, leads_on, stays, Runs, Finishes, fewer, runs_after, runs_then, at_place, call_runs, Matches, value_matches, input_matches, steps, one_step, matched, value_runs, values_run, choice_runs, outcome_runs}
+use Rattle.while_syntax.specs.Pure.{PureLogic, PureInvariant, PureStatement, assign, input, symbol as new_symbol_in, new, lookup, call, mutate, dispose, assert, assume, if_else, while, return, fail, logic, fold_use, unfold_use, assert_that, PureBlock, no_statements, statement_and, PureFunction, find_function}
+use Rattle.while_syntax.specs.Meaning.{Calls, call_found, statement, block}
 use Rattle.while_syntax.specs.Names.{is_source_statement, is_source_block, has_source_invariant}
-use Rattle.while_compiler.specs.Compiled.{property, invariant_code, invariant_length, block_temporaries, if_code, while_code, statement_code, block_code, compiled_function}
+use Rattle.while_compiler.specs.Compiled.{invariant_code, invariant_length, block_temporaries, if_code, while_code, statement_code, block_code, compiled_function}
 use Rattle.while_compiler.proofs.NewRecords.{TakesForNew, new_runs}
 
 -- one value, and a first and a third one with a text between

@@ -1,15 +1,15 @@
 -- The commands that make a new record follow what `new` does.
-use Rattle.std.proofs.Common.{◌≡◌, ◌≢◌, ℕ, zero, suc, ◌+◌, ◌<◌, ◌≤◌, List, [], ◌∷◌, ◌++◌, Bool, true, false, Option, Some, None, Ok, Err, length, map, refl, sym, ap, subst, ◌∙◌, arith, length-append}
+use Rattle.std.proofs.Common.{◌≡◌, ◌≢◌, ℕ, ◌+◌, ◌<◌, ◌≤◌, List, [], ◌∷◌, ◌++◌, true, false, Some, None, Ok, Err, length, refl, sym, ap, subst, ◌∙◌, arith, length-append}
 use Rattle.std.specs.Prelude.{codes}
 use Rattle.std.proofs.lemmas.Bool.{and_parts}
 use Rattle.gil_values.specs.declared.places.Place.{Place}
 use Rattle.gil_values.specs.Pure.{PureValue, text, list, from_list}
 use Rattle.gil_values.specs.Operators.{Outcome}
-use Rattle.gil_syntax.specs.Pure.{PureExpr, literal, name, list_of, assign, act, PureNumberedCommand, PureProc, PureParts, from_list as from_exprs}
+use Rattle.gil_syntax.specs.Pure.{literal, name, list_of, assign, act, PureNumberedCommand, PureProc, PureParts, from_list as from_exprs}
 use Rattle.gil_syntax.specs.Programs.{find_proc}
 use Rattle.gil_syntax.specs.Evaluation.{Store, bind, value_of, set_or_fault, both, as_list, Outcomes, evaluate, evaluate_elements, evaluate_all}
 use Rattle.mem_model.specs.Actions.{Actions, ActionResult}
-use Rattle.gil_machine.specs.State.{Frame, State, Step, goes_on}
+use Rattle.gil_machine.specs.State.{Frame, State, goes_on}
 use Rattle.gil_machine.specs.Step as machine
 use Rattle.gil_machine.specs.Run.{run}
 use Rattle.source_meaning.specs.Completions.{Situation, Completion, normal, sets, with_value, with_values, after_action}
@@ -17,7 +17,7 @@ use Rattle.source_meaning.specs.Names.{are_source_exprs, is_source_expr, tempora
 use Rattle.source_meaning.specs.Procedures.{placed}
 use Rattle.source_meaning.proofs.Stores.{same_value, bound_value, other_temporary_value, extended_both, extended_more}
 use Rattle.source_meaning.proofs.Stretches.{HasAt, has_front, has_back}
-use Rattle.source_meaning.proofs.Following.{state_at, Leads, leads, Runs, runs_after, steps, one_step, matched, value_runs, outcome_runs}
+use Rattle.source_meaning.proofs.Following.{state_at, leads, Runs, runs_after, steps, one_step, matched, value_runs, outcome_runs}
 use Rattle.while_syntax.specs.Pure.{PureField}
 use Rattle.while_syntax.specs.Meaning.{field_names, field_values, fill}
 use Rattle.while_compiler.specs.Compiled.{name_literals, field_values_code, fill_code, new_code}

@@ -1,21 +1,21 @@
 -- A compiled program is valid, but for the number of its commands, where its source is.
-use Rattle.std.proofs.Common.{◌≡◌, ◌≢◌, ℕ, zero, suc, ◌+◌, ◌<◌, ◌≤◌, pos, List, [], ◌∷◌, ◌++◌, map, take, length, Bool, true, false, cond, Option, Some, None, slice_get, is_some, IsTrue, not, append_assoc, refl, sym, ap, subst, ◌∙◌, true≢false, arith, length-append}
-use Rattle.std.specs.Prelude.{codes, ◌||◌, int_lt, int_le, nat_lt, nat_le}
+use Rattle.std.proofs.Common.{◌≡◌, ℕ, zero, suc, ◌+◌, ◌≤◌, pos, List, [], ◌∷◌, ◌++◌, map, take, length, Bool, true, false, cond, Option, Some, None, slice_get, is_some, IsTrue, not, append_assoc, refl, sym, ap, subst, ◌∙◌, true≢false, arith, length-append}
+use Rattle.std.specs.Prelude.{codes, ◌||◌, int_lt, int_le}
 use Rattle.std.specs.List.{list_any}
 use Rattle.std.proofs.lemmas.Bool.{lt-leb}
 use Rattle.std.proofs.lemmas.List.Folds.{list_any-append}
 use Rattle.gil_values.specs.Pure.{text}
 use Rattle.gil_syntax.specs.declared.validity.InvalidKind.{InvalidKind}
 use Rattle.gil_syntax.specs.declared.validity.InvalidKind.TheVariants.{Duplicate, BadLabel, NoEnd, UnknownName, Arity, TooMany, Memory}
-use Rattle.gil_syntax.specs.Pure.{literal, name, assign, act, list_of, from_list, fail, vanish, return, PureExpr, PureNumberedCommand, PureProc, PureSpec, PurePredDef, PureParts}
-use Rattle.gil_syntax.specs.Valid.{ProgramItem, a_proc, a_spec, a_pred, items_of, is_bad_jump, has_bad_label, last_ends_body, has_no_end, has_many_commands, has_many_names, has_wide_literal, has_fault, has_fault_if_there, fault_at, IsValid, IsNamedFault}
+use Rattle.gil_syntax.specs.Pure.{literal, name, assign, act, list_of, from_list, fail, vanish, return, PureExpr, PureNumberedCommand, PureSpec, PurePredDef, PureParts}
+use Rattle.gil_syntax.specs.Valid.{ProgramItem, a_proc, a_spec, a_pred, items_of, is_bad_jump, has_bad_label, last_ends_body, has_no_end, has_many_commands, has_many_names, has_wide_literal, has_fault, has_fault_if_there, IsValid, IsNamedFault}
 use Rattle.source_meaning.specs.Code.{jump, truth}
-use Rattle.source_meaning.specs.Procedures.{placed, null, nulls, body_of}
+use Rattle.source_meaning.specs.Procedures.{placed, null, nulls}
 use Rattle.source_meaning.specs.Names.{temporary, temporaries_from}
 use Rattle.source_meaning.proofs.NumberedNames.{nulls_length}
 use Rattle.while_syntax.specs.Pure as while
 use Rattle.while_syntax.specs.Pure.{PureField, PureInvariant, PureLogic, PureStatement, PureBlock, no_statements, statement_and, PureFunction, PureSource}
-use Rattle.while_compiler.specs.Compiled.{name_literals, field_values_code, fill_code, new_code, if_code, while_code, invariant_code, invariant_length, statement_code, block_code, block_temporaries, logic_command, compiled_function, compiled}
+use Rattle.while_compiler.specs.Compiled.{name_literals, field_values_code, fill_code, while_code, invariant_code, invariant_length, statement_code, block_code, block_temporaries, compiled_function, compiled}
 use Rattle.while_compiler.specs.Valid.{has_source_fault, has_source_fault_if_there, source_fault_at, IsValidSource, is_too_long, first_too_long}
 
 -- ---- labels

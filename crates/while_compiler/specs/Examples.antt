@@ -1,5 +1,5 @@
 -- A function with every statement, and the commands that it is compiled to.
-use Rattle.std.specs.Prelude.{ℕ, pos, List, [], ◌∷◌, codes, Option, Some}
+use Rattle.std.specs.Prelude.{ℕ, pos, List, [], ◌∷◌, codes, Some}
 use Rattle.gil_values.specs.declared.kinds.Kind.TheVariants.{Int}
 use Rattle.gil_values.specs.Pure.{integer, text, procedure}
 use Rattle.gil_syntax.specs.Pure.{PureExpr, literal, name, list_of, from_list, PurePredUse, assign, call, act, usym, isym, return, fail, vanish, fold_use, loop_invariant, PureNumberedCommand}

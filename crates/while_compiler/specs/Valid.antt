@@ -1,5 +1,5 @@
 -- Which trees are sources: those whose compiled program is valid, the number of commands of a procedure left aside.
-use Rattle.std.specs.Prelude.{ℕ, List, [], ◌∷◌, length, take, slice_get, Bool, true, false, ◌||◌, nat_le, nat_lt, if◌then◌else◌, Option, Some, None, IsTrue}
+use Rattle.std.specs.Prelude.{ℕ, List, [], ◌∷◌, length, take, slice_get, Bool, false, ◌||◌, nat_le, nat_lt, if◌then◌else◌, Option, Some, None, IsTrue}
 use Rattle.std.specs.List.{filter}
 use Rattle.gil_syntax.specs.declared.validity.InvalidKind.{InvalidKind}
 use Rattle.gil_syntax.specs.declared.validity.InvalidKind.TheVariants.{Duplicate, BadLabel, NoEnd, UnknownName, Arity, TooMany, Memory}

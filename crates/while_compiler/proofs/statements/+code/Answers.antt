@@ -1,4 +1,4 @@
-use Rattle.std.proofs.Common.{◌≡◌, ◌+◌, ◌++◌, length, sym, ap, ◌∙◌, arith}
+use Rattle.std.proofs.Common.{◌+◌, ◌++◌, length, sym, ap, ◌∙◌, arith}
 use Rattle.while_syntax.specs.View.{statement_view}
 use Rattle.source_meaning.specs.Code.{code_view}
 use Rattle.while_compiler.specs.Compiled.{statement_code}

@@ -1,4 +1,4 @@
-use Rattle.std.proofs.Common.{sym, ap, ◌∙◌, arith}
+use Rattle.std.proofs.Common.{sym, ◌∙◌, arith}
 use Rattle.std.specs.Prelude.{max}
 use Rattle.while_compiler.proofs.Counts.{count-read, temporaries-next}
 use Rattle.while_compiler.proofs.temporaries.+counting.Goals as goal
