@@ -38,7 +38,8 @@ bound_value x v s = ap (λ b. cond b (Some v) (value_of s x)) (same_name x)
 unbound_value : (x y : List ℕ) (v : PureValue) (s : Store) → bytes_eq x y ≡ false → value_of (bind x v s) y ≡ value_of s y
 unbound_value x y v s other = ap (λ b. cond b (Some v) (value_of s y)) other
 
-pub other_temporary_value : (i j : ℕ) (v : PureValue) (s : Store) → i ≢ j → value_of (bind (temporary i) v s) (temporary j) ≡ value_of s (temporary j)
+pub other_temporary_value : (i j : ℕ) (v : PureValue) (s : Store) → i ≢ j
+    → value_of (bind (temporary i) v s) (temporary j) ≡ value_of s (temporary j)
 other_temporary_value i j v s ne = unbound_value (temporary i) (temporary j) v s (other_temporary i j ne)
 
 pub extended_itself : (s : Store) → IsExtendedBy s s
@@ -66,7 +67,8 @@ mutual
       let right = same_value e s t more parts.1 in
       λ i. after_value (left i) (λ v. after_value (right i) (binary op v))
 
-  pub same_elements : (es : PureExprs) (s t : Store) → IsExtendedBy s t → are_source_exprs es ≡ true → evaluate_elements es t ≡ evaluate_elements es s
+  pub same_elements : (es : PureExprs) (s t : Store) → IsExtendedBy s t → are_source_exprs es ≡ true
+      → evaluate_elements es t ≡ evaluate_elements es s
   same_elements no_exprs s t more is = refl
   same_elements (expr_and e es) s t more is =
       let parts = and_parts (is_source_expr e) (are_source_exprs es) is in

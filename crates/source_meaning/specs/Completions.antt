@@ -84,7 +84,7 @@ draws_input inputs x k s = input_of (slice_get inputs s.draws) x k (record s { d
 abbrev pub new_symbol : List ℕ → Situation → Situation
 new_symbol x s = sets x (symbol s.counter) (record s { counter = s.counter + 1 })
 
--- A loop of at most so many turns: before each the condition is tested, and where it is false, what follows the loop follows.
+-- A loop that tests its condition at most so many times: before each turn, and where it is false, what follows the loop follows.
 abbrev pub turns : ℕ → (Situation → Outcome) → Place → (Situation → Completion) → Situation → Completion
 turns zero test here body s = unfinished
 turns (suc n) test here body s =

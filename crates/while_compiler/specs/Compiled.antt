@@ -1,9 +1,9 @@
 -- The GIL program that a While program is compiled to. The commands of a statement have the byte at which it begins as their
 -- place; labels are indices of the procedure's commands. Temporaries are numbered anew in each statement, in the order in which
 -- they are assigned.
-use Rattle.std.specs.Prelude.{ℕ, zero, suc, ◌+◌, pos, List, [], ◌∷◌, ◌++◌, map, length, Bool, true, Option, Some, None, codes, max}
-use Rattle.gil_values.specs.Pure.{text, boolean, procedure}
-use Rattle.gil_syntax.specs.Pure.{PureExpr, literal, name, list_of, from_list, assign, call, act, usym, isym, ifgoto, return, fail, vanish, fold_use, unfold_use, assert_that, loop_invariant, PureCommand, PureNumberedCommand, PureProc, PureParts}
+use Rattle.std.specs.Prelude.{ℕ, suc, ◌+◌, List, [], ◌∷◌, ◌++◌, map, length, Option, Some, None, codes, max}
+use Rattle.gil_values.specs.Pure.{text, procedure}
+use Rattle.gil_syntax.specs.Pure.{PureExpr, literal, name, list_of, from_list, assign, call, act, usym, isym, return, fail, vanish, fold_use, unfold_use, assert_that, loop_invariant, PureCommand, PureNumberedCommand, PureProc, PureParts}
 use Rattle.source_meaning.specs.Code.{truth, jump}
 use Rattle.source_meaning.specs.Names.{temporary, temporaries_from}
 use Rattle.source_meaning.specs.Procedures.{placed, procedure_of}

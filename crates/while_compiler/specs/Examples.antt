@@ -1,5 +1,5 @@
 -- A function with every statement, and the commands that it is compiled to.
-use Rattle.std.specs.Prelude.{ℕ, pos, List, [], ◌∷◌, codes, Option, Some}
+use Rattle.std.specs.Prelude.{ℕ, pos, List, [], ◌∷◌, codes, Some}
 use Rattle.gil_values.specs.declared.kinds.Kind.TheVariants.{Int}
 use Rattle.gil_values.specs.Pure.{integer, text, procedure}
 use Rattle.gil_syntax.specs.Pure.{PureExpr, literal, name, list_of, from_list, PurePredUse, assign, call, act, usym, isym, return, fail, vanish, fold_use, loop_invariant, PureNumberedCommand}
@@ -7,7 +7,7 @@ use Rattle.source_meaning.specs.Code.{truth, jump}
 use Rattle.source_meaning.specs.Names.{temporary}
 use Rattle.source_meaning.specs.Procedures.{null, placed}
 use Rattle.while_syntax.specs.Pure as while
-use Rattle.while_syntax.specs.Pure.{no_statements, statement_and, PureFunction, PureSource}
+use Rattle.while_syntax.specs.Pure.{no_statements, statement_and, PurePlacedStatement, PureFunction, PureSource}
 
 abbrev pub b : PureExpr
 b = name (codes "b")
@@ -27,6 +27,10 @@ words cs = literal (text cs)
 abbrev pub used : PurePredUse
 used = record { pred = codes "gone"; ins = x ∷ []; outs = [] }
 
+-- return 1;
+abbrev pub placed_return : PurePlacedStatement
+placed_return = record { at = 14; statement = while.return one }
+
 -- func main() { return 1; }
 abbrev pub returns_one : PureFunction
 returns_one = record { name = codes "main"; params = []; body = statement_and 14 (while.return one) no_statements; at = 0 }
@@ -43,7 +47,8 @@ every_statement = record {
   body =
       statement_and 1 (while.new (codes "x") (record { name = codes "p"; value = one } ∷ record { name = codes "q"; value = y } ∷ []))
       (statement_and 2 (while.mutate (codes "y") (codes "p") x)
-      (statement_and 3 (while.while b (Some (record { names = codes "x" ∷ []; logicals = []; items = [] })) (statement_and 4 (while.dispose y) no_statements))
+      (statement_and 3 (while.while b (Some (record { names = codes "x" ∷ []; logicals = []; items = [] }))
+      (statement_and 4 (while.dispose y) no_statements))
       (statement_and 5 (while.if_else b (statement_and 6 (while.return one) no_statements) (statement_and 7 (while.assume b) no_statements))
       (statement_and 8 (while.lookup (codes "x") (codes "y") (codes "p"))
       (statement_and 9 (while.assert b)

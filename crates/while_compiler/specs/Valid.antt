@@ -1,5 +1,5 @@
 -- Which trees are sources: those whose compiled program is valid, the number of commands of a procedure left aside.
-use Rattle.std.specs.Prelude.{ℕ, List, [], ◌∷◌, length, take, slice_get, Bool, true, false, ◌||◌, nat_le, nat_lt, if◌then◌else◌, Option, Some, None, IsTrue}
+use Rattle.std.specs.Prelude.{ℕ, List, [], ◌∷◌, length, take, slice_get, Bool, false, ◌||◌, nat_le, nat_lt, if◌then◌else◌, Option, Some, None, IsTrue}
 use Rattle.std.specs.List.{filter}
 use Rattle.gil_syntax.specs.declared.validity.InvalidKind.{InvalidKind}
 use Rattle.gil_syntax.specs.declared.validity.InvalidKind.TheVariants.{Duplicate, BadLabel, NoEnd, UnknownName, Arity, TooMany, Memory}
@@ -28,7 +28,8 @@ has_source_fault_if_there kind p before None = false
 
 -- whether the item with this number has a fault of this kind
 abbrev pub source_fault_at : PureSource → InvalidKind → ℕ → Bool
-source_fault_at source kind i = has_source_fault_if_there kind (compiled source) (take i (items_of (compiled source))) (slice_get (items_of (compiled source)) i)
+source_fault_at source kind i = has_source_fault_if_there kind (compiled source) (take i (items_of (compiled source)))
+    (slice_get (items_of (compiled source)) i)
 
 abbrev pub IsValidSource : PureSource → Type 0
 IsValidSource source = (kind : InvalidKind) (i : ℕ) → ¬ IsTrue (source_fault_at source kind i)

@@ -1,14 +1,14 @@
 -- Small programs, for the rows that show what a program does.
 use Rattle.std.specs.FinMap.{empty}
-use Rattle.std.specs.Prelude.{ℕ, pos, List, [], ◌∷◌, codes, true, Option, None}
+use Rattle.std.specs.Prelude.{◌≡◌, Some, ℕ, pos, List, [], ◌∷◌, codes, true, Option, None}
 use Rattle.std.specs.Option.{option_map}
 use Rattle.gil_values.specs.declared.kinds.Kind.TheVariants.{Int}
 use Rattle.gil_values.specs.declared.operators.BinOp.TheVariants.{Add, Subtract, Divide, LessOrEqual}
 use Rattle.gil_values.specs.declared.places.Place.{Place}
-use Rattle.gil_values.specs.Pure.{PureValue, integer, boolean}
+use Rattle.gil_values.specs.Pure.{PureValue, integer, boolean, text}
 use Rattle.gil_syntax.specs.Pure.{PureExpr, literal, name, binary_of}
 use Rattle.record_heap.specs.Table.{record_actions}
-use Rattle.gil_machine.specs.State.{Ending}
+use Rattle.gil_machine.specs.State.{Ending, failed}
 use Rattle.while_syntax.specs.Pure.{PureField, PureStatement, assign, input, new, call, if_else, while, return, PureBlock, no_statements, statement_and, PureFunction, PureSource}
 use Rattle.while_syntax.specs.Meaning.{source_end}
 
@@ -43,12 +43,14 @@ x = name (codes "x")
 -- a = new {v: (1 / 0), w: (1 + true)}; return 0;
 abbrev pub two_faults : PureSource
 two_faults = main_only (
-    statement_and 14 (new (codes "a") (field (codes "v") (binary_of Divide (number 1) (number 0)) ∷ field (codes "w") (binary_of Add (number 1) (literal (boolean true))) ∷ []))
+    statement_and 14 (new (codes "a") (field (codes "v") (binary_of Divide (number 1) (number 0)) ∷ field (codes "w")
+    (binary_of Add (number 1) (literal (boolean true))) ∷ []))
     (statement_and 50 (return (number 0)) no_statements))
 
 -- a = new {v: 1, v: 2};
 abbrev pub names_field_twice : PureSource
-names_field_twice = main_only (statement_and 14 (new (codes "a") (field (codes "v") (number 1) ∷ field (codes "v") (number 2) ∷ [])) no_statements)
+names_field_twice = main_only (statement_and 14 (new (codes "a") (field (codes "v") (number 1) ∷ field (codes "v")
+    (number 2) ∷ [])) no_statements)
 
 -- x = 3; a = 0; while ((1 <= x)) { a = (a + x); x = (x - 1); } return a;
 abbrev pub adds_up : PureSource
@@ -76,3 +78,7 @@ calls_half = program (
 -- the statement, and then `return 0;`
 abbrev pub does : PureStatement → PureSource
 does c = main_only (statement_and 14 c (statement_and 90 (return (number 0)) no_statements))
+
+-- the program fails with a text at the first statement
+abbrev pub Fails : PureStatement → List ℕ → Type 0
+Fails c cs = ending_of (does c) [] 1 ≡ Some (failed (text cs) (in_main 14))

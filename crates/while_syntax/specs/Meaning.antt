@@ -46,12 +46,14 @@ module _ (functions : List PureFunction) (m : Actions) (inputs : List PureValue)
     statement (symbol x) here s = normal (new_symbol x s)
     statement (new x fields) here s =
         with_values (evaluate_all (field_values fields) s.store) here s
-        (λ vs. after_action (m.act (codes "new") (Some s.counter) (list (from_list (field_names fields)) ∷ []) s.heap) here (record s { counter = s.counter + 1 })
+        (λ vs. after_action (m.act (codes "new") (Some s.counter) (list (from_list (field_names fields)) ∷ []) s.heap) here
+        (record s { counter = s.counter + 1 })
         (λ l t. fill m l fields vs here t (λ u. normal (sets x l u))))
     statement (lookup x y p) here s =
         with_value (evaluate (name y) s.store) here s
         (λ l. after_action (m.act (codes "lookup") None (l ∷ text p ∷ []) s.heap) here s (λ v t. normal (sets x v t)))
-    statement (call x f es) here s = with_values (evaluate_all es s.store) here s (λ args. call_found calls (find_function functions f) x args here s)
+    statement (call x f es) here s = with_values (evaluate_all es s.store) here s
+        (λ args. call_found calls (find_function functions f) x args here s)
     statement (mutate y p e) here s =
         with_value (evaluate (name y) s.store) here s
         (λ l. with_value (evaluate e s.store) here s
@@ -79,7 +81,8 @@ module _ (functions : List PureFunction) (m : Actions) (inputs : List PureValue)
   -- what calls come to that nest at most so deep
   abbrev pub calls_within : ℕ → Calls
   calls_within zero f args s = unfinished
-  calls_within (suc depth) f args s = block functions m inputs loops (calls_within depth) f.name f.body (record s { store = bind_all f.params args })
+  calls_within (suc depth) f args s = block functions m inputs loops (calls_within depth) f.name f.body
+      (record s { store = bind_all f.params args })
 
 -- a run begins without variables and draws
 abbrev pub at_entry : Heap → ℕ → Situation
@@ -89,7 +92,7 @@ abbrev pub entered : List PureFunction → Actions → List PureValue → ℕ �
 entered functions m inputs n None args s = unfinished
 entered functions m inputs n (Some f) args s = after_body (calls_within functions m inputs n n f args s) returned_from_entry
 
--- The end of the program from the function f, where each loop turns at most n times and calls nest at most n deep; where more is
+-- The end of the program from the function f, where each loop tests its condition at most n times and calls nest at most n deep; where more is
 -- needed there is none.
 abbrev pub source_end : PureSource → Actions → List ℕ → List PureValue → Heap → ℕ → List PureValue → ℕ → Option End
 source_end source m f args h counter inputs n =

@@ -52,14 +52,17 @@ abbrev pub placed_statements_step : Block-F PureStatement (List PurePlacedStatem
 placed_statements_step b = b.items.items
 
 abbrev pub statement_view : Statement → PureStatement
-statement_view = fold-Statement PureStatement (List PurePlacedStatement) PurePlacedStatement statement_step placed_statements_step placed_step
+statement_view = fold-Statement PureStatement
+    (List PurePlacedStatement) PurePlacedStatement statement_step placed_statements_step placed_step
 
 abbrev pub placed_view : PlacedStatement → PurePlacedStatement
-placed_view = fold-PlacedStatement PureStatement (List PurePlacedStatement) PurePlacedStatement statement_step placed_statements_step placed_step
+placed_view = fold-PlacedStatement PureStatement
+    (List PurePlacedStatement) PurePlacedStatement statement_step placed_statements_step placed_step
 
 -- the statements of a block as a list
 abbrev pub placed_statements_view : Block → List PurePlacedStatement
-placed_statements_view = fold-Block PureStatement (List PurePlacedStatement) PurePlacedStatement statement_step placed_statements_step placed_step
+placed_statements_view = fold-Block PureStatement
+    (List PurePlacedStatement) PurePlacedStatement statement_step placed_statements_step placed_step
 
 abbrev pub block_view : Block → PureBlock
 block_view b = from_placed (placed_statements_view b)

@@ -15,6 +15,7 @@ ghost use Rattle.while_syntax.specs.Examples.{
   adds_up,
   calls_half,
   does,
+  Fails,
 };
 
 /// Fields are evaluated from left to right, and the first fault is the statement's failure.
@@ -44,13 +45,13 @@ pub fn calls_return()
 
 /// Each statement with a failure of its own has the byte at which it begins as its place.
 pub fn statements_fail_at_their_places()
-    ensures unset { ending_of (does (assign (codes "a") x)) [] 1 ≡ Some (failed (text (codes "unset")) (in_main 14)) }
-    ensures condition { ending_of (does (while (number 1) None no_statements)) [] 1 ≡ Some (failed (text (codes "type")) (in_main 14)) }
-    ensures assertion { ending_of (does (assert (literal (boolean false)))) [] 1 ≡ Some (failed (text (codes "assert")) (in_main 14)) }
+    ensures unset { Fails (assign (codes "a") x) (codes "unset") }
+    ensures condition { Fails (while (number 1) None no_statements) (codes "type") }
+    ensures assertion { Fails (assert (literal (boolean false))) (codes "assert") }
     ensures assumption { ending_of (does (assume (literal (boolean false)))) [] 1 ≡ Some vanished }
-    ensures no_function { ending_of (does (call (codes "a") (codes "f") [])) [] 1 ≡ Some (failed (text (codes "proc")) (in_main 14)) }
-    ensures arguments { ending_of (does (call (codes "a") (codes "main") (number 1 ∷ []))) [] 1 ≡ Some (failed (text (codes "arity")) (in_main 14)) }
-    ensures argument_first { ending_of (does (call (codes "a") (codes "f") (x ∷ []))) [] 1 ≡ Some (failed (text (codes "unset")) (in_main 14)) }
-    ensures no_record { ending_of (does (dispose (number 1))) [] 1 ≡ Some (failed (text (codes "type")) (in_main 14)) }
+    ensures no_function { Fails (call (codes "a") (codes "f") []) (codes "proc") }
+    ensures arguments { Fails (call (codes "a") (codes "main") (number 1 ∷ [])) (codes "arity") }
+    ensures argument_first { Fails (call (codes "a") (codes "f") (x ∷ [])) (codes "unset") }
+    ensures no_record { Fails (dispose (number 1)) (codes "type") }
     ensures failing { ending_of (does (fail (number 5))) [] 1 ≡ Some (failed (integer (pos 5)) (in_main 14)) }
 {}

@@ -6,5 +6,6 @@ use Rattle.source_meaning.proofs.temporaries.temporary.Goals as goal
 
 pub text-requires : goal.text-requires
 text-requires c =
-    let is : c.as_str.result.now ≡ temporary c.args.number = cc (c.as_str.ensures.value, c.in_ok-push_number.ensures, c.in_ok-name.ensures.ok) in
+    let is : c.as_str.result.now ≡ temporary c.args.number = cc
+    (c.as_str.ensures.value, c.in_ok-push_number.ensures, c.in_ok-name.ensures.ok) in
     subst IsText (sym is) (temporary_text c.args.number)

@@ -6,4 +6,5 @@ use Rattle.while_compiler.specs.Valid.{first_too_long}
 use Rattle.while_compiler.proofs.programs.procedures.Given as goal
 
 abbrev pub invariant-loop-function : goal.invariant-loop-function
-invariant-loop-function l = (map proc_view l.procs ≡ map compiled_function (map function_view (take l.function-index l.functions))) × (first_too_long (map function_view (take l.function-index l.functions)) ≡ None)
+invariant-loop-function l = (map proc_view l.procs ≡ map compiled_function (map function_view (take l.function-index l.functions))) ×
+    (first_too_long (map function_view (take l.function-index l.functions)) ≡ None)

@@ -13,4 +13,5 @@ abbrev pub decreases-block_code : goal.decreases-block_code
 decreases-block_code l = 2 * block_count (block_view l.block.now) + 1
 
 abbrev pub invariant-block_code-loop-placed : goal.invariant-block_code-loop-placed
-invariant-block_code-loop-placed l = code_view l.code ≡ block_code l.label (from_placed (map placed_view (take l.placed-index l.placed-items)))
+invariant-block_code-loop-placed l = code_view l.code ≡ block_code l.label
+    (from_placed (map placed_view (take l.placed-index l.placed-items)))
