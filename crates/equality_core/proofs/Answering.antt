@@ -21,6 +21,7 @@ use Rattle.equality_core.specs.declared.clashes.Clash.{Clash}
 use Rattle.equality_core.specs.Equating.{Equates, itself, by_atom, turned, joined, by_elements, have_other_lengths, clash, EquatesNoClash, HaveFragmentForms}
 use Rattle.equality_core.specs.Nodes.{PureNode, AreNodes, root_of, IsUnited, end_between, clash_end, ClashesWithNone, IsClash}
 use Rattle.equality_core.specs.Classes.{PureClasses, given_list, under_parts, IsTaken, EquatesApart}
+use Rattle.equality_core.specs.Classified.{IsChained}
 use Rattle.equality_core.specs.Linking.{both_sides, IsLinkedIn}
 use Rattle.equality_core.specs.Solved.{IsLinked}
 use Rattle.equality_core.proofs.Exact.{given_atom, leads_equates, leads_united, equated_leads, one_length}
@@ -149,14 +150,14 @@ clash_closes_in c place vars found nodes same taken =
 
 -- ---- classes without a clash
 
-record Found (nodes : List PureNode) (t : PureTerm) (r : ℕ) : Type 0 where
-  place : ℕ
-  node : PureNode
-  at : slice_get nodes place ≡ Some node
-  term : node.term ≡ t
-  root : node.root ≡ r
+pub record Found (nodes : List PureNode) (t : PureTerm) (r : ℕ) : Type 0 where
+  pub place : ℕ
+  pub node : PureNode
+  pub at : slice_get nodes place ≡ Some node
+  pub term : node.term ≡ t
+  pub root : node.root ≡ r
 
-root_found : (nodes : List PureNode) (t : PureTerm) (r : ℕ) → root_of nodes t ≡ Some r → Found nodes t r
+pub root_found : (nodes : List PureNode) (t : PureTerm) (r : ℕ) → root_of nodes t ≡ Some r → Found nodes t r
 root_found [] t r is = cc
 root_found (n ∷ ns) t r is = by_test (same_term n.term t) refl is (root_found ns t r) where
   by_test : (b : Bool) → same_term n.term t ≡ b → (if b then Some n.root else root_of ns t) ≡ Some r → (root_of ns t ≡ Some r → Found ns t r) → Found (n ∷ ns) t r
@@ -268,3 +269,18 @@ link_from c atoms s t same clear (Some p) (closes, e) = (equates_back atoms s t 
 link_from c atoms s t same clear None h = λ forms e.
     let never : HaveFragmentForms (differing atoms s t) → EquatesNoClash (differing atoms s t) → Equates (differing atoms s t) s t → ⊥ = subst (λ l. HaveFragmentForms l → EquatesNoClash l → Equates l s t → ⊥) same h in
     never (forms_on atoms s t forms) (λ u w f. clear forms u w (equates_back atoms s t u w f)) (equates_on atoms s t s t e)
+
+-- a list without a clash doesn't equate terms of different length
+pub not_apart : (atoms : List PureAtom) → EquatesNoClash atoms → EquatesApart atoms → ⊥
+not_apart atoms clear apart =
+    let none = clear (list_of apart.left) (list_of apart.right) apart.equated in
+    let lengths : have_other_lengths (list_of apart.left) (list_of apart.right) ≡ false = other_lengths (list_of apart.left) (list_of apart.right) none in
+    apart.apart (eqb-true (length (to_list apart.left)) (length (to_list apart.right)) (not-false _ lengths))
+
+-- a chain between two terms, with an end
+module _ (c : PureClasses) (taken : IsTaken c (length c.list)) (s t : PureTerm) (end : ChainEnd) where
+  pub chain_closes : (is : List ℕ) → Leads c.list is s t → IsChained c s t end (Some (under_parts c.opened (chain is end)))
+  chain_closes is leads = (leads_equates c taken is s t leads, λ ends vars. under-closes vars (given_list c) c.opened c.list (chain is end) taken.opened (s, (t, (leads, ends))))
+
+  pub not_chained : (s ≡ t → ⊥) → (IsUnited c.nodes s t → ⊥) → IsChained c s t end None
+  not_chained other apart = not_linked c taken s t other apart

@@ -70,7 +70,7 @@ plain_sides s t h =
     let lists = and_parts (not (names_sort Sort.List s)) (not (names_sort Sort.List t)) more.0 in
     record { simple_left = simple.0; simple_right = simple.1; no_list_left = not-true _ lists.0; no_list_right = not-true _ lists.1; any = more.1 }
 
-no_any_there : (a b : Bool) (s t : PureTerm) → (a && b) ≡ false → ((a && b) || (not (names_sort Sort.Any s) && not (names_sort Sort.Any t))) ≡ true → (names_sort Sort.Any s ≡ false) × (names_sort Sort.Any t ≡ false)
+pub no_any_there : (a b : Bool) (s t : PureTerm) → (a && b) ≡ false → ((a && b) || (not (names_sort Sort.Any s) && not (names_sort Sort.Any t))) ≡ true → (names_sort Sort.Any s ≡ false) × (names_sort Sort.Any t ≡ false)
 no_any_there a b s t flat h =
     let both = and_parts (not (names_sort Sort.Any s)) (not (names_sort Sort.Any t)) (ap (λ e. e || (not (names_sort Sort.Any s) && not (names_sort Sort.Any t))) (sym flat) ∙ h) in
     (not-true _ both.0, not-true _ both.1)

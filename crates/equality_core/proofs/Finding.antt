@@ -1,7 +1,8 @@
 -- Nodes as the code has them.
-use Rattle.std.proofs.Common.{◌≡◌, ℕ, zero, suc, ◌<◌, List, [], ◌∷◌, ◌++◌, map, drop, length, get_or, Bool, true, if◌then◌else◌, Result, Ok, Err, Some, None, slice_get, refl, sym, ap, ◌∙◌, subst}
+use Rattle.std.proofs.Common.{◌≡◌, ⊎_elim, ℕ, zero, suc, ◌+◌, ◌<◌, ◌≤◌, List, [], ◌∷◌, ◌++◌, map, drop, length, get_or, Bool, true, if◌then◌else◌, Result, Ok, Err, Some, None, slice_get, refl, sym, ap, ◌∙◌, subst, arith}
 use Rattle.std.specs.Prelude.{IfOk}
 use Rattle.std.specs.Option.{option_map}
+use Rattle.std.proofs.lemmas.Bool.{cases_eq}
 use Rattle.std.proofs.lemmas.List.{length-map, map-append}
 use Rattle.std.proofs.lemmas.Option.{slice_get-map, slice_get_read, slice_get_within, same_Some}
 use Rattle.pure_terms.specs.Equality.{same_term}
@@ -60,3 +61,22 @@ node_is items i node n at is = same_Some n (node_view node) (sym at ∙ view_at 
 
 pub below_items : (items : List Node) (i : ℕ) (n : PureNode) → slice_get (map node_view items) i ≡ Some n → i < length items
 below_items items i n at = less_items items i (slice_get_within (map node_view items) i n at)
+
+-- ---- what holds of each item, as a loop goes over them
+
+module _ {X Y : Type 0} (view : X → Y) (items : List X) (P : ℕ → Y → Type 0) (i : ℕ) where
+  abbrev pub EachBefore : ℕ → Type 0
+  EachBefore n = (k : ℕ) (y : Y) → k < n → slice_get (map view items) k ≡ Some y → P k y
+
+  pub each_more : (x : X) → i < length items → x ≡ get_or items i x → EachBefore i → P i (view x) → EachBefore (i + 1)
+  each_more x below is before here k y less at = ⊎_elim (λ e. last e) (λ other. before k y (omega (arith, less, other)) at) (cases_eq k i) where
+    last : k ≡ i → P k y
+    last e =
+        let there : slice_get (map view items) i ≡ Some (view x) = slice_get-map view items i ∙ ap (option_map view) (slice_get_read items (length items) i x refl below is) in
+        subst (λ n. P n y) (sym e) (subst (P i) (same_Some (view x) y (sym there ∙ ap (slice_get (map view items)) (sym e) ∙ at)) here)
+
+  pub each_all : length items ≤ i → EachBefore i → (k : ℕ) (y : Y) → slice_get (map view items) k ≡ Some y → P k y
+  each_all past before k y at =
+      let within : k < length (map view items) = slice_get_within (map view items) k y at in
+      let size : length (map view items) ≡ length items = length-map items view in
+      before k y (omega (arith, within, size, past)) at

@@ -1,7 +1,13 @@
 pub mod Answering
+pub mod Classing
+pub mod Differing
+pub mod Equaling
 pub mod Exact
 pub mod Finding
 pub mod Leading
 pub mod Noding
 pub mod Saying
+pub mod Seeking
+pub mod Separating
 pub mod Taking
+pub mod Valuing

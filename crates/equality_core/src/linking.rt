@@ -6,6 +6,7 @@ ghost use Rattle.solver_proof.specs.Chains.{disequality_at};
 ghost use Rattle.solver_proof.specs.Pure.{chain};
 ghost use Rattle.solver_proof.specs.View.{proof_view};
 ghost use Rattle.equality_core.specs.Classes.{classes_view, given_list, under_parts, IsTaken};
+ghost use Rattle.equality_core.specs.Classified.{IsChained, IsEquating};
 ghost use Rattle.equality_core.specs.Linking.{IsCleared, IsLinkedIn, IsPair, both_sides};
 ghost use Rattle.equality_core.specs.Nodes.{node_view, nodes_view, IsUnited};
 
@@ -120,5 +121,45 @@ pub(crate) fn linked(
             Ok(Some(chain_proof(alloc, opened, first, second, end)?))
         }
         None => Ok(None),
+    }
+}
+
+/// A proof by a chain from one term to another, with an end.
+pub(crate) fn chained(
+    alloc: Global,
+    classes: &Classes,
+    s: &Term,
+    t: &Term,
+    end: ChainEnd,
+) -> Result<Option<Proof>, AllocError>
+    requires { IsTaken (classes_view classes.now) (length (classes_view classes.now).list) }
+    ensures { IfOk result (λ found. IsChained (classes_view classes.now) (term_view s.now) (term_view t.now) end (option_map proof_view found)) }
+{
+    let opened = classes.opened.as_slice();
+    if *s == *t {
+        let nothing = Proof::Chain(Places::new(alloc), end);
+        return Ok(Some(under_parts(alloc, opened, nothing)?));
+    }
+    match find_pair(&classes.nodes, s, t) {
+        Some(pair) => {
+            let first = &classes.nodes.items[pair.first];
+            let second = &classes.nodes.items[pair.second];
+            Ok(Some(chain_proof(alloc, opened, first, second, end)?))
+        }
+        None => Ok(None),
+    }
+}
+
+/// Whether two terms are equated.
+pub(crate) fn are_linked(classes: &Classes, s: &Term, t: &Term) -> bool
+    requires { IsTaken (classes_view classes.now) (length (classes_view classes.now).list) }
+    ensures { IsEquating (classes_view classes.now) (term_view s.now) (term_view t.now) result }
+{
+    if *s == *t {
+        return true;
+    }
+    match find_pair(&classes.nodes, s, t) {
+        Some(_) => true,
+        None => false,
     }
 }

@@ -1,8 +1,8 @@
 //! Equalities that are solved or that clash, and terms that are linked, with memory to spare.
-use crate::{Solved, equal};
+use crate::{Classified, Solved, Wanted, classify, equal};
 use gil_values::BinOp;
 use pure_terms::{Atom, Atoms, Literal, Sort, Term, Terms, Var, VarTable};
-use solver_proof::accepts;
+use solver_proof::{ChainEnd, accepts};
 use std::alloc::Global;
 use std::process::Abort;
 use std::test::Fail;
@@ -155,6 +155,33 @@ fn equal_terms_are_linked(rt: HostRuntime) -> Result<(), Fail> {
             is_linked(&rt, rt.alloc(), equalities, left, right)?,
             linked
         );
+    }
+    Ok(())
+}
+
+#[test]
+fn classes_are_asked(rt: HostRuntime) -> Result<(), Fail> {
+    let alloc = rt.alloc();
+    let atoms = list(alloc, &[(V(0), V(1)), (V(1), Int(7))])?;
+    let first = term(alloc, V(0))?;
+    let seven = term(alloc, Int(7))?;
+    let other = term(alloc, V(2))?;
+    match classify(alloc, &atoms)? {
+        Classified::Whole(classes) => {
+            assert!(rt; classes.equates(&first, &seven));
+            assert!(rt; !classes.equates(&first, &other));
+            assert_eq!(rt;
+                classes.first_in_class(&first, Wanted::Literal),
+                Some(&seven)
+            );
+            assert_eq!(rt; classes.list().len(), 2);
+            assert!(rt;
+                classes
+                    .chain(alloc, &first, &seven, ChainEnd::Literals)?
+                    .is_some()
+            );
+        }
+        Classified::Clash(_) => assert!(rt; false),
     }
     Ok(())
 }

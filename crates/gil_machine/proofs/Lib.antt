@@ -7,8 +7,10 @@ pub mod KeptValues
 pub mod Outcomes
 pub mod Placed
 pub mod Proper
+pub mod Resolutions
 pub mod Runs
 pub mod Sizes
+pub mod SlotLemmas
 pub mod Standings
 pub mod Steps
 pub mod UnderWay

@@ -1,15 +1,15 @@
 -- What the code's machine stands for, command by command.
-use Rattle.std.proofs.Common.{◌≡◌, ℕ, zero, suc, ◌+◌, ◌<◌, ◌^◌, List, [], ◌∷◌, ◌++◌, length, drop, reverse, cond, Option, Some, None, slice_get, refl, sym, ap, subst, ap₂, ◌∙◌, add-one, arith, Bor}
+use Rattle.std.proofs.Common.{◌≡◌, ℕ, zero, suc, ◌+◌, ◌<◌, ◌^◌, List, [], ◌∷◌, ◌++◌, length, drop, reverse, cond, eqb, Option, Some, None, slice_get, refl, sym, ap, subst, ap₂, ◌∙◌, add-one, arith, Bor}
 use Rattle.std.specs.Option.{IfSome, option_map}
-use Rattle.std.specs.Str.{bytes_eq}
 use Rattle.std.proofs.lemmas.List.{reverse-append}
 use Rattle.std.proofs.lemmas.Option.{slice_get_within}
 use Rattle.gil_values.specs.Pure.{PureValue}
 use Rattle.gil_syntax.specs.Pure.{PureParts, PureProc}
-use Rattle.gil_syntax.specs.Evaluation.{Store, bind}
+use Rattle.gil_syntax.specs.Evaluation.{Store, bind, value_of}
 use Rattle.gil_machine.specs.declared.control.Control.{Control}
 use Rattle.gil_machine.specs.declared.control.Frame.{Frame as KeptFrame}
 use Rattle.gil_machine.specs.Kept.{Kept, Keeps, Sets}
+use Rattle.gil_machine.specs.SlotNames.{Names, IsTable, name_at}
 use Rattle.gil_machine.specs.Standing.{FrameStands, FramesStand, Stands, Comes}
 use Rattle.gil_machine.specs.State.{Frame, State}
 use Rattle.gil_machine.specs.Step.{first_frame, enter, resumed, leave, bind_all}
@@ -20,8 +20,10 @@ found_below f None ys i is fits = tt
 found_below f (Some x) ys i is fits = let within = slice_get_within ys i (f x) (sym is) in omega (arith, within, fits)
 
 -- what is kept after a value is set keeps the store with that binding
-pub sets_keeps : (old new : Kept) (s : Store) (x : List ℕ) (v : PureValue) → Sets old new x v → Keeps old s → Keeps new (bind x v s)
-sets_keeps old new s x v sets keeps y = sets y ∙ ap (cond (bytes_eq x y) (Some v)) (keeps y)
+pub sets_keeps : (names : Names) (old new : Kept) (s : Store) (i : ℕ) (v : PureValue) → IsTable names → i < length names → Sets old new i v → Keeps names old s
+    → Keeps names new (bind (name_at names i) v s)
+sets_keeps names old new s i v table below sets keeps j =
+    sets j ∙ ap (cond (eqb i j) (Some v)) (keeps j) ∙ ap (λ b. cond b (Some v) (value_of s (name_at names j))) (sym (table i j below))
 
 -- what stands at a place and behind it
 pub drop-found : {X : Type 0} (xs : List X) (i : ℕ) (x : X) → slice_get xs i ≡ Some x → drop i xs ≡ x ∷ drop (i + 1) xs

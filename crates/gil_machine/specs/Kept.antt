@@ -1,20 +1,19 @@
--- Stores as the code keeps them: the values of names, each name once.
-use Rattle.std.specs.Prelude.{◌≡◌, ℕ, List, [], ◌∷◌, if◌then◌else◌, Option, Some, None}
-use Rattle.std.specs.Str.{bytes_eq}
+-- Stores as the code keeps them: the values of slots.
+use Rattle.std.specs.Prelude.{◌≡◌, ℕ, List, if◌then◌else◌, nat_eq, slice_index_or, Option, Some, None}
 use Rattle.gil_values.specs.Pure.{PureValue}
 use Rattle.gil_syntax.specs.Evaluation.{Store, value_of}
+use Rattle.gil_machine.specs.SlotNames.{Names, name_at}
 
 abbrev pub Kept : Type 0
-Kept = List (List ℕ × PureValue)
+Kept = List (Option PureValue)
 
-abbrev pub kept_value : Kept → List ℕ → Option PureValue
-kept_value [] x = None
-kept_value (e ∷ es) x = if bytes_eq x e.0 then Some e.1 else kept_value es x
+abbrev pub kept_value : Kept → ℕ → Option PureValue
+kept_value kept i = slice_index_or kept i None
 
--- what is kept gives each name the value that the store gives it
-abbrev pub Keeps : Kept → Store → Type 0
-Keeps kept s = (x : List ℕ) → kept_value kept x ≡ value_of s x
+-- each slot has the value that the store gives its name
+abbrev pub Keeps : Names → Kept → Store → Type 0
+Keeps names kept s = (i : ℕ) → kept_value kept i ≡ value_of s (name_at names i)
 
--- the name has this value, and every other name is as before
-abbrev pub Sets : Kept → Kept → List ℕ → PureValue → Type 0
-Sets old new x v = (y : List ℕ) → kept_value new y ≡ (if bytes_eq x y then Some v else kept_value old y)
+-- the slot has this value, and every other slot is as before
+abbrev pub Sets : Kept → Kept → ℕ → PureValue → Type 0
+Sets old new i v = (j : ℕ) → kept_value new j ≡ (if nat_eq i j then Some v else kept_value old j)

@@ -7,7 +7,10 @@ pub mod Kept
 pub mod Laws
 pub mod Placed
 pub mod Proper
+pub mod ResolvedView
+pub mod ResolvedWhole
 pub mod Run
+pub mod SlotNames
 pub mod Standing
 pub mod State
 pub mod Step

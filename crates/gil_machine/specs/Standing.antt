@@ -1,6 +1,6 @@
 -- What the code's machine stands for: a state, up to how its stores are kept.
-use Rattle.std.specs.Prelude.{◌≡◌, ℕ, ◌+◌, ◌≤◌, List, [], ◌∷◌, reverse, if◌then◌else◌, Option, Some, None, ⊤}
-use Rattle.std.specs.Option.{option_map}
+use Rattle.std.specs.Prelude.{◌≡◌, ℕ, ◌+◌, ◌≤◌, ◌<◌, length, List, [], ◌∷◌, reverse, if◌then◌else◌, Option, Some, None, ⊤}
+use Rattle.std.specs.Option.{IfSome, option_map}
 use Rattle.gil_values.specs.declared.places.Place.{Place}
 use Rattle.gil_values.specs.Pure.{PureValue, text}
 use Rattle.gil_values.specs.Operators.{wrong_kind, zero_divisor, out_of_range, unset_variable, fault_text}
@@ -21,18 +21,29 @@ use Rattle.gil_machine.specs.declared.running.End.{End as KeptEnd}
 use Rattle.gil_machine.specs.declared.running.End.TheVariants.{Returned, Failed, Vanished, Cut, NoInput, BadInput, Number, Memory}
 use Rattle.gil_machine.specs.Held.{evaluate_all_held, is_too_wide, evaluated_by, HeldEnd, ended, number, held_run}
 use Rattle.gil_machine.specs.Kept.{Keeps}
+use Rattle.gil_machine.specs.ResolvedWhole.{IsResolvedProc, proc_slots}
+use Rattle.gil_machine.specs.SlotNames.{Names, name_at}
 use Rattle.gil_machine.specs.StoreView.{store_view}
 use Rattle.gil_machine.specs.State.{Frame, State, Ending, returned, failed, vanished, no_input, bad_input, cut, End, Step, goes_on, ends}
 use Rattle.gil_machine.specs.Step.{do_command}
 use Rattle.gil_machine.specs.Proper.{IsProperState}
 
+-- the names of the slots of a call
+abbrev pub frame_slots : KeptFrame → Names
+frame_slots f = proc_slots f.proc.now
+
+abbrev pub slots_of : Control → Names
+slots_of c = frame_slots c.current
+
 -- the frame is a call of its procedure, at the same command, whose store keeps the same values
 pub record FrameStands (p : PureParts) (f : KeptFrame) (g : Frame) : Type 0 where
-  pub name : g.procedure ≡ f.proc.now.name
-  pub procedure : find_proc p.procs g.procedure ≡ Some (proc_view f.proc.now)
+  pub name : g.procedure ≡ f.proc.now.proc.now.name
+  pub procedure : find_proc p.procs g.procedure ≡ Some (proc_view f.proc.now.proc.now)
   pub next : g.next ≡ f.next
-  pub store : Keeps (store_view f.store) g.store
-  pub waits : g.waits ≡ option_map (λ x. x.now) f.waits
+  pub store : Keeps (frame_slots f) (store_view f.store) g.store
+  pub waits : g.waits ≡ option_map (name_at (frame_slots f)) f.waits
+  pub placed : IfSome f.waits (λ slot. slot < length (frame_slots f))
+  pub resolved : IsResolvedProc f.proc.now
 
 -- frame for frame
 abbrev pub FramesStand : PureParts → List KeptFrame → List Frame → Type 0
@@ -72,6 +83,10 @@ Comes p None (goes_on s) None c h = Stands p c s × (s.heap ≡ h)
 Comes p None (goes_on s) (Some ending) c h = ⊥
 Comes p None (ends e) None c h = ⊥
 Comes p None (ends e) (Some ending) c h = EndsAs ending e.ending × (e.heap ≡ h) × (e.counter ≡ c.counter) × (e.draws ≡ c.draws)
+
+-- the place of a command of the call that runs
+abbrev pub place_of : Control → ℕ → Place
+place_of c at = record { proc = c.current.proc.now.proc.now.name; at = at }
 
 -- how a run ends at a fault of evaluation at this place
 abbrev pub FaultEnds : EvaluationFault → Place → KeptEnding → Type 0

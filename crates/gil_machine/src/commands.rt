@@ -1,5 +1,6 @@
 //! What each command does with the calls in progress.
-ghost use Rattle.std.specs.Prelude.{◌≡◌, ℕ, ◌+◌, ◌^◌, ◌<◌, List, Some, IfOk, OnOk};
+ghost use Rattle.std.specs.Prelude.{◌≡◌, ℕ, length, ◌+◌, ◌^◌, ◌<◌, List, Some, IfOk, OnOk};
+ghost use Rattle.gil_values.specs.declared.places.Place.{Place as PurePlace};
 ghost use Rattle.gil_values.specs.Pure.{PureValue};
 ghost use Rattle.gil_values.specs.View.{value_view, values_view};
 ghost use Rattle.gil_syntax.specs.Pure.{
@@ -12,39 +13,41 @@ ghost use Rattle.gil_syntax.specs.Pure.{
   usym as pure_usym,
   call as pure_call,
 };
-ghost use Rattle.gil_syntax.specs.View.{expr_view, exprs_view};
 ghost use Rattle.gil_program.specs.Program.{prog_view};
 ghost use Rattle.mem_model.specs.Actions.{Actions};
-ghost use Rattle.gil_machine.specs.Standing.{DoesAnywhere, DoesBeside, GrowsByOne, LeadsAnywhere, LeadsTo};
+ghost use Rattle.gil_machine.specs.ResolvedView.{resolved_list_view, resolved_view};
+ghost use Rattle.gil_machine.specs.ResolvedWhole.{IsResolvedProg};
+ghost use Rattle.gil_machine.specs.SlotNames.{name_at};
+ghost use Rattle.gil_machine.specs.Standing.{DoesAnywhere, DoesBeside, GrowsByOne, LeadsAnywhere, LeadsTo, place_of, slots_of};
 ghost use Rattle.gil_machine.specs.Step.{branch as pure_branch, draw as pure_draw, enter_value};
 
 use crate::control::Control;
-use crate::endings::{Ending, failure, fault_ending};
+use crate::endings::Ending;
 use crate::evaluation::{evaluate, evaluate_all};
-use gil_program::Prog;
-use gil_syntax::{Expr, Exprs};
-use gil_values::{Kind, Place, Text, Value, Values};
+use crate::resolved::{Resolved, ResolvedList, ResolvedProg};
+use gil_values::{Kind, Value, Values};
 use std::alloc::{AllocError, Global};
 
-impl<'p> Control<'p> {
+impl<'r, 'p> Control<'r, 'p> {
     /// `x := e`.
     pub(crate) fn do_assign(
         &mut self,
         alloc: Global,
-        name: &Text,
-        expression: &Expr,
-        place: Place,
+        slot: usize,
+        expression: &Resolved,
+        at: u32,
     ) -> Result<Option<Ending>, AllocError>
-        requires { self.old.current.next + 1 < 2 ^ 64 }
-        ensures does { IfOk result (λ end. DoesAnywhere (pure_assign name.now (expr_view expression.now)) place self.old end self.new) }
+        requires next { self.old.current.next + 1 < 2 ^ 64 }
+        requires placed { slot < length (slots_of self.old) }
+        ensures does { IfOk result (λ end. DoesAnywhere (pure_assign (name_at (slots_of self.old) slot) (resolved_view (slots_of self.old) expression.now)) (place_of self.old at) self.old end self.new) }
         ensures grows { OnOk result (GrowsByOne self.old self.new) }
     {
         match evaluate(alloc, expression, &self.current.store) {
             Ok(value) => {
-                self.assign(alloc, name, value)?;
+                self.assign(slot, value)?;
                 Ok(None)
             }
-            Err(fault) => Ok(Some(fault_ending(alloc, fault, place)?)),
+            Err(fault) => Ok(Some(self.fault_ending(alloc, fault, at)?)),
         }
     }
 
@@ -52,17 +55,17 @@ impl<'p> Control<'p> {
     pub(crate) fn do_branch(
         &mut self,
         alloc: Global,
-        guard: &Expr,
+        guard: &Resolved,
         label: &i64,
-        place: Place,
+        at: u32,
     ) -> Result<Option<Ending>, AllocError>
         requires { self.old.current.next + 1 < 2 ^ 64 }
-        ensures does { IfOk result (λ end. DoesAnywhere (pure_ifgoto (expr_view guard.now) label.now) place self.old end self.new) }
+        ensures does { IfOk result (λ end. DoesAnywhere (pure_ifgoto (resolved_view (slots_of self.old) guard.now) label.now) (place_of self.old at) self.old end self.new) }
         ensures grows { OnOk result (GrowsByOne self.old self.new) }
     {
         match evaluate(alloc, guard, &self.current.store) {
-            Ok(guard) => self.branch(alloc, &guard, label, place),
-            Err(fault) => Ok(Some(fault_ending(alloc, fault, place)?)),
+            Ok(guard) => self.branch(alloc, &guard, label, at),
+            Err(fault) => Ok(Some(self.fault_ending(alloc, fault, at)?)),
         }
     }
 
@@ -72,10 +75,10 @@ impl<'p> Control<'p> {
         alloc: Global,
         guard: &Value,
         label: &i64,
-        place: Place,
+        at: u32,
     ) -> Result<Option<Ending>, AllocError>
         requires { self.old.current.next + 1 < 2 ^ 64 }
-        ensures does { IfOk result (λ end. LeadsAnywhere self.old (pure_branch (value_view guard.now) label.now place) end self.new) }
+        ensures does { IfOk result (λ end. LeadsAnywhere self.old (pure_branch (value_view guard.now) label.now (place_of self.old at)) end self.new) }
         ensures grows { OnOk result (GrowsByOne self.old self.new) }
     {
         match guard {
@@ -87,7 +90,7 @@ impl<'p> Control<'p> {
                 self.go_on();
                 Ok(None)
             }
-            _ => Ok(Some(failure(alloc, "type", place)?)),
+            _ => Ok(Some(self.failure(alloc, "type", at)?)),
         }
     }
 
@@ -95,15 +98,15 @@ impl<'p> Control<'p> {
     pub(crate) fn do_return(
         &mut self,
         alloc: Global,
-        expression: &Expr,
-        place: Place,
+        expression: &Resolved,
+        at: u32,
     ) -> Result<Option<Ending>, AllocError>
-        ensures does { IfOk result (λ end. DoesAnywhere (pure_return (expr_view expression.now)) place self.old end self.new) }
+        ensures does { IfOk result (λ end. DoesAnywhere (pure_return (resolved_view (slots_of self.old) expression.now)) (place_of self.old at) self.old end self.new) }
         ensures grows { OnOk result (GrowsByOne self.old self.new) }
     {
         match evaluate(alloc, expression, &self.current.store) {
-            Ok(value) => self.leave(alloc, value),
-            Err(fault) => Ok(Some(fault_ending(alloc, fault, place)?)),
+            Ok(value) => self.leave(value),
+            Err(fault) => Ok(Some(self.fault_ending(alloc, fault, at)?)),
         }
     }
 
@@ -111,33 +114,32 @@ impl<'p> Control<'p> {
     pub(crate) fn do_fail(
         &mut self,
         alloc: Global,
-        expression: &Expr,
-        place: Place,
+        expression: &Resolved,
+        at: u32,
     ) -> Result<Option<Ending>, AllocError>
-        ensures does { IfOk result (λ end. DoesAnywhere (pure_fail (expr_view expression.now)) place self.old end self.new) }
+        ensures does { IfOk result (λ end. DoesAnywhere (pure_fail (resolved_view (slots_of self.old) expression.now)) (place_of self.old at) self.old end self.new) }
         ensures grows { OnOk result (GrowsByOne self.old self.new) }
     {
         match evaluate(alloc, expression, &self.current.store) {
-            Ok(value) => Ok(Some(Ending::Failed(value, place))),
-            Err(fault) => Ok(Some(fault_ending(alloc, fault, place)?)),
+            Ok(value) => {
+                let place = self.place(alloc, at)?;
+                Ok(Some(Ending::Failed(value, place)))
+            }
+            Err(fault) => Ok(Some(self.fault_ending(alloc, fault, at)?)),
         }
     }
 
     /// `x := usym`.
-    pub(crate) fn do_symbol(
-        &mut self,
-        alloc: Global,
-        name: &Text,
-        place: &Place,
-    ) -> Result<Option<Ending>, AllocError>
+    pub(crate) fn do_symbol(&mut self, slot: usize) -> Result<Option<Ending>, AllocError>
         requires next { self.old.current.next + 1 < 2 ^ 64 }
+        requires placed { slot < length (slots_of self.old) }
         requires counter { self.old.counter + 1 < 2 ^ 64 }
-        ensures does { IfOk result (λ end. DoesAnywhere (pure_usym name.now) place.now self.old end self.new) }
+        ensures does { IfOk result (λ end. (here : PurePlace) → DoesAnywhere (pure_usym (name_at (slots_of self.old) slot)) here self.old end self.new) }
         ensures grows { OnOk result (GrowsByOne self.old self.new) }
     {
         let symbol = self.counter;
         self.counter += 1;
-        self.assign(alloc, name, Value::Sym(symbol))?;
+        self.assign(slot, Value::Sym(symbol))?;
         Ok(None)
     }
 
@@ -145,22 +147,22 @@ impl<'p> Control<'p> {
     pub(crate) fn do_draw(
         &mut self,
         alloc: Global,
-        name: &Text,
+        slot: usize,
         kind: Kind,
         inputs: &Values,
-        place: &Place,
     ) -> Result<Option<Ending>, AllocError>
         requires next { self.old.current.next + 1 < 2 ^ 64 }
+        requires placed { slot < length (slots_of self.old) }
         requires draws { self.old.draws + 1 < 2 ^ 32 }
         ensures does { IfOk result (λ end. (p : PureParts) (m : Actions)
-            → DoesBeside p m (values_view inputs.now) (pure_isym name.now kind) place.now self.old end self.new) }
+            (here : PurePlace) → DoesBeside p m (values_view inputs.now) (pure_isym (name_at (slots_of self.old) slot) kind) here self.old end self.new) }
         ensures grows { OnOk result (GrowsByOne self.old self.new) }
     {
         let input = inputs.as_slice().get(self.draws as usize);
         self.draws += 1;
         match input {
             None => Ok(Some(Ending::NoInput(self.draws))),
-            Some(input) => self.draw(alloc, name, kind, input),
+            Some(input) => self.draw(alloc, slot, kind, input),
         }
     }
 
@@ -168,18 +170,19 @@ impl<'p> Control<'p> {
     fn draw(
         &mut self,
         alloc: Global,
-        name: &Text,
+        slot: usize,
         kind: Kind,
         input: &Value,
     ) -> Result<Option<Ending>, AllocError>
-        requires { self.old.current.next + 1 < 2 ^ 64 }
-        ensures does { IfOk result (λ end. LeadsAnywhere self.old (pure_draw (Some (value_view input.now)) name.now kind) end self.new) }
+        requires next { self.old.current.next + 1 < 2 ^ 64 }
+        requires placed { slot < length (slots_of self.old) }
+        ensures does { IfOk result (λ end. LeadsAnywhere self.old (pure_draw (Some (value_view input.now)) (name_at (slots_of self.old) slot) kind) end self.new) }
         ensures counter { self.new.counter ≡ self.old.counter }
         ensures draws { self.new.draws ≡ self.old.draws }
     {
         if input.kind() == kind {
             let value = input.copy(alloc)?;
-            self.assign(alloc, name, value)?;
+            self.assign(slot, value)?;
             Ok(None)
         } else {
             Ok(Some(Ending::BadInput(self.draws)))
@@ -190,55 +193,59 @@ impl<'p> Control<'p> {
     pub(crate) fn do_call(
         &mut self,
         alloc: Global,
-        prog: &'p Prog,
-        name: &'p Text,
-        callee: &Expr,
-        expressions: &Exprs,
-        place: Place,
+        prog: &'r ResolvedProg<'p>,
+        slot: usize,
+        callee: &Resolved,
+        expressions: &ResolvedList,
+        at: u32,
     ) -> Result<Option<Ending>, AllocError>
-        requires { self.old.current.next + 1 < 2 ^ 64 }
+        requires resolved { IsResolvedProg prog.now }
+        requires next { self.old.current.next + 1 < 2 ^ 64 }
+        requires placed { slot < length (slots_of self.old) }
         ensures does { IfOk result (λ end. (m : Actions) (inputs : List PureValue)
-            → DoesBeside (prog_view prog.now) m inputs (pure_call name.now (expr_view callee.now) (exprs_view expressions.now))
-            place self.old end self.new) }
+            → DoesBeside (prog_view prog.now.prog.now) m inputs (pure_call (name_at (slots_of self.old) slot) (resolved_view (slots_of self.old) callee.now) (resolved_list_view (slots_of self.old) expressions.now))
+            (place_of self.old at) self.old end self.new) }
         ensures grows { OnOk result (GrowsByOne self.old self.new) }
     {
         let called = match evaluate(alloc, callee, &self.current.store) {
             Ok(called) => called,
-            Err(fault) => return Ok(Some(fault_ending(alloc, fault, place)?)),
+            Err(fault) => return Ok(Some(self.fault_ending(alloc, fault, at)?)),
         };
         let args = match evaluate_all(alloc, expressions, &self.current.store) {
             Ok(args) => args,
-            Err(fault) => return Ok(Some(fault_ending(alloc, fault, place)?)),
+            Err(fault) => return Ok(Some(self.fault_ending(alloc, fault, at)?)),
         };
-        self.begin(alloc, prog, name, &called, &args, place)
+        self.begin(alloc, prog, slot, &called, &args, at)
     }
 
     /// The call of a value with arguments.
     fn begin(
         &mut self,
         alloc: Global,
-        prog: &'p Prog,
-        name: &'p Text,
+        prog: &'r ResolvedProg<'p>,
+        slot: usize,
         called: &Value,
         args: &Values,
-        place: Place,
+        at: u32,
     ) -> Result<Option<Ending>, AllocError>
-        requires { self.old.current.next + 1 < 2 ^ 64 }
+        requires resolved { IsResolvedProg prog.now }
+        requires next { self.old.current.next + 1 < 2 ^ 64 }
+        requires placed { slot < length (slots_of self.old) }
         ensures does { IfOk result
-            (λ end. LeadsTo (prog_view prog.now) self.old
-            (enter_value (prog_view prog.now) (value_view called.now) name.now (values_view args.now) place) end self.new) }
+            (λ end. LeadsTo (prog_view prog.now.prog.now) self.old
+            (enter_value (prog_view prog.now.prog.now) (value_view called.now) (name_at (slots_of self.old) slot) (values_view args.now) (place_of self.old at)) end self.new) }
         ensures grows { OnOk result (GrowsByOne self.old self.new) }
     {
         let Value::Proc(proc) = called else {
-            return Ok(Some(failure(alloc, "proc", place)?));
+            return Ok(Some(self.failure(alloc, "proc", at)?));
         };
         match prog.proc(proc) {
-            None => Ok(Some(failure(alloc, "proc", place)?)),
-            Some(proc) if proc.params.len() == args.as_slice().len() => {
-                self.enter(alloc, name, proc, args)?;
+            None => Ok(Some(self.failure(alloc, "proc", at)?)),
+            Some(proc) if proc.proc.params.len() == args.as_slice().len() => {
+                self.enter(alloc, slot, proc, args)?;
                 Ok(None)
             }
-            Some(_) => Ok(Some(failure(alloc, "arity", place)?)),
+            Some(_) => Ok(Some(self.failure(alloc, "arity", at)?)),
         }
     }
 }

@@ -1,51 +1,152 @@
 //! The values of expressions.
-ghost use Rattle.std.specs.Prelude.{IfOk};
+ghost use Rattle.std.specs.Prelude.{◌≡◌, Ok, IfSome};
+ghost use Rattle.std.specs.Option.{option_map};
 ghost use Rattle.gil_values.specs.Answers.{Answers};
 ghost use Rattle.gil_values.specs.Operators.{Outcome, binary, unary};
+ghost use Rattle.gil_values.specs.Pure.{integer};
 ghost use Rattle.gil_values.specs.View.{value_view};
 ghost use Rattle.gil_syntax.specs.Evaluation.{Store as PureStore};
-ghost use Rattle.gil_syntax.specs.View.{expr_view, exprs_view};
 ghost use Rattle.gil_machine.specs.Gives.{Gives, GivesAll};
 ghost use Rattle.gil_machine.specs.Held.{HeldOutcome, HeldOutcomes, after_held, as_held_list, evaluate_all_held, evaluate_held, held, held_or_unset};
 ghost use Rattle.gil_machine.specs.Kept.{Keeps, kept_value};
+ghost use Rattle.gil_machine.specs.ResolvedView.{resolved_list_view, resolved_view};
+ghost use Rattle.gil_machine.specs.SlotNames.{Names};
 ghost use Rattle.gil_machine.specs.StoreView.{store_view};
 
 use crate::faults::EvaluationFault;
+use crate::resolved::{Resolved, ResolvedList};
 use crate::store::Store;
-use gil_syntax::{Expr, Exprs};
-use gil_values::{BinOp, OpFault, Text, UnOp, Value, Values, apply1, apply2};
+use gil_values::{BinOp, OpFault, UnOp, Value, Values, apply1, apply2};
 use std::alloc::Global;
 
 /// The value of an expression: left to right, the value or the first fault, a result that leaves 128 bits among them.
-#[cycle(evaluation)]
-pub fn evaluate(alloc: Global, expression: &Expr, store: &Store) -> Result<Value, EvaluationFault>
-    ensures { (s : PureStore) → Keeps (store_view store.now) s → Gives result (evaluate_held (expr_view expression.now) s) }
+/// Sums, differences and comparisons of two numbers that stand already are found first.
+#[inline(always)]
+pub(crate) fn evaluate(
+    alloc: Global,
+    expression: &Resolved,
+    store: &Store,
+) -> Result<Value, EvaluationFault>
+    ensures { (names : Names) (s : PureStore) → Keeps names (store_view store.now) s
+        → Gives result (evaluate_held (resolved_view names expression.now) s) }
+{
+    match of_two_numbers(expression, store) {
+        Some(value) => Ok(value),
+        None => evaluate_whole(alloc, expression, store),
+    }
+}
+
+/// The value of an operator of two operands whose numbers stand already, where it is quickly known.
+#[inline(always)]
+fn of_two_numbers(expression: &Resolved, store: &Store) -> Option<Value>
+    ensures { IfSome result (λ v. (names : Names) (s : PureStore) → Keeps names (store_view store.now) s
+        → evaluate_held (resolved_view names expression.now) s ≡ Ok (value_view v)) }
 {
     match expression {
-        Expr::Lit(value) => Ok(value.copy(alloc)?),
-        Expr::Name(name) => value_of(alloc, store, name),
-        Expr::Logical(name) => value_of(alloc, store, name),
-        Expr::List(elements) => as_list(evaluate_all(alloc, elements, store)),
-        Expr::Op1(op, operand) => one_operand(alloc, *op, evaluate(alloc, operand, store)),
-        Expr::Op2(op, left, right) => match evaluate(alloc, left, store) {
-            Ok(left) => two_operands(alloc, *op, &left, evaluate(alloc, right, store)),
-            Err(fault) => Err(fault),
+        Resolved::Op2(op, left, right) => {
+            let m = number(left, store)?;
+            let n = number(right, store)?;
+            apply_to_numbers(*op, m, n)
+        }
+        _ => None,
+    }
+}
+
+/// The number of an operand where it stands.
+#[inline(always)]
+fn number<'a>(operand: &'a Resolved, store: &'a Store) -> Option<&'a i128>
+    ensures { IfSome result (λ n. (names : Names) (s : PureStore) → Keeps names (store_view store.now) s
+        → evaluate_held (resolved_view names operand.now) s ≡ Ok (integer n.now)) }
+{
+    match kept(&*operand, &*store) {
+        Some(Value::Int(n)) => Some(n),
+        _ => None,
+    }
+}
+
+/// Sums and differences that stay in 128 bits, and comparisons.
+#[inline(always)]
+fn apply_to_numbers(op: BinOp, m: &i128, n: &i128) -> Option<Value>
+    ensures { IfSome result (λ v. held (binary op (integer m.now) (integer n.now)) ≡ Ok (value_view v)) }
+{
+    match op {
+        BinOp::Add => as_value(m.checked_add(*n)),
+        BinOp::Subtract => as_value(m.checked_sub(*n)),
+        BinOp::Equal => Some(Value::Bool(*m == *n)),
+        BinOp::Less => Some(Value::Bool(*m < *n)),
+        BinOp::LessOrEqual => Some(Value::Bool(*m <= *n)),
+        _ => None,
+    }
+}
+
+#[inline(always)]
+fn as_value(number: Option<i128>) -> Option<Value>
+    ensures { result ≡ option_map (λ n. Value.Int n) number }
+{
+    match number {
+        Some(n) => Some(Value::Int(n)),
+        None => None,
+    }
+}
+
+/// The value of any expression.
+#[cycle(evaluation)]
+fn evaluate_whole(
+    alloc: Global,
+    expression: &Resolved,
+    store: &Store,
+) -> Result<Value, EvaluationFault>
+    ensures { (names : Names) (s : PureStore) → Keeps names (store_view store.now) s → Gives result (evaluate_held (resolved_view names expression.now) s) }
+{
+    match expression {
+        Resolved::Lit(value) => Ok(value.copy(alloc)?),
+        Resolved::Name(slot) => value_of(alloc, store, *slot),
+        Resolved::Logical(slot) => value_of(alloc, store, *slot),
+        Resolved::List(elements) => as_list(evaluate_all(alloc, elements, store)),
+        Resolved::Op1(op, operand) => match kept(operand, store) {
+            Some(operand) => of_table(apply1(alloc, *op, operand)),
+            None => one_operand(alloc, *op, evaluate_whole(alloc, operand, store)),
         },
+        Resolved::Op2(op, left, right) => match kept(left, store) {
+            Some(left) => with_left(alloc, *op, left, right, store),
+            None => match evaluate_whole(alloc, left, store) {
+                Ok(left) => with_left(alloc, *op, &left, right, store),
+                Err(fault) => Err(fault),
+            },
+        },
+    }
+}
+
+/// What an operator of two operands gives, where the left one has its value.
+#[cycle(evaluation)]
+fn with_left(
+    alloc: Global,
+    op: BinOp,
+    left: &Value,
+    right: &Resolved,
+    store: &Store,
+) -> Result<Value, EvaluationFault>
+    ensures { (names : Names) (s : PureStore) → Keeps names (store_view store.now) s
+        → Gives result (after_held (evaluate_held (resolved_view names right.now) s) (λ v. held (binary op (value_view left.now) v))) }
+{
+    match kept(&*right, &*store) {
+        Some(right) => of_table(apply2(alloc, op, left, right)),
+        None => two_operands(alloc, op, left, evaluate_whole(alloc, right, store)),
     }
 }
 
 /// The values of expressions in order, or the first fault.
 #[cycle(evaluation)]
-pub fn evaluate_all(
+pub(crate) fn evaluate_all(
     alloc: Global,
-    expressions: &Exprs,
+    expressions: &ResolvedList,
     store: &Store,
 ) -> Result<Values, EvaluationFault>
-    ensures { (s : PureStore) → Keeps (store_view store.now) s → GivesAll result (evaluate_all_held (exprs_view expressions.now) s) }
+    ensures { (names : Names) (s : PureStore) → Keeps names (store_view store.now) s → GivesAll result (evaluate_all_held (resolved_list_view names expressions.now) s) }
 {
     let mut values = Values::new(alloc);
     for expression in expressions.as_slice() {
-        match evaluate(alloc, expression, store) {
+        match evaluate_whole(alloc, expression, store) {
             Ok(value) => values.push(value)?,
             Err(fault) => return Err(fault),
         }
@@ -53,11 +154,25 @@ pub fn evaluate_all(
     Ok(values)
 }
 
-/// The value of a name.
-fn value_of(alloc: Global, store: &Store, name: &Text) -> Result<Value, EvaluationFault>
-    ensures { Gives result (held_or_unset (kept_value (store_view store.now) name.now)) }
+/// The value of an operand where it stands: a literal, or that of a slot.
+#[inline(always)]
+fn kept<'a>(operand: &'a Resolved, store: &'a Store) -> Option<&'a Value>
+    ensures { IfSome result
+        (λ v. (names : Names) (s : PureStore) → Keeps names (store_view store.now) s → evaluate_held (resolved_view names operand.now) s ≡ Ok (value_view v.now)) }
 {
-    match store.get(name) {
+    match operand {
+        Resolved::Lit(value) => Some(value),
+        Resolved::Name(slot) => store.get(*slot),
+        Resolved::Logical(slot) => store.get(*slot),
+        _ => None,
+    }
+}
+
+/// The value of a slot.
+fn value_of(alloc: Global, store: &Store, slot: usize) -> Result<Value, EvaluationFault>
+    ensures { Gives result (held_or_unset (kept_value (store_view store.now) slot)) }
+{
+    match store.get(slot) {
         Some(value) => Ok(value.copy(alloc)?),
         None => Err(EvaluationFault::Unset),
     }

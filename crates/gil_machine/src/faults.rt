@@ -5,7 +5,7 @@ use thiserror::Error;
 
 /// Why an expression has no value that can be held.
 #[derive(Clone, Copy, Debug, PartialEq, Eq, Error)]
-pub enum EvaluationFault {
+pub(crate) enum EvaluationFault {
     /// An operand has a kind that the operator doesn't take.
     #[error("an operand has a wrong kind")]
     WrongKind,

@@ -10,16 +10,17 @@ mod evaluation;
 mod examples;
 mod faults;
 mod laws;
+mod resolved;
+mod resolving;
 mod running;
+mod slots;
 mod store;
 
-pub use evaluation::{evaluate, evaluate_all};
 pub use examples::{
     a_bound_cuts, a_call_returns, a_draw_needs_its_input, a_fault_fails, an_action_may_miss,
     choices_stand_in_order, division_truncates, each_command_is_a_step, failures_have_their_places,
     numbers_have_128_bits, one_input_fails, some_inputs_return, symbols_are_new,
 };
-pub use faults::EvaluationFault;
 pub use laws::{
     bounds_cut, bugs_stay, clean_has_no_bug, clean_is_clean_below, drawn_inputs_decide,
     ends_are_proper, held_runs_are_runs, misses_fail, numbers_are_first, runs_stay_over,
@@ -27,7 +28,6 @@ pub use laws::{
     tests_start_properly, the_counter_is_new,
 };
 pub use running::{End, run, run_entry};
-pub use store::Store;
 
 #[cfg(test)]
 mod tests;

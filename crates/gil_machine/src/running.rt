@@ -4,20 +4,22 @@ ghost use Rattle.std.specs.FinMap.{empty};
 ghost use Rattle.gil_values.specs.View.{values_view};
 ghost use Rattle.gil_syntax.specs.Programs.{find_proc};
 ghost use Rattle.gil_syntax.specs.Pure.{PureProc};
-ghost use Rattle.gil_syntax.specs.View.{command_view};
 ghost use Rattle.gil_syntax.specs.WellMade.{is_well_made_command};
 ghost use Rattle.gil_program.specs.Program.{prog_view};
 ghost use Rattle.mem_model.specs.Heaps.{Heap};
 ghost use Rattle.gil_machine.specs.Held.{held_run_of, number_at};
+ghost use Rattle.gil_machine.specs.ResolvedView.{AssignsSlot, resolved_command_view};
+ghost use Rattle.gil_machine.specs.ResolvedWhole.{IsResolvedProg};
 ghost use Rattle.gil_machine.specs.Run.{IsEntry, IsProperStart, start};
-ghost use Rattle.gil_machine.specs.Standing.{Comes, Does, GrowsByOne, HasMemory, IsAtNumber, IsEndOf, IsStanding, Stands};
+ghost use Rattle.gil_machine.specs.Standing.{Comes, Does, GrowsByOne, HasMemory, IsAtNumber, IsEndOf, IsStanding, Stands, place_of, slots_of};
 ghost use Rattle.gil_machine.specs.State.{State};
 ghost use Rattle.gil_machine.specs.Step.{step as pure_step};
 
 use crate::control::{Control, Frame, store_of};
 use crate::endings::Ending;
+use crate::resolved::{ResolvedCommand, ResolvedProg};
+use crate::resolving::resolve_prog;
 use gil_program::Prog;
-use gil_syntax::Command;
 use gil_values::{Place, Text, Value, Values};
 use mem_model::LocalMemory;
 use std::alloc::{AllocError, Global};
@@ -59,6 +61,31 @@ pub fn run<M: LocalMemory>(
     ensures { IsEndOf M.heap result
         (held_run_of (prog_view prog.now) M.actions proc.now (values_view args) (M.heap memory) counter (values_view inputs.now) bound) }
 {
+    match resolve_prog(alloc, prog) {
+        Ok(resolved) => run_resolved(alloc, &resolved, proc, args, memory, counter, inputs, bound),
+        Err(_) => End::Memory,
+    }
+}
+
+/// The same of a program over slots.
+fn run_resolved<M: LocalMemory>(
+    alloc: Global,
+    prog: &ResolvedProg,
+    proc: &Text,
+    args: Values,
+    memory: M,
+    counter: u64,
+    inputs: &Values,
+    bound: u32,
+) -> End<M>
+    requires resolved { IsResolvedProg prog.now }
+    requires starts { IsProperStart (prog_view prog.now.prog.now) M.memory proc.now (values_view args) (M.heap memory) counter }
+    requires counter { counter < 2 ^ 63 }
+    requires bound { bound ≤ 10000 }
+    ensures { IsEndOf M.heap result
+        (held_run_of (prog_view prog.now.prog.now) M.actions proc.now (values_view args) (M.heap memory) counter (values_view inputs.now)
+        bound) }
+{
     let mut memory = memory;
     let Ok(mut control) = begin(alloc, prog, proc, &args, counter) else {
         return End::Memory;
@@ -97,17 +124,18 @@ pub fn run_entry<M: LocalMemory>(
 }
 
 /// The calls in progress where a run starts.
-fn begin<'p>(
+fn begin<'r, 'p>(
     alloc: Global,
-    prog: &'p Prog,
+    prog: &'r ResolvedProg<'p>,
     proc: &Text,
     args: &Values,
     counter: u64,
-) -> Result<Control<'p>, AllocError>
+) -> Result<Control<'r, 'p>, AllocError>
+    requires resolved { IsResolvedProg prog.now }
     requires arity { (q : PureProc)
-        × ((find_proc (prog_view prog.now).procs proc.now ≡ Some q) × (length q.params ≡ length (values_view args.now))) }
+        × ((find_proc (prog_view prog.now.prog.now).procs proc.now ≡ Some q) × (length q.params ≡ length (values_view args.now))) }
     ensures stands { IfOk result (λ control. (h : Heap)
-        → Stands (prog_view prog.now) control (start (prog_view prog.now) proc.now (values_view args.now) h counter)) }
+        → Stands (prog_view prog.now.prog.now) control (start (prog_view prog.now.prog.now) proc.now (values_view args.now) h counter)) }
     ensures counter { IfOk result (λ control. control.counter ≡ counter) }
     ensures draws { IfOk result (λ control. control.draws ≡ 0) }
 {
@@ -145,29 +173,29 @@ fn with_memory<M: LocalMemory>(ending: Ending, memory: M) -> End<M>
     }
 }
 
-impl<'p> Control<'p> {
+impl<'r, 'p> Control<'r, 'p> {
     /// A step.
     fn step<M: LocalMemory>(
         &mut self,
         alloc: Global,
-        prog: &'p Prog,
+        prog: &'r ResolvedProg<'p>,
         memory: &mut M,
         inputs: &Values,
     ) -> Result<Option<Ending>, AllocError>
+        requires resolved { IsResolvedProg prog.now }
         requires counter { self.old.counter + 1 < 2 ^ 64 }
         requires draws { self.old.draws + 1 < 2 ^ 32 }
-        requires standing { IsStanding (prog_view prog.now) M.memory self.old (M.heap memory.old) }
-        ensures does { IfOk result (λ end. (s : State) → Stands (prog_view prog.now) self.old s → s.heap ≡ M.heap memory.old
-            → Comes (prog_view prog.now) (number_at (prog_view prog.now) s)
-            (pure_step (prog_view prog.now) M.actions (values_view inputs.now) s) end self.new (M.heap memory.new)) }
+        requires standing { IsStanding (prog_view prog.now.prog.now) M.memory self.old (M.heap memory.old) }
+        ensures does { IfOk result (λ end. (s : State) → Stands (prog_view prog.now.prog.now) self.old s → s.heap ≡ M.heap memory.old
+            → Comes (prog_view prog.now.prog.now) (number_at (prog_view prog.now.prog.now) s)
+            (pure_step (prog_view prog.now.prog.now) M.actions (values_view inputs.now) s) end self.new (M.heap memory.new)) }
         ensures at_number { IfOk result (λ end. IsAtNumber end → M.heap memory.new ≡ M.heap memory.old) }
         ensures grows { OnOk result (GrowsByOne self.old self.new) }
     {
         match self.command() {
             None => Ok(None),
             Some(numbered) => {
-                let place = self.place(alloc, numbered.at)?;
-                self.do_command(alloc, prog, memory, inputs, &numbered.command, place)
+                self.do_command(alloc, prog, memory, inputs, &numbered.command, numbered.at)
             }
         }
     }
@@ -176,41 +204,45 @@ impl<'p> Control<'p> {
     fn do_command<M: LocalMemory>(
         &mut self,
         alloc: Global,
-        prog: &'p Prog,
+        prog: &'r ResolvedProg<'p>,
         memory: &mut M,
         inputs: &Values,
-        command: &'p Command,
-        place: Place,
+        command: &'r ResolvedCommand<'p>,
+        at: u32,
     ) -> Result<Option<Ending>, AllocError>
+        requires resolved { IsResolvedProg prog.now }
         requires next { self.old.current.next + 1 < 2 ^ 64 }
         requires counter { self.old.counter + 1 < 2 ^ 64 }
         requires draws { self.old.draws + 1 < 2 ^ 32 }
-        requires made { IsTrue (is_well_made_command (command_view command.now)) }
-        requires standing { IsStanding (prog_view prog.now) M.memory self.old (M.heap memory.old) }
+        requires placed { AssignsSlot (slots_of self.old) command.now }
+        requires made { IsTrue (is_well_made_command (resolved_command_view (slots_of self.old) command.now)) }
+        requires standing { IsStanding (prog_view prog.now.prog.now) M.memory self.old (M.heap memory.old) }
         ensures does { IfOk result
-            (λ end. Does (prog_view prog.now) M.actions (values_view inputs.now) (command_view command.now) place self.old
+            (λ end. Does (prog_view prog.now.prog.now) M.actions (values_view inputs.now) (resolved_command_view (slots_of self.old) command.now) (place_of self.old at) self.old
             (M.heap memory.old) end self.new (M.heap memory.new)) }
         ensures at_number { IfOk result (λ end. IsAtNumber end → M.heap memory.new ≡ M.heap memory.old) }
         ensures grows { OnOk result (GrowsByOne self.old self.new) }
     {
         match command {
-            Command::Assign(name, expression) => self.do_assign(alloc, name, expression, place),
-            Command::Call(name, callee, args) => {
-                self.do_call(alloc, prog, name, callee, args, place)
-            }
-            Command::Act(name, action, args) => {
-                self.do_act(alloc, memory, name, action, args, place)
-            }
-            Command::Usym(name) => self.do_symbol(alloc, name, &place),
-            Command::Isym(name, kind) => self.do_draw(alloc, name, *kind, inputs, &place),
-            Command::IfGoto(guard, label) => self.do_branch(alloc, guard, label, place),
-            Command::Return(expression) => self.do_return(alloc, expression, place),
-            Command::Fail(expression) => self.do_fail(alloc, expression, place),
-            Command::Vanish => Ok(Some(Ending::Vanished)),
-            Command::Fold(_)
-            | Command::Unfold(_)
-            | Command::AssertThat(_)
-            | Command::LoopInvariant(_, _, _) => {
+            ResolvedCommand::Assign(slot, expression) => self.do_assign(
+                alloc, *slot, expression, at,
+            ),
+            ResolvedCommand::Call(slot, callee, args) => self.do_call(
+                alloc, prog, *slot, callee, args, at,
+            ),
+            ResolvedCommand::Act(slot, action, args) => self.do_act(
+                alloc, memory, *slot, action, args, at,
+            ),
+            ResolvedCommand::Usym(slot) => self.do_symbol(*slot),
+            ResolvedCommand::Isym(slot, kind) => self.do_draw(alloc, *slot, *kind, inputs),
+            ResolvedCommand::IfGoto(guard, label) => self.do_branch(alloc, guard, label, at),
+            ResolvedCommand::Return(expression) => self.do_return(alloc, expression, at),
+            ResolvedCommand::Fail(expression) => self.do_fail(alloc, expression, at),
+            ResolvedCommand::Vanish => Ok(Some(Ending::Vanished)),
+            ResolvedCommand::Fold(_)
+            | ResolvedCommand::Unfold(_)
+            | ResolvedCommand::AssertThat(_)
+            | ResolvedCommand::LoopInvariant(_, _, _) => {
                 self.go_on();
                 Ok(None)
             }

@@ -1,44 +1,62 @@
-//! Stores: the values of names.
-ghost use Rattle.std.specs.Prelude.{◌≡◌, [], OnOk, OnErr};
+//! Stores: the values of variables.
+ghost use Rattle.std.specs.Prelude.{◌≡◌, ◌≤◌, ℕ, [], OnOk, length};
 ghost use Rattle.std.specs.Option.{option_map};
 ghost use Rattle.gil_values.specs.View.{value_view};
 ghost use Rattle.gil_machine.specs.Kept.{Sets, kept_value};
 ghost use Rattle.gil_machine.specs.StoreView.{store_view};
 
-use gil_values::{Text, Value};
+use gil_values::Value;
 use std::alloc::{AllocError, Global};
-use std::collections::HashMap;
 
-/// The values of names, each name once. Contracts see it as a list of names with their values, by `store_view`.
+/// The values of variables by their slots, as many as were needed so far. Contracts see it by `store_view`.
 #[derive(Drop)]
-pub struct Store {
-    values: HashMap<Text, Value>,
+pub(crate) struct Store {
+    values: Vec<Option<Value>>,
 }
 
 impl Store {
     /// The store without values.
-    pub fn new(alloc: Global) -> Store
+    pub(crate) fn new(alloc: Global) -> Store
         ensures { store_view result ≡ [] }
     {
         Store {
-            values: HashMap::new(alloc),
+            values: Vec::new(alloc),
         }
     }
 
-    /// The value of a name.
-    pub fn get(&self, name: &Text) -> Option<&Value>
-        ensures { option_map (λ v. value_view v.now) result ≡ kept_value (store_view self.now) name.now }
+    /// The value of a slot.
+    pub(crate) fn get(&self, slot: usize) -> Option<&Value>
+        ensures { option_map (λ v. value_view v.now) result ≡ kept_value (store_view self.now) slot }
     {
-        self.values.get(name)
+        match self.values.get(slot) {
+            Some(kept) => kept.as_ref(),
+            None => None,
+        }
     }
 
-    /// Gives a name a value.
-    pub fn set(&mut self, alloc: Global, name: &Text, value: Value) -> Result<(), AllocError>
-        ensures ok { OnOk result (Sets (store_view self.old) (store_view self.new) name.now (value_view value)) }
-        ensures err { OnErr result (store_view self.new ≡ store_view self.old) }
+    /// Gives a slot a value.
+    pub(crate) fn set(&mut self, slot: usize, value: Value) -> Result<(), AllocError>
+        ensures { OnOk result (Sets (store_view self.old) (store_view self.new) slot (value_view value)) }
     {
-        let name = name.copy(alloc)?;
-        self.values.insert(name, value)?;
+        if slot < self.values.len() {
+            self.values[slot] = Some(value);
+            Ok(())
+        } else {
+            self.lengthen(slot)?;
+            self.values.push(Some(value))?;
+            Ok(())
+        }
+    }
+
+    /// As many slots without values that there are so many.
+    fn lengthen(&mut self, count: usize) -> Result<(), AllocError>
+        requires { length self.old.values.items ≤ count }
+        ensures count { OnOk result (length self.new.values.items ≡ count) }
+        ensures same { OnOk result ((j : ℕ) → kept_value (store_view self.new) j ≡ kept_value (store_view self.old) j) }
+    {
+        for _slot in self.values.len()..count {
+            self.values.push(None)?;
+        }
         Ok(())
     }
 }

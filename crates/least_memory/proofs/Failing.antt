@@ -2,7 +2,7 @@
 use Rattle.std.proofs.Common.{◌≡◌, inl, inr, ℕ, ℤ, ◌-ℤ◌, ◌+ℤ◌, List, [], ◌∷◌, ◌++◌, Option, Some, None, IsTrue, refl, sym, ap, subst, ◌∙◌}
 use Rattle.gil_values.proofs.OperatorSymbols.{none_contained}
 use Rattle.gil_values.specs.Pure.{PureValue, text}
-use Rattle.least_memory.specs.Notes.{HasValue, terms_of_note, IsPlainNote, note_of, noted_stands, noted_terms, noted_plain}
+use Rattle.least_memory.specs.Notes.{HasValue, terms_of_note, IsPlainNote, note_of, noted_stands, noted_terms, no_form_matters, noted_plain}
 use Rattle.least_memory.specs.declared.noted.Noted.{Noted}
 use Rattle.mem_model.specs.declared.failures.Failure.{Failure}
 use Rattle.mem_model.specs.Actions.{no_memory}
@@ -26,11 +26,12 @@ use Rattle.sym_model.proofs.PlainLaws.{plain_wider}
 
 -- a state with an equal note is a copy
 module _ (s r : Noted) (same : note_of r ≡ note_of s) where
-  pub copied : IsCopy noted_stands noted_terms noted_plain s r
+  pub copied : IsCopy noted_stands noted_terms no_form_matters noted_plain s r
   copied = record {
     stands_for = λ v h. ((λ stands. (stands.0, subst (HasValue v) (sym same) stands.1)), (λ stands. (stands.0, subst (HasValue v) same stands.1)));
     same_terms = λ i. terms_of_note (same i);
     as_plain = λ low high plain. subst (λ note. IsPlainNote note low high) (sym same) plain;
+    same_forms = λ action args v h t. ((λ no. no), (λ no. no));
   }
 
 abbrev fails : PureResult

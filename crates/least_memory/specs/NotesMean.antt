@@ -3,7 +3,7 @@ use Rattle.std.specs.Prelude.{ℕ, List, [], ◌∷◌, Option, Some, None}
 use Rattle.std.specs.FinMap.{empty}
 use Rattle.std.proofs.Common.{sym, subst, ◌∙◌}
 use Rattle.gil_values.specs.Pure.{PureValue}
-use Rattle.least_memory.specs.Notes.{HasValue, terms_of_note, note_of, noted_stands, noted_terms}
+use Rattle.least_memory.specs.Notes.{HasValue, terms_of_note, note_of, noted_stands, noted_terms, all_asked}
 use Rattle.mem_model.specs.declared.keys.MemoryName.TheVariants.{Record}
 use Rattle.mem_model.specs.Heaps.{IsHeapOf, OccursInHeap}
 use Rattle.mem_model.proofs.Joins.{has_key}
@@ -11,9 +11,10 @@ use Rattle.mem_model.proofs.Parts.{no_key, empty_is_heap}
 use Rattle.pure_terms.specs.Laws.{AgreeOn}
 use Rattle.pure_terms.specs.Pure.{PureTerm, variables}
 use Rattle.pure_terms.proofs.VariableLaws.{depend_on_variables}
-use Rattle.sym_model.specs.Laws.{IsMeaning}
+use Rattle.sym_model.specs.Laws.{IsMeaning, AsksItsArguments}
 use Rattle.sym_model.specs.Lists.{Each, IsAmong}
 use Rattle.sym_model.specs.Terms.{all_of}
+use Rattle.sym_model.proofs.ListLaws.{each_is_among}
 
 only : (P : PureTerm → Type 0) (t : PureTerm) → Each P (t ∷ []) → P t
 only P t each = each.0
@@ -37,3 +38,6 @@ notes_mean = record {
   symbols = λ s v h n stands occurs. nothing_occurs n (subst (OccursInHeap n) stands.0 occurs);
   offsets_placed = λ s. no_offsets (note_of s);
 }
+
+pub all_are_given : AsksItsArguments all_asked
+all_are_given action args = each_is_among args

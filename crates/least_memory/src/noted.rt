@@ -39,7 +39,7 @@ impl Noted {
 impl SymMemory for Noted {
     ghost use Rattle.std.specs.Prelude.{⊤};
     ghost use Rattle.least_memory.specs.Notes.{noted_stands, noted_terms, noted_plain, all_asked, no_form_matters};
-    ghost use Rattle.least_memory.specs.NotesMean.{notes_mean};
+    ghost use Rattle.least_memory.specs.NotesMean.{notes_mean, all_are_given};
 
     type Local = NoActions;
 
@@ -56,6 +56,8 @@ impl SymMemory for Noted {
     ghost keeps_plain = { ⊤ };
 
     ghost meaning = { notes_mean };
+
+    ghost asked_are_given = { all_are_given };
 
     fn name() -> MemoryName {
         MemoryName::Record

@@ -29,7 +29,7 @@ pub record IsSolution (vars : List Sort) (rows : List Row) (v : List PureValue) 
   pub met : MeetsAll v rows
   pub moderate : IsTrue (list_all (has_numbers_between (neg_ℤ (pos (2 ^ 124))) (pos (2 ^ 124))) v)
 
--- what may be answered: numbers that meet the rows, a combination of rows that can't be met, or the place of a row that
+-- what may be answered: numbers that meet the rows, a combination of rows, or the place of a row that
 -- isn't always decided
 abbrev pub IsRight : List Sort → List Row → PureLinear → Type 0
 IsRight vars rows (whole_numbers v) = IsSolution vars rows v

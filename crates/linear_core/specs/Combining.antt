@@ -1,4 +1,4 @@
--- Rows that no valuation can meet together: their factors make them add to a positive constant without variables.
+-- Combinations: rows that add, times their factors, to a positive constant without variables.
 use Rattle.std.specs.Prelude.{◌≡◌, ℕ, ℤ, pos, ◌+ℤ◌, ◌*ℤ◌, ◌<ℤ◌, int_lt, List, [], ◌∷◌, map, slice_get, Bool, true, false, ◌&&◌, ◌||◌, if◌then◌else◌, Option, Some, None, IsTrue, nat_eq}
 use Rattle.std.specs.List.{list_all}
 use Rattle.pure_terms.specs.Numbers.{is_held}

@@ -7,7 +7,7 @@ use solver_proof::Factors;
 pub enum Linear {
     /// This valuation meets each row.
     Integer(Valuation),
-    /// These factors of some of the rows, which no valuation can meet together.
+    /// These factors of some of the rows, times which they add to a positive constant without variables.
     Combination(Factors),
     /// The place of a row that isn't a difference of at most two variables, or whose constant is too far from 0.
     Beyond(usize),

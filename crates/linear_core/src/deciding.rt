@@ -40,9 +40,9 @@ fn decide(alloc: Global, vars: &VarTable, rows: &Rows) -> Result<Linear, AllocEr
     }
 }
 
-/// Decides rows over the whole-number variables of a table: a valuation that meets them, or a combination of rows that
-/// can't be met together. It gives up only on a row that isn't a difference of at most two variables with a constant from
-/// -2^82 to 2^82.
+/// Decides rows over the whole-number variables of a table: a valuation that meets them, or a combination of rows that add to a
+/// positive constant without variables. It gives up only on a row that isn't a difference of at most two variables with a
+/// constant from -2^82 to 2^82.
 pub fn linear(alloc: Global, vars: &VarTable, rows: &Rows) -> Result<Linear, AllocError>
     requires { AreOver vars.now rows.now }
     ensures { IfOk result (λ answer. IsRight vars.now rows.now (linear_view answer)) }

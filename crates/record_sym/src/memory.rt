@@ -11,7 +11,7 @@ use sym_model::{Branches, SymFrag, SymMemory};
 impl SymMemory for RecordSym {
     ghost use Rattle.std.specs.Prelude.{⊤};
     ghost use Rattle.record_sym.specs.Plain.{record_stands, record_terms, record_plain, record_asked, record_depends};
-    ghost use Rattle.record_sym.specs.RecordMeaning.{record_meaning};
+    ghost use Rattle.record_sym.specs.RecordMeaning.{record_meaning, record_asks_its_arguments};
 
     type Local = RecordHeap;
 
@@ -28,6 +28,8 @@ impl SymMemory for RecordSym {
     ghost keeps_plain = { ⊤ };
 
     ghost meaning = { record_meaning };
+
+    ghost asked_are_given = { record_asks_its_arguments };
 
     fn name() -> MemoryName {
         MemoryName::Record

@@ -80,13 +80,9 @@ module _ (folding : FoldingReplaces) where
     literal_over (Some l) fs cs = λ x has. absurd (none_contained x has)
     literal_over None fs cs = tt
 
-    either_over : (test : Bool) (t : PureTerm) (o : Option PureTerm) (fs : List PureFaultCase) (cs : List PureAtom) → IsOver vars t → OnGood (IsOver vars) (given_or unset_variable fs cs o).good → OnGood (IsOver vars) (given_or unset_variable fs cs (if test then Some t else o)).good
-    either_over true t o fs cs first second = first
-    either_over false t o fs cs first second = second
-
-    found_over : (bs : PureStore) (x : List ℕ) (fs : List PureFaultCase) (cs : List PureAtom) → IsStoreOver vars bs → OnGood (IsOver vars) (given_or unset_variable fs cs (term_at bs x)).good
-    found_over [] x fs cs over = tt
-    found_over (b ∷ bs) x fs cs over = either_over (bytes_eq b.name x) b.term (term_at bs x) fs cs over.0 (found_over bs x fs cs over.1)
+    found_over : (o : Option PureTerm) (fs : List PureFaultCase) (cs : List PureAtom) → ((t : PureTerm) → o ≡ Some t → IsOver vars t) → OnGood (IsOver vars) (given_or unset_variable fs cs o).good
+    found_over (Some t) fs cs over = over t refl
+    found_over None fs cs over = tt
 
     joined_over : (xs ys : List Var) → AreVariablesOf vars xs → AreVariablesOf vars ys → AreVariablesOf vars (xs ++ ys)
     joined_over xs ys first second x has = ⊎_elim (first x) (second x) (Contains-append_cases xs ys x has)
@@ -103,8 +99,8 @@ module _ (folding : FoldingReplaces) where
     mutual
       pub over_after : (bs : PureStore) (over : IsStoreOver vars bs) (fs : List PureFaultCase) (cs : List PureAtom) (e : PureExpr) → OnGood (IsOver vars) (cases_after bs fs cs e).good
       over_after bs over fs cs (value_literal w) = literal_over (spelled w) fs cs
-      over_after bs over fs cs (name x) = found_over bs x fs cs over
-      over_after bs over fs cs (logical x) = found_over bs x fs cs over
+      over_after bs over fs cs (name x) = found_over (term_at bs x) fs cs (over x)
+      over_after bs over fs cs (logical x) = found_over (term_at bs x) fs cs (over x)
       over_after bs over fs cs (list_expr es) = then_on AllOver (IsOver vars) (all_cases_after bs fs cs es) _ (all_over_after bs over fs cs es) (λ gs ds ts is. is)
       over_after bs over fs cs (unary_expr op e) =
           then_on (IsOver vars) (IsOver vars) (cases_after bs fs cs e) _ (over_after bs over fs cs e)

@@ -34,14 +34,6 @@ module _ (vars : List Sort) where
   no_variables x has = absurd (none_contained x has)
 
   module _ (bs : PureStore) (over : IsStoreOver vars bs) where
-    found_by : (test : Bool) (t u : PureTerm) (o : Option PureTerm) → IsOver vars t → ((w : PureTerm) → o ≡ Some w → IsOver vars w) → (if test then Some t else o) ≡ Some u → IsOver vars u
-    found_by true t u o first later is = subst (IsOver vars) (same_some is) first
-    found_by false t u o first later is = later u is
-
-    found_over : (cs : PureStore) → IsStoreOver vars cs → (x : List ℕ) (u : PureTerm) → term_at cs x ≡ Some u → IsOver vars u
-    found_over [] all x u is = not_none is
-    found_over (c ∷ cs) all x u is = found_by (bytes_eq c.name x) c.term u (term_at cs x) all.0 (found_over cs all.1 x) is
-
     literal_over : (o : Option Literal) (u : PureTerm) → literal_term o ≡ Some u → IsOver vars u
     literal_over (Some l) u is = subst (IsOver vars) (same_some is) no_variables
     literal_over None u is = not_none is
@@ -49,8 +41,8 @@ module _ (vars : List Sort) where
     mutual
       substituted_over : (e : PureExpr) (u : PureTerm) → substituted bs e ≡ Some u → IsOver vars u
       substituted_over (value_literal v) u is = literal_over (spelled v) u is
-      substituted_over (name x) u is = found_over bs over x u is
-      substituted_over (logical x) u is = found_over bs over x u is
+      substituted_over (name x) u is = over x u is
+      substituted_over (logical x) u is = over x u is
       substituted_over (list_expr es) u is =
           let (ts, (inner, whole)) = some_mapped (λ ts. list_of (from_list ts)) (all_substituted bs es) u is in
           subst (IsOver vars) whole (all_substituted_over es ts inner)

@@ -20,9 +20,9 @@ AreSame v _ _ = ⊥
 abbrev pub StandsFor : List PureValue → PureStore → Store → Type 0
 StandsFor v bs s = (x : List ℕ) → AreSame v (term_at bs x) (value_of s x)
 
--- each term of the store names only variables of the table
+-- the term of each name names only variables of the table
 abbrev pub IsStoreOver : List Sort → PureStore → Type 0
-IsStoreOver vars bs = Each (λ b. IsOver vars b.term) bs
+IsStoreOver vars bs = (x : List ℕ) (t : PureTerm) → term_at bs x ≡ Some t → IsOver vars t
 
 -- a valuation that is proper for a table with all the variables of a store, under which it stands for another store
 pub record Serves (vars : List Sort) (v : List PureValue) (bs : PureStore) (s : Store) : Type 0 where

@@ -1,7 +1,7 @@
 -- What holds of each element of a list, or of one of them, as lists are joined, mapped and read by place.
 use Rattle.std.proofs.Common.{◌≡◌, ◌⊎◌, ⊎_elim, inl, inr, ℕ, zero, suc, List, [], ◌∷◌, ◌++◌, map, Some, None, is_some, slice_get, refl, sym, ap, subst, true≢false}
 use Rattle.std.specs.List.{flat_map}
-use Rattle.sym_model.specs.Lists.{Each, OneOf}
+use Rattle.sym_model.specs.Lists.{Each, OneOf, IsAmong}
 
 pub same_some : {X : Type 0} {x y : X} → Some x ≡ Some y → x ≡ y
 same_some e = cc
@@ -93,3 +93,7 @@ module _ {A B : Type 0} where
   pub one_flattened : (P : B → Type 0) (f : A → List B) (xs : List A) → OneOf P (flat_map f xs) → OneOf (λ x. OneOf P (f x)) xs
   one_flattened P f [] one = absurd one
   one_flattened P f (x ∷ xs) one = ⊎_elim inl (λ later. inr (one_flattened P f xs later)) (one_parts P (f x) (flat_map f xs) one)
+
+-- each element is one of the list
+pub each_is_among : {A : Type 0} (xs : List A) → Each (λ x. IsAmong x xs) xs
+each_is_among xs = each_by_place (λ x. IsAmong x xs) xs (λ i x at. one_at (λ y. y ≡ x) xs i x at refl)

@@ -37,14 +37,21 @@ pub record IsMeaning (memory : MemoryName) {S : Type 0} (stands : S → List Pur
   pub symbols : (s : S) (v : List PureValue) (h : Heap) (n : ℕ) → stands s v h → OccursInHeap n h → OneOf (ComesFrom v n) (all_of (terms s))
   pub offsets_placed : (s : S) → Each (λ t. IsAmong t (terms s).placed) (terms s).offsets
 
--- A copy stands for the same heaps, has the same terms, and is as plain.
-pub record IsCopy {S : Type 0} (stands : S → List PureValue → Heap → Type 0) (terms : S → StateTerms) (plain : S → ℤ → ℤ → Type 0)
+-- A copy stands for the same heaps, has the same terms, is as plain, and its actions depend on the same literal forms.
+pub record IsCopy {S : Type 0} (stands : S → List PureValue → Heap → Type 0) (terms : S → StateTerms)
+    (depends : S → List ℕ → List PureTerm → List PureValue → Heap → PureTerm → Type 0) (plain : S → ℤ → ℤ → Type 0)
     (s copy : S) : Type 0 where
   pub stands_for : (v : List PureValue) (h : Heap) → stands s v h ↔ stands copy v h
   pub same_terms : terms copy ≡ terms s
   pub as_plain : (low high : ℤ) → plain s low high → plain copy low high
+  pub same_forms : (action : List ℕ) (args : List PureTerm) (v : List PureValue) (h : Heap) (t : PureTerm)
+      → depends s action args v h t ↔ depends copy action args v h t
 
 -- ---- asking
+
+-- an action asks about some of its arguments, and of nothing else that is handed to it
+abbrev pub AsksItsArguments : (List ℕ → List PureTerm → List PureTerm) → Type 0
+AsksItsArguments asked = (action : List ℕ) (args : List PureTerm) → Each (λ t. IsAmong t args) (asked action args)
 
 -- The condition under which an action may be asked: the fresh variable is there exactly where the concrete action takes a new
 -- symbol, it is of sort Fresh, and its number is above those of all variables of the arguments and of the state.

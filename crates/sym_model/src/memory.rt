@@ -7,7 +7,7 @@ ghost use Rattle.pure_terms.specs.Pure.{PureTerm};
 ghost use Rattle.pure_terms.specs.View.{terms_view};
 ghost use Rattle.sym_model.specs.Forms.{OpenWhatMatters};
 ghost use Rattle.sym_model.specs.Terms.{StateTerms, no_state_terms};
-ghost use Rattle.sym_model.specs.Laws.{IsMeaning, IsCopy, MayBeAsked, ActLaw, ActsPlainly};
+ghost use Rattle.sym_model.specs.Laws.{IsMeaning, AsksItsArguments, IsCopy, MayBeAsked, ActLaw, ActsPlainly};
 ghost use Rattle.sym_model.specs.View.{branches_view};
 
 use crate::branches::Branches;
@@ -51,7 +51,7 @@ pub trait SymMemory: Drop {
 
     /// A state that stands for the same heaps.
     fn copy(&self, alloc: Global) -> Result<Self, AllocError>
-        ensures { IfOk result (λ m. IsCopy stands terms plain self.now m) };
+        ensures { IfOk result (λ m. IsCopy stands terms depends plain self.now m) };
 
     /// What an action may come to.
     fn act(
@@ -69,4 +69,6 @@ pub trait SymMemory: Drop {
         ensures plain { keeps_plain → IfOk result (λ bs. ActsPlainly plain action.now (terms_view args.now) self.now (branches_view bs)) };
 
     ghost meaning: { IsMeaning Self.Local.memory stands terms };
+
+    ghost asked_are_given: { AsksItsArguments asked };
 }

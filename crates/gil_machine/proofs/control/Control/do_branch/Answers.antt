@@ -1,9 +1,9 @@
 use Rattle.std.proofs.Common.{None, subst}
 use Rattle.std.proofs.lemmas.Result.{IfOk-weaker}
 use Rattle.gil_values.specs.View.{value_view}
-use Rattle.gil_syntax.specs.View.{expr_view}
+use Rattle.gil_machine.specs.ResolvedView.{resolved_view}
 use Rattle.gil_machine.specs.Held.{evaluate_held}
-use Rattle.gil_machine.specs.Standing.{Comes}
+use Rattle.gil_machine.specs.Standing.{place_of, Comes, slots_of}
 use Rattle.gil_machine.proofs.HeldValues.{evaluate-tells}
 use Rattle.gil_machine.proofs.Outcomes.{value_goes, value_stops}
 use Rattle.gil_machine.specs.Step.{branch}
@@ -11,12 +11,12 @@ use Rattle.gil_machine.proofs.control.Control.do_branch.Goals as goal
 
 pub returns-in-Ok-clause-does : goal.returns-in-Ok-clause-does
 returns-in-Ok-clause-does c = IfOk-weaker c.branch-self.result _ _ (λ end goes. λ p m inputs h s stands heap.
-    value_goes p (evaluate_held (expr_view c.args.guard.now) s.current.store) _ (value_view c.in-Ok.guard) c.args.place s _ end _ h
-    (c.in-Ok.ensures s.current.store stands.current.store) (evaluate-tells (expr_view c.args.guard.now) s.current.store)
-    (subst (Comes p None (branch (value_view c.in-Ok.guard) c.args.label.now c.args.place s) end c.branch-self.new.self) heap
+    value_goes p (evaluate_held (resolved_view (slots_of c.args.self.now) c.args.guard.now) s.current.store) _ (value_view c.in-Ok.guard) (place_of c.args.self.now c.args.at) s _ end _ h
+    (c.in-Ok.ensures (slots_of c.args.self.now) s.current.store stands.current.store) (evaluate-tells (resolved_view (slots_of c.args.self.now) c.args.guard.now) s.current.store)
+    (subst (Comes p None (branch (value_view c.in-Ok.guard) c.args.label.now (place_of c.args.self.now c.args.at) s) end c.branch-self.new.self) heap
     (goes p s stands))) c.branch-self.ensures.does
 
 pub returns-in_ok-fault_ending-in-Err-clause-does : goal.returns-in_ok-fault_ending-in-Err-clause-does
 returns-in_ok-fault_ending-in-Err-clause-does c = λ p m inputs h s stands heap.
-    value_stops p (evaluate_held (expr_view c.args.guard.now) s.current.store) _ c.in-Err.fault c.args.place s _ _ _ h
-    (c.in-Err.ensures s.current.store stands.current.store) (evaluate-tells (expr_view c.args.guard.now) s.current.store) c.in_ok-fault_ending-in-Err.ensures stands heap
+    value_stops p (evaluate_held (resolved_view (slots_of c.args.self.now) c.args.guard.now) s.current.store) _ c.in-Err.fault (place_of c.args.self.now c.args.at) s _ _ _ h
+    (c.in-Err.ensures (slots_of c.args.self.now) s.current.store stands.current.store) (evaluate-tells (resolved_view (slots_of c.args.self.now) c.args.guard.now) s.current.store) c.in_ok-fault_ending-in-Err.ensures stands heap

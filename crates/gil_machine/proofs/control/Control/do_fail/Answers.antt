@@ -1,19 +1,21 @@
-use Rattle.std.proofs.Common.{refl}
+use Rattle.std.proofs.Common.{sym, ap}
 use Rattle.gil_values.specs.View.{value_view}
-use Rattle.gil_syntax.specs.View.{expr_view}
+use Rattle.gil_machine.specs.ResolvedView.{resolved_view}
 use Rattle.gil_machine.specs.Held.{evaluate_held}
+use Rattle.gil_machine.specs.Standing.{place_of, slots_of}
 use Rattle.gil_machine.proofs.HeldValues.{evaluate-tells}
 use Rattle.gil_machine.proofs.Outcomes.{value_goes, value_stops, fails_here}
+use Rattle.gil_machine.specs.State.{failed}
 use Rattle.gil_machine.specs.declared.endings.Ending.TheVariants as kept
 use Rattle.gil_machine.proofs.control.Control.do_fail.Goals as goal
 
-pub returns-in-Ok-clause-does : goal.returns-in-Ok-clause-does
-returns-in-Ok-clause-does c = λ p m inputs h s stands heap.
-    value_goes p (evaluate_held (expr_view c.args.expression.now) s.current.store) _ (value_view c.in-Ok.value) c.args.place s _ _ _ h
-    (c.in-Ok.ensures s.current.store stands.current.store) (evaluate-tells (expr_view c.args.expression.now) s.current.store)
-    (fails_here p (value_view c.in-Ok.value) c.args.place s (kept.Failed c.in-Ok.value c.args.place) _ h refl stands heap)
+pub returns-in_ok-place-in-Ok-clause-does : goal.returns-in_ok-place-in-Ok-clause-does
+returns-in_ok-place-in-Ok-clause-does c = λ p m inputs h s stands heap.
+    value_goes p (evaluate_held (resolved_view (slots_of c.args.self.now) c.args.expression.now) s.current.store) _ (value_view c.in-Ok.value) (place_of c.args.self.now c.args.at) s _ _ _ h
+    (c.in-Ok.ensures (slots_of c.args.self.now) s.current.store stands.current.store) (evaluate-tells (resolved_view (slots_of c.args.self.now) c.args.expression.now) s.current.store)
+    (fails_here p (value_view c.in-Ok.value) (place_of c.args.self.now c.args.at) s (kept.Failed c.in-Ok.value c.in_ok-place-in-Ok.place) _ h (ap (failed (value_view c.in-Ok.value)) (sym c.in_ok-place-in-Ok.ensures)) stands heap)
 
 pub returns-in_ok-fault_ending-in-Err-clause-does : goal.returns-in_ok-fault_ending-in-Err-clause-does
 returns-in_ok-fault_ending-in-Err-clause-does c = λ p m inputs h s stands heap.
-    value_stops p (evaluate_held (expr_view c.args.expression.now) s.current.store) _ c.in-Err.fault c.args.place s _ _ _ h
-    (c.in-Err.ensures s.current.store stands.current.store) (evaluate-tells (expr_view c.args.expression.now) s.current.store) c.in_ok-fault_ending-in-Err.ensures stands heap
+    value_stops p (evaluate_held (resolved_view (slots_of c.args.self.now) c.args.expression.now) s.current.store) _ c.in-Err.fault (place_of c.args.self.now c.args.at) s _ _ _ h
+    (c.in-Err.ensures (slots_of c.args.self.now) s.current.store stands.current.store) (evaluate-tells (resolved_view (slots_of c.args.self.now) c.args.expression.now) s.current.store) c.in_ok-fault_ending-in-Err.ensures stands heap

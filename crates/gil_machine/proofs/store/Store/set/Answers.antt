@@ -1,13 +1,15 @@
-use Rattle.std.proofs.Common.{◌≡◌, ℕ, List, cond, Some, subst}
-use Rattle.std.specs.Map.{lookup}
-use Rattle.std.specs.Str.{bytes_eq}
-use Rattle.gil_machine.proofs.KeptValues.{kept-set}
+use Rattle.std.proofs.Common.{◌≡◌, eqb, cond, length, Some, sym, ap, subst, ◌∙◌, arith}
+use Rattle.gil_values.specs.View.{value_view}
+use Rattle.gil_machine.specs.Kept.{kept_value}
+use Rattle.gil_machine.proofs.KeptValues.{seen, kept-set, kept-push}
 use Rattle.gil_machine.proofs.store.Store.set.Goals as goal
 
-pub returns-clause-ok : goal.returns-clause-ok
-returns-clause-ok c =
-    let old = c.args.self.now.values.entries in
-    let new = c.insert.new.self.entries in
-    let sets : (y : List ℕ) → lookup (bytes_eq y) new ≡ cond (bytes_eq c.args.name.now y) (Some c.args.value) (lookup (bytes_eq y) old)
-    = subst (λ x. (y : List ℕ) → lookup (bytes_eq y) new ≡ cond (bytes_eq x y) (Some c.args.value) (lookup (bytes_eq y) old)) c.in_ok-name.ensures c.in_ok-insert.ensures.updates.0 in
-    kept-set old new c.args.name.now c.args.value sets
+pub returns-then-slot-len : goal.returns-then-slot-len
+returns-then-slot-len c = λ j. kept-set c.args.self.now.values.items c.args.slot c.args.value (omega (arith, c.if-slot-len.true)) j
+
+pub returns-in_ok-push : goal.returns-in_ok-push
+returns-in_ok-push c = λ j.
+    let middle = c.lengthen.new.self.values.items in
+    subst (λ vs. kept_value (seen vs) j ≡ cond (eqb (length middle) j) (Some (value_view c.args.value)) (kept_value (seen middle) j)) (sym c.in_ok-push.ensures.items) (kept-push middle c.args.value j)
+    ∙ ap (λ n. cond (eqb n j) (Some (value_view c.args.value)) (kept_value (seen middle) j)) c.in_ok-lengthen.ensures.count
+    ∙ ap (cond (eqb c.args.slot j) (Some (value_view c.args.value))) (c.in_ok-lengthen.ensures.same j)

@@ -1,0 +1,5 @@
+pub mod Answers
+pub mod Forms
+pub mod Heads
+pub mod Nodes
+pub mod Sets

@@ -1,0 +1,4 @@
+pub mod Following
+pub mod NumberedNames
+pub mod Stores
+pub mod Stretches

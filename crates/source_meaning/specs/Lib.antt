@@ -1,0 +1,5 @@
+pub mod Code
+pub mod Completions
+pub mod Names
+pub mod Procedures
+pub mod SameEnds

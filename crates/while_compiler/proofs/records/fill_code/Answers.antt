@@ -1,0 +1,13 @@
+use Rattle.std.proofs.Common.{◌++◌, [], ◌∷◌, sym, ◌∙◌}
+use Rattle.gil_syntax.specs.Pure.{act}
+use Rattle.source_meaning.specs.Procedures.{placed}
+use Rattle.while_compiler.proofs.FieldCodes.{fill-next}
+use Rattle.while_compiler.proofs.records.fill_code.Goals as goal
+
+pub loop-number-preserved : goal.loop-number-preserved
+loop-number-preserved c =
+    c.in_ok-put.ensures
+    ∙ (λ k. c.loop-number.invariant k ++ placed c.args.at (act (c.in_ok-temporary.ensures k) (c.in_ok-action.ensures k)
+    (c.in_ok-arguments.ensures k)) ∷ [])
+    ∙ sym (fill-next c.args.fields.now c.loop-number.number c.index-fields-number.result c.loop-number-test.true
+    c.index-fields-number.is c.args.at c.args.made c.args.written)

@@ -1,0 +1,118 @@
+-- The GIL program that a While program is compiled to. The commands of a statement have the byte at which it begins as their
+-- place; labels are indices of the procedure's commands. Temporaries are numbered anew in each statement, in the order in which
+-- they are assigned.
+use Rattle.std.specs.Prelude.{ℕ, suc, ◌+◌, List, [], ◌∷◌, ◌++◌, map, length, Option, Some, None, codes, max}
+use Rattle.gil_values.specs.Pure.{text, procedure}
+use Rattle.gil_syntax.specs.Pure.{PureExpr, literal, name, list_of, from_list, assign, call, act, usym, isym, return, fail, vanish, fold_use, unfold_use, assert_that, loop_invariant, PureCommand, PureNumberedCommand, PureProc, PureParts}
+use Rattle.source_meaning.specs.Code.{truth, jump}
+use Rattle.source_meaning.specs.Names.{temporary, temporaries_from}
+use Rattle.source_meaning.specs.Procedures.{placed, procedure_of}
+use Rattle.while_syntax.specs.Pure as while
+use Rattle.while_syntax.specs.Pure.{PureField, PureLogic, PureInvariant, PureStatement, PureBlock, no_statements, statement_and, PureFunction, PureSource}
+
+-- ---- temporaries
+
+-- a new record takes one for each field, one for the record, and one for what is written
+abbrev pub field_temporaries : List PureField → ℕ
+field_temporaries [] = 1
+field_temporaries (field ∷ fields) = suc (length fields) + 2
+
+abbrev mutual
+  -- how many temporaries a statement uses, those of its blocks included
+  pub statement_temporaries : PureStatement → ℕ
+  statement_temporaries (while.new x fields) = field_temporaries fields
+  statement_temporaries (while.mutate y p e) = 1
+  statement_temporaries (while.dispose e) = 1
+  statement_temporaries (while.if_else e on off) = max (block_temporaries on) (block_temporaries off)
+  statement_temporaries (while.while e invariant body) = block_temporaries body
+  statement_temporaries _ = 0
+
+  pub block_temporaries : PureBlock → ℕ
+  block_temporaries no_statements = 0
+  block_temporaries (statement_and at c rest) = max (statement_temporaries c) (block_temporaries rest)
+
+-- ---- commands
+
+abbrev pub name_literals : List PureField → List PureExpr
+name_literals fields = map (λ field. literal (text field.name)) fields
+
+-- the values of the fields, in temporaries from a number on
+abbrev pub field_values_code : ℕ → ℕ → List PureField → List PureNumberedCommand
+field_values_code at i [] = []
+field_values_code at i (field ∷ fields) = placed at (assign (temporary i) field.value) ∷ field_values_code at (i + 1) fields
+
+-- the fields of the record in a temporary get these values; what is written goes into another temporary
+abbrev pub fill_code : ℕ → ℕ → ℕ → ℕ → List PureField → List PureNumberedCommand
+fill_code at made written i [] = []
+fill_code at made written i (field ∷ fields) =
+    placed at (act (temporary written) (codes "mutate") (name (temporary made) ∷ literal (text field.name) ∷ name (temporary i) ∷ []))
+    ∷ fill_code at made written (i + 1) fields
+
+abbrev pub new_code : ℕ → List ℕ → List PureField → List PureNumberedCommand
+new_code at x fields =
+    field_values_code at 0 fields
+    ++ (placed at (act (temporary (length fields)) (codes "new") (list_of (from_list (name_literals fields)) ∷ []))
+    ∷ (fill_code at (length fields) (length fields + 1) 0 fields
+    ++ placed at (assign x (name (temporary (length fields)))) ∷ []))
+
+-- Of a condition at a place: where it is true, the second commands, and else the first.
+abbrev pub if_code : ℕ → ℕ → PureExpr → List PureNumberedCommand → List PureNumberedCommand → List PureNumberedCommand
+if_code pc at e off on =
+    jump at e (pc + 1 + length off + 1) ∷ (off ++ (jump at truth (pc + 1 + length off + 1 + length on) ∷ on))
+
+abbrev pub while_code : ℕ → ℕ → PureExpr → List PureNumberedCommand → List PureNumberedCommand → List PureNumberedCommand
+while_code pc at e invariant body =
+    invariant
+    ++ (jump at e (pc + length invariant + 1 + 1)
+    ∷ jump at truth (pc + length invariant + 1 + 1 + length body + 1)
+    ∷ (body ++ jump at truth pc ∷ []))
+
+-- the invariant of a loop, which may change the temporaries that are assigned in the loop too
+abbrev pub invariant_code : ℕ → ℕ → Option PureInvariant → List PureNumberedCommand
+invariant_code at temporaries None = []
+invariant_code at temporaries (Some i) = placed at (loop_invariant (i.names ++ temporaries_from 0 temporaries) i.logicals i.items) ∷ []
+
+abbrev pub invariant_length : Option PureInvariant → ℕ
+invariant_length None = 0
+invariant_length (Some i) = 1
+
+abbrev pub logic_command : PureLogic → PureCommand
+logic_command (while.fold_use u) = fold_use u
+logic_command (while.unfold_use u) = unfold_use u
+logic_command (while.assert_that items) = assert_that items
+
+abbrev pub property : List ℕ → PureExpr
+property p = literal (text p)
+
+abbrev mutual
+  -- the commands of a statement that stand in their procedure from a place on
+  pub statement_code : ℕ → ℕ → PureStatement → List PureNumberedCommand
+  statement_code pc at (while.assign x e) = placed at (assign x e) ∷ []
+  statement_code pc at (while.input x k) = placed at (isym x k) ∷ []
+  statement_code pc at (while.symbol x) = placed at (usym x) ∷ []
+  statement_code pc at (while.new x fields) = new_code at x fields
+  statement_code pc at (while.lookup x y p) = placed at (act x (codes "lookup") (name y ∷ property p ∷ [])) ∷ []
+  statement_code pc at (while.call x f es) = placed at (call x (literal (procedure f)) es) ∷ []
+  statement_code pc at (while.mutate y p e) = placed at (act (temporary 0) (codes "mutate") (name y ∷ property p ∷ e ∷ [])) ∷ []
+  statement_code pc at (while.dispose e) = placed at (act (temporary 0) (codes "dispose") (e ∷ [])) ∷ []
+  statement_code pc at (while.assert e) = jump at e (pc + 2) ∷ placed at (fail (literal (text (codes "assert")))) ∷ []
+  statement_code pc at (while.assume e) = jump at e (pc + 2) ∷ placed at vanish ∷ []
+  statement_code pc at (while.if_else e on off) =
+      if_code pc at e (block_code (pc + 1) off) (block_code (pc + 1 + length (block_code (pc + 1) off) + 1) on)
+  statement_code pc at (while.while e invariant body) =
+      while_code pc at e (invariant_code at (block_temporaries body) invariant) (block_code (pc + invariant_length invariant + 2) body)
+  statement_code pc at (while.return e) = placed at (return e) ∷ []
+  statement_code pc at (while.fail e) = placed at (fail e) ∷ []
+  statement_code pc at (while.logic c) = placed at (logic_command c) ∷ []
+
+  pub block_code : ℕ → PureBlock → List PureNumberedCommand
+  block_code pc no_statements = []
+  block_code pc (statement_and at c rest) = statement_code pc at c ++ block_code (pc + length (statement_code pc at c)) rest
+
+-- ---- programs
+
+abbrev pub compiled_function : PureFunction → PureProc
+compiled_function f = procedure_of f.name f.params f.at (block_temporaries f.body) (λ pc. block_code pc f.body)
+
+abbrev pub compiled : PureSource → PureParts
+compiled source = record { procs = map compiled_function source.functions; specs = source.specs; preds = source.preds }

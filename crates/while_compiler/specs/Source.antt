@@ -1,0 +1,7 @@
+-- A source as its tree.
+use Rattle.while_syntax.specs.Pure.{PureSource}
+use Rattle.while_syntax.specs.View.{source_parts_view}
+use Rattle.while_compiler.specs.declared.source.Source.{Source}
+
+abbrev pub source_view : Source → PureSource
+source_view s = source_parts_view s.parts

@@ -1,0 +1,21 @@
+//! The compiler of While: programs become GIL programs with the same ends.
+#![tactic(auto)]
+
+mod compiling;
+mod control;
+mod examples;
+mod limits;
+mod programs;
+mod records;
+mod simple;
+mod source;
+mod statements;
+mod temporaries;
+
+pub use compiling::compile;
+pub use examples::{a_return_stands_last, statements_have_their_commands};
+pub use limits::TooMany;
+pub use source::Source;
+
+#[cfg(test)]
+mod tests;

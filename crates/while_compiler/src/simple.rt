@@ -1,0 +1,223 @@
+//! Statements that one command stands for.
+ghost use Rattle.std.specs.Prelude.{◌≡◌, ◌+◌, [], ◌∷◌, length, IfOk, codes};
+ghost use Rattle.gil_values.specs.Characters.{IsText};
+ghost use Rattle.gil_values.specs.Pure.{procedure, text};
+ghost use Rattle.gil_syntax.specs.Pure.{literal, name, assign, call, act, usym, isym, return, fail, vanish, PureCommand};
+ghost use Rattle.gil_syntax.specs.View.{command_view, expr_view, exprs_view};
+ghost use Rattle.source_meaning.specs.Code.{code_view, jump as jump_to};
+ghost use Rattle.source_meaning.specs.Names.{temporary as pure_temporary};
+ghost use Rattle.source_meaning.specs.Procedures.{placed};
+ghost use Rattle.while_syntax.specs.View.{logic_view};
+ghost use Rattle.while_compiler.specs.Compiled.{logic_command, property};
+
+use gil_syntax::{Body, Command, Expr, Exprs};
+use gil_values::{Kind, Text, Value};
+use source_meaning::{
+    jump, label_after, procedure_literal, put, temporary, text, text_literal, variable,
+};
+use std::alloc::{AllocError, Global};
+use syntax_copy::{copy_assertion, copy_of_expression, copy_of_expressions, copy_use};
+use while_syntax::Logic;
+
+/// One command.
+fn one(alloc: Global, at: u32, command: Command) -> Result<Body, AllocError>
+    ensures { IfOk result (λ code. code_view code ≡ placed at (command_view command) ∷ []) }
+{
+    let mut code = Body::new(alloc);
+    put(&mut code, at, command)?;
+    Ok(code)
+}
+
+/// `x = e`
+pub(crate) fn assign_code(
+    alloc: Global,
+    at: u32,
+    x: &Text,
+    value: &Expr,
+) -> Result<Body, AllocError>
+    ensures { IfOk result (λ code. code_view code ≡ placed at (assign x.now (expr_view value.now)) ∷ []) }
+{
+    let value = copy_of_expression(alloc, value)?;
+    one(alloc, at, Command::Assign(x.copy(alloc)?, value))
+}
+
+/// `x = input s`
+pub(crate) fn input_code(alloc: Global, at: u32, x: &Text, kind: Kind) -> Result<Body, AllocError>
+    ensures { IfOk result (λ code. code_view code ≡ placed at (isym x.now kind) ∷ []) }
+{
+    one(alloc, at, Command::Isym(x.copy(alloc)?, kind))
+}
+
+/// `x = symbol`
+pub(crate) fn symbol_code(alloc: Global, at: u32, x: &Text) -> Result<Body, AllocError>
+    ensures { IfOk result (λ code. code_view code ≡ placed at (usym x.now) ∷ []) }
+{
+    one(alloc, at, Command::Usym(x.copy(alloc)?))
+}
+
+/// The arguments of a lookup.
+fn place_arguments(alloc: Global, y: &Text, p: &Text) -> Result<Exprs, AllocError>
+    ensures { IfOk result (λ es. exprs_view es ≡ name y.now ∷ property p.now ∷ []) }
+{
+    let mut arguments = Exprs::new(alloc);
+    arguments.push(variable(alloc, y)?)?;
+    arguments.push(text_literal(alloc, p)?)?;
+    Ok(arguments)
+}
+
+/// The arguments of a mutation.
+fn written_arguments(alloc: Global, y: &Text, p: &Text, value: &Expr) -> Result<Exprs, AllocError>
+    ensures { IfOk result (λ es. exprs_view es ≡ name y.now ∷ property p.now ∷ expr_view value.now ∷ []) }
+{
+    let mut arguments = place_arguments(alloc, y, p)?;
+    arguments.push(copy_of_expression(alloc, value)?)?;
+    Ok(arguments)
+}
+
+/// `x = y.p`
+pub(crate) fn lookup_code(
+    alloc: Global,
+    at: u32,
+    x: &Text,
+    y: &Text,
+    p: &Text,
+) -> Result<Body, AllocError>
+    ensures { IfOk result (λ code. code_view code ≡ placed at (act x.now (codes "lookup") (name y.now ∷ property p.now ∷ [])) ∷ []) }
+{
+    let arguments = place_arguments(alloc, y, p)?;
+    let action = text(alloc, "lookup")?;
+    one(alloc, at, Command::Act(x.copy(alloc)?, action, arguments))
+}
+
+/// `x = f(e, ..)`
+pub(crate) fn call_code(
+    alloc: Global,
+    at: u32,
+    x: &Text,
+    f: &Text,
+    arguments: &Exprs,
+) -> Result<Body, AllocError>
+    ensures { IfOk result (λ code. code_view code ≡ placed at (call x.now (literal (procedure f.now)) (exprs_view arguments.now)) ∷ []) }
+{
+    let callee = procedure_literal(alloc, f)?;
+    let arguments = copy_of_expressions(alloc, arguments)?;
+    one(alloc, at, Command::Call(x.copy(alloc)?, callee, arguments))
+}
+
+/// `y.p = e`
+pub(crate) fn mutate_code(
+    alloc: Global,
+    at: u32,
+    y: &Text,
+    p: &Text,
+    value: &Expr,
+) -> Result<Body, AllocError>
+    ensures { IfOk result
+        (λ code. code_view code
+        ≡ placed at (act (pure_temporary 0) (codes "mutate") (name y.now ∷ property p.now ∷ expr_view value.now ∷ [])) ∷ []) }
+{
+    let arguments = written_arguments(alloc, y, p, value)?;
+    let action = text(alloc, "mutate")?;
+    one(
+        alloc,
+        at,
+        Command::Act(temporary(alloc, 0)?, action, arguments),
+    )
+}
+
+/// `dispose e`
+pub(crate) fn dispose_code(alloc: Global, at: u32, record: &Expr) -> Result<Body, AllocError>
+    ensures { IfOk result
+        (λ code. code_view code ≡ placed at (act (pure_temporary 0) (codes "dispose") (expr_view «record».now ∷ [])) ∷ []) }
+{
+    let mut arguments = Exprs::new(alloc);
+    arguments.push(copy_of_expression(alloc, record)?)?;
+    let action = text(alloc, "dispose")?;
+    one(
+        alloc,
+        at,
+        Command::Act(temporary(alloc, 0)?, action, arguments),
+    )
+}
+
+/// `return e`
+pub(crate) fn return_code(alloc: Global, at: u32, value: &Expr) -> Result<Body, AllocError>
+    ensures { IfOk result (λ code. code_view code ≡ placed at (return (expr_view value.now)) ∷ []) }
+{
+    one(
+        alloc,
+        at,
+        Command::Return(copy_of_expression(alloc, value)?),
+    )
+}
+
+/// `fail e`
+pub(crate) fn fail_code(alloc: Global, at: u32, value: &Expr) -> Result<Body, AllocError>
+    ensures { IfOk result (λ code. code_view code ≡ placed at (fail (expr_view value.now)) ∷ []) }
+{
+    one(alloc, at, Command::Fail(copy_of_expression(alloc, value)?))
+}
+
+/// A logic command
+pub(crate) fn logic_code(alloc: Global, at: u32, logic: &Logic) -> Result<Body, AllocError>
+    ensures { IfOk result (λ code. code_view code ≡ placed at (logic_command (logic_view logic.now)) ∷ []) }
+{
+    match logic {
+        Logic::Fold(used) => one(alloc, at, Command::Fold(copy_use(alloc, used)?)),
+        Logic::Unfold(used) => one(alloc, at, Command::Unfold(copy_use(alloc, used)?)),
+        Logic::Assert(assertion) => {
+            let assertion = copy_assertion(alloc, assertion)?;
+            one(alloc, at, Command::AssertThat(assertion))
+        }
+    }
+}
+
+/// A jump past the next command where a condition is true.
+fn jump_past(alloc: Global, label: usize, at: u32, condition: &Expr) -> Result<Body, AllocError>
+    ensures { IfOk result (λ code. code_view code ≡ jump_to at (expr_view condition.now) (label + 2) ∷ []) }
+{
+    let mut code = Body::new(alloc);
+    let condition = copy_of_expression(alloc, condition)?;
+    jump(&mut code, at, condition, label_after(label, 2)?)?;
+    Ok(code)
+}
+
+/// `assert(e)`, at a label
+pub(crate) fn assert_code(
+    alloc: Global,
+    label: usize,
+    at: u32,
+    condition: &Expr,
+) -> Result<Body, AllocError>
+    ensures { IfOk result
+        (λ code. code_view code
+        ≡ jump_to at (expr_view condition.now) (label + 2) ∷ placed at (fail (literal (text (codes "assert")))) ∷ []) }
+{
+    let mut code = jump_past(alloc, label, at, condition)?;
+    let value = text_value(alloc, "assert")?;
+    put(&mut code, at, Command::Fail(value))?;
+    Ok(code)
+}
+
+/// `assume(e)`, at a label
+pub(crate) fn assume_code(
+    alloc: Global,
+    label: usize,
+    at: u32,
+    condition: &Expr,
+) -> Result<Body, AllocError>
+    ensures { IfOk result
+        (λ code. code_view code ≡ jump_to at (expr_view condition.now) (label + 2) ∷ placed at vanish ∷ []) }
+{
+    let mut code = jump_past(alloc, label, at, condition)?;
+    put(&mut code, at, Command::Vanish)?;
+    Ok(code)
+}
+
+/// A literal text with these characters.
+fn text_value(alloc: Global, characters: &str) -> Result<Expr, AllocError>
+    requires { IsText characters.now }
+    ensures { IfOk result (λ e. expr_view e ≡ literal (text characters.now)) }
+{
+    Ok(Expr::Lit(Value::Str(text(alloc, characters)?)))
+}

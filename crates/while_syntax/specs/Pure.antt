@@ -1,0 +1,71 @@
+-- The syntax of While as pure data. Expressions and assertions are those of GIL.
+use Rattle.std.specs.Prelude.{ℕ, List, [], ◌∷◌, Option, Some, None, if◌then◌else◌}
+use Rattle.std.specs.Str.{bytes_eq}
+use Rattle.gil_values.specs.declared.kinds.Kind.{Kind}
+use Rattle.gil_syntax.specs.declared.assertions.Param.{Param}
+use Rattle.gil_syntax.specs.Pure.{PureExpr, PurePredUse, PureItem, PureSpec, PurePredDef}
+
+-- a field of a new record and its first value
+pub record PureField : Type 0 where
+  pub name : List ℕ
+  pub value : PureExpr
+
+-- what only the proof of a specification looks at
+pub data PureLogic : Type 0 where
+  fold_use : PurePredUse → PureLogic
+  unfold_use : PurePredUse → PureLogic
+  assert_that : List PureItem → PureLogic
+
+-- the invariant of a loop: the variables that may change, the logical variables, and the assertion
+pub record PureInvariant : Type 0 where
+  pub names : List (List ℕ)
+  pub logicals : List Param
+  pub items : List PureItem
+
+mutual
+  pub data PureStatement : Type 0 where
+    assign : List ℕ → PureExpr → PureStatement
+    input : List ℕ → Kind → PureStatement
+    symbol : List ℕ → PureStatement
+    new : List ℕ → List PureField → PureStatement
+    lookup : List ℕ → List ℕ → List ℕ → PureStatement
+    call : List ℕ → List ℕ → List PureExpr → PureStatement
+    mutate : List ℕ → List ℕ → PureExpr → PureStatement
+    dispose : PureExpr → PureStatement
+    assert : PureExpr → PureStatement
+    assume : PureExpr → PureStatement
+    if_else : PureExpr → PureBlock → PureBlock → PureStatement
+    while : PureExpr → Option PureInvariant → PureBlock → PureStatement
+    return : PureExpr → PureStatement
+    fail : PureExpr → PureStatement
+    logic : PureLogic → PureStatement
+
+  -- statements in order, each with the byte at which it begins
+  pub data PureBlock : Type 0 where
+    no_statements : PureBlock
+    statement_and : ℕ → PureStatement → PureBlock → PureBlock
+
+-- a statement and the byte at which it begins
+pub record PurePlacedStatement : Type 0 where
+  pub at : ℕ
+  pub statement : PureStatement
+
+abbrev pub from_placed : List PurePlacedStatement → PureBlock
+from_placed [] = no_statements
+from_placed (p ∷ ps) = statement_and p.at p.statement (from_placed ps)
+
+-- a function, with the byte at which it begins
+pub record PureFunction : Type 0 where
+  pub name : List ℕ
+  pub params : List (List ℕ)
+  pub body : PureBlock
+  pub at : ℕ
+
+pub record PureSource : Type 0 where
+  pub functions : List PureFunction
+  pub specs : List PureSpec
+  pub preds : List PurePredDef
+
+abbrev pub find_function : List PureFunction → List ℕ → Option PureFunction
+find_function [] f = None
+find_function (g ∷ gs) f = if bytes_eq g.name f then Some g else find_function gs f

@@ -1,0 +1,14 @@
+//! While: its trees, and what they mean.
+#![tactic(auto)]
+
+mod examples;
+mod tree;
+
+pub use examples::{
+    a_field_stands_once, calls_return, loops_turn, statements_fail_at_their_places,
+    the_first_field_fails,
+};
+pub use tree::{
+    Block, Field, Fields, Function, Functions, Invariant, Logic, PlacedStatement, SourceParts,
+    Statement,
+};
