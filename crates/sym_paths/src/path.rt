@@ -66,7 +66,7 @@ impl<M: SymMemory> Path<M> {
     /// A path that is equal but for its memory, which stands for the same heaps.
     pub fn copy(&self, alloc: Global) -> Result<Path<M>, AllocError>
         ensures path { IfOk result (λ path. path_view path ≡ record (path_view self.now) { memory = path.memory }) }
-        ensures memory { IfOk result (λ path. IsCopy M.stands M.terms M.plain self.now.memory path.memory) }
+        ensures memory { IfOk result (λ path. IsCopy M.stands M.terms M.depends M.plain self.now.memory path.memory) }
     {
         let vars = copy_table(alloc, &self.vars)?;
         let conds = copy_path_condition(alloc, &self.conds)?;
