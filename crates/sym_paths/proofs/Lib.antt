@@ -1,3 +1,4 @@
+pub mod Assigning
 pub mod Binding
 pub mod Drawing
 pub mod Growing

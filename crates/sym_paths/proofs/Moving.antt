@@ -40,7 +40,7 @@ use Rattle.sym_paths.proofs.Valuations.{below_higher, below_next, next_fresh, la
 
 -- ---- values of new variables
 
-none_next : (inputs : List PureValue) (n d : ℕ) (ws : List PureValue) → AreNext inputs n d [] ws → ws ≡ []
+pub none_next : (inputs : List PureValue) (n d : ℕ) (ws : List PureValue) → AreNext inputs n d [] ws → ws ≡ []
 none_next inputs n d [] next = refl
 none_next inputs n d (w ∷ ws) next = absurd next
 
@@ -49,7 +49,7 @@ one_next inputs n d sort [] next = absurd next
 one_next inputs n d sort (w ∷ []) next = (w, (refl, next.0))
 one_next inputs n d sort (w ∷ u ∷ ws) next = absurd next.1
 
-nothing_more : (v ws : List PureValue) → ws ≡ [] → v ≡ v ++ ws
+pub nothing_more : (v ws : List PureValue) → ws ≡ [] → v ≡ v ++ ws
 nothing_more v ws none = sym (ap (λ us. v ++ us) none ∙ append-nil v)
 
 proper_as_it_is : (vars : List Sort) (v : List PureValue) → IsProper vars v → IsProper (vars ++ []) (v ++ [])
@@ -77,7 +77,7 @@ last_of (x ∷ xs) y (suc n) is = let same : suc n ≡ suc (length xs) = is in l
 
 -- ---- frames
 
-advanced_frames : (v : List PureValue) (fs : List PureFrame) (g : Frame) (gs : List Frame) (bs : PureStore) (s : Store) → AreFrames v fs (g ∷ gs) → StandsFor v bs s
+pub advanced_frames : (v : List PureValue) (fs : List PureFrame) (g : Frame) (gs : List Frame) (bs : PureStore) (s : Store) → AreFrames v fs (g ∷ gs) → StandsFor v bs s
     → AreFrames v (advanced bs fs) (record g { next = g.next + 1; store = s } ∷ gs)
 advanced_frames v [] g gs bs s are same = absurd are
 advanced_frames v (f ∷ fs) g gs bs s are same = (
@@ -90,15 +90,15 @@ advanced_frames v (f ∷ fs) g gs bs s are same = (
   are.1,
 )
 
-running_stands : (v : List PureValue) (fs : List PureFrame) (g : Frame) (gs : List Frame) → AreFrames v fs (g ∷ gs) → StandsFor v (running_store fs) g.store
+pub running_stands : (v : List PureValue) (fs : List PureFrame) (g : Frame) (gs : List Frame) → AreFrames v fs (g ∷ gs) → StandsFor v (running_store fs) g.store
 running_stands v [] g gs are = absurd are
 running_stands v (f ∷ fs) g gs are = are.0.store
 
-running_each : (P : PureTerm → Type 0) (fs : List PureFrame) → Each (λ f. OfEachName P f.store) fs → OfEachName P (running_store fs)
+pub running_each : (P : PureTerm → Type 0) (fs : List PureFrame) → Each (λ f. OfEachName P f.store) fs → OfEachName P (running_store fs)
 running_each P [] all x t is = not_none is
 running_each P (f ∷ fs) all x t is = all.0 x t is
 
-advanced_each : (P : PureTerm → Type 0) (fs : List PureFrame) (bs : PureStore) → Each (λ f. OfEachName P f.store) fs → OfEachName P bs → Each (λ f. OfEachName P f.store) (advanced bs fs)
+pub advanced_each : (P : PureTerm → Type 0) (fs : List PureFrame) (bs : PureStore) → Each (λ f. OfEachName P f.store) fs → OfEachName P bs → Each (λ f. OfEachName P f.store) (advanced bs fs)
 advanced_each P [] bs all new = tt
 advanced_each P (f ∷ fs) bs all new = (new, all.1)
 
@@ -136,7 +136,7 @@ logic_chooses_nothing p m vanish s logic = absurd logic
 
 -- ---- paths
 
-open_is_known : (o : Option PureEnd) → o ≡ None → ¬ IsUnknown o
+pub open_is_known : (o : Option PureEnd) → o ≡ None → ¬ IsUnknown o
 open_is_known None no_end unknown = unknown
 open_is_known (Some how) no_end unknown = not_none (sym no_end)
 

@@ -1,3 +1,4 @@
+pub mod Assigning
 pub mod Laws
 pub mod Meaning
 pub mod Moves

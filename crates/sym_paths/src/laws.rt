@@ -1,4 +1,5 @@
 //! What holds of every path: laws of the definitions, which no code is needed for.
+ghost use Rattle.sym_paths.specs.Assigning.{AssignmentsAreCandidates};
 ghost use Rattle.sym_paths.specs.Moves.{AskNothing};
 ghost use Rattle.sym_paths.specs.Settling.{CandidatesSettle};
 ghost use Rattle.sym_paths.specs.Laws.{PathsMayGrow, PathsStandAtCommands, BindingsKeepStores, LaterVariablesAreProper, VariablesFollowInTurn};
@@ -38,4 +39,9 @@ pub fn some_commands_ask_nothing<M: SymMemory>()
 /// Where the laws hold of the candidates of a step, they hold of what a decider makes of them.
 pub fn candidates_settle<M: SymMemory>()
     ensures { CandidatesSettle M.stands M.terms }
+{}
+
+/// The candidates of an assignment, one for each fault of the right side and one for its result, keep the laws.
+pub fn assignments_are_candidates<M: SymMemory>()
+    ensures { AssignmentsAreCandidates M.stands M.terms }
 {}

@@ -46,6 +46,7 @@ impl<M: SymMemory> Path<M> {
         ensures first { IfOk result (λ path. path.steps ≡ 0) }
         ensures open { IfOk result (λ path. path.end ≡ None) }
         ensures nothing_chosen { IfOk result (λ path. path.choices ≡ []) }
+        ensures no_condition { IfOk result (λ path. (path_view path).conds ≡ []) }
         ensures nothing_assumed { IfOk result (λ path. (path_view path).given ≡ []) }
     {
         let stack = first_frames(alloc, proc)?;
