@@ -1,4 +1,3 @@
-pub mod Assigning
 pub mod Binding
 pub mod Drawing
 pub mod Growing
@@ -7,3 +6,4 @@ pub mod Settled
 pub mod Silent
 pub mod Starting
 pub mod Valuations
+pub mod Valued

@@ -1,5 +1,5 @@
 //! What holds of every path: laws of the definitions, which no code is needed for.
-ghost use Rattle.sym_paths.specs.Assigning.{AssignmentsAreCandidates};
+ghost use Rattle.sym_paths.specs.Valued.{ValuedCandidates};
 ghost use Rattle.sym_paths.specs.Moves.{AskNothing};
 ghost use Rattle.sym_paths.specs.Settling.{CandidatesSettle};
 ghost use Rattle.sym_paths.specs.Laws.{PathsMayGrow, PathsStandAtCommands, BindingsKeepStores, LaterVariablesAreProper, VariablesFollowInTurn};
@@ -41,7 +41,7 @@ pub fn candidates_settle<M: SymMemory>()
     ensures { CandidatesSettle M.stands M.terms }
 {}
 
-/// The candidates of an assignment, one for each fault of the right side and one for its result, keep the laws.
-pub fn assignments_are_candidates<M: SymMemory>()
-    ensures { AssignmentsAreCandidates M.stands M.terms }
+/// The candidates of an assignment and of `fail`, one for each fault of the expression and one for its result, keep the laws.
+pub fn valued_candidates_keep_the_laws<M: SymMemory>()
+    ensures { ValuedCandidates M.stands M.terms }
 {}

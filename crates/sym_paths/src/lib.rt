@@ -10,8 +10,8 @@ mod path;
 pub use ends::PathEnd;
 pub use frames::{Frame, Frames};
 pub use laws::{
-    assignments_are_candidates, bindings_keep_stores, candidates_settle,
-    later_variables_are_proper, paths_may_grow, paths_stand_at_commands, some_commands_ask_nothing,
+    bindings_keep_stores, candidates_settle, later_variables_are_proper, paths_may_grow,
+    paths_stand_at_commands, some_commands_ask_nothing, valued_candidates_keep_the_laws,
     variables_follow_in_turn,
 };
 pub use path::{Path, Paths};
