@@ -1,16 +1,16 @@
 -- Draws: their sorts, their values, and the step that draws.
-use Rattle.std.proofs.Common.{◌≡◌, ℕ, suc, ◌+◌, ◌<◌, pos, List, [], ◌∷◌, ◌++◌, Bool, true, false, if◌then◌else◌, slice_get, Option, Some, None, IsTrue, refl, sym, ap, subst, ◌∙◌, true≢false}
+use Rattle.std.proofs.Common.{◌≡◌, ℕ, pos, List, [], ◌∷◌, ◌++◌, Bool, true, false, if◌then◌else◌, slice_get, Option, Some, None, IsTrue, refl, sym, ap, subst, ◌∙◌, true≢false}
 use Rattle.std.specs.List.{Contains}
 use Rattle.gil_values.specs.declared.kinds.Kind.{Kind}
 use Rattle.gil_values.specs.Equality.{same_kind}
 use Rattle.gil_values.specs.Pure.{PureValue, integer, boolean, text, symbol, kind, procedure, list, kind_of}
-use Rattle.gil_values.specs.Symbols.{symbols, symbols_of_all, OccursAmong, AreBelow}
+use Rattle.gil_values.specs.Symbols.{symbols, AreBelow}
 use Rattle.gil_values.proofs.OperatorSymbols.{none_contained}
 use Rattle.gil_machine.specs.State.{State, End, Step, ends, end_at, bad_input}
 use Rattle.gil_machine.specs.Step.{assigned, draw}
 use Rattle.pure_terms.specs.declared.variables.Sort.{Sort}
 use Rattle.pure_terms.specs.Kinds.{has_sort}
-use Rattle.pure_terms.specs.Pure.{PureTerm, variable}
+use Rattle.pure_terms.specs.Pure.{variable}
 use Rattle.sym_model.proofs.ListLaws.{same_some, not_none}
 use Rattle.sym_paths.specs.Moves.{draw_sort}
 use Rattle.sym_paths.specs.Steps.{IsNext, drawn_from, IsInputFault, HasInput}

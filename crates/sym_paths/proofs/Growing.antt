@@ -1,5 +1,5 @@
 -- What a path stands for stays where the table and the valuation grow.
-use Rattle.std.proofs.Common.{◌≡◌, ℕ, ◌<◌, ◌≤◌, List, [], ◌∷◌, ◌++◌, ◌&&◌, length, Option, Some, None, IsTrue, refl, sym, subst, ◌∙◌, ap, arith}
+use Rattle.std.proofs.Common.{◌≡◌, ℕ, ◌<◌, ◌≤◌, List, [], ◌∷◌, ◌++◌, ◌&&◌, length, Option, Some, None, IsTrue, refl, sym, subst, ◌∙◌, arith}
 use Rattle.std.proofs.lemmas.Option.{slice_get_within}
 use Rattle.gil_values.specs.Pure.{PureValue}
 use Rattle.gil_values.specs.Symbols.{AreBelow}
@@ -16,7 +16,7 @@ use Rattle.sym_evaluation.specs.Meaning.{AreSame, StandsFor}
 use Rattle.sym_evaluation.specs.Pure.{PureStore, term_at}
 use Rattle.sym_model.specs.Laws.{IsMeaning}
 use Rattle.sym_model.specs.Lists.{Each}
-use Rattle.sym_model.specs.Terms.{StateTerms, all_of, AreEachOver}
+use Rattle.sym_model.specs.Terms.{StateTerms, all_of}
 use Rattle.sym_model.proofs.ListLaws.{each_to}
 use Rattle.sym_paths.specs.Laws.{with_more, PathsMayGrow}
 use Rattle.sym_paths.specs.Meaning.{AreFrames, frames_of, Stands, OfEachName, IsOverTable, end_terms}

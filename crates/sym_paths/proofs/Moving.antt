@@ -1,5 +1,5 @@
 -- The commands that ask nothing lead to one path, without a new condition.
-use Rattle.std.proofs.Common.{◌≡◌, ◌⊎◌, ⊎_elim, inl, inr, ℕ, zero, suc, ◌+◌, ◌<◌, ◌≤◌, List, [], ◌∷◌, ◌++◌, length, slice_get, Option, Some, None, true, IsTrue, refl, sym, ap, subst, ◌∙◌, arith}
+use Rattle.std.proofs.Common.{◌≡◌, ⊎_elim, ℕ, zero, suc, ◌+◌, ◌<◌, List, [], ◌∷◌, ◌++◌, length, slice_get, Option, Some, None, refl, sym, ap, subst, ◌∙◌, arith}
 use Rattle.std.specs.List.{Contains}
 use Rattle.std.proofs.lemmas.List.{append-nil, length_push}
 use Rattle.std.proofs.lemmas.List.Elements.{Contains-append_cases, Contains-push_cases}
@@ -10,7 +10,7 @@ use Rattle.gil_values.specs.Symbols.{symbols, symbols_of_all, AreBelow}
 use Rattle.gil_values.proofs.OperatorSymbols.{none_contained}
 use Rattle.gil_syntax.specs.Evaluation.{Store, bind}
 use Rattle.gil_syntax.specs.Pure.{PureParts, PureCommand, assign, call, act, usym, isym, ifgoto, return, fail, vanish, fold_use, unfold_use, assert_that, loop_invariant, PureNumberedCommand}
-use Rattle.gil_machine.specs.Choices.{choice_of, choice_at}
+use Rattle.gil_machine.specs.Choices.{choice_of}
 use Rattle.gil_machine.specs.State.{Frame, State, Step, end_at}
 use Rattle.gil_machine.specs.State as machine
 use Rattle.gil_machine.specs.Step.{command_at, step, do_command, to_next}
@@ -19,8 +19,8 @@ use Rattle.mem_model.specs.Actions.{Actions}
 use Rattle.mem_model.specs.Heaps.{Heap}
 use Rattle.pure_terms.specs.declared.variables.Sort.{Sort}
 use Rattle.pure_terms.specs.declared.variables.Var.{Var}
-use Rattle.pure_terms.specs.Meaning.{value, IsProper, IsOver}
-use Rattle.pure_terms.specs.Pure.{PureTerm, variable, variables}
+use Rattle.pure_terms.specs.Meaning.{IsProper, IsOver}
+use Rattle.pure_terms.specs.Pure.{PureTerm}
 use Rattle.sym_evaluation.specs.Meaning.{StandsFor}
 use Rattle.sym_evaluation.specs.Pure.{PureStore}
 use Rattle.sym_model.specs.Laws.{IsMeaning}
@@ -28,14 +28,14 @@ use Rattle.sym_model.specs.Lists.{Each}
 use Rattle.sym_model.specs.Terms.{StateTerms}
 use Rattle.sym_model.proofs.ListLaws.{not_none, each_append}
 use Rattle.sym_paths.specs.Laws.{with_more, IsBound}
-use Rattle.sym_paths.specs.Meaning.{AreFrames, frames_of, Stands, StandsForEnd, StandsForStep, OfEachName, IsOverTable, command_of_path}
+use Rattle.sym_paths.specs.Meaning.{AreFrames, Stands, StandsForEnd, StandsForStep, OfEachName, IsOverTable, command_of_path}
 use Rattle.sym_paths.specs.Moves.{NoOwn, IsLogic, running_store, advanced, draw_sort, vanishing, passing, next_variable, with_fresh, with_draw, AskNothing}
 use Rattle.sym_paths.specs.Pure.{PureFrame, PureEnd, vanished, PurePath}
 use Rattle.sym_paths.specs.Steps.{HasInput, IsUnknown, AreNext, IsNext, AreNextPaths}
 use Rattle.sym_paths.proofs.Binding.{agree_bound, each_bound}
 use Rattle.sym_paths.proofs.Drawing.{drawn_is, drawn_next, next_drawn, not_fresh, some_fits, fits_kind, kind_fits, no_symbols, no_symbol_below, draws_this, input_there}
 use Rattle.sym_paths.proofs.Growing.{path_stands, path_over}
-use Rattle.sym_paths.proofs.Silent.{stands_at, step-is, choice-is, IsSilent, IsUnasked, same_and_none, silent_step}
+use Rattle.sym_paths.proofs.Silent.{stands_at, step-is, choice-is, same_and_none, silent_step}
 use Rattle.sym_paths.proofs.Valuations.{below_higher, below_next, next_fresh, later_variables_are_proper}
 
 -- ---- values of new variables

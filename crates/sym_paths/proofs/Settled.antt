@@ -1,5 +1,5 @@
 -- What becomes of candidates are the paths of the step.
-use Rattle.std.proofs.Common.{◌≡◌, ◌⊎◌, inl, inr, List, [], ◌∷◌, ◌++◌, true, false, Some, IsTrue, refl, sym, ap, subst, ◌∙◌, append_assoc, true≢false}
+use Rattle.std.proofs.Common.{◌≡◌, ◌⊎◌, inl, inr, List, [], ◌∷◌, ◌++◌, false, IsTrue, sym, ap, subst, ◌∙◌, append_assoc, true≢false}
 use Rattle.gil_values.specs.declared.places.Place.{Place}
 use Rattle.gil_values.specs.Pure.{PureValue}
 use Rattle.gil_syntax.specs.Pure.{PureParts}
@@ -14,10 +14,10 @@ use Rattle.sym_model.specs.Lists.{Each, OneOf}
 use Rattle.sym_model.specs.Meaning.{has_open}
 use Rattle.sym_model.specs.Terms.{StateTerms}
 use Rattle.sym_model.proofs.ListLaws.{each_append}
-use Rattle.sym_paths.specs.Meaning.{StandsForStep, Stands}
-use Rattle.sym_paths.specs.Pure.{unknown, PurePath}
-use Rattle.sym_paths.specs.Settling.{Candidate, ended_unknown, IsKept, IsLeftUnknown, Stays, AreSettled, CandidatesCover, AreCandidates}
-use Rattle.sym_paths.specs.Steps.{Extends, HasInput, IsUnknown, IsRightlyUnknown, Grows, AddsOwn, Covers, IsExact, HoldsAlong, StaysSatisfiable, AreNextPaths}
+use Rattle.sym_paths.specs.Meaning.{StandsForStep}
+use Rattle.sym_paths.specs.Pure.{PurePath}
+use Rattle.sym_paths.specs.Settling.{Candidate, ended_unknown, IsLeftUnknown, Stays, AreSettled, AreCandidates}
+use Rattle.sym_paths.specs.Steps.{Extends, IsUnknown, IsRightlyUnknown, Grows, AddsOwn, IsExact, HoldsAlong, StaysSatisfiable, AreNextPaths}
 use Rattle.sym_paths.proofs.Silent.{rightly}
 
 module _ {S : Type 0} (p : PureParts) (path : PurePath S) where

@@ -1,25 +1,22 @@
 -- A step that adds no condition, and answers one path.
-use Rattle.std.proofs.Common.{◌≡◌, ◌⊎◌, ⊎_elim, inl, inr, ℕ, suc, ◌+◌, ◌<◌, ◌≤◌, List, [], ◌∷◌, ◌++◌, length, slice_get, Option, Some, None, true, IsTrue, refl, sym, ap, subst, ◌∙◌, arith}
+use Rattle.std.proofs.Common.{◌≡◌, inl, ◌+◌, List, [], ◌∷◌, ◌++◌, length, Option, Some, None, IsTrue, refl, sym, ap, subst, ◌∙◌}
 use Rattle.std.proofs.lemmas.List.{append-nil, append_cancel_left}
 use Rattle.std.specs.Option.{option_and_then}
-use Rattle.gil_values.specs.Pure.{PureValue, symbol}
-use Rattle.gil_values.specs.Symbols.{AreBelow}
+use Rattle.gil_values.specs.Pure.{PureValue}
 use Rattle.gil_syntax.specs.Pure.{PureParts, PureCommand, PureNumberedCommand}
 use Rattle.gil_syntax.specs.Programs.{find_proc}
-use Rattle.gil_machine.specs.Choices.{choice_at, choice_of, with_choice}
-use Rattle.gil_machine.specs.State.{State, Step}
+use Rattle.gil_machine.specs.Choices.{choice_at, choice_of}
+use Rattle.gil_machine.specs.State.{State}
 use Rattle.gil_machine.specs.Step.{command_of, command_at, step, step_at, do_command}
 use Rattle.mem_model.specs.Actions.{Actions}
 use Rattle.mem_model.specs.Heaps.{Heap}
 use Rattle.pure_terms.specs.declared.variables.Sort.{Sort}
-use Rattle.pure_terms.specs.Meaning.{all_true, IsProper, IsOver, Satisfies}
-use Rattle.pure_terms.specs.Pure.{PureTerm, PureAtom, term_of}
-use Rattle.sym_model.specs.Lists.{Each}
+use Rattle.pure_terms.specs.Meaning.{all_true, IsProper}
 use Rattle.sym_model.specs.Terms.{StateTerms}
-use Rattle.sym_paths.specs.Meaning.{AreFrames, frames_of, Stands, StandsForStep, IsOverTable, command_of_frames, command_of_path}
+use Rattle.sym_paths.specs.Meaning.{AreFrames, frames_of, Stands, StandsForStep, IsOverTable, command_of_frames}
 use Rattle.sym_paths.specs.Moves.{NoOwn}
 use Rattle.sym_paths.specs.Pure.{PureFrame, PureEnd, returned, failed, missed, vanished, cut, unknown, PurePath}
-use Rattle.sym_paths.specs.Steps.{AreNext, drawn_from, Extends, HasInput, IsUnknown, IsChosen, GoesOnAs, IsRightlyUnknown, Grows, AddsOwn, Covers, IsStepOf, IsExact, HoldsAlong, StaysSatisfiable, AreNextPaths}
+use Rattle.sym_paths.specs.Steps.{AreNext, drawn_from, Extends, HasInput, IsUnknown, IsChosen, IsRightlyUnknown, Grows, Covers, IsExact, HoldsAlong, StaysSatisfiable, AreNextPaths}
 use Rattle.sym_paths.proofs.Growing.{all_true-more}
 
 -- ---- where a state stands

@@ -1,17 +1,14 @@
 -- The first path stands for the first state.
-use Rattle.std.proofs.Common.{◌≡◌, ℕ, List, [], ◌∷◌, length, None, Some, slice_get, IsTrue, refl, sym, ap, subst}
+use Rattle.std.proofs.Common.{◌≡◌, ℕ, List, [], ◌∷◌, length, IsTrue, refl, sym, ap, subst}
 use Rattle.std.specs.FinMap.{empty}
-use Rattle.gil_values.specs.Pure.{PureValue, symbol}
+use Rattle.gil_values.specs.Pure.{PureValue}
 use Rattle.gil_values.specs.Symbols.{AreBelow}
 use Rattle.gil_values.proofs.OperatorSymbols.{none_contained}
-use Rattle.gil_syntax.specs.Evaluation.{Store, value_of}
 use Rattle.gil_syntax.specs.Programs.{find_proc}
 use Rattle.gil_syntax.specs.Pure.{PureParts}
 use Rattle.gil_machine.specs.Run.{start, params_of}
-use Rattle.gil_machine.specs.State.{State}
 use Rattle.gil_machine.specs.Step.{bind_all}
 use Rattle.mem_model.specs.Heaps.{Heap}
-use Rattle.pure_terms.specs.declared.variables.Sort.{Sort}
 use Rattle.pure_terms.specs.Meaning.{all_true, IsProper}
 use Rattle.pure_terms.specs.Pure.{PureTerm}
 use Rattle.sym_evaluation.specs.Meaning.{StandsFor}

@@ -1,13 +1,13 @@
 -- The candidates of commands that take the value of one expression keep the laws.
-use Rattle.std.proofs.Common.{◌≡◌, ◌⊎◌, ⊎_elim, inl, inr, ℕ, ◌+◌, List, [], ◌∷◌, ◌++◌, map, true, false, slice_get, Option, Some, None, Result, Ok, Err, IsTrue, refl, sym, ap, subst, ◌∙◌, true≢false}
+use Rattle.std.proofs.Common.{◌≡◌, ◌⊎◌, ⊎_elim, inl, inr, ℕ, List, [], ◌∷◌, ◌++◌, map, false, slice_get, Option, Some, None, Ok, Err, IsTrue, refl, sym, ap, subst, ◌∙◌, true≢false}
 use Rattle.std.proofs.lemmas.Bool.{and_from, and_parts}
 use Rattle.std.proofs.lemmas.List.{append-nil}
 use Rattle.std.proofs.lemmas.List.Folds.{list_all-append}
 use Rattle.gil_values.specs.declared.places.Place.{Place}
-use Rattle.gil_values.specs.Operators.{Fault, fault_text, Outcome}
+use Rattle.gil_values.specs.Operators.{fault_text, Outcome}
 use Rattle.gil_values.specs.Pure.{PureValue, text}
 use Rattle.gil_values.proofs.OperatorSymbols.{none_contained}
-use Rattle.gil_syntax.specs.Evaluation.{Store, evaluate, bind}
+use Rattle.gil_syntax.specs.Evaluation.{evaluate, bind}
 use Rattle.gil_syntax.specs.Pure.{PureParts, PureExpr, PureCommand, PureNumberedCommand, assign, fail}
 use Rattle.gil_machine.specs.Choices.{choice_at, choice_of}
 use Rattle.gil_machine.specs.State.{Frame, State, Step, goes_on, ends, end_at}
@@ -17,24 +17,23 @@ use Rattle.gil_machine.specs.Step as machine_step
 use Rattle.mem_model.specs.Actions.{Actions}
 use Rattle.mem_model.specs.Heaps.{Heap}
 use Rattle.pure_terms.specs.declared.deciders.Reason.{Reason}
-use Rattle.pure_terms.specs.declared.literals.Literal.{Literal}
 use Rattle.pure_terms.specs.Fragment.{InFragment}
 use Rattle.pure_terms.specs.Meaning.{value, truth, all_true, IsProper, IsOver, Satisfies}
-use Rattle.pure_terms.specs.Pure.{PureTerm, literal, PureAtom, term_of}
-use Rattle.sym_evaluation.specs.Meaning.{Serves, IsTaken, IsClosed, IsGood, SayOutcome, HasValue, AreCasesOf}
+use Rattle.pure_terms.specs.Pure.{PureTerm, PureAtom, term_of}
+use Rattle.sym_evaluation.specs.Meaning.{IsTaken, IsClosed, IsGood, SayOutcome, HasValue}
 use Rattle.sym_evaluation.specs.Pure.{PureStore, term_at, PureFaultCase, PureGoodCase, PureCases}
-use Rattle.sym_evaluation.specs.Questions.{IsAsked, ComesFrom, NameNoOthers, OnConditions, OnResult}
+use Rattle.sym_evaluation.specs.Questions.{IsAsked, OnConditions, OnResult}
 use Rattle.sym_model.specs.Lists.{Each, OneOf}
 use Rattle.sym_model.specs.Meaning.{has_open}
 use Rattle.sym_model.specs.Terms.{StateTerms}
-use Rattle.sym_model.proofs.ListLaws.{same_some, not_none, each_append, each_at, each_map, each_to, each_by_place, one_map, one_to, one_left, one_right, one_with}
+use Rattle.sym_model.proofs.ListLaws.{each_append, each_at, each_map, each_to, each_by_place, one_map, one_left, one_right}
 use Rattle.sym_paths.specs.Valued.{place_at, faulted, assigned, failing, Assigns, Fails, IsResult, AreForCases, IsEvaluated, ValuedCandidates}
 use Rattle.sym_paths.specs.Laws.{IsBound}
-use Rattle.sym_paths.specs.Meaning.{AreFrames, Stands, StandsForEnd, StandsForStep, IsOverTable, command_of_path}
-use Rattle.sym_paths.specs.Moves.{running_store, advanced}
-use Rattle.sym_paths.specs.Pure.{PureFrame, PureEnd, failed, PurePath}
-use Rattle.sym_paths.specs.Settling.{Candidate, ended_unknown, CandidatesCover, AreCandidates}
-use Rattle.sym_paths.specs.Steps.{Extends, HasInput, IsUnknown, IsChosen, GoesOnAs, Grows, AddsOwn, IsExact, HoldsAlong}
+use Rattle.sym_paths.specs.Meaning.{AreFrames, Stands, StandsForStep, IsOverTable, command_of_path}
+use Rattle.sym_paths.specs.Moves.{running_store}
+use Rattle.sym_paths.specs.Pure.{PureFrame, PurePath}
+use Rattle.sym_paths.specs.Settling.{Candidate, ended_unknown, AreCandidates}
+use Rattle.sym_paths.specs.Steps.{Extends, IsUnknown, IsChosen, GoesOnAs, Grows, AddsOwn, IsExact, HoldsAlong}
 use Rattle.sym_paths.proofs.Binding.{agree_bound, each_bound}
 use Rattle.sym_paths.proofs.Moving.{nothing_more, none_next, advanced_frames, running_stands, running_each, advanced_each, open_is_known}
 use Rattle.sym_paths.proofs.Silent.{stands_at, step-is, choice-is, extended_by, same_and_none}

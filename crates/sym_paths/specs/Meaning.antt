@@ -1,6 +1,6 @@
 -- What a path stands for under a valuation: states of the machine, and ends of its runs. Paths and what they stand for are those of
 -- Gillian, Part I (PLDI 2020).
-use Rattle.std.specs.Prelude.{◌≡◌, ℕ, ◌+◌, List, [], ◌∷◌, length, Option, Some, None, IsTrue, codes, ⊤}
+use Rattle.std.specs.Prelude.{◌≡◌, ℕ, List, [], ◌∷◌, length, Option, Some, None, IsTrue, codes, ⊤}
 use Rattle.gil_values.specs.Pure.{PureValue, text}
 use Rattle.gil_values.specs.Symbols.{AreBelow}
 use Rattle.gil_syntax.specs.Pure.{PureParts, PureNumberedCommand}
@@ -12,9 +12,8 @@ use Rattle.gil_machine.specs.Step.{command_of}
 use Rattle.mem_model.specs.declared.keys.Key.{Key}
 use Rattle.mem_model.specs.Actions.{Actions}
 use Rattle.mem_model.specs.Heaps.{Heap}
-use Rattle.pure_terms.specs.declared.variables.Sort.{Sort}
 use Rattle.pure_terms.specs.Meaning.{value, all_true, IsProper, IsOver}
-use Rattle.pure_terms.specs.Pure.{PureTerm, PureAtom, term_of}
+use Rattle.pure_terms.specs.Pure.{PureTerm, term_of}
 use Rattle.sym_evaluation.specs.Meaning.{StandsFor}
 use Rattle.sym_evaluation.specs.Pure.{PureStore, term_at}
 use Rattle.sym_model.specs.Lists.{Each}

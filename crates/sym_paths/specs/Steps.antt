@@ -4,7 +4,7 @@ use Rattle.gil_values.specs.declared.places.Place.{Place}
 use Rattle.gil_values.specs.Pure.{PureValue, symbol}
 use Rattle.gil_syntax.specs.Pure.{PureParts, PureCommand, PureNumberedCommand}
 use Rattle.gil_machine.specs.Choices.{choice_at, with_choice}
-use Rattle.gil_machine.specs.State.{State, Ending, returned, failed, vanished, no_input, bad_input, cut, Step, goes_on, ends}
+use Rattle.gil_machine.specs.State.{State, Ending, no_input, bad_input, Step, goes_on, ends}
 use Rattle.gil_machine.specs.Step.{step}
 use Rattle.mem_model.specs.Actions.{Actions}
 use Rattle.mem_model.specs.Heaps.{Heap}
@@ -12,7 +12,7 @@ use Rattle.pure_terms.specs.declared.deciders.Reason.{Reason}
 use Rattle.pure_terms.specs.declared.variables.Sort.{Sort}
 use Rattle.pure_terms.specs.Deciding.{IsReason}
 use Rattle.pure_terms.specs.Fragment.{InFragment}
-use Rattle.pure_terms.specs.Meaning.{all_true, IsProper, Satisfies}
+use Rattle.pure_terms.specs.Meaning.{all_true, Satisfies}
 use Rattle.pure_terms.specs.Pure.{PureTerm, variable, PureAtom}
 use Rattle.sym_model.specs.Laws.{IsPlainWithin, IsDecidedWithin}
 use Rattle.sym_model.specs.Lists.{Each, OneOf}

@@ -1,4 +1,4 @@
-use Rattle.std.proofs.Common.{◌≡◌, take, map}
+use Rattle.std.proofs.Common.{◌≡◌, take}
 use Rattle.pure_terms.specs.View.{atoms_view}
 use Rattle.sym_model.specs.View.{path_view}
 use Rattle.sym_paths.proofs.copying.copy_path_condition.Given as goal

@@ -1,4 +1,4 @@
-use Rattle.std.proofs.Common.{◌≡◌, take, map}
+use Rattle.std.proofs.Common.{◌≡◌, take}
 use Rattle.sym_paths.proofs.copying.copy_table.Given as goal
 
 abbrev pub invariant-loop-sort : goal.invariant-loop-sort
