@@ -6,6 +6,8 @@ pub mod Listing
 pub mod NameLaws
 pub mod OperatorLaws
 pub mod Placed
+pub mod PlainLaws
+pub mod PlainTerms
 pub mod Replacing
 pub mod SideLaws
 pub mod SideOrigins
