@@ -6,6 +6,7 @@ pub mod Listing
 pub mod NameLaws
 pub mod OperatorLaws
 pub mod Placed
+pub mod PlainGuards
 pub mod PlainLaws
 pub mod PlainTerms
 pub mod Replacing
