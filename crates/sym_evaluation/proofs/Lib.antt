@@ -2,6 +2,7 @@ pub mod CheckLaws
 pub mod EvaluationLaws
 pub mod Found
 pub mod FromLaws
+pub mod GuardLaws
 pub mod Listing
 pub mod NameLaws
 pub mod OperatorLaws

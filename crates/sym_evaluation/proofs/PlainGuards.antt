@@ -82,7 +82,7 @@ order_sides s t is = (parts BinOp.Less s t is).1
 order_or_equal_sides : (s t : PureTerm) → is_plain_comparison (binary_of BinOp.LessOrEqual s t) ≡ true → is_comparison (binary_of BinOp.LessOrEqual s t) ≡ true
 order_or_equal_sides s t is = (parts BinOp.LessOrEqual s t is).1
 
-no_comparison : {X : Type 0} (x y : Bool) → (x && y) ≡ true → y ≡ false → X
+pub no_comparison : {X : Type 0} (x y : Bool) → (x && y) ≡ true → y ≡ false → X
 no_comparison x y is isnt = absurd (true≢false (sym (and_parts x y is).1 ∙ isnt))
 
 -- a plain comparison has a form of the fragment
@@ -144,7 +144,7 @@ module _ (b : ℕ) where
   boolean_said side x Sort.List is sort = absurd (true≢false (sym (ap (λ s. same_sort s Sort.Bool) is)))
   boolean_said side x Sort.Any is sort = absurd (true≢false (sym (ap (λ s. same_sort s Sort.Bool) is)))
 
-  boolean_sort : (s : Sort) (k : Kind) → kind_of_sort s ≡ Some k → same_kind k Kind.Bool ≡ true → s ≡ Sort.Bool
+  pub boolean_sort : (s : Sort) (k : Kind) → kind_of_sort s ≡ Some k → same_kind k Kind.Bool ≡ true → s ≡ Sort.Bool
   boolean_sort Sort.Bool k is boolean = refl
   boolean_sort Sort.Int k is boolean = absurd (true≢false (sym boolean ∙ ap (λ j. same_kind j Kind.Bool) (sym (same_some is))))
   boolean_sort Sort.Str k is boolean = absurd (true≢false (sym boolean ∙ ap (λ j. same_kind j Kind.Bool) (sym (same_some is))))

@@ -33,7 +33,7 @@ found_at [] k below = absurd (omega (arith, below))
 found_at (w ∷ ws) zero below = (w, refl)
 found_at (w ∷ ws) (suc k) below = found_at ws k (omega (arith, below))
 
-literal_parts : (test : PureValue → Bool) (ds es : List PureExpr) → list_all test (flat_map own_literals (ds ++ es)) ≡ true → (list_all test (flat_map own_literals ds) ≡ true) × (list_all test (flat_map own_literals es) ≡ true)
+pub literal_parts : (test : PureValue → Bool) (ds es : List PureExpr) → list_all test (flat_map own_literals (ds ++ es)) ≡ true → (list_all test (flat_map own_literals ds) ≡ true) × (list_all test (flat_map own_literals es) ≡ true)
 literal_parts test ds es is =
     and_parts (list_all test (flat_map own_literals ds)) (list_all test (flat_map own_literals es))
     (sym (list_all-append test (flat_map own_literals ds) (flat_map own_literals es)) ∙ ap (list_all test) (sym (flat_map-append own_literals ds es)) ∙ is)
@@ -76,15 +76,15 @@ module _ (fs : List PureFaultCase) (cs : List PureAtom) where
   fault_stays : (f g : Fault) (check : PureCheck) (st : PureStage) → st ≡ failed_stage g → required f check st ≡ failed_stage g
   fault_stays f g check st same = ap (required f check) same
 
-  stage_decided : (f : Fault) (b : Bool) (st : PureStage) (R : Type 0) → StageIs R st → StageIs (R × (b ≡ true)) (required f (decided b) st)
+  pub stage_decided : (f : Fault) (b : Bool) (st : PureStage) (R : Type 0) → StageIs R st → StageIs (R × (b ≡ true)) (required f (decided b) st)
   stage_decided f b st R (inl (same, r)) = decided_by f b b st R refl same r
   stage_decided f b st R (inr (g, same)) = inr (g, fault_stays f g (decided b) st same)
 
-  kind_decided : (j k : Kind) (t : PureTerm) → known_kind t ≡ Some k → kind_check j t ≡ decided (same_kind k j)
+  pub kind_decided : (j k : Kind) (t : PureTerm) → known_kind t ≡ Some k → kind_check j t ≡ decided (same_kind k j)
   kind_decided j k t known = ap (λ o. kind_check_by o j t) known
 
   -- two operands whose kinds are known
-  kinds_decided : (j k p q : Kind) (s t : PureTerm) → known_kind s ≡ Some p → known_kind t ≡ Some q → StageIs ((same_kind p j ≡ true) × (same_kind q k ≡ true)) (kinds_required j k s t (at_stage fs cs))
+  pub kinds_decided : (j k p q : Kind) (s t : PureTerm) → known_kind s ≡ Some p → known_kind t ≡ Some q → StageIs ((same_kind p j ≡ true) × (same_kind q k ≡ true)) (kinds_required j k s t (at_stage fs cs))
   kinds_decided j k p q s t known_s known_t =
       let first : StageIs (Unit {0} × (same_kind p j ≡ true)) (required wrong_kind (kind_check j s) (at_stage fs cs))
       = subst (λ c. StageIs (Unit {0} × (same_kind p j ≡ true)) (required wrong_kind c (at_stage fs cs))) (sym (kind_decided j p s known_s)) (stage_decided wrong_kind (same_kind p j) (at_stage fs cs) (Unit {0}) (inl (refl, tt))) in
@@ -99,11 +99,11 @@ module _ (fs : List PureFaultCase) (cs : List PureAtom) where
   abbrev pub IsSureFrom : {X : Type 0} → (X → Type 0) → PureCases X → Type 0
   IsSureFrom {X} P cases = ((f : Fault) × (cases ≡ sure_fault fs cs f)) ⊎ ((x : X) × ((cases ≡ result_given fs cs x) × P x))
 
-  sure_at : {X : Type 0} (P : X → Type 0) (R : Type 0) (st : PureStage) (x : X) → StageIs R st → (R → P x) → IsSureFrom P (finished st x)
+  pub sure_at : {X : Type 0} (P : X → Type 0) (R : Type 0) (st : PureStage) (x : X) → StageIs R st → (R → P x) → IsSureFrom P (finished st x)
   sure_at P R st x (inl (same, r)) holds = inr (x, (ap (λ s. finished s x) same, holds r))
   sure_at P R st x (inr (f, same)) holds = inl (f, ap (λ s. finished s x) same)
 
-  sure_followed : {X Y : Type 0} (P : X → Type 0) (Q : Y → Type 0) (cases : PureCases X) (k : List PureFaultCase → List PureAtom → X → PureCases Y) → IsSureFrom P cases → ((x : X) → P x → IsSureFrom Q (k fs cs x)) → IsSureFrom Q (followed cases k)
+  pub sure_followed : {X Y : Type 0} (P : X → Type 0) (Q : Y → Type 0) (cases : PureCases X) (k : List PureFaultCase → List PureAtom → X → PureCases Y) → IsSureFrom P cases → ((x : X) → P x → IsSureFrom Q (k fs cs x)) → IsSureFrom Q (followed cases k)
   sure_followed P Q cases k (inl (f, same)) go_on = inl (f, ap (λ c. followed c k) same)
   sure_followed P Q cases k (inr (x, (same, holds))) go_on = subst (IsSureFrom Q) (sym (ap (λ c. followed c k) same)) (go_on x holds)
 
