@@ -1,5 +1,5 @@
 -- Simple guards over plain terms come to a sure fault or to a plain guard.
-use Rattle.std.proofs.Common.{◌≡◌, ◌⊎◌, ⊎_elim, inl, inr, ℕ, ◌+◌, ◌^◌, ◌<◌, ℤ, pos, neg_ℤ, int_lt, int_le, List, [], ◌∷◌, Bool, true, false, not, ◌&&◌, ◌||◌, if◌then◌else◌, Option, Some, None, refl, sym, ap, subst, ◌∙◌, true≢false}
+use Rattle.std.proofs.Common.{◌≡◌, ◌⊎◌, ⊎_elim, inl, inr, ℕ, ◌+◌, ◌^◌, ◌<◌, ℤ, pos, neg_ℤ, int_lt, int_le, List, [], Bool, true, false, ◌&&◌, ◌||◌, if◌then◌else◌, Option, Some, None, refl, sym, ap, subst, ◌∙◌, true≢false}
 use Rattle.std.specs.List.{list_all}
 use Rattle.std.proofs.lemmas.Bool.{and_parts, and_from, or_cases}
 use Rattle.gil_values.specs.declared.kinds.Kind.{Kind}
@@ -7,7 +7,6 @@ use Rattle.gil_values.specs.declared.operators.UnOp.{UnOp}
 use Rattle.gil_values.specs.declared.operators.BinOp.{BinOp}
 use Rattle.gil_values.specs.Equality.{same_kind, same_value}
 use Rattle.gil_values.specs.Operators.{wrong_kind}
-use Rattle.gil_values.specs.Pure.{PureValue, boolean}
 use Rattle.gil_syntax.specs.Pure.{PureExpr, literal as value_literal, name, logical, list_of as list_expr, unary_of as unary_expr, binary_of as binary_expr}
 use Rattle.gil_syntax.specs.Simple.{compares, is_simple_value, is_bare_guard as is_bare_expr, is_simple_guard}
 use Rattle.gil_syntax.specs.Subexpressions.{literals_of, subexpressions}
@@ -16,14 +15,14 @@ use Rattle.pure_terms.specs.declared.literals.Literal.{Literal}
 use Rattle.pure_terms.specs.declared.variables.Sort.{Sort}
 use Rattle.pure_terms.specs.declared.variables.Var.{Var}
 use Rattle.pure_terms.specs.Folding.{literal_or, term_or, computed_binary, is_nth, joined_shift, element_term, folded_unary, folded_binary, folded_with_literal}
-use Rattle.pure_terms.specs.Fragment.{is_plain, is_simple, is_shift, is_variable_of, is_order, is_integer_side, has_literals_between}
-use Rattle.pure_terms.specs.Kinds.{same_sort, kind_of_sort, kind_of_literal, known_kind, is_of_kind}
+use Rattle.pure_terms.specs.Fragment.{is_plain, is_simple, is_order, is_integer_side, has_literals_between}
+use Rattle.pure_terms.specs.Kinds.{same_sort, kind_of_literal, known_kind, is_of_kind}
 use Rattle.pure_terms.specs.Meaning.{literal_value}
 use Rattle.pure_terms.specs.Pure.{PureTerm, literal, variable, list_of, unary_of, binary_of, PureTerms, PureAtom}
-use Rattle.sym_model.proofs.ListLaws.{same_some, not_none}
+use Rattle.sym_model.proofs.ListLaws.{same_some}
 use Rattle.sym_evaluation.specs.Checks.{kind_check, required, kinds_required, unary_required, binary_required}
 use Rattle.sym_evaluation.specs.Evaluating.{finished, at_stage, cases_after}
-use Rattle.sym_evaluation.specs.Plainly.{IsPlain, IsPlainStore, text_bound, is_text_number, has_text_numbers, is_equal, is_plain_comparison, is_bare_guard, is_plain_guard, IsPlainGuard, GuardsPlainly}
+use Rattle.sym_evaluation.specs.Plainly.{IsPlain, IsPlainStore, text_bound, is_text_number, has_text_numbers, is_equal, is_plain_comparison, is_bare_guard, IsPlainGuard, GuardsPlainly}
 use Rattle.sym_evaluation.specs.Pure.{PureStore, PureFaultCase, PureCases}
 use Rattle.sym_evaluation.proofs.PlainGuards.{boolean_sort, no_comparison}
 use Rattle.sym_evaluation.proofs.PlainLaws.{StageIs, stage_decided, kind_decided, kinds_decided, IsSureFrom, sure_at, sure_followed, simple_sure, literal_parts}

@@ -1,26 +1,22 @@
 -- Simple guards over plain terms are plain guards, whose sides have conditions of the fragment.
-use Rattle.std.proofs.Common.{◌≡◌, ◌⊎◌, ⊎_elim, inl, inr, ℕ, ◌+◌, ◌^◌, ◌<◌, ◌≤◌, ℤ, pos, neg_ℤ, int_lt, int_le, List, [], ◌∷◌, ◌++◌, Bool, true, false, not, ◌&&◌, ◌||◌, if◌then◌else◌, Option, Some, None, refl, sym, ap, subst, ◌∙◌, arith, true≢false}
-use Rattle.std.specs.List.{list_all}
+use Rattle.std.proofs.Common.{◌≡◌, ⊎_elim, ℕ, pos, neg_ℤ, Bool, true, false, not, ◌&&◌, ◌||◌, if◌then◌else◌, Option, Some, None, refl, sym, ap, subst, ◌∙◌, true≢false}
 use Rattle.std.proofs.lemmas.Bool.{and_parts, and_from, or_cases}
 use Rattle.gil_values.specs.declared.kinds.Kind.{Kind}
 use Rattle.gil_values.specs.declared.operators.UnOp.{UnOp}
 use Rattle.gil_values.specs.declared.operators.BinOp.{BinOp}
 use Rattle.gil_values.specs.Equality.{same_kind}
-use Rattle.gil_values.specs.Operators.{wrong_kind}
 use Rattle.pure_terms.specs.declared.literals.Literal.{Literal}
 use Rattle.pure_terms.specs.declared.variables.Sort.{Sort}
 use Rattle.pure_terms.specs.declared.variables.Var.{Var}
 use Rattle.pure_terms.specs.EqualityLaws.{same_sorts}
-use Rattle.pure_terms.specs.Folding.{folded_unary, folded_binary, folded_with_literal, joined_shift}
-use Rattle.pure_terms.specs.Fragment.{is_plain, is_simple, is_flat, names_sort, is_variable_of, is_order, is_integer_side, is_fragment_term, has_form, is_simple_equality, is_comparison, is_kind_test, any_is_a_side, has_fragment_form, has_literals_between}
-use Rattle.pure_terms.specs.Kinds.{same_sort, kind_of_sort, kind_of_literal, known_kind, is_of_kind}
-use Rattle.pure_terms.specs.Pure.{PureTerm, literal, variable, list_of, unary_of, binary_of, PureAtom, positive, negative, term_of}
+use Rattle.pure_terms.specs.Fragment.{is_plain, is_simple, is_flat, names_sort, is_variable_of, is_order, is_integer_side, is_fragment_term, has_form, is_simple_equality, is_comparison, is_kind_test, any_is_a_side, has_literals_between}
+use Rattle.pure_terms.specs.Kinds.{same_sort, kind_of_sort, known_kind}
+use Rattle.pure_terms.specs.Pure.{PureTerm, literal, variable, list_of, unary_of, binary_of, PureAtom}
 use Rattle.sym_model.specs.Laws.{IsDecidedWithin}
 use Rattle.sym_model.specs.Lists.{Each}
 use Rattle.sym_model.proofs.ListLaws.{same_some, not_none}
-use Rattle.sym_evaluation.specs.Plainly.{IsPlain, is_equal, is_plain_comparison, is_bare_guard, is_plain_guard, IsPlainGuard, AreDecided}
-use Rattle.sym_evaluation.specs.Pure.{PureSides}
-use Rattle.sym_evaluation.specs.Questions.{OnSide, EachSide}
+use Rattle.sym_evaluation.specs.Plainly.{is_equal, is_plain_comparison, is_bare_guard, is_plain_guard, AreDecided}
+use Rattle.sym_evaluation.specs.Questions.{EachSide}
 use Rattle.sym_evaluation.specs.Sides.{said, variable_said, conditions_of, no_boolean, both_sides, sides_by_kind, literal_sides, sides_of}
 use Rattle.sym_evaluation.proofs.PlainTerms.{plain_parts, plain_kind}
 

@@ -1,9 +1,9 @@
 -- Simple expressions over plain terms come to a sure fault or to a plain term.
-use Rattle.std.proofs.Common.{◌≡◌, ◌⊎◌, ⊎_elim, inl, inr, ℕ, zero, suc, ◌+◌, ◌^◌, ◌<◌, ◌≤◌, ℤ, pos, negsuc, neg_ℤ, int_lt, List, [], ◌∷◌, ◌++◌, length, slice_get, ltb, Bool, true, false, not, ◌&&◌, Option, Some, None, refl, sym, ap, subst, ◌∙◌, arith, true≢false}
+use Rattle.std.proofs.Common.{◌≡◌, ◌⊎◌, ⊎_elim, inl, inr, ℕ, zero, suc, ◌+◌, ◌^◌, ◌<◌, ℤ, pos, negsuc, neg_ℤ, int_lt, List, [], ◌∷◌, ◌++◌, length, slice_get, Bool, true, false, not, Option, Some, None, refl, sym, ap, subst, ◌∙◌, arith, true≢false}
 use Rattle.std.specs.List.{list_all, flat_map}
 use Rattle.std.proofs.lemmas.Grind.{flat_map-append}
 use Rattle.std.proofs.lemmas.List.Folds.{list_all-append}
-use Rattle.std.proofs.lemmas.Bool.{and_parts, and_from, ltb-true}
+use Rattle.std.proofs.lemmas.Bool.{and_parts, ltb-true}
 use Rattle.gil_values.specs.declared.kinds.Kind.{Kind}
 use Rattle.gil_values.specs.declared.operators.BinOp.{BinOp}
 use Rattle.gil_values.specs.Equality.{same_kind}
@@ -15,18 +15,16 @@ use Rattle.gil_syntax.specs.Subexpressions.{own_literals, literals_of, subexpres
 use Rattle.gil_syntax.specs.WellMade.{is_spellable}
 use Rattle.pure_terms.specs.declared.literals.Literal.{Literal}
 use Rattle.pure_terms.specs.Folding.{folded_binary, term_or, element_term}
-use Rattle.pure_terms.specs.Fragment.{is_plain, is_shift, is_literal_between}
+use Rattle.pure_terms.specs.Fragment.{is_shift, is_literal_between}
 use Rattle.pure_terms.specs.Kinds.{kind_of_literal, known_kind}
-use Rattle.pure_terms.specs.Numbers.{is_between}
-use Rattle.pure_terms.specs.Pure.{PureTerm, literal, variable, list_of, unary_of, binary_of, PureTerms, from_list, to_list, PureAtom}
+use Rattle.pure_terms.specs.Pure.{PureTerm, literal, list_of, binary_of, PureTerms, from_list, to_list, PureAtom}
 use Rattle.sym_model.specs.Lists.{Each}
-use Rattle.sym_model.proofs.ListLaws.{same_some, not_none}
+use Rattle.sym_model.proofs.ListLaws.{same_some}
 use Rattle.sym_evaluation.specs.Checks.{PureCheck, decided, kind_check_by, kind_check, start_check, end_check, PureStage, required, kinds_required, binary_required}
 use Rattle.sym_evaluation.specs.Evaluating.{spelled, literal_term, result_given, sure_fault, given_or, finished, followed, at_stage, cases_after, all_cases_after}
-use Rattle.sym_evaluation.specs.Plainly.{IsPlain, IsPlainStore, text_bound, is_text_number, has_text_numbers, IsSureFault, IsSureResult, AnswersPlainly, AllAnswerPlainly}
-use Rattle.sym_evaluation.specs.Pure.{PureStore, term_at, PureFaultCase, PureGoodCase, PureCases}
-use Rattle.sym_evaluation.proofs.PlainTerms.{IsWithin, plain_wider, plain_kind, list_form, plain_shifted, plain_element, plain_list}
-use Rattle.sym_evaluation.proofs.Sizes.{spellable_parts}
+use Rattle.sym_evaluation.specs.Plainly.{IsPlain, IsPlainStore, text_bound, is_text_number, has_text_numbers, AnswersPlainly, AllAnswerPlainly}
+use Rattle.sym_evaluation.specs.Pure.{PureStore, term_at, PureFaultCase, PureCases}
+use Rattle.sym_evaluation.proofs.PlainTerms.{plain_wider, plain_kind, list_form, plain_shifted, plain_element, plain_list}
 
 found_at : (ws : List PureTerm) (k : ℕ) → k < length ws → (w : PureTerm) × (slice_get ws k ≡ Some w)
 found_at [] k below = absurd (omega (arith, below))

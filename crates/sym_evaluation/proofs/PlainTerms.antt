@@ -1,7 +1,6 @@
 -- Shifts and elements of plain terms are plain, within wider bounds.
-use Rattle.std.proofs.Common.{◌≡◌, ◌⊎◌, ⊎_elim, inl, inr, ℕ, zero, suc, ◌+◌, ◌-◌, ◌^◌, ◌<◌, ◌≤◌, ℤ, pos, negsuc, neg_ℤ, ◌+ℤ◌, ◌-ℤ◌, ◌≤ℤ◌, List, [], ◌∷◌, slice_get, Bool, true, false, not, ◌&&◌, ◌||◌, if◌then◌else◌, Option, Some, None, refl, sym, ap, subst, ◌∙◌, arith, true≢false}
+use Rattle.std.proofs.Common.{◌≡◌, ◌⊎◌, ⊎_elim, inl, inr, ℕ, zero, suc, ◌+◌, ◌-◌, ◌^◌, ◌<◌, ◌≤◌, ℤ, pos, neg_ℤ, ◌+ℤ◌, ◌-ℤ◌, ◌≤ℤ◌, slice_get, Bool, true, false, not, ◌&&◌, ◌||◌, if◌then◌else◌, Some, None, refl, sym, ap, subst, ◌∙◌, arith, true≢false}
 use Rattle.std.specs.Prelude.{int_le}
-use Rattle.std.specs.Option.{option_and_then}
 use Rattle.std.proofs.lemmas.Bool.{and_parts, and_from}
 use Rattle.std.proofs.lemmas.Int.{ints}
 use Rattle.gil_values.specs.declared.kinds.Kind.{Kind}
@@ -15,7 +14,7 @@ use Rattle.pure_terms.specs.Folding.{literal_or, term_or, shift, folded_binary, 
 use Rattle.pure_terms.specs.Fragment.{is_plain, is_simple, are_simple, names_sort, name_sort, is_shift, is_variable_of, is_integer_literal, is_literal_between, has_literals_between, have_literals_between}
 use Rattle.pure_terms.specs.Kinds.{same_sort, kind_of_sort, kind_of_literal, known_kind}
 use Rattle.pure_terms.specs.Numbers.{is_between, is_held}
-use Rattle.pure_terms.specs.Pure.{PureTerm, literal, variable, list_of, unary_of, binary_of, PureTerms, no_terms, term_and, from_list, to_list}
+use Rattle.pure_terms.specs.Pure.{PureTerm, literal, variable, list_of, unary_of, binary_of, PureTerms, no_terms, term_and, to_list}
 use Rattle.pure_terms.proofs.SimpleLaws.{simple_terms_have_kinds}
 use Rattle.sym_model.proofs.ListLaws.{same_some, not_none}
 use Rattle.sym_evaluation.specs.Plainly.{IsPlain, text_bound}

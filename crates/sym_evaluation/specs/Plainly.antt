@@ -1,5 +1,5 @@
 -- Simple expressions over plain terms: nothing is asked, and what comes is sure.
-use Rattle.std.specs.Prelude.{◌≡◌, ◌⊎◌, ℕ, ◌+◌, ◌^◌, ◌<◌, pos, neg_ℤ, List, [], ◌∷◌, Bool, true, false, ◌&&◌, ◌||◌, Option, Some, None, IsTrue}
+use Rattle.std.specs.Prelude.{◌≡◌, ◌⊎◌, ℕ, ◌+◌, ◌^◌, ◌<◌, pos, neg_ℤ, List, [], ◌∷◌, Bool, true, false, ◌&&◌, ◌||◌, Some, None, IsTrue}
 use Rattle.std.specs.List.{list_all}
 use Rattle.gil_values.specs.declared.operators.UnOp.{UnOp}
 use Rattle.gil_values.specs.declared.operators.BinOp.{BinOp}
@@ -12,7 +12,7 @@ use Rattle.pure_terms.specs.declared.literals.Literal.{Literal}
 use Rattle.pure_terms.specs.declared.variables.Sort.{Sort}
 use Rattle.pure_terms.specs.Fragment.{is_plain, is_variable_of, is_order, is_integer_side, has_literals_between}
 use Rattle.pure_terms.specs.Numbers.{is_between}
-use Rattle.pure_terms.specs.Pure.{PureTerm, literal, unary_of, binary_of, PureAtom}
+use Rattle.pure_terms.specs.Pure.{PureTerm, literal, unary_of, binary_of}
 use Rattle.sym_evaluation.specs.Pure.{PureStore, term_at, PureCases, PureSides}
 use Rattle.sym_evaluation.specs.Questions.{EachSide}
 use Rattle.sym_model.specs.Laws.{IsPlainWithin, IsDecidedWithin}

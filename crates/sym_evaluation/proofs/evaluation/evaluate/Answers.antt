@@ -4,7 +4,7 @@ use Rattle.pure_terms.specs.Meaning.{IsOver}
 use Rattle.pure_terms.specs.View.{atoms_view}
 use Rattle.sym_evaluation.specs.Meaning.{AreCasesOf}
 use Rattle.sym_evaluation.specs.Plainly.{AnswersPlainly, GuardsPlainly}
-use Rattle.sym_evaluation.specs.Questions.{ComesFrom, NameNoOthers, AreEachOver}
+use Rattle.sym_evaluation.specs.Questions.{ComesFrom, NameNoOthers}
 use Rattle.sym_evaluation.specs.View.{store_view, faults_view}
 use Rattle.sym_evaluation.proofs.EvaluationLaws.{cases_are_right}
 use Rattle.sym_evaluation.proofs.Found.{found_cases}

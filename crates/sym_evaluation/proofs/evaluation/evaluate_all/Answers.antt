@@ -1,6 +1,5 @@
 use Rattle.std.proofs.Common.{ap}
 use Rattle.gil_syntax.specs.View.{exprs_view}
-use Rattle.pure_terms.specs.Meaning.{IsOver}
 use Rattle.pure_terms.specs.View.{atoms_view}
 use Rattle.sym_evaluation.specs.Meaning.{AreCasesOfAll}
 use Rattle.sym_evaluation.specs.Plainly.{AllAnswerPlainly}
