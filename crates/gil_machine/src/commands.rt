@@ -23,7 +23,7 @@ ghost use Rattle.gil_machine.specs.Step.{branch as pure_branch, draw as pure_dra
 
 use crate::control::Control;
 use crate::endings::Ending;
-use crate::evaluation::{evaluate, evaluate_all, sum_of, truth_of};
+use crate::evaluation::{evaluate, evaluate_all};
 use crate::resolved::{Resolved, ResolvedList, ResolvedProg};
 use gil_values::{Kind, Value, Values};
 use std::alloc::{AllocError, Global};
@@ -42,10 +42,6 @@ impl<'r, 'p> Control<'r, 'p> {
         ensures does { IfOk result (λ end. DoesAnywhere (pure_assign (name_at (slots_of self.old) slot) (resolved_view (slots_of self.old) expression.now)) (place_of self.old at) self.old end self.new) }
         ensures grows { OnOk result (GrowsByOne self.old self.new) }
     {
-        if let Some(value) = sum_of(expression, &self.current.store) {
-            self.assign(slot, value)?;
-            return Ok(None);
-        }
         match evaluate(alloc, expression, &self.current.store) {
             Ok(value) => {
                 self.assign(slot, value)?;
@@ -67,10 +63,6 @@ impl<'r, 'p> Control<'r, 'p> {
         ensures does { IfOk result (λ end. DoesAnywhere (pure_ifgoto (resolved_view (slots_of self.old) guard.now) label.now) (place_of self.old at) self.old end self.new) }
         ensures grows { OnOk result (GrowsByOne self.old self.new) }
     {
-        if let Some(holds) = truth_of(guard, &self.current.store) {
-            self.take_side(holds, label);
-            return Ok(None);
-        }
         match evaluate(alloc, guard, &self.current.store) {
             Ok(guard) => self.branch(alloc, &guard, label, at),
             Err(fault) => Ok(Some(self.fault_ending(alloc, fault, at)?)),
@@ -99,7 +91,7 @@ impl<'r, 'p> Control<'r, 'p> {
     }
 
     /// The side where the guard holds, or the other.
-    fn take_side(&mut self, holds: bool, label: &i64)
+    pub(crate) fn take_side(&mut self, holds: bool, label: &i64)
         requires { self.old.current.next + 1 < 2 ^ 64 }
         ensures goes { (here : PurePlace) → LeadsAnywhere self.old (pure_branch (boolean holds) label.now here) None self.new }
         ensures grows { GrowsByOne self.old self.new }

@@ -17,6 +17,7 @@ ghost use Rattle.gil_machine.specs.Step.{step as pure_step};
 
 use crate::control::{Control, Frame, store_of};
 use crate::endings::Ending;
+use crate::evaluation::{sum_of, truth_of};
 use crate::resolved::{ResolvedCommand, ResolvedProg};
 use crate::resolving::resolve_prog;
 use gil_program::Prog;
@@ -200,8 +201,53 @@ impl<'r, 'p> Control<'r, 'p> {
         }
     }
 
-    /// What a command does.
+    /// What a command does. Those that only compute with numbers that stand already are done at once.
+    #[inline(always)]
     fn do_command<M: LocalMemory>(
+        &mut self,
+        alloc: Global,
+        prog: &'r ResolvedProg<'p>,
+        memory: &mut M,
+        inputs: &Values,
+        command: &'r ResolvedCommand<'p>,
+        at: u32,
+    ) -> Result<Option<Ending>, AllocError>
+        requires resolved { IsResolvedProg prog.now }
+        requires next { self.old.current.next + 1 < 2 ^ 64 }
+        requires counter { self.old.counter + 1 < 2 ^ 64 }
+        requires draws { self.old.draws + 1 < 2 ^ 32 }
+        requires placed { AssignsSlot (slots_of self.old) command.now }
+        requires made { IsTrue (is_well_made_command (resolved_command_view (slots_of self.old) command.now)) }
+        requires standing { IsStanding (prog_view prog.now.prog.now) M.memory self.old (M.heap memory.old) }
+        ensures does { IfOk result
+            (λ end. Does (prog_view prog.now.prog.now) M.actions (values_view inputs.now) (resolved_command_view (slots_of self.old) command.now) (place_of self.old at) self.old
+            (M.heap memory.old) end self.new (M.heap memory.new)) }
+        ensures at_number { IfOk result (λ end. IsAtNumber end → M.heap memory.new ≡ M.heap memory.old) }
+        ensures grows { OnOk result (GrowsByOne self.old self.new) }
+    {
+        match command {
+            ResolvedCommand::Assign(slot, expression) => {
+                match sum_of(expression, &self.current.store) {
+                    Some(value) => {
+                        self.assign(*slot, value)?;
+                        Ok(None)
+                    }
+                    None => self.do_any_command(alloc, prog, memory, inputs, command, at),
+                }
+            }
+            ResolvedCommand::IfGoto(guard, label) => match truth_of(guard, &self.current.store) {
+                Some(holds) => {
+                    self.take_side(holds, label);
+                    Ok(None)
+                }
+                None => self.do_any_command(alloc, prog, memory, inputs, command, at),
+            },
+            _ => self.do_any_command(alloc, prog, memory, inputs, command, at),
+        }
+    }
+
+    /// What any command does.
+    fn do_any_command<M: LocalMemory>(
         &mut self,
         alloc: Global,
         prog: &'r ResolvedProg<'p>,

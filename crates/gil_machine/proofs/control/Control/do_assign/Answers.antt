@@ -13,15 +13,9 @@ pub returns-in_ok-assign-in-Ok-clause-does : goal.returns-in_ok-assign-in-Ok-cla
 returns-in_ok-assign-in-Ok-clause-does c = λ p m inputs h s stands heap.
     value_goes p (evaluate_held (resolved_view (slots_of c.args.self.now) c.args.expression.now) s.current.store) _ (value_view c.in-Ok.value) (place_of c.args.self.now c.args.at) s _ _ _ h
     (c.in-Ok.ensures (slots_of c.args.self.now) s.current.store stands.current.store) (evaluate-tells (resolved_view (slots_of c.args.self.now) c.args.expression.now) s.current.store)
-    (subst (Comes p None (assigned (name_at (slots_of c.args.self.now) c.args.slot) (value_view c.in-Ok.value) s) None c.assign-in-Ok.new.self) heap (c.in_ok-assign-in-Ok.ensures.goes p s stands))
+    (subst (Comes p None (assigned (name_at (slots_of c.args.self.now) c.args.slot) (value_view c.in-Ok.value) s) None c.assign.new.self) heap (c.in_ok-assign-in-Ok.ensures.goes p s stands))
 
 pub returns-in_ok-fault_ending-in-Err-clause-does : goal.returns-in_ok-fault_ending-in-Err-clause-does
 returns-in_ok-fault_ending-in-Err-clause-does c = λ p m inputs h s stands heap.
     value_stops p (evaluate_held (resolved_view (slots_of c.args.self.now) c.args.expression.now) s.current.store) _ c.in-Err.fault (place_of c.args.self.now c.args.at) s _ _ _ h
     (c.in-Err.ensures (slots_of c.args.self.now) s.current.store stands.current.store) (evaluate-tells (resolved_view (slots_of c.args.self.now) c.args.expression.now) s.current.store) c.in_ok-fault_ending-in-Err.ensures stands heap
-
-pub returns-in-Some-clause-does : goal.returns-in-Some-clause-does
-returns-in-Some-clause-does c = λ p m inputs h s stands heap.
-    value_goes p (evaluate_held (resolved_view (slots_of c.args.self.now) c.args.expression.now) s.current.store) _ (value_view c.in-Some.value) (place_of c.args.self.now c.args.at) s _ _ _ h
-    (c.in-Some.ensures (slots_of c.args.self.now) s.current.store stands.current.store) (evaluate-tells (resolved_view (slots_of c.args.self.now) c.args.expression.now) s.current.store)
-    (subst (Comes p None (assigned (name_at (slots_of c.args.self.now) c.args.slot) (value_view c.in-Some.value) s) None c.assign.new.self) heap (c.in_ok-assign.ensures.goes p s stands))

@@ -21,9 +21,3 @@ pub returns-in_ok-fault_ending-in-Err-clause-does : goal.returns-in_ok-fault_end
 returns-in_ok-fault_ending-in-Err-clause-does c = λ p m inputs h s stands heap.
     value_stops p (evaluate_held (resolved_view (slots_of c.args.self.now) c.args.guard.now) s.current.store) _ c.in-Err.fault (place_of c.args.self.now c.args.at) s _ _ _ h
     (c.in-Err.ensures (slots_of c.args.self.now) s.current.store stands.current.store) (evaluate-tells (resolved_view (slots_of c.args.self.now) c.args.guard.now) s.current.store) c.in_ok-fault_ending-in-Err.ensures stands heap
-
-pub returns-in-Some-clause-does : goal.returns-in-Some-clause-does
-returns-in-Some-clause-does c = λ p m inputs h s stands heap.
-    value_goes p (evaluate_held (resolved_view (slots_of c.args.self.now) c.args.guard.now) s.current.store) _ (boolean c.in-Some.holds) (place_of c.args.self.now c.args.at) s _ None _ h
-    (c.in-Some.ensures (slots_of c.args.self.now) s.current.store stands.current.store) (evaluate-tells (resolved_view (slots_of c.args.self.now) c.args.guard.now) s.current.store)
-    (subst (Comes p None (branch (boolean c.in-Some.holds) c.args.label.now (place_of c.args.self.now c.args.at) s) None c.take_side.new.self) heap (c.take_side.ensures.goes (place_of c.args.self.now c.args.at) p s stands))
