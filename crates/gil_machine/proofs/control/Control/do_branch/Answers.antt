@@ -1,6 +1,5 @@
 use Rattle.std.proofs.Common.{None, subst}
 use Rattle.std.proofs.lemmas.Result.{IfOk-weaker}
-use Rattle.gil_values.specs.Pure.{boolean}
 use Rattle.gil_values.specs.View.{value_view}
 use Rattle.gil_machine.specs.ResolvedView.{resolved_view}
 use Rattle.gil_machine.specs.Held.{evaluate_held}
