@@ -103,7 +103,8 @@ pub(crate) fn evaluate(
     expression: &Resolved,
     store: &Store,
 ) -> Result<Value, EvaluationFault>
-    ensures { (names : Names) (s : PureStore) → Keeps names (store_view store.now) s → Gives result (evaluate_held (resolved_view names expression.now) s) }
+    ensures { (names : Names) (s : PureStore) → Keeps names (store_view store.now) s → Gives result (evaluate_held
+        (resolved_view names expression.now) s) }
 {
     match expression {
         Resolved::Lit(value) => Ok(value.copy(alloc)?),
@@ -149,7 +150,8 @@ pub(crate) fn evaluate_all(
     expressions: &ResolvedList,
     store: &Store,
 ) -> Result<Values, EvaluationFault>
-    ensures { (names : Names) (s : PureStore) → Keeps names (store_view store.now) s → GivesAll result (evaluate_all_held (resolved_list_view names expressions.now) s) }
+    ensures { (names : Names) (s : PureStore) → Keeps names (store_view store.now) s → GivesAll result (evaluate_all_held
+        (resolved_list_view names expressions.now) s) }
 {
     let mut values = Values::new(alloc);
     for expression in expressions.as_slice() {
@@ -165,7 +167,8 @@ pub(crate) fn evaluate_all(
 #[inline(always)]
 fn kept<'a>(operand: &'a Resolved, store: &'a Store) -> Option<&'a Value>
     ensures { IfSome result
-        (λ v. (names : Names) (s : PureStore) → Keeps names (store_view store.now) s → evaluate_held (resolved_view names operand.now) s ≡ Ok (value_view v.now)) }
+        (λ v. (names : Names) (s : PureStore) → Keeps names (store_view store.now) s → evaluate_held
+        (resolved_view names operand.now) s ≡ Ok (value_view v.now)) }
 {
     match operand {
         Resolved::Lit(value) => Some(value),

@@ -230,7 +230,8 @@ impl<'r, 'p> Control<'r, 'p> {
         requires made { IsTrue (is_well_made_command (resolved_command_view (slots_of self.old) command.now)) }
         requires standing { IsStanding (prog_view prog.now.prog.now) M.memory self.old (M.heap memory.old) }
         ensures does { IfOk result
-            (λ end. Does (prog_view prog.now.prog.now) M.actions (values_view inputs.now) (resolved_command_view (slots_of self.old) command.now) (place_of self.old at) self.old
+            (λ end. Does (prog_view prog.now.prog.now) M.actions (values_view inputs.now) (resolved_command_view
+            (slots_of self.old) command.now) (place_of self.old at) self.old
             (M.heap memory.old) (unboxed end) self.new (M.heap memory.new)) }
         ensures at_number { IfOk result (λ end. IsAtNumber (unboxed end) → M.heap memory.new ≡ M.heap memory.old) }
         ensures grows { OnOk result (GrowsByOne self.old self.new) }
@@ -274,7 +275,8 @@ impl<'r, 'p> Control<'r, 'p> {
         requires made { IsTrue (is_well_made_command (resolved_command_view (slots_of self.old) command.now)) }
         requires standing { IsStanding (prog_view prog.now.prog.now) M.memory self.old (M.heap memory.old) }
         ensures does { IfOk result
-            (λ end. Does (prog_view prog.now.prog.now) M.actions (values_view inputs.now) (resolved_command_view (slots_of self.old) command.now) (place_of self.old at) self.old
+            (λ end. Does (prog_view prog.now.prog.now) M.actions (values_view inputs.now) (resolved_command_view
+            (slots_of self.old) command.now) (place_of self.old at) self.old
             (M.heap memory.old) (unboxed end) self.new (M.heap memory.new)) }
         ensures at_number { IfOk result (λ end. IsAtNumber (unboxed end) → M.heap memory.new ≡ M.heap memory.old) }
         ensures grows { OnOk result (GrowsByOne self.old self.new) }
@@ -301,7 +303,8 @@ impl<'r, 'p> Control<'r, 'p> {
         requires made { IsTrue (is_well_made_command (resolved_command_view (slots_of self.old) command.now)) }
         requires standing { IsStanding (prog_view prog.now.prog.now) M.memory self.old (M.heap memory.old) }
         ensures does { IfOk result
-            (λ end. Does (prog_view prog.now.prog.now) M.actions (values_view inputs.now) (resolved_command_view (slots_of self.old) command.now) (place_of self.old at) self.old
+            (λ end. Does (prog_view prog.now.prog.now) M.actions (values_view inputs.now) (resolved_command_view
+            (slots_of self.old) command.now) (place_of self.old at) self.old
             (M.heap memory.old) end self.new (M.heap memory.new)) }
         ensures at_number { IfOk result (λ end. IsAtNumber end → M.heap memory.new ≡ M.heap memory.old) }
         ensures grows { OnOk result (GrowsByOne self.old self.new) }
