@@ -4,13 +4,17 @@ ghost use Rattle.while_syntax.specs.View.{placed_view, placed_statements_view, f
 ghost use Rattle.while_compiler.specs.Examples.{placed_return, returns_one, main_returns_one};
 ghost use Rattle.while_compiler.specs.Source.{source_view};
 
-use crate::{Source, compile};
-use gil_syntax::{Command, Expr, PredDefs, Specs, Texts};
-use gil_values::Value;
+use crate::programs::compiled_parts;
+use crate::{Source, TooMany, compile};
+use gil_syntax::{Assertion, Command, Expr, Exprs, Params, Parts, PredDefs, Specs, Texts};
+use gil_values::{Kind, Text, Value};
 use source_meaning::text;
 use std::alloc::{AllocError, Global};
 use std::test::Fail;
-use while_syntax::{Block, Function, Functions, PlacedStatement, SourceParts, Statement};
+use while_syntax::{
+    Block, Field, Fields, Function, Functions, Invariant, Logic, PlacedStatement, SourceParts,
+    Statement,
+};
 
 /// `return 1;`
 fn statement_of_main() -> PlacedStatement
@@ -74,5 +78,135 @@ fn a_return_is_compiled(rt: HostRuntime) -> Result<(), Fail> {
     assert_eq!(rt; (first.at, last.at), (14, 0));
     assert!(rt; matches!(&first.command, Command::Return(Expr::Lit(Value::Int(1)))));
     assert!(rt; matches!(&last.command, Command::Return(Expr::Lit(Value::Kind(_)))));
+    Ok(())
+}
+
+fn name(alloc: Global, characters: &str) -> Result<Text, Fail> {
+    Ok(Text::from_str(alloc, characters)?.ok_or("no text")?)
+}
+
+fn variable(alloc: Global, characters: &str) -> Result<Expr, Fail> {
+    Ok(Expr::Name(name(alloc, characters)?))
+}
+
+fn block_of(alloc: Global, at: u32, statement: Statement) -> Result<Block, Fail> {
+    let mut block = Block::new(alloc);
+    block.push(PlacedStatement { at, statement })?;
+    Ok(block)
+}
+
+/// `x = new {p: y, q: y};`
+fn new_record(alloc: Global) -> Result<Statement, Fail> {
+    let mut fields = Fields::new(alloc);
+    for field in ["p", "q"] {
+        let value = variable(alloc, "y")?;
+        fields.push(Field {
+            name: name(alloc, field)?,
+            value,
+        })?;
+    }
+    Ok(Statement::New(name(alloc, "x")?, fields))
+}
+
+/// `while (b) invariant (x) [] {emp} { dispose y; }`
+fn loop_of_dispose(alloc: Global) -> Result<Statement, Fail> {
+    let body = block_of(alloc, 4, Statement::Dispose(variable(alloc, "y")?))?;
+    let mut names = Texts::new(alloc);
+    names.push(name(alloc, "x")?)?;
+    let logicals = Params::new(alloc);
+    let assertion = Assertion::new(alloc);
+    let invariant = Some(Invariant {
+        names,
+        logicals,
+        assertion,
+    });
+    Ok(Statement::While(variable(alloc, "b")?, invariant, body))
+}
+
+/// `if (b) { return y; } else { assume(b); }`
+fn choice_of_return(alloc: Global) -> Result<Statement, Fail> {
+    let body = block_of(alloc, 6, Statement::Return(variable(alloc, "y")?))?;
+    let other = block_of(alloc, 7, Statement::Assume(variable(alloc, "b")?))?;
+    Ok(Statement::If(variable(alloc, "b")?, body, other))
+}
+
+/// `x = f(y);`
+fn call_of_f(alloc: Global) -> Result<Statement, Fail> {
+    let mut arguments = Exprs::new(alloc);
+    arguments.push(variable(alloc, "y")?)?;
+    Ok(Statement::Call(name(alloc, "x")?, name(alloc, "f")?, arguments))
+}
+
+/// The statement with a number.
+fn statement_at(alloc: Global, number: u32) -> Result<Statement, Fail> {
+    match number {
+        1 => new_record(alloc),
+        2 => Ok(Statement::Mutate(name(alloc, "y")?, name(alloc, "p")?, variable(alloc, "x")?)),
+        3 => loop_of_dispose(alloc),
+        5 => choice_of_return(alloc),
+        8 => Ok(Statement::Lookup(name(alloc, "x")?, name(alloc, "y")?, name(alloc, "p")?)),
+        9 => Ok(Statement::Assert(variable(alloc, "b")?)),
+        10 => call_of_f(alloc),
+        11 => Ok(Statement::Input(name(alloc, "x")?, Kind::Int)),
+        12 => Ok(Statement::Symbol(name(alloc, "x")?)),
+        14 => Ok(Statement::Logic(Logic::Assert(Assertion::new(alloc)))),
+        15 => Ok(Statement::Fail(variable(alloc, "y")?)),
+        _ => Ok(Statement::Assign(name(alloc, "x")?, variable(alloc, "y")?)),
+    }
+}
+
+/// A function of the statements with these numbers.
+fn parts_of(alloc: Global, numbers: &[u32]) -> Result<SourceParts, Fail> {
+    let mut body = Block::new(alloc);
+    for number in numbers {
+        let statement = statement_at(alloc, *number)?;
+        body.push(PlacedStatement {
+            at: *number,
+            statement,
+        })?;
+    }
+    let mut functions = Functions::new(alloc);
+    functions.push(Function {
+        name: name(alloc, "f")?,
+        params: Texts::new(alloc),
+        body,
+        at: 3,
+    })?;
+    Ok(SourceParts {
+        functions,
+        specs: Specs::new(alloc),
+        preds: PredDefs::new(alloc),
+    })
+}
+
+/// The labels of the jumps of the first procedure.
+fn labels_of(alloc: Global, parts: &Parts) -> Result<Vec<i64>, Fail> {
+    let mut labels = Vec::new(alloc);
+    let proc = parts.procs.get(0).ok_or("no procedure")?;
+    for numbered in proc.body.as_slice() {
+        if let Command::IfGoto(_, label) = &numbered.command {
+            labels.push(*label)?;
+        }
+    }
+    Ok(labels)
+}
+
+#[test]
+fn every_statement_has_its_commands(rt: HostRuntime) -> Result<(), Fail> {
+    let source = parts_of(rt.alloc(), &[1, 2, 3, 5, 8, 9, 10, 11, 12, 13, 14, 15])?;
+    let parts = compiled_parts(rt.alloc(), &source)?;
+    let proc = parts.procs.get(0).ok_or("no procedure")?;
+    assert_eq!(rt; proc.body.len(), 31);
+    let labels = labels_of(rt.alloc(), &parts)?;
+    assert_eq!(rt; labels.as_slice(), [14, 16, 11, 20, 19, 21, 24].as_slice());
+    Ok(())
+}
+
+#[test]
+fn a_thousand_commands_are_not_too_many(rt: HostRuntime) -> Result<(), Fail> {
+    let fits = parts_of(rt.alloc(), &[13; 999])?;
+    assert!(rt; compiled_parts(rt.alloc(), &fits).is_ok());
+    let passes = parts_of(rt.alloc(), &[13; 1000])?;
+    assert!(rt; matches!(compiled_parts(rt.alloc(), &passes), Err(TooMany::Limit(3))));
     Ok(())
 }
