@@ -6,10 +6,14 @@ ghost use Rattle.while_compiler.specs.Source.{source_view};
 
 use crate::programs::compiled_parts;
 use crate::{Source, TooMany, compile};
+use gil_machine::{End, run_entry};
+use gil_program::{Prog, is_well_made};
 use gil_syntax::{Assertion, Command, Expr, Exprs, Params, Parts, PredDefs, Specs, Texts};
-use gil_values::{Kind, Text, Value};
+use gil_values::{BinOp, Kind, Text, Value, Values};
+use record_heap::RecordHeap;
 use source_meaning::text;
 use std::alloc::{AllocError, Global};
+use std::process::Abort;
 use std::test::Fail;
 use while_syntax::{
     Block, Field, Fields, Function, Functions, Invariant, Logic, PlacedStatement, SourceParts,
@@ -208,5 +212,112 @@ fn a_thousand_commands_are_not_too_many(rt: HostRuntime) -> Result<(), Fail> {
     assert!(rt; compiled_parts(rt.alloc(), &fits).is_ok());
     let passes = parts_of(rt.alloc(), &[13; 1000])?;
     assert!(rt; matches!(compiled_parts(rt.alloc(), &passes), Err(TooMany::Limit(3))));
+    Ok(())
+}
+
+/// A program of a function `main` with these statements.
+fn program_of(alloc: Global, body: Block) -> Result<SourceParts, Fail> {
+    let mut functions = Functions::new(alloc);
+    let params = Texts::new(alloc);
+    functions.push(Function {
+        name: name(alloc, "main")?,
+        params,
+        body,
+        at: 0,
+    })?;
+    Ok(SourceParts {
+        functions,
+        specs: Specs::new(alloc),
+        preds: PredDefs::new(alloc),
+    })
+}
+
+fn field_of(alloc: Global, characters: &str, value: Expr) -> Result<Field, Fail> {
+    Ok(Field {
+        name: name(alloc, characters)?,
+        value,
+    })
+}
+
+fn operation(alloc: Global, op: BinOp, left: Expr, right: Expr) -> Result<Expr, Fail> {
+    Ok(Expr::Op2(op, Box::new(alloc, left)?, Box::new(alloc, right)?))
+}
+
+/// `a = new {v: (1 / 0), w: (1 + true)};`
+fn two_faults(alloc: Global) -> Result<Block, Fail> {
+    let one = Expr::Lit(Value::Int(1));
+    let zero = Expr::Lit(Value::Int(0));
+    let mut fields = Fields::new(alloc);
+    fields.push(field_of(alloc, "v", operation(alloc, BinOp::Divide, one, zero)?)?)?;
+    let one = Expr::Lit(Value::Int(1));
+    let truth = Expr::Lit(Value::Bool(true));
+    fields.push(field_of(alloc, "w", operation(alloc, BinOp::Add, one, truth)?)?)?;
+    block_of(alloc, 14, Statement::New(name(alloc, "a")?, fields))
+}
+
+/// A statement of the next program, with the byte at which it begins.
+fn sharing_statement(alloc: Global, at: u32) -> Result<Statement, Fail> {
+    let five = Expr::Lit(Value::Int(5));
+    match at {
+        14 => {
+            let mut fields = Fields::new(alloc);
+            fields.push(field_of(alloc, "v", Expr::Lit(Value::Int(1)))?)?;
+            Ok(Statement::New(name(alloc, "a")?, fields))
+        }
+        30 => Ok(Statement::Assign(name(alloc, "b")?, variable(alloc, "a")?)),
+        37 => Ok(Statement::Mutate(name(alloc, "b")?, name(alloc, "v")?, five)),
+        46 => Ok(Statement::Lookup(name(alloc, "x")?, name(alloc, "a")?, name(alloc, "v")?)),
+        55 => Ok(Statement::Assert(operation(alloc, BinOp::Equal, variable(alloc, "x")?, five)?)),
+        72 => Ok(Statement::Dispose(variable(alloc, "a")?)),
+        83 => Ok(Statement::Dispose(variable(alloc, "b")?)),
+        _ => Ok(Statement::Return(five)),
+    }
+}
+
+/// `a = new {v: 1}; b = a; b.v = 5; x = a.v; assert((x = 5)); dispose a; dispose b; return 5;`
+fn shares_a_record(alloc: Global) -> Result<Block, Fail> {
+    let mut body = Block::new(alloc);
+    for at in [14, 30, 37, 46, 55, 72, 83, 94] {
+        let statement = sharing_statement(alloc, at)?;
+        body.push(PlacedStatement { at, statement })?;
+    }
+    Ok(body)
+}
+
+fn text_in(value: Value) -> Option<Text> {
+    match value {
+        Value::Str(text) => Some(text),
+        _ => None,
+    }
+}
+
+fn failure(end: End<RecordHeap>) -> Option<(Text, u32)> {
+    match end {
+        End::Failed(value, place, _memory) => {
+            let text = text_in(value)?;
+            Some((text, place.at))
+        }
+        _ => None,
+    }
+}
+
+/// The text with which the run of the compiled program fails, and the byte of its place.
+fn failure_of(rt: &impl Abort, alloc: Global, body: Block) -> Result<(Text, u32), Fail> {
+    let source = program_of(alloc, body)?;
+    let parts = compiled_parts(alloc, &source)?;
+    assert!(rt; is_well_made(&parts));
+    let prog = Prog::new(alloc, parts)?;
+    let entry = name(alloc, "main")?;
+    let inputs = Values::new(alloc);
+    let end = run_entry(alloc, &prog, &entry, &inputs, 1000).ok_or("no entry")?;
+    Ok(failure(end).ok_or("no failure")?)
+}
+
+#[test]
+fn programs_fail_where_their_statements_begin(rt: HostRuntime) -> Result<(), Fail> {
+    let (text, at) = failure_of(&rt, rt.alloc(), two_faults(rt.alloc())?)?;
+    assert_eq!(rt; (text.as_str(), at), ("zero", 14));
+    let (text, at) = failure_of(&rt, rt.alloc(), shares_a_record(rt.alloc())?)?;
+    assert_eq!(rt; (text.as_str(), at), ("gone", 83));
     Ok(())
 }
