@@ -1,0 +1,121 @@
+-- What becomes of candidates are the paths of the step.
+use Rattle.std.proofs.Common.{◌≡◌, ◌⊎◌, inl, inr, List, [], ◌∷◌, ◌++◌, true, false, Some, IsTrue, refl, sym, ap, subst, ◌∙◌, append_assoc, true≢false}
+use Rattle.gil_values.specs.declared.places.Place.{Place}
+use Rattle.gil_values.specs.Pure.{PureValue}
+use Rattle.gil_syntax.specs.Pure.{PureParts}
+use Rattle.gil_machine.specs.State.{State}
+use Rattle.gil_machine.specs.Step.{step}
+use Rattle.mem_model.specs.Actions.{Actions}
+use Rattle.mem_model.specs.Heaps.{Heap}
+use Rattle.pure_terms.specs.declared.deciders.Reason.{Reason}
+use Rattle.pure_terms.specs.Meaning.{IsOver, Satisfies, IsUnsatisfiable}
+use Rattle.pure_terms.specs.Pure.{PureAtom, term_of}
+use Rattle.sym_model.specs.Lists.{Each, OneOf}
+use Rattle.sym_model.specs.Meaning.{has_open}
+use Rattle.sym_model.specs.Terms.{StateTerms}
+use Rattle.sym_model.proofs.ListLaws.{each_append}
+use Rattle.sym_paths.specs.Meaning.{StandsForStep, Stands}
+use Rattle.sym_paths.specs.Pure.{unknown, PurePath}
+use Rattle.sym_paths.specs.Settling.{Candidate, ended_unknown, IsKept, IsLeftUnknown, Stays, AreSettled, CandidatesCover, AreCandidates}
+use Rattle.sym_paths.specs.Steps.{Extends, HasInput, IsUnknown, IsRightlyUnknown, Grows, AddsOwn, Covers, IsExact, HoldsAlong, StaysSatisfiable, AreNextPaths}
+use Rattle.sym_paths.proofs.Silent.{rightly}
+
+module _ {S : Type 0} (p : PureParts) (path : PurePath S) where
+  each_settled : (P : Candidate S → Type 0) (Q : PurePath S → Type 0) → ((c : Candidate S) (next : PurePath S) → P c → Stays p path c next → Q next)
+      → (cs : List (Candidate S)) (nexts : List (PurePath S)) → Each P cs → AreSettled p path cs nexts → Each Q nexts
+  each_settled P Q go [] nexts all none = subst (Each Q) (sym none) tt
+  each_settled P Q go (c ∷ cs) nexts all (inl dropped) = each_settled P Q go cs nexts all.1 dropped.1
+  each_settled P Q go (c ∷ cs) nexts all (inr (next, (rest, (is, stays, later)))) =
+      subst (Each Q) (sym is) (go c next all.0 stays, each_settled P Q go cs rest all.1 later)
+
+  one_settled : (P : Candidate S → Type 0) (Q : PurePath S → Type 0) → ((c : Candidate S) → P c → IsUnsatisfiable c.path.vars c.path.conds → ⊥)
+      → ((c : Candidate S) (next : PurePath S) → P c → Stays p path c next → Q next)
+      → (cs : List (Candidate S)) (nexts : List (PurePath S)) → OneOf P cs → AreSettled p path cs nexts → OneOf Q nexts
+  one_settled P Q drop go [] nexts one none = absurd one
+  one_settled P Q drop go (c ∷ cs) nexts (inl here) (inl dropped) = absurd (drop c here dropped.0)
+  one_settled P Q drop go (c ∷ cs) nexts (inr later) (inl dropped) = one_settled P Q drop go cs nexts later dropped.1
+  one_settled P Q drop go (c ∷ cs) nexts (inl here) (inr (next, (rest, (is, stays, settled)))) = subst (OneOf Q) (sym is) (inl (go c next here stays))
+  one_settled P Q drop go (c ∷ cs) nexts (inr later) (inr (next, (rest, (is, stays, settled)))) =
+      subst (OneOf Q) (sym is) (inr (one_settled P Q drop go cs rest later settled))
+
+module _ {S : Type 0} (p : PureParts) (m : Actions) (stands : S → List PureValue → Heap → Type 0) (terms : S → StateTerms) (own : PureAtom → Type 0) (path : PurePath S) where
+  unknown_ends : (c : Candidate S) (next : PurePath S) (left : IsLeftUnknown p path c next) → IsUnknown next.ending
+  unknown_ends c next left = subst (λ (n : PurePath S). IsUnknown n.ending) (sym left.is) tt
+
+  unknown_grows : (c : Candidate S) (place : Place) (reason : Reason) → Grows terms path c.path → Each (λ a. IsOver c.path.vars (term_of a)) c.no_fault → Grows terms path (ended_unknown c place reason)
+  unknown_grows c place reason g over = record {
+    new_vars = g.new_vars;
+    vars = g.vars;
+    drawn = g.drawn;
+    new_conds = g.new_conds;
+    conds = g.conds;
+    new_given = g.new_given ++ c.no_fault;
+    given = ap (λ xs. xs ++ c.no_fault) g.given ∙ append_assoc path.given g.new_given c.no_fault;
+    chosen = g.chosen;
+    choices = g.choices;
+    steps = g.steps;
+    over = record {
+      conds = g.over.conds;
+      given = each_append (λ a. IsOver c.path.vars (term_of a)) c.path.given c.no_fault g.over.given over;
+      stores = g.over.stores;
+      memory = g.over.memory;
+      drawn = g.over.drawn;
+      ending = tt;
+    };
+  }
+
+  grows_on : (c : Candidate S) (next : PurePath S) → Grows terms path c.path × Each (λ a. IsOver c.path.vars (term_of a)) c.no_fault → Stays p path c next → Grows terms path next
+  grows_on c next g (inl kept) = subst (Grows terms path) (sym kept.is) g.0
+  grows_on c next g (inr left) = subst (Grows terms path) (sym left.is) (unknown_grows c left.place left.reason g.0 g.1)
+
+  abbrev Covered : List PureValue → List PureValue → State → Candidate S → Type 0
+  Covered inputs v s c =
+      (w : List PureValue) × (Extends inputs s path c.path v w × Satisfies c.path.vars w c.path.conds
+      × (StandsForStep p m stands c.path w s c.path.ending (step p m inputs s) ⊎ IsTrue (has_open c.path.conds)))
+
+  abbrev CoveredNext : List PureValue → List PureValue → State → PurePath S → Type 0
+  CoveredNext inputs v s next =
+      (w : List PureValue) × (Extends inputs s path next v w
+      × (StandsForStep p m stands next w s next.ending (step p m inputs s) ⊎ (IsUnknown next.ending × Satisfies next.vars w next.conds)))
+
+  without_form : {X Y : Type 0} (c : Candidate S) → has_open c.path.conds ≡ false → X ⊎ IsTrue (has_open c.path.conds) → X ⊎ Y
+  without_form c no_form (inl is) = inl is
+  without_form c no_form (inr needs) = absurd (true≢false (sym needs ∙ no_form))
+
+  covers_on : (inputs v : List PureValue) (s : State) (c : Candidate S) (next : PurePath S) → Covered inputs v s c → Stays p path c next → CoveredNext inputs v s next
+  covers_on inputs v s c next (w, (ext, sat, what)) (inl kept) = subst (CoveredNext inputs v s) (sym kept.is) (w, (ext, without_form c kept.no_form what))
+  covers_on inputs v s c next (w, (ext, sat, what)) (inr left) =
+      subst (CoveredNext inputs v s) (sym left.is)
+      (w, (record { new_vars = ext.new_vars; new_values = ext.new_values; vars = ext.vars; values = ext.values; in_turn = ext.in_turn }, inr (tt, sat)))
+
+  exact_on : (c : Candidate S) (next : PurePath S) → (has_open c.path.conds ≡ false → IsExact p m stands path c.path) → Stays p path c next → IsExact p m stands path next
+  exact_on c next exact (inl kept) = subst (IsExact p m stands path) (sym kept.is) (exact kept.no_form)
+  exact_on c next exact (inr left) = λ inputs v w s is ext known meets. absurd (known (unknown_ends c next left))
+
+  along_on : (c : Candidate S) (next : PurePath S) → HoldsAlong p m stands path c.path × ((place : Place) (reason : Reason) → HoldsAlong p m stands path (ended_unknown c place reason))
+      → Stays p path c next → HoldsAlong p m stands path next
+  along_on c next along (inl kept) = subst (HoldsAlong p m stands path) (sym kept.is) along.0
+  along_on c next along (inr left) = subst (HoldsAlong p m stands path) (sym left.is) (along.1 left.place left.reason)
+
+  own_on : (c : Candidate S) (next : PurePath S) → AddsOwn own path c.path → Stays p path c next → AddsOwn own path next
+  own_on c next adds (inl kept) = subst (AddsOwn own path) (sym kept.is) adds
+  own_on c next adds (inr left) = subst (AddsOwn own path) (sym left.is) (record { added = adds.added; conds = adds.conds; each = adds.each })
+
+  satisfiable_on : (c : Candidate S) (next : PurePath S) → ¬ IsUnknown c.path.ending → Stays p path c next → StaysSatisfiable path next
+  satisfiable_on c next known (inl kept) = λ v meets still. subst (λ (n : PurePath S). (w : List PureValue) × Satisfies n.vars w n.conds) (sym kept.is) kept.met
+  satisfiable_on c next known (inr left) = λ v meets still. absurd (still (unknown_ends c next left))
+
+  rightly_on : (c : Candidate S) (next : PurePath S) → ¬ IsUnknown c.path.ending → Stays p path c next → IsRightlyUnknown p path next next.ending
+  rightly_on c next known (inl kept) = rightly p path next next.ending (subst (λ (n : PurePath S). ¬ IsUnknown n.ending) (sym kept.is) known)
+  rightly_on c next known (inr left) = subst (λ (n : PurePath S). IsRightlyUnknown p path n n.ending) (sym left.is) (left.outside, left.first, left.at)
+
+  pub settled_are_next : (cs : List (Candidate S)) (nexts : List (PurePath S)) → AreCandidates p m stands terms own path cs → AreSettled p path cs nexts → AreNextPaths p m stands terms own path nexts
+  settled_are_next cs nexts laws settled = record {
+    growth = each_settled p path (λ c. Grows terms path c.path × Each (λ a. IsOver c.path.vars (term_of a)) c.no_fault) (Grows terms path) grows_on cs nexts laws.growth settled;
+    cover = λ inputs v s is has. one_settled p path (Covered inputs v s) (CoveredNext inputs v s) (λ c covered unmet. unmet covered.0 covered.1.1) (covers_on inputs v s) cs nexts (laws.cover inputs v s is has) settled;
+    exact = each_settled p path (λ c. has_open c.path.conds ≡ false → IsExact p m stands path c.path) (IsExact p m stands path) exact_on cs nexts laws.exact settled;
+    along = each_settled p path (λ c. HoldsAlong p m stands path c.path × ((place : Place) (reason : Reason) → HoldsAlong p m stands path (ended_unknown c place reason))) (HoldsAlong p m stands path) along_on cs nexts laws.along settled;
+    own_conditions = each_settled p path (λ c. AddsOwn own path c.path) (AddsOwn own path) own_on cs nexts laws.own_conditions settled;
+    satisfiable = each_settled p path (λ c. ¬ IsUnknown c.path.ending) (StaysSatisfiable path) satisfiable_on cs nexts laws.known settled;
+    unknown_rightly = each_settled p path (λ c. ¬ IsUnknown c.path.ending) (λ next. IsRightlyUnknown p path next next.ending) rightly_on cs nexts laws.known settled;
+  }

@@ -1,0 +1,210 @@
+-- What a step of a path must do: the laws of the paths that it answers, of which each extends the old one.
+use Rattle.std.specs.Prelude.{◌≡◌, ◌⊎◌, ℕ, suc, ◌+◌, ◌<◌, ◌^◌, ℤ, pos, neg_ℤ, ◌-ℤ◌, ◌+ℤ◌, ◌≤ℤ◌, List, [], ◌∷◌, ◌++◌, length, slice_get, Option, Some, None, IsTrue, ⊤}
+use Rattle.gil_values.specs.declared.places.Place.{Place}
+use Rattle.gil_values.specs.Pure.{PureValue, symbol}
+use Rattle.gil_syntax.specs.Pure.{PureParts, PureCommand, PureNumberedCommand}
+use Rattle.gil_machine.specs.Choices.{choice_at, with_choice}
+use Rattle.gil_machine.specs.State.{State, Ending, returned, failed, vanished, no_input, bad_input, cut, Step, goes_on, ends}
+use Rattle.gil_machine.specs.Step.{step}
+use Rattle.mem_model.specs.Actions.{Actions}
+use Rattle.mem_model.specs.Heaps.{Heap}
+use Rattle.pure_terms.specs.declared.deciders.Reason.{Reason}
+use Rattle.pure_terms.specs.declared.variables.Sort.{Sort}
+use Rattle.pure_terms.specs.Deciding.{IsReason}
+use Rattle.pure_terms.specs.Fragment.{InFragment}
+use Rattle.pure_terms.specs.Meaning.{all_true, IsProper, Satisfies}
+use Rattle.pure_terms.specs.Pure.{PureTerm, variable, PureAtom}
+use Rattle.sym_model.specs.Laws.{IsPlainWithin, IsDecidedWithin}
+use Rattle.sym_model.specs.Lists.{Each, OneOf}
+use Rattle.sym_model.specs.Terms.{StateTerms}
+use Rattle.sym_paths.specs.Meaning.{StandsForStep, Stands, OfEachName, IsOverTable, command_of_frames, command_of_path}
+use Rattle.sym_paths.specs.Pure.{PureFrame, PureEnd, unknown, PurePath}
+
+-- ---- new variables
+
+-- the value of a new variable where the counter is n and d inputs are drawn: a fresh variable has the next symbol, and any other one
+-- is a draw and has the next input
+abbrev pub IsNext : List PureValue → ℕ → ℕ → Sort → PureValue → Type 0
+IsNext inputs n d Sort.Fresh w = w ≡ symbol n
+IsNext inputs n d sort w = slice_get inputs d ≡ Some w
+
+-- the counter, and the number of draws, after a new variable
+abbrev pub counter_after : Sort → ℕ → ℕ
+counter_after Sort.Fresh n = suc n
+counter_after sort n = n
+
+abbrev pub draws_after : Sort → ℕ → ℕ
+draws_after Sort.Fresh d = d
+draws_after sort d = suc d
+
+-- the same of several new variables
+abbrev pub AreNext : List PureValue → ℕ → ℕ → List Sort → List PureValue → Type 0
+AreNext inputs n d [] [] = ⊤
+AreNext inputs n d (sort ∷ sorts) (w ∷ ws) =
+    IsNext inputs n d sort w × AreNext inputs (counter_after sort n) (draws_after sort d) sorts ws
+AreNext inputs n d _ _ = ⊥
+
+abbrev pub counter_past : List Sort → ℕ → ℕ
+counter_past [] n = n
+counter_past (sort ∷ sorts) n = counter_past sorts (counter_after sort n)
+
+abbrev pub draws_past : List Sort → ℕ → ℕ
+draws_past [] d = d
+draws_past (sort ∷ sorts) d = draws_past sorts (draws_after sort d)
+
+-- the draws among new variables, of which the first has the number k
+abbrev pub drawn_and : ℕ → Sort → List PureTerm → List PureTerm
+drawn_and k Sort.Fresh later = later
+drawn_and k sort later = variable (record { number = k; sort = sort }) ∷ later
+
+abbrev pub drawn_from : ℕ → List Sort → List PureTerm
+drawn_from k [] = []
+drawn_from k (sort ∷ sorts) = drawn_and k sort (drawn_from (suc k) sorts)
+
+-- From the state, the valuation w extends v by the variables that the next path has more than the old one.
+pub record Extends {S : Type 0} (inputs : List PureValue) (s : State) (path next : PurePath S) (v w : List PureValue) : Type 0 where
+  pub new_vars : List Sort
+  pub new_values : List PureValue
+  pub vars : next.vars ≡ path.vars ++ new_vars
+  pub values : w ≡ v ++ new_values
+  pub in_turn : AreNext inputs s.counter s.draws new_vars new_values
+
+-- ---- words
+
+abbrev pub IsInputFault : Ending → Type 0
+IsInputFault (no_input k) = ⊤
+IsInputFault (bad_input k) = ⊤
+IsInputFault _ = ⊥
+
+-- the step doesn't end for want of a fitting input
+abbrev pub HasInput : Step → Type 0
+HasInput (goes_on s) = ⊤
+HasInput (ends e) = ¬ IsInputFault e.ending
+
+abbrev pub IsUnknown : Option PureEnd → Type 0
+IsUnknown (Some (unknown place reason)) = ⊤
+IsUnknown _ = ⊥
+
+-- where the path has no end, the step goes on
+abbrev pub GoesOnAs : Option PureEnd → Step → Type 0
+GoesOnAs None (goes_on s) = ⊤
+GoesOnAs None (ends e) = ⊥
+GoesOnAs (Some how) r = ⊤
+
+-- the choice that the next path has more than the old one
+abbrev pub IsChosen : {S : Type 0} → PurePath S → PurePath S → Option ℕ → Type 0
+IsChosen path next chosen = next.choices ≡ path.choices ++ with_choice chosen []
+
+abbrev pub place_of : Reason → ℕ
+place_of (Reason.Atom i) = i
+place_of (Reason.Number i) = i
+
+-- the reason names the first atom that isn't in the fragment by itself
+pub record IsFirstOutside (atoms : List PureAtom) (reason : Reason) : Type 0 where
+  pub named : IsReason atoms reason
+  pub those_before : (i : ℕ) (a : PureAtom) → i < place_of reason → slice_get atoms i ≡ Some a → InFragment (a ∷ [])
+
+-- the place of the command at which the first frame stands
+abbrev pub IsPlaceOf : PureParts → List PureFrame → Place → Type 0
+IsPlaceOf p [] place = ⊥
+IsPlaceOf p (f ∷ fs) place =
+    (c : PureNumberedCommand) × ((command_of_frames p (f ∷ fs) ≡ Some c) × (place ≡ record { proc = f.procedure; at = c.at }))
+
+-- an unknown path's list isn't in the fragment, and its end names the command and the first atom outside
+abbrev pub IsRightlyUnknown : {S : Type 0} → PureParts → PurePath S → PurePath S → Option PureEnd → Type 0
+IsRightlyUnknown p path next (Some (unknown place reason)) =
+    (¬ InFragment next.conds) × IsFirstOutside next.conds reason × IsPlaceOf p path.stack place
+IsRightlyUnknown p path next _ = ⊤
+
+-- how far the literals of one step may leave the bounds
+abbrev pub step_growth : ℤ
+step_growth = pos (2 ^ 63 + 10000)
+
+abbrev pub are_narrow_bounds : ℤ → ℤ → Type 0
+are_narrow_bounds low high = (neg_ℤ (pos (2 ^ 80)) ≤ℤ low) × (high ≤ℤ pos (2 ^ 80))
+
+-- ---- the laws
+
+-- Growth: everything is extended at its end, by what one step adds; the draws that are listed are the new variables that are no
+-- fresh ones.
+pub record Grows {S : Type 0} (terms : S → StateTerms) (path next : PurePath S) : Type 0 where
+  pub new_vars : List Sort
+  pub vars : next.vars ≡ path.vars ++ new_vars
+  pub drawn : next.drawn ≡ path.drawn ++ drawn_from (length path.vars) new_vars
+  pub new_conds : List PureAtom
+  pub conds : next.conds ≡ path.conds ++ new_conds
+  pub new_given : List PureAtom
+  pub given : next.given ≡ path.given ++ new_given
+  pub chosen : Option ℕ
+  pub choices : IsChosen path next chosen
+  pub steps : next.steps ≡ path.steps + 1
+  pub over : IsOverTable terms next
+
+-- Own: each new condition is by itself in the fragment, or one that is the command's own.
+pub record AddsOwn {S : Type 0} (own : PureAtom → Type 0) (path next : PurePath S) : Type 0 where
+  pub added : List PureAtom
+  pub conds : next.conds ≡ path.conds ++ added
+  pub each : Each (λ a. InFragment (a ∷ []) ⊎ own a) added
+
+module _ {S : Type 0} (p : PureParts) (m : Actions) (stands : S → List PureValue → Heap → Type 0) where
+  -- Cover: what a state comes to that the path stands for, but for want of input, some answered path stands for, or is unknown with
+  -- its whole list true.
+  abbrev pub Covers : PurePath S → List (PurePath S) → Type 0
+  Covers path nexts =
+      (inputs v : List PureValue) (s : State) → Stands stands path v s → HasInput (step p m inputs s)
+      → OneOf (λ next. (w : List PureValue) × (Extends inputs s path next v w
+      × (StandsForStep p m stands next w s next.ending (step p m inputs s)
+      ⊎ (IsUnknown next.ending × Satisfies next.vars w next.conds)))) nexts
+
+  -- what an answered path says of a step from a state that the old path stands for
+  abbrev pub IsStepOf : List PureValue → State → PurePath S → PurePath S → List PureValue → Type 0
+  IsStepOf inputs s path next w =
+      IsChosen path next (choice_at p m s) × StandsForStep p m stands next w s next.ending (step p m inputs s)
+
+  -- Exactness: an answered path that isn't unknown, and whose conditions are met, stands for what the step comes to, with its choice.
+  abbrev pub IsExact : PurePath S → PurePath S → Type 0
+  IsExact path next =
+      (inputs v w : List PureValue) (s : State) → Stands stands path v s → Extends inputs s path next v w → ¬ IsUnknown next.ending
+      → Satisfies next.vars w next.conds → IsStepOf inputs s path next w
+
+  -- Along: where what is assumed is met, and the step makes the choice and goes on as the path does, all conditions are met.
+  abbrev pub HoldsAlong : PurePath S → PurePath S → Type 0
+  HoldsAlong path next =
+      (inputs v w : List PureValue) (s : State) → Stands stands path v s → Extends inputs s path next v w
+      → Satisfies next.vars w next.given → IsChosen path next (choice_at p m s) → GoesOnAs next.ending (step p m inputs s)
+      → IsTrue (all_true w next.conds)
+
+-- Satisfiable: where some valuation met the old conditions, some meets the new ones.
+abbrev pub StaysSatisfiable : {S : Type 0} → PurePath S → PurePath S → Type 0
+StaysSatisfiable path next =
+    (v : List PureValue) → Satisfies path.vars v path.conds → ¬ IsUnknown next.ending
+    → (w : List PureValue) × Satisfies next.vars w next.conds
+
+-- The paths are those of one step, where `own` says which conditions are the command's own.
+pub record AreNextPaths {S : Type 0} (p : PureParts) (m : Actions) (stands : S → List PureValue → Heap → Type 0) (terms : S → StateTerms)
+    (own : PureAtom → Type 0) (path : PurePath S) (nexts : List (PurePath S)) : Type 0 where
+  pub growth : Each (Grows terms path) nexts
+  pub cover : Covers p m stands path nexts
+  pub exact : Each (IsExact p m stands path) nexts
+  pub along : Each (HoldsAlong p m stands path) nexts
+  pub own_conditions : Each (AddsOwn own path) nexts
+  pub satisfiable : Each (StaysSatisfiable path) nexts
+  pub unknown_rightly : Each (λ next. IsRightlyUnknown p path next next.ending) nexts
+
+-- ---- commands that keep paths in the fragment
+
+-- A path that is plain within bounds: its terms are plain, and its conditions have forms of the fragment.
+pub record IsPlainPath {S : Type 0} (plain : S → ℤ → ℤ → Type 0) (low high : ℤ) (path : PurePath S) : Type 0 where
+  pub stores : Each (λ f. OfEachName (IsPlainWithin low high) f.store) path.stack
+  pub memory : plain path.memory low high
+  pub conds : Each (IsDecidedWithin low high) path.conds
+
+-- Simple: at a command of the class, a path that is kept within bounds leads to paths that are kept within wider ones, of which none
+-- is unknown while the bounds are those of the fragment.
+abbrev pub StaysWithin : {S : Type 0} → PureParts → (PureCommand → Type 0) → (ℤ → ℤ → PurePath S → Type 0) → PurePath S
+    → List (PurePath S) → Type 0
+StaysWithin p class keeps path nexts =
+    (c : PureNumberedCommand) (low high : ℤ) → command_of_path p path ≡ Some c → class c.command → (low ≤ℤ pos 0) × (pos 0 ≤ℤ high)
+    → keeps low high path
+    → Each (λ next. keeps (low -ℤ step_growth) (high +ℤ step_growth) next
+    × (are_narrow_bounds (low -ℤ step_growth) (high +ℤ step_growth) → ¬ IsUnknown next.ending)) nexts
