@@ -1,6 +1,7 @@
 -- What the code's machine stands for: a state, up to how its stores are kept.
 use Rattle.std.specs.Prelude.{◌≡◌, ℕ, ◌+◌, ◌≤◌, ◌<◌, length, List, [], ◌∷◌, reverse, if◌then◌else◌, Option, Some, None, ⊤}
 use Rattle.std.specs.Option.{IfSome, option_map}
+use Rattle.std.proofs.Common.{Box, Global}
 use Rattle.gil_values.specs.declared.places.Place.{Place}
 use Rattle.gil_values.specs.Pure.{PureValue, text}
 use Rattle.gil_values.specs.Operators.{wrong_kind, zero_divisor, out_of_range, unset_variable, fault_text}
@@ -87,6 +88,9 @@ Comes p None (ends e) (Some ending) c h = EndsAs ending e.ending × (e.heap ≡ 
 -- the place of a command of the call that runs
 abbrev pub place_of : Control → ℕ → Place
 place_of c at = record { proc = c.current.proc.now.proc.now.name; at = at }
+
+abbrev pub unboxed : Option (Box KeptEnding Global) → Option KeptEnding
+unboxed end = option_map (λ ending. ending.value) end
 
 -- how a run ends at a fault of evaluation at this place
 abbrev pub FaultEnds : EvaluationFault → Place → KeptEnding → Type 0

@@ -37,7 +37,8 @@ impl<'r, 'p> Control<'r, 'p> {
         requires made { IsTrue (list_all is_well_made_expr (resolved_list_view (slots_of self.old) expressions.now)) }
         requires standing { (p : PureParts) × IsStanding p M.memory self.old (M.heap memory.old) }
         ensures does { IfOk result (λ end. (p : PureParts) (inputs : List PureValue)
-            → Does p M.actions inputs (pure_act (name_at (slots_of self.old) slot) action.now (resolved_list_view (slots_of self.old) expressions.now)) (place_of self.old at) self.old
+            → Does p M.actions inputs (pure_act (name_at (slots_of self.old) slot) action.now (resolved_list_view
+            (slots_of self.old) expressions.now)) (place_of self.old at) self.old
             (M.heap memory.old) end self.new (M.heap memory.new)) }
         ensures at_number { IfOk result (λ end. IsAtNumber end → M.heap memory.new ≡ M.heap memory.old) }
         ensures grows { OnOk result (GrowsByOne self.old self.new) }
@@ -80,7 +81,8 @@ impl<'r, 'p> Control<'r, 'p> {
     ) -> Result<Option<Ending>, AllocError>
         requires next { self.old.current.next + 1 < 2 ^ 64 }
         requires placed { slot < length (slots_of self.old) }
-        ensures does { IfOk result (λ end. LeadsAnywhere self.old (after_action (outcome_view outcome) (name_at (slots_of self.old) slot) (place_of self.old at)) end self.new) }
+        ensures does { IfOk result (λ end. LeadsAnywhere self.old (after_action (outcome_view outcome) (name_at
+            (slots_of self.old) slot) (place_of self.old at)) end self.new) }
         ensures counter { self.new.counter ≡ self.old.counter }
         ensures draws { self.new.draws ≡ self.old.draws }
     {

@@ -1,7 +1,7 @@
 //! What each command does with the calls in progress.
-ghost use Rattle.std.specs.Prelude.{◌≡◌, ℕ, length, ◌+◌, ◌^◌, ◌<◌, List, Some, IfOk, OnOk};
+ghost use Rattle.std.specs.Prelude.{◌≡◌, ℕ, length, ◌+◌, ◌^◌, ◌<◌, List, Some, None, IfOk, OnOk};
 ghost use Rattle.gil_values.specs.declared.places.Place.{Place as PurePlace};
-ghost use Rattle.gil_values.specs.Pure.{PureValue};
+ghost use Rattle.gil_values.specs.Pure.{PureValue, boolean};
 ghost use Rattle.gil_values.specs.View.{value_view, values_view};
 ghost use Rattle.gil_syntax.specs.Pure.{
   PureParts,
@@ -39,7 +39,8 @@ impl<'r, 'p> Control<'r, 'p> {
     ) -> Result<Option<Ending>, AllocError>
         requires next { self.old.current.next + 1 < 2 ^ 64 }
         requires placed { slot < length (slots_of self.old) }
-        ensures does { IfOk result (λ end. DoesAnywhere (pure_assign (name_at (slots_of self.old) slot) (resolved_view (slots_of self.old) expression.now)) (place_of self.old at) self.old end self.new) }
+        ensures does { IfOk result (λ end. DoesAnywhere (pure_assign (name_at (slots_of self.old) slot) (resolved_view
+            (slots_of self.old) expression.now)) (place_of self.old at) self.old end self.new) }
         ensures grows { OnOk result (GrowsByOne self.old self.new) }
     {
         match evaluate(alloc, expression, &self.current.store) {
@@ -60,7 +61,8 @@ impl<'r, 'p> Control<'r, 'p> {
         at: u32,
     ) -> Result<Option<Ending>, AllocError>
         requires { self.old.current.next + 1 < 2 ^ 64 }
-        ensures does { IfOk result (λ end. DoesAnywhere (pure_ifgoto (resolved_view (slots_of self.old) guard.now) label.now) (place_of self.old at) self.old end self.new) }
+        ensures does { IfOk result (λ end. DoesAnywhere (pure_ifgoto (resolved_view (slots_of self.old) guard.now) label.now)
+            (place_of self.old at) self.old end self.new) }
         ensures grows { OnOk result (GrowsByOne self.old self.new) }
     {
         match evaluate(alloc, guard, &self.current.store) {
@@ -78,19 +80,29 @@ impl<'r, 'p> Control<'r, 'p> {
         at: u32,
     ) -> Result<Option<Ending>, AllocError>
         requires { self.old.current.next + 1 < 2 ^ 64 }
-        ensures does { IfOk result (λ end. LeadsAnywhere self.old (pure_branch (value_view guard.now) label.now (place_of self.old at)) end self.new) }
+        ensures does { IfOk result (λ end. LeadsAnywhere self.old (pure_branch (value_view guard.now) label.now
+            (place_of self.old at)) end self.new) }
         ensures grows { OnOk result (GrowsByOne self.old self.new) }
     {
         match guard {
-            Value::Bool(true) => {
-                self.jump(label);
-                Ok(None)
-            }
-            Value::Bool(false) => {
-                self.go_on();
+            Value::Bool(holds) => {
+                self.take_side(*holds, label);
                 Ok(None)
             }
             _ => Ok(Some(self.failure(alloc, "type", at)?)),
+        }
+    }
+
+    /// The side where the guard holds, or the other.
+    pub(crate) fn take_side(&mut self, holds: bool, label: &i64)
+        requires { self.old.current.next + 1 < 2 ^ 64 }
+        ensures goes { (here : PurePlace) → LeadsAnywhere self.old (pure_branch (boolean holds) label.now here) None self.new }
+        ensures grows { GrowsByOne self.old self.new }
+    {
+        if holds {
+            self.jump(label);
+        } else {
+            self.go_on();
         }
     }
 
@@ -101,7 +113,8 @@ impl<'r, 'p> Control<'r, 'p> {
         expression: &Resolved,
         at: u32,
     ) -> Result<Option<Ending>, AllocError>
-        ensures does { IfOk result (λ end. DoesAnywhere (pure_return (resolved_view (slots_of self.old) expression.now)) (place_of self.old at) self.old end self.new) }
+        ensures does { IfOk result (λ end. DoesAnywhere (pure_return (resolved_view (slots_of self.old) expression.now))
+            (place_of self.old at) self.old end self.new) }
         ensures grows { OnOk result (GrowsByOne self.old self.new) }
     {
         match evaluate(alloc, expression, &self.current.store) {
@@ -117,7 +130,8 @@ impl<'r, 'p> Control<'r, 'p> {
         expression: &Resolved,
         at: u32,
     ) -> Result<Option<Ending>, AllocError>
-        ensures does { IfOk result (λ end. DoesAnywhere (pure_fail (resolved_view (slots_of self.old) expression.now)) (place_of self.old at) self.old end self.new) }
+        ensures does { IfOk result (λ end. DoesAnywhere (pure_fail (resolved_view (slots_of self.old) expression.now))
+            (place_of self.old at) self.old end self.new) }
         ensures grows { OnOk result (GrowsByOne self.old self.new) }
     {
         match evaluate(alloc, expression, &self.current.store) {
@@ -134,7 +148,8 @@ impl<'r, 'p> Control<'r, 'p> {
         requires next { self.old.current.next + 1 < 2 ^ 64 }
         requires placed { slot < length (slots_of self.old) }
         requires counter { self.old.counter + 1 < 2 ^ 64 }
-        ensures does { IfOk result (λ end. (here : PurePlace) → DoesAnywhere (pure_usym (name_at (slots_of self.old) slot)) here self.old end self.new) }
+        ensures does { IfOk result (λ end. (here : PurePlace) → DoesAnywhere (pure_usym (name_at
+            (slots_of self.old) slot)) here self.old end self.new) }
         ensures grows { OnOk result (GrowsByOne self.old self.new) }
     {
         let symbol = self.counter;
@@ -155,7 +170,8 @@ impl<'r, 'p> Control<'r, 'p> {
         requires placed { slot < length (slots_of self.old) }
         requires draws { self.old.draws + 1 < 2 ^ 32 }
         ensures does { IfOk result (λ end. (p : PureParts) (m : Actions)
-            (here : PurePlace) → DoesBeside p m (values_view inputs.now) (pure_isym (name_at (slots_of self.old) slot) kind) here self.old end self.new) }
+            (here : PurePlace) → DoesBeside p m (values_view inputs.now) (pure_isym (name_at
+            (slots_of self.old) slot) kind) here self.old end self.new) }
         ensures grows { OnOk result (GrowsByOne self.old self.new) }
     {
         let input = inputs.as_slice().get(self.draws as usize);
@@ -176,7 +192,8 @@ impl<'r, 'p> Control<'r, 'p> {
     ) -> Result<Option<Ending>, AllocError>
         requires next { self.old.current.next + 1 < 2 ^ 64 }
         requires placed { slot < length (slots_of self.old) }
-        ensures does { IfOk result (λ end. LeadsAnywhere self.old (pure_draw (Some (value_view input.now)) (name_at (slots_of self.old) slot) kind) end self.new) }
+        ensures does { IfOk result (λ end. LeadsAnywhere self.old (pure_draw (Some (value_view input.now)) (name_at
+            (slots_of self.old) slot) kind) end self.new) }
         ensures counter { self.new.counter ≡ self.old.counter }
         ensures draws { self.new.draws ≡ self.old.draws }
     {
@@ -203,7 +220,8 @@ impl<'r, 'p> Control<'r, 'p> {
         requires next { self.old.current.next + 1 < 2 ^ 64 }
         requires placed { slot < length (slots_of self.old) }
         ensures does { IfOk result (λ end. (m : Actions) (inputs : List PureValue)
-            → DoesBeside (prog_view prog.now.prog.now) m inputs (pure_call (name_at (slots_of self.old) slot) (resolved_view (slots_of self.old) callee.now) (resolved_list_view (slots_of self.old) expressions.now))
+            → DoesBeside (prog_view prog.now.prog.now) m inputs (pure_call (name_at (slots_of self.old) slot) (resolved_view
+            (slots_of self.old) callee.now) (resolved_list_view (slots_of self.old) expressions.now))
             (place_of self.old at) self.old end self.new) }
         ensures grows { OnOk result (GrowsByOne self.old self.new) }
     {
@@ -233,7 +251,8 @@ impl<'r, 'p> Control<'r, 'p> {
         requires placed { slot < length (slots_of self.old) }
         ensures does { IfOk result
             (λ end. LeadsTo (prog_view prog.now.prog.now) self.old
-            (enter_value (prog_view prog.now.prog.now) (value_view called.now) (name_at (slots_of self.old) slot) (values_view args.now) (place_of self.old at)) end self.new) }
+            (enter_value (prog_view prog.now.prog.now) (value_view called.now) (name_at (slots_of self.old) slot)
+            (values_view args.now) (place_of self.old at)) end self.new) }
         ensures grows { OnOk result (GrowsByOne self.old self.new) }
     {
         let Value::Proc(proc) = called else {

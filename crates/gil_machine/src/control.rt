@@ -100,7 +100,8 @@ impl<'r, 'p> Control<'r, 'p> {
     pub(crate) fn assign(&mut self, slot: usize, value: Value) -> Result<(), AllocError>
         requires next { self.old.current.next + 1 < 2 ^ 64 }
         requires placed { slot < length (slots_of self.old) }
-        ensures goes { OnOk result (LeadsAnywhere self.old (assigned (name_at (slots_of self.old) slot) (value_view value)) None self.new) }
+        ensures goes { OnOk result (LeadsAnywhere self.old (assigned (name_at (slots_of self.old) slot)
+            (value_view value)) None self.new) }
         ensures counter { self.new.counter ≡ self.old.counter }
         ensures draws { self.new.draws ≡ self.old.draws }
     {

@@ -3,7 +3,7 @@ ghost use Rattle.std.specs.Prelude.{◌≡◌, Ok, IfSome};
 ghost use Rattle.std.specs.Option.{option_map};
 ghost use Rattle.gil_values.specs.Answers.{Answers};
 ghost use Rattle.gil_values.specs.Operators.{Outcome, binary, unary};
-ghost use Rattle.gil_values.specs.Pure.{integer};
+ghost use Rattle.gil_values.specs.Pure.{boolean, integer};
 ghost use Rattle.gil_values.specs.View.{value_view};
 ghost use Rattle.gil_syntax.specs.Evaluation.{Store as PureStore};
 ghost use Rattle.gil_machine.specs.Gives.{Gives, GivesAll};
@@ -19,26 +19,9 @@ use crate::store::Store;
 use gil_values::{BinOp, OpFault, UnOp, Value, Values, apply1, apply2};
 use std::alloc::Global;
 
-/// The value of an expression: left to right, the value or the first fault, a result that leaves 128 bits among them.
-/// Sums, differences and comparisons of two numbers that stand already are found first.
+/// The sum or the difference of two numbers that stand already, where it stays in 128 bits.
 #[inline(always)]
-pub(crate) fn evaluate(
-    alloc: Global,
-    expression: &Resolved,
-    store: &Store,
-) -> Result<Value, EvaluationFault>
-    ensures { (names : Names) (s : PureStore) → Keeps names (store_view store.now) s
-        → Gives result (evaluate_held (resolved_view names expression.now) s) }
-{
-    match of_two_numbers(expression, store) {
-        Some(value) => Ok(value),
-        None => evaluate_whole(alloc, expression, store),
-    }
-}
-
-/// The value of an operator of two operands whose numbers stand already, where it is quickly known.
-#[inline(always)]
-fn of_two_numbers(expression: &Resolved, store: &Store) -> Option<Value>
+pub(crate) fn sum_of(expression: &Resolved, store: &Store) -> Option<Value>
     ensures { IfSome result (λ v. (names : Names) (s : PureStore) → Keeps names (store_view store.now) s
         → evaluate_held (resolved_view names expression.now) s ≡ Ok (value_view v)) }
 {
@@ -46,7 +29,23 @@ fn of_two_numbers(expression: &Resolved, store: &Store) -> Option<Value>
         Resolved::Op2(op, left, right) => {
             let m = number(left, store)?;
             let n = number(right, store)?;
-            apply_to_numbers(*op, m, n)
+            add_or_subtract(*op, m, n)
+        }
+        _ => None,
+    }
+}
+
+/// Whether two numbers that stand already compare so.
+#[inline(always)]
+pub(crate) fn truth_of(expression: &Resolved, store: &Store) -> Option<bool>
+    ensures { IfSome result (λ b. (names : Names) (s : PureStore) → Keeps names (store_view store.now) s
+        → evaluate_held (resolved_view names expression.now) s ≡ Ok (boolean b)) }
+{
+    match expression {
+        Resolved::Op2(op, left, right) => {
+            let m = number(left, store)?;
+            let n = number(right, store)?;
+            compare(*op, m, n)
         }
         _ => None,
     }
@@ -64,17 +63,13 @@ fn number<'a>(operand: &'a Resolved, store: &'a Store) -> Option<&'a i128>
     }
 }
 
-/// Sums and differences that stay in 128 bits, and comparisons.
 #[inline(always)]
-fn apply_to_numbers(op: BinOp, m: &i128, n: &i128) -> Option<Value>
+fn add_or_subtract(op: BinOp, m: &i128, n: &i128) -> Option<Value>
     ensures { IfSome result (λ v. held (binary op (integer m.now) (integer n.now)) ≡ Ok (value_view v)) }
 {
     match op {
         BinOp::Add => as_value(m.checked_add(*n)),
         BinOp::Subtract => as_value(m.checked_sub(*n)),
-        BinOp::Equal => Some(Value::Bool(*m == *n)),
-        BinOp::Less => Some(Value::Bool(*m < *n)),
-        BinOp::LessOrEqual => Some(Value::Bool(*m <= *n)),
         _ => None,
     }
 }
@@ -89,14 +84,27 @@ fn as_value(number: Option<i128>) -> Option<Value>
     }
 }
 
-/// The value of any expression.
+#[inline(always)]
+fn compare(op: BinOp, m: &i128, n: &i128) -> Option<bool>
+    ensures { IfSome result (λ b. held (binary op (integer m.now) (integer n.now)) ≡ Ok (boolean b)) }
+{
+    match op {
+        BinOp::Equal => Some(*m == *n),
+        BinOp::Less => Some(*m < *n),
+        BinOp::LessOrEqual => Some(*m <= *n),
+        _ => None,
+    }
+}
+
+/// The value of an expression: left to right, the value or the first fault, a result that leaves 128 bits among them.
 #[cycle(evaluation)]
-fn evaluate_whole(
+pub(crate) fn evaluate(
     alloc: Global,
     expression: &Resolved,
     store: &Store,
 ) -> Result<Value, EvaluationFault>
-    ensures { (names : Names) (s : PureStore) → Keeps names (store_view store.now) s → Gives result (evaluate_held (resolved_view names expression.now) s) }
+    ensures { (names : Names) (s : PureStore) → Keeps names (store_view store.now) s → Gives result (evaluate_held
+        (resolved_view names expression.now) s) }
 {
     match expression {
         Resolved::Lit(value) => Ok(value.copy(alloc)?),
@@ -105,11 +113,11 @@ fn evaluate_whole(
         Resolved::List(elements) => as_list(evaluate_all(alloc, elements, store)),
         Resolved::Op1(op, operand) => match kept(operand, store) {
             Some(operand) => of_table(apply1(alloc, *op, operand)),
-            None => one_operand(alloc, *op, evaluate_whole(alloc, operand, store)),
+            None => one_operand(alloc, *op, evaluate(alloc, operand, store)),
         },
         Resolved::Op2(op, left, right) => match kept(left, store) {
             Some(left) => with_left(alloc, *op, left, right, store),
-            None => match evaluate_whole(alloc, left, store) {
+            None => match evaluate(alloc, left, store) {
                 Ok(left) => with_left(alloc, *op, &left, right, store),
                 Err(fault) => Err(fault),
             },
@@ -131,7 +139,7 @@ fn with_left(
 {
     match kept(&*right, &*store) {
         Some(right) => of_table(apply2(alloc, op, left, right)),
-        None => two_operands(alloc, op, left, evaluate_whole(alloc, right, store)),
+        None => two_operands(alloc, op, left, evaluate(alloc, right, store)),
     }
 }
 
@@ -142,11 +150,12 @@ pub(crate) fn evaluate_all(
     expressions: &ResolvedList,
     store: &Store,
 ) -> Result<Values, EvaluationFault>
-    ensures { (names : Names) (s : PureStore) → Keeps names (store_view store.now) s → GivesAll result (evaluate_all_held (resolved_list_view names expressions.now) s) }
+    ensures { (names : Names) (s : PureStore) → Keeps names (store_view store.now) s → GivesAll result (evaluate_all_held
+        (resolved_list_view names expressions.now) s) }
 {
     let mut values = Values::new(alloc);
     for expression in expressions.as_slice() {
-        match evaluate_whole(alloc, expression, store) {
+        match evaluate(alloc, expression, store) {
             Ok(value) => values.push(value)?,
             Err(fault) => return Err(fault),
         }
@@ -158,7 +167,8 @@ pub(crate) fn evaluate_all(
 #[inline(always)]
 fn kept<'a>(operand: &'a Resolved, store: &'a Store) -> Option<&'a Value>
     ensures { IfSome result
-        (λ v. (names : Names) (s : PureStore) → Keeps names (store_view store.now) s → evaluate_held (resolved_view names operand.now) s ≡ Ok (value_view v.now)) }
+        (λ v. (names : Names) (s : PureStore) → Keeps names (store_view store.now) s → evaluate_held
+        (resolved_view names operand.now) s ≡ Ok (value_view v.now)) }
 {
     match operand {
         Resolved::Lit(value) => Some(value),

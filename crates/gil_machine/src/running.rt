@@ -11,12 +11,13 @@ ghost use Rattle.gil_machine.specs.Held.{held_run_of, number_at};
 ghost use Rattle.gil_machine.specs.ResolvedView.{AssignsSlot, resolved_command_view};
 ghost use Rattle.gil_machine.specs.ResolvedWhole.{IsResolvedProg};
 ghost use Rattle.gil_machine.specs.Run.{IsEntry, IsProperStart, start};
-ghost use Rattle.gil_machine.specs.Standing.{Comes, Does, GrowsByOne, HasMemory, IsAtNumber, IsEndOf, IsStanding, Stands, place_of, slots_of};
+ghost use Rattle.gil_machine.specs.Standing.{Comes, Does, GrowsByOne, HasMemory, IsAtNumber, IsEndOf, IsStanding, Stands, place_of, slots_of, unboxed};
 ghost use Rattle.gil_machine.specs.State.{State};
 ghost use Rattle.gil_machine.specs.Step.{step as pure_step};
 
 use crate::control::{Control, Frame, store_of};
 use crate::endings::Ending;
+use crate::evaluation::{sum_of, truth_of};
 use crate::resolved::{ResolvedCommand, ResolvedProg};
 use crate::resolving::resolve_prog;
 use gil_program::Prog;
@@ -159,11 +160,21 @@ fn begin<'r, 'p>(
     }
 }
 
-/// An ending with its memory.
-fn with_memory<M: LocalMemory>(ending: Ending, memory: M) -> End<M>
-    ensures { HasMemory M.heap ending memory result }
+/// An ending behind a pointer, so that a step that goes on hands on little.
+fn boxed(alloc: Global, ending: Option<Ending>) -> Result<Option<Box<Ending>>, AllocError>
+    ensures { IfOk result (λ end. unboxed end ≡ ending) }
 {
     match ending {
+        Some(ending) => Ok(Some(Box::new(alloc, ending)?)),
+        None => Ok(None),
+    }
+}
+
+/// An ending with its memory.
+fn with_memory<M: LocalMemory>(ending: Box<Ending>, memory: M) -> End<M>
+    ensures { HasMemory M.heap ending.value memory result }
+{
+    match Box::into_inner(ending) {
         Ending::Returned(value) => End::Returned(value, memory),
         Ending::Failed(value, place) => End::Failed(value, place, memory),
         Ending::Vanished => End::Vanished(memory),
@@ -181,15 +192,15 @@ impl<'r, 'p> Control<'r, 'p> {
         prog: &'r ResolvedProg<'p>,
         memory: &mut M,
         inputs: &Values,
-    ) -> Result<Option<Ending>, AllocError>
+    ) -> Result<Option<Box<Ending>>, AllocError>
         requires resolved { IsResolvedProg prog.now }
         requires counter { self.old.counter + 1 < 2 ^ 64 }
         requires draws { self.old.draws + 1 < 2 ^ 32 }
         requires standing { IsStanding (prog_view prog.now.prog.now) M.memory self.old (M.heap memory.old) }
         ensures does { IfOk result (λ end. (s : State) → Stands (prog_view prog.now.prog.now) self.old s → s.heap ≡ M.heap memory.old
             → Comes (prog_view prog.now.prog.now) (number_at (prog_view prog.now.prog.now) s)
-            (pure_step (prog_view prog.now.prog.now) M.actions (values_view inputs.now) s) end self.new (M.heap memory.new)) }
-        ensures at_number { IfOk result (λ end. IsAtNumber end → M.heap memory.new ≡ M.heap memory.old) }
+            (pure_step (prog_view prog.now.prog.now) M.actions (values_view inputs.now) s) (unboxed end) self.new (M.heap memory.new)) }
+        ensures at_number { IfOk result (λ end. IsAtNumber (unboxed end) → M.heap memory.new ≡ M.heap memory.old) }
         ensures grows { OnOk result (GrowsByOne self.old self.new) }
     {
         match self.command() {
@@ -200,8 +211,82 @@ impl<'r, 'p> Control<'r, 'p> {
         }
     }
 
-    /// What a command does.
+    /// What a command does. Those that only compute with numbers that stand already are done at once.
+    #[inline(always)]
     fn do_command<M: LocalMemory>(
+        &mut self,
+        alloc: Global,
+        prog: &'r ResolvedProg<'p>,
+        memory: &mut M,
+        inputs: &Values,
+        command: &'r ResolvedCommand<'p>,
+        at: u32,
+    ) -> Result<Option<Box<Ending>>, AllocError>
+        requires resolved { IsResolvedProg prog.now }
+        requires next { self.old.current.next + 1 < 2 ^ 64 }
+        requires counter { self.old.counter + 1 < 2 ^ 64 }
+        requires draws { self.old.draws + 1 < 2 ^ 32 }
+        requires placed { AssignsSlot (slots_of self.old) command.now }
+        requires made { IsTrue (is_well_made_command (resolved_command_view (slots_of self.old) command.now)) }
+        requires standing { IsStanding (prog_view prog.now.prog.now) M.memory self.old (M.heap memory.old) }
+        ensures does { IfOk result
+            (λ end. Does (prog_view prog.now.prog.now) M.actions (values_view inputs.now) (resolved_command_view
+            (slots_of self.old) command.now) (place_of self.old at) self.old
+            (M.heap memory.old) (unboxed end) self.new (M.heap memory.new)) }
+        ensures at_number { IfOk result (λ end. IsAtNumber (unboxed end) → M.heap memory.new ≡ M.heap memory.old) }
+        ensures grows { OnOk result (GrowsByOne self.old self.new) }
+    {
+        match command {
+            ResolvedCommand::Assign(slot, expression) => {
+                match sum_of(expression, &self.current.store) {
+                    Some(value) => {
+                        self.assign(*slot, value)?;
+                        Ok(None)
+                    }
+                    None => self.do_other_command(alloc, prog, memory, inputs, command, at),
+                }
+            }
+            ResolvedCommand::IfGoto(guard, label) => match truth_of(guard, &self.current.store) {
+                Some(holds) => {
+                    self.take_side(holds, label);
+                    Ok(None)
+                }
+                None => self.do_other_command(alloc, prog, memory, inputs, command, at),
+            },
+            _ => self.do_other_command(alloc, prog, memory, inputs, command, at),
+        }
+    }
+
+    /// What a command does that doesn't only compute with such numbers.
+    fn do_other_command<M: LocalMemory>(
+        &mut self,
+        alloc: Global,
+        prog: &'r ResolvedProg<'p>,
+        memory: &mut M,
+        inputs: &Values,
+        command: &'r ResolvedCommand<'p>,
+        at: u32,
+    ) -> Result<Option<Box<Ending>>, AllocError>
+        requires resolved { IsResolvedProg prog.now }
+        requires next { self.old.current.next + 1 < 2 ^ 64 }
+        requires counter { self.old.counter + 1 < 2 ^ 64 }
+        requires draws { self.old.draws + 1 < 2 ^ 32 }
+        requires placed { AssignsSlot (slots_of self.old) command.now }
+        requires made { IsTrue (is_well_made_command (resolved_command_view (slots_of self.old) command.now)) }
+        requires standing { IsStanding (prog_view prog.now.prog.now) M.memory self.old (M.heap memory.old) }
+        ensures does { IfOk result
+            (λ end. Does (prog_view prog.now.prog.now) M.actions (values_view inputs.now) (resolved_command_view
+            (slots_of self.old) command.now) (place_of self.old at) self.old
+            (M.heap memory.old) (unboxed end) self.new (M.heap memory.new)) }
+        ensures at_number { IfOk result (λ end. IsAtNumber (unboxed end) → M.heap memory.new ≡ M.heap memory.old) }
+        ensures grows { OnOk result (GrowsByOne self.old self.new) }
+    {
+        let ending = self.do_any_command(alloc, prog, memory, inputs, command, at)?;
+        boxed(alloc, ending)
+    }
+
+    /// What any command does.
+    fn do_any_command<M: LocalMemory>(
         &mut self,
         alloc: Global,
         prog: &'r ResolvedProg<'p>,
@@ -218,7 +303,8 @@ impl<'r, 'p> Control<'r, 'p> {
         requires made { IsTrue (is_well_made_command (resolved_command_view (slots_of self.old) command.now)) }
         requires standing { IsStanding (prog_view prog.now.prog.now) M.memory self.old (M.heap memory.old) }
         ensures does { IfOk result
-            (λ end. Does (prog_view prog.now.prog.now) M.actions (values_view inputs.now) (resolved_command_view (slots_of self.old) command.now) (place_of self.old at) self.old
+            (λ end. Does (prog_view prog.now.prog.now) M.actions (values_view inputs.now) (resolved_command_view
+            (slots_of self.old) command.now) (place_of self.old at) self.old
             (M.heap memory.old) end self.new (M.heap memory.new)) }
         ensures at_number { IfOk result (λ end. IsAtNumber end → M.heap memory.new ≡ M.heap memory.old) }
         ensures grows { OnOk result (GrowsByOne self.old self.new) }

@@ -1,16 +1,14 @@
 //! Terms simplified by the shipped rules, and by other books.
+ghost use Rattle.rewrite_book.specs.Answers.{AnswersWell};
+
 use crate::{
-    Head, Rule, RuleBook, len_list, minus_zero, neg_neg, not_not, nth_list, plus_zero, same_equal,
-    simplify, times_one, times_zero,
+    Head, Rule, RuleBook, Simplifier, len_list, minus_zero, neg_neg, not_not, nth_list, plus_zero,
+    same_equal, simplify, times_one, times_zero,
 };
 use gil_values::{BinOp, Text, UnOp};
 use pure_terms::{Literal, Sort, Term, Terms, Var};
 use std::alloc::Global;
 use std::test::Fail;
-
-fn text(alloc: Global, s: &str) -> Result<Text, Fail> {
-    Ok(Text::from_str(alloc, s)?.ok_or("a character that no text has")?)
-}
 
 fn pop(stack: &mut Vec<Term>) -> Result<Term, Fail> {
     Ok(stack.pop().ok_or("no operand")?)
@@ -85,28 +83,48 @@ fn term(alloc: Global, words: &str) -> Result<Term, Fail> {
     pop(&mut stack)
 }
 
+/// Adds a rule at the end of a book.
+fn add(
+    alloc: Global,
+    book: &mut RuleBook,
+    name: &str,
+    head: Head,
+    simplifier: Simplifier,
+) -> Result<(), Fail>
+    requires callable { Simplifier.IsAlwaysCallable simplifier }
+    requires answers { (a : _) (t : _) (r : _) → Simplifier.post simplifier a t r → AnswersWell t.now r }
+{
+    let name = Text::from_str(alloc, name)?.ok_or("a character that no text has")?;
+    book.add(Rule::new(name, head, simplifier))?;
+    Ok(())
+}
+
 #[test]
-fn shipped_rules_simplify(rt: HostRuntime) -> Result<(), Fail> {
+fn numbers_simplify(rt: HostRuntime) -> Result<(), Fail> {
     let alloc = rt.alloc();
     let mut book = RuleBook::new(alloc);
     let f = Box::new(alloc, |alloc: Global, t: &Term| plus_zero(alloc, t))?;
-    book.add(Rule::new(text(alloc, "plus_zero")?, Head::Op2(BinOp::Add), f))?;
+    add(alloc, &mut book, "plus_zero", Head::Op2(BinOp::Add), f)?;
     let f = Box::new(alloc, |alloc: Global, t: &Term| minus_zero(alloc, t))?;
-    book.add(Rule::new(text(alloc, "minus_zero")?, Head::Op2(BinOp::Subtract), f))?;
+    add(
+        alloc,
+        &mut book,
+        "minus_zero",
+        Head::Op2(BinOp::Subtract),
+        f,
+    )?;
     let f = Box::new(alloc, |alloc: Global, t: &Term| times_zero(alloc, t))?;
-    book.add(Rule::new(text(alloc, "times_zero")?, Head::Op2(BinOp::Multiply), f))?;
+    add(
+        alloc,
+        &mut book,
+        "times_zero",
+        Head::Op2(BinOp::Multiply),
+        f,
+    )?;
     let f = Box::new(alloc, |alloc: Global, t: &Term| times_one(alloc, t))?;
-    book.add(Rule::new(text(alloc, "times_one")?, Head::Op2(BinOp::Multiply), f))?;
-    let f = Box::new(alloc, |alloc: Global, t: &Term| not_not(alloc, t))?;
-    book.add(Rule::new(text(alloc, "not_not")?, Head::Op1(UnOp::Not), f))?;
+    add(alloc, &mut book, "times_one", Head::Op2(BinOp::Multiply), f)?;
     let f = Box::new(alloc, |alloc: Global, t: &Term| neg_neg(alloc, t))?;
-    book.add(Rule::new(text(alloc, "neg_neg")?, Head::Op1(UnOp::Neg), f))?;
-    let f = Box::new(alloc, |alloc: Global, t: &Term| same_equal(alloc, t))?;
-    book.add(Rule::new(text(alloc, "same_equal")?, Head::Op2(BinOp::Equal), f))?;
-    let f = Box::new(alloc, |alloc: Global, t: &Term| len_list(alloc, t))?;
-    book.add(Rule::new(text(alloc, "len_list")?, Head::Op1(UnOp::Len), f))?;
-    let f = Box::new(alloc, |alloc: Global, t: &Term| nth_list(alloc, t))?;
-    book.add(Rule::new(text(alloc, "nth_list")?, Head::Op2(BinOp::Nth), f))?;
+    add(alloc, &mut book, "neg_neg", Head::Op1(UnOp::Neg), f)?;
     for (words, expected) in [
         ("x 0 +", "x"),
         ("0 x +", "x"),
@@ -118,9 +136,38 @@ fn shipped_rules_simplify(rt: HostRuntime) -> Result<(), Fail> {
         ("x 1 *", "x"),
         ("1 x *", "x"),
         ("1 1 *", "1"),
+        ("x neg neg", "x"),
+        // one rule makes room for another
+        ("x 1 * 6 =", "x 6 ="),
+        ("x 0 * y +", "y"),
+        ("x 1 * neg 0 + neg", "x"),
+        // the answer is defined where the term isn't
+        ("1 x / 0 *", "0"),
+        ("x 2 + 3 +", "x 2 + 3 +"),
+    ] {
+        let answer = simplify(alloc, &book, term(alloc, words)?)?;
+        assert_eq!(rt; answer, term(alloc, expected)?, "{words}");
+    }
+    Ok(())
+}
+
+#[test]
+fn booleans_and_lists_simplify(rt: HostRuntime) -> Result<(), Fail> {
+    let alloc = rt.alloc();
+    let mut book = RuleBook::new(alloc);
+    let f = Box::new(alloc, |alloc: Global, t: &Term| plus_zero(alloc, t))?;
+    add(alloc, &mut book, "plus_zero", Head::Op2(BinOp::Add), f)?;
+    let f = Box::new(alloc, |alloc: Global, t: &Term| not_not(alloc, t))?;
+    add(alloc, &mut book, "not_not", Head::Op1(UnOp::Not), f)?;
+    let f = Box::new(alloc, |alloc: Global, t: &Term| same_equal(alloc, t))?;
+    add(alloc, &mut book, "same_equal", Head::Op2(BinOp::Equal), f)?;
+    let f = Box::new(alloc, |alloc: Global, t: &Term| len_list(alloc, t))?;
+    add(alloc, &mut book, "len_list", Head::Op1(UnOp::Len), f)?;
+    let f = Box::new(alloc, |alloc: Global, t: &Term| nth_list(alloc, t))?;
+    add(alloc, &mut book, "nth_list", Head::Op2(BinOp::Nth), f)?;
+    for (words, expected) in [
         ("b not not", "b"),
         ("b not", "b not"),
-        ("x neg neg", "x"),
         ("x x =", "true"),
         ("x y =", "x y ="),
         ("[] len", "0"),
@@ -130,15 +177,10 @@ fn shipped_rules_simplify(rt: HostRuntime) -> Result<(), Fail> {
         ("[] x , y , 2 nth", "[] x , y , 2 nth"),
         ("[] x , y , -1 nth", "[] x , y , -1 nth"),
         // one rule makes room for another, in parts and in elements
-        ("x 1 * 6 =", "x 6 ="),
         ("x 0 + x =", "true"),
-        ("x 0 * y +", "y"),
-        ("[] x 0 + , y , 0 nth neg neg", "x"),
+        ("[] x 0 + , y , 0 nth x =", "true"),
         ("[] y y = , b not not ,", "[] true , b ,"),
         ("b not b not = not not", "true"),
-        // the answer is defined where the term isn't
-        ("1 x / 0 *", "0"),
-        ("x 2 + 3 +", "x 2 + 3 +"),
     ] {
         let answer = simplify(alloc, &book, term(alloc, words)?)?;
         assert_eq!(rt; answer, term(alloc, expected)?, "{words}");
@@ -156,12 +198,18 @@ fn other_books_simplify(rt: HostRuntime) -> Result<(), Fail> {
     // a thousand rules that decline, and then one of another head, and one that answers
     for _ in 0..1000_u32 {
         let f = Box::new(alloc, |_alloc: Global, _t: &Term| Ok(None))?;
-        book.add(Rule::new(text(alloc, "never")?, Head::Op2(BinOp::Multiply), f))?;
+        add(alloc, &mut book, "never", Head::Op2(BinOp::Multiply), f)?;
     }
     let f = Box::new(alloc, |alloc: Global, t: &Term| times_one(alloc, t))?;
-    book.add(Rule::new(text(alloc, "never asked")?, Head::List, f))?;
+    add(alloc, &mut book, "never asked", Head::List, f)?;
     let f = Box::new(alloc, |alloc: Global, t: &Term| times_zero(alloc, t))?;
-    book.add(Rule::new(text(alloc, "times_zero")?, Head::Op2(BinOp::Multiply), f))?;
+    add(
+        alloc,
+        &mut book,
+        "times_zero",
+        Head::Op2(BinOp::Multiply),
+        f,
+    )?;
     let answer = simplify(alloc, &book, term(alloc, words)?)?;
     assert_eq!(rt; answer, term(alloc, "0 6 =")?);
     let answer = simplify(alloc, &book, term(alloc, "x 1 *")?)?;

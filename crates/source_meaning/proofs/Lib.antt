@@ -1,4 +1,5 @@
 pub mod Following
+pub mod Longer
 pub mod NumberedNames
 pub mod Stores
 pub mod Stretches

@@ -1,5 +1,5 @@
 -- Each check passes where the operator table takes the operand.
-use Rattle.std.proofs.Common.{◌≡◌, ◌⊎◌, inl, inr, ℕ, suc, ℤ, pos, negsuc, int_le, int_lt, List, [], ◌∷◌, ◌++◌, map, length, Bool, true, false, not, ◌&&◌, ◌||◌, if◌then◌else◌, Option, Some, None, IsTrue, refl, sym, ap, subst, ◌∙◌, true≢false}
+use Rattle.std.proofs.Common.{◌≡◌, inl, inr, suc, ℤ, pos, int_lt, List, [], ◌∷◌, length, Bool, true, false, not, ◌&&◌, if◌then◌else◌, Option, Some, None, refl, sym, ap, subst, ◌∙◌}
 use Rattle.std.specs.Option.{option_and_then, option_map}
 use Rattle.std.specs.Ordering.{int_eq}
 use Rattle.std.specs.Result.{result_ok}
@@ -7,22 +7,21 @@ use Rattle.std.proofs.lemmas.Bool.{and_from}
 use Rattle.gil_values.specs.declared.kinds.Kind.{Kind}
 use Rattle.gil_values.specs.declared.operators.UnOp.{UnOp}
 use Rattle.gil_values.specs.declared.operators.BinOp.{BinOp}
-use Rattle.gil_values.specs.Equality.{same_value, same_kind}
+use Rattle.gil_values.specs.Equality.{same_kind}
 use Rattle.gil_values.specs.EqualityLaws.{same_value-refl}
 use Rattle.gil_values.specs.Operators.{unary, binary}
 use Rattle.gil_values.specs.Pure.{PureValue, integer, boolean, text, symbol, kind, procedure, list, PureValues, no_values, kind_of, from_list, to_list, to_list-from_list}
 use Rattle.pure_terms.specs.declared.literals.Literal.{Literal}
 use Rattle.pure_terms.specs.declared.variables.Sort.{Sort}
 use Rattle.pure_terms.specs.Kinds.{known_kind}
-use Rattle.pure_terms.specs.Meaning.{literal_value, value, values, truth, is_that_boolean, all_true, IsProper, IsOver}
+use Rattle.pure_terms.specs.Meaning.{value, values, truth, is_that_boolean, all_true, IsProper, IsOver}
 use Rattle.pure_terms.specs.Pure.{PureTerm, literal, variable, list_of, unary_of, binary_of, PureTerms, no_terms, term_and, PureAtom, positive, negative}
 use Rattle.pure_terms.specs.Pure as terms
 use Rattle.pure_terms.proofs.KindLaws.{same_kinds, known_kinds_are_right}
-use Rattle.sym_model.specs.Lists.{Each, OneOf}
 use Rattle.sym_model.proofs.Asking.{both_parts}
 use Rattle.sym_model.proofs.ListLaws.{same_some, not_none}
-use Rattle.sym_evaluation.specs.Checks.{PureCheck, passes, fails, asks, decided, needs, needs_not, kind_of_term, is_of_kind, none_of, kind_check_by, kind_check, has_length, kinds_with_length, kinds_without_length, length_check_by, length_check, are_of_one_kind, append_check_by, append_check, zero_term, is_zero, is_negative, divisor_check, start_check, length_of, is_below, end_check_by, end_check}
-use Rattle.sym_evaluation.proofs.Stages.{AllTrue, NotAll, CheckSays, decided_says}
+use Rattle.sym_evaluation.specs.Checks.{PureCheck, fails, asks, decided, needs, needs_not, kind_of_term, is_of_kind, none_of, kind_check_by, kind_check, has_length, kinds_with_length, kinds_without_length, length_check_by, length_check, are_of_one_kind, append_check_by, append_check, is_zero, is_negative, divisor_check, start_check, length_of, is_below, end_check_by, end_check}
+use Rattle.sym_evaluation.proofs.Stages.{CheckSays, decided_says}
 
 abbrev elements_of : PureValue → PureValues
 elements_of (list vs) = vs

@@ -1,19 +1,16 @@
 -- The cases that evaluation finds say what an expression comes to.
-use Rattle.std.proofs.Common.{◌≡◌, ◌⊎◌, ⊎_elim, inl, inr, ℕ, List, [], ◌∷◌, ◌++◌, Bool, true, false, if◌then◌else◌, Option, Some, None, Result, Ok, Err, IsTrue, refl, sym, ap, subst, ◌∙◌, true≢false}
+use Rattle.std.proofs.Common.{◌≡◌, ⊎_elim, List, [], ◌∷◌, ◌++◌, true, Option, Some, None, Result, Ok, Err, IsTrue, refl, sym, ap, subst, ◌∙◌, true≢false}
 use Rattle.std.specs.List.{list_all, flat_map}
 use Rattle.std.specs.Option.{option_and_then, option_map}
 use Rattle.std.specs.Result.{result_ok}
-use Rattle.std.specs.Str.{bytes_eq}
-use Rattle.std.proofs.lemmas.Bool.{and_parts, and_from}
-use Rattle.std.proofs.lemmas.Grind.{flat_map-append}
+use Rattle.std.proofs.lemmas.Bool.{and_parts}
 use Rattle.std.proofs.lemmas.List.Elements.{Contains-append_cases}
-use Rattle.std.proofs.lemmas.List.Folds.{list_all-append}
 use Rattle.gil_values.specs.declared.operators.UnOp.{UnOp}
 use Rattle.gil_values.specs.declared.operators.BinOp.{BinOp}
 use Rattle.gil_values.specs.Operators.{Fault, unset_variable, Outcome, unary, binary}
 use Rattle.gil_values.specs.Pure.{PureValue, integer, boolean, text, symbol, kind, procedure, list, from_list as list_elements}
 use Rattle.gil_values.proofs.OperatorSymbols.{none_contained}
-use Rattle.gil_syntax.specs.Evaluation.{Store, value_of, set_or_fault, after_value, Outcomes, both, as_list, evaluate, evaluate_elements, evaluate_all}
+use Rattle.gil_syntax.specs.Evaluation.{Store, value_of, set_or_fault, after_value, Outcomes, both, as_list, evaluate, evaluate_elements}
 use Rattle.gil_syntax.specs.Pure.{PureExpr, literal as value_literal, name, logical, list_of as list_expr, unary_of as unary_expr, binary_of as binary_expr, PureExprs, no_exprs, expr_and, from_list as exprs_from}
 use Rattle.gil_syntax.specs.Subexpressions.{own_literals, literals_of, subexpressions, subexpressions_of_all}
 use Rattle.gil_syntax.specs.WellMade.{is_spellable}
@@ -22,17 +19,14 @@ use Rattle.pure_terms.specs.declared.variables.Sort.{Sort}
 use Rattle.pure_terms.specs.declared.variables.Var.{Var}
 use Rattle.pure_terms.specs.Folding.{folded_unary, folded_binary}
 use Rattle.pure_terms.specs.Laws.{FoldingReplaces}
-use Rattle.pure_terms.specs.Meaning.{value, values, both as values_both, all_true, IsProper, IsOver, AreVariablesOf}
-use Rattle.pure_terms.specs.Pure.{PureTerm, literal, list_of, unary_of, binary_of, from_list, PureAtom, variables, variables_of_all}
-use Rattle.pure_terms.specs.Rewriting.{Replaces}
-use Rattle.sym_model.specs.Lists.{Each, OneOf}
-use Rattle.sym_model.proofs.ListLaws.{same_some, not_none}
-use Rattle.sym_evaluation.specs.Checks.{PureStage, fails, unary_required, binary_required}
-use Rattle.sym_evaluation.specs.Evaluating.{spelled, literal_term, result_given, sure_fault, given_or, finished, finished_by, followed, followed_by, at_stage, cases_after, all_cases_after}
-use Rattle.sym_evaluation.specs.Meaning.{AreSame, StandsFor, IsStoreOver, Serves, IsTaken, IsClosed, IsGood, SayOutcome, HasValue, HaveValues, AreCasesOf, AreCasesOfAll}
+use Rattle.pure_terms.specs.Meaning.{value, both as values_both, IsProper, IsOver, AreVariablesOf}
+use Rattle.pure_terms.specs.Pure.{PureTerm, list_of, from_list, PureAtom, variables, variables_of_all}
+use Rattle.sym_evaluation.specs.Checks.{fails, unary_required, binary_required}
+use Rattle.sym_evaluation.specs.Evaluating.{spelled, literal_term, given_or, finished, finished_by, followed, followed_by, at_stage, cases_after, all_cases_after}
+use Rattle.sym_evaluation.specs.Meaning.{AreSame, StandsFor, IsStoreOver, SayOutcome, HasValue, HaveValues, AreCasesOf, AreCasesOfAll}
 use Rattle.sym_evaluation.specs.Pure.{PureStore, term_at, PureFaultCase, PureGoodCase, PureCases}
 use Rattle.sym_evaluation.proofs.Sizes.{spellable_parts, split_spellable, each_spellable}
-use Rattle.sym_evaluation.proofs.Stages.{Says, SaysAt, NotAll, fail_says, shut_stays}
+use Rattle.sym_evaluation.proofs.Stages.{Says, fail_says, shut_stays}
 use Rattle.sym_evaluation.proofs.OperatorLaws.{fault_of, unary_shut, binary_shut, unary_says, binary_says}
 
 -- what goes on after a result

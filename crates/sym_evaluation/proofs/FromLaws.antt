@@ -1,5 +1,5 @@
 -- Results are from their expressions, and conditions are what these ask.
-use Rattle.std.proofs.Common.{◌≡◌, ◌⊎◌, ⊎_elim, inl, inr, ℕ, List, [], ◌∷◌, ◌++◌, map, Bool, true, false, if◌then◌else◌, Option, Some, None, refl, sym, ap, subst, ◌∙◌}
+use Rattle.std.proofs.Common.{◌≡◌, ⊎_elim, inl, inr, List, [], ◌∷◌, Bool, true, false, if◌then◌else◌, Option, Some, None, refl, sym, ap, subst, ◌∙◌}
 use Rattle.std.specs.Option.{option_and_then, option_map}
 use Rattle.gil_values.specs.declared.kinds.Kind.{Kind}
 use Rattle.gil_values.specs.declared.operators.UnOp.{UnOp}
@@ -13,13 +13,12 @@ use Rattle.pure_terms.specs.Folding.{folded_unary, folded_binary}
 use Rattle.pure_terms.specs.Kinds.{known_kind}
 use Rattle.pure_terms.specs.Laws.{FoldingReplaces}
 use Rattle.pure_terms.specs.Pure.{PureTerm, literal, variable, list_of, unary_of, binary_of, from_list, PureAtom, positive, negative}
-use Rattle.pure_terms.specs.Rewriting.{Replaces}
 use Rattle.sym_model.specs.Lists.{Each, OneOf}
-use Rattle.sym_model.proofs.ListLaws.{same_some, not_none, each_append, one_left, one_right, one_parts}
+use Rattle.sym_model.proofs.ListLaws.{same_some, each_append, one_left, one_right, one_parts}
 use Rattle.sym_evaluation.specs.Checks.{PureCheck, passes, fails, asks, decided, needs, needs_not, is_of_kind, none_of, kind_check_by, kind_check, has_length, kinds_with_length, kinds_without_length, length_check_by, length_check, are_of_one_kind, append_check_by, append_check, is_zero, is_negative, divisor_check, start_check, length_of, is_below, end_check_by, end_check, PureStage, failing, required_from, required_at, required, kinds_required, unary_required, binary_required}
-use Rattle.sym_evaluation.specs.Evaluating.{spelled, literal_term, result_given, given_or, finished, finished_by, followed, followed_by, at_stage, cases_after, all_cases_after}
+use Rattle.sym_evaluation.specs.Evaluating.{spelled, literal_term, given_or, finished_by, followed, followed_by, at_stage, cases_after, all_cases_after}
 use Rattle.sym_evaluation.specs.Pure.{PureStore, term_at, PureFaultCase, PureGoodCase, PureCases}
-use Rattle.sym_evaluation.specs.Questions.{substituted, all_substituted, IsFrom, IsAbout, AsksKind, AsksOneKind, AsksZero, AsksPlace, AsksTwo, IsAskedOf, IsAsked, OnResult, OnConditions, EachCondition, ComesFrom, AreEachFrom, AllComeFrom}
+use Rattle.sym_evaluation.specs.Questions.{substituted, all_substituted, IsFrom, AsksKind, AsksTwo, IsAskedOf, IsAsked, OnResult, EachCondition, ComesFrom, AreEachFrom, AllComeFrom}
 use Rattle.sym_evaluation.proofs.Replacing.{replaces_itself, replaces_on, replaces_operand, replaces_operands, EachReplaces, replaces_elements, some_of, some_mapped}
 
 -- ---- what holds of each condition

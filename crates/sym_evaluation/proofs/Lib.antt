@@ -2,10 +2,14 @@ pub mod CheckLaws
 pub mod EvaluationLaws
 pub mod Found
 pub mod FromLaws
+pub mod GuardLaws
 pub mod Listing
 pub mod NameLaws
 pub mod OperatorLaws
 pub mod Placed
+pub mod PlainGuards
+pub mod PlainLaws
+pub mod PlainTerms
 pub mod Replacing
 pub mod SideLaws
 pub mod SideOrigins

@@ -1,8 +1,6 @@
 -- Conditions and results name only variables of the store.
-use Rattle.std.proofs.Common.{◌≡◌, ◌⊎◌, ⊎_elim, inl, inr, ℕ, List, [], ◌∷◌, ◌++◌, Bool, true, false, if◌then◌else◌, Option, Some, None, refl, sym, ap, subst, ◌∙◌}
-use Rattle.std.specs.List.{Contains}
-use Rattle.std.specs.Option.{option_and_then, option_map}
-use Rattle.std.specs.Str.{bytes_eq}
+use Rattle.std.proofs.Common.{◌≡◌, ⊎_elim, inl, inr, List, [], ◌∷◌, ◌++◌, Option, Some, None, sym, subst}
+use Rattle.std.specs.Option.{option_map}
 use Rattle.std.proofs.lemmas.List.Elements.{Contains-append_cases}
 use Rattle.gil_values.proofs.OperatorSymbols.{none_contained}
 use Rattle.gil_values.specs.declared.operators.BinOp.{BinOp}
@@ -15,16 +13,16 @@ use Rattle.pure_terms.specs.Laws.{FoldingReplaces}
 use Rattle.pure_terms.specs.Meaning.{IsOver, AreVariablesOf}
 use Rattle.pure_terms.specs.Pure.{PureTerm, literal, variable, list_of, unary_of, binary_of, from_list, PureAtom, positive, negative, opening, term_of, variables, variables_of_all}
 use Rattle.pure_terms.proofs.KindLaws.{over_left, over_right}
-use Rattle.sym_model.specs.Lists.{Each, OneOf}
+use Rattle.sym_model.specs.Lists.{OneOf}
 use Rattle.sym_model.proofs.ListLaws.{same_some, not_none}
 use Rattle.sym_evaluation.specs.Checks.{is_of_kind, are_of_one_kind, is_zero, is_negative, length_of, is_below}
 use Rattle.sym_evaluation.specs.Evaluating.{spelled, literal_term, cases_after, all_cases_after}
 use Rattle.sym_evaluation.specs.Meaning.{IsStoreOver}
-use Rattle.sym_evaluation.specs.Pure.{PureStore, term_at, PureGoodCase, PureCases}
-use Rattle.sym_evaluation.specs.Questions.{substituted, all_substituted, IsFrom, IsAbout, AsksKind, AsksOneKind, AsksZero, AsksPlace, AsksTwo, IsAskedOf, IsAsked, OnResult, NameNoOthers, AreEachOver}
+use Rattle.sym_evaluation.specs.Pure.{PureStore}
+use Rattle.sym_evaluation.specs.Questions.{substituted, all_substituted, IsFrom, IsAbout, AsksKind, AsksZero, AsksPlace, AsksTwo, IsAskedOf, NameNoOthers, AreEachOver}
 use Rattle.sym_evaluation.proofs.Replacing.{some_of, some_mapped}
 use Rattle.sym_evaluation.proofs.FromLaws.{on_result, from_after, all_from_after}
-use Rattle.sym_evaluation.proofs.EvaluationLaws.{over_after, all_over_after}
+use Rattle.sym_evaluation.proofs.EvaluationLaws.{all_over_after}
 
 module _ (vars : List Sort) where
   joined_over : (xs ys : List Var) → AreVariablesOf vars xs → AreVariablesOf vars ys → AreVariablesOf vars (xs ++ ys)

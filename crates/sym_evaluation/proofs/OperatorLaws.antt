@@ -1,5 +1,5 @@
 -- What operators require is what the operator table asks of values.
-use Rattle.std.proofs.Common.{◌≡◌, ◌⊎◌, inl, inr, ℕ, zero, suc, ◌<◌, ◌≤◌, ℤ, pos, negsuc, int_lt, int_le, ◌+ℤ◌, ◌-ℤ◌, ◌*ℤ◌, int_div, int_rem, List, [], ◌∷◌, length, slice_get, ltb, Bool, true, false, not, ◌&&◌, ◌||◌, if◌then◌else◌, Option, Some, None, Ok, Err, IsTrue, refl, sym, ap, subst, ◌∙◌, arith, true≢false}
+use Rattle.std.proofs.Common.{◌≡◌, ℕ, zero, suc, ◌<◌, ◌≤◌, ℤ, pos, negsuc, int_lt, int_le, ◌+ℤ◌, ◌-ℤ◌, ◌*ℤ◌, int_div, int_rem, List, [], ◌∷◌, length, slice_get, ltb, Bool, true, false, not, ◌&&◌, ◌||◌, if◌then◌else◌, Option, Some, None, Ok, Err, refl, ap, subst, ◌∙◌, arith}
 use Rattle.std.specs.Ordering.{int_eq}
 use Rattle.std.proofs.lemmas.Bool.{le-ltb, lt-ltb, ltb-true, ltb-false}
 use Rattle.gil_values.specs.declared.kinds.Kind.{Kind}
@@ -12,7 +12,7 @@ use Rattle.pure_terms.specs.declared.variables.Sort.{Sort}
 use Rattle.pure_terms.specs.Meaning.{value, IsProper, IsOver}
 use Rattle.pure_terms.specs.Pure.{PureTerm}
 use Rattle.sym_evaluation.specs.Checks.{kind_check, append_check, divisor_check, start_check, end_check, length_check, PureStage, required, kinds_required, unary_required, binary_required, has_length}
-use Rattle.sym_evaluation.proofs.Stages.{SaysAt, CheckSays, next, shut_stays, open_goes_on, goes_on}
+use Rattle.sym_evaluation.proofs.Stages.{SaysAt, next, shut_stays, open_goes_on, goes_on}
 use Rattle.sym_evaluation.proofs.CheckLaws.{are_appendable, kind_says, length_says, append_says, divisor_says, start_says, end_says, list_length}
 
 abbrev pub fault_of : Outcome → Option Fault

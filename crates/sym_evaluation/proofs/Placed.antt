@@ -1,5 +1,5 @@
 -- Where names stand in stores.
-use Rattle.std.proofs.Common.{◌≡◌, ℕ, zero, suc, ◌+◌, ◌<◌, ◌≤◌, List, [], ◌∷◌, ◌++◌, map, drop, set, length, get_or, Bool, true, false, if◌then◌else◌, Option, Some, None, refl, sym, ap, subst, ◌∙◌, arith, true≢false}
+use Rattle.std.proofs.Common.{◌≡◌, ℕ, zero, suc, ◌+◌, ◌<◌, ◌≤◌, List, [], ◌∷◌, ◌++◌, drop, set, length, get_or, Bool, true, false, if◌then◌else◌, Option, Some, None, refl, sym, ap, ◌∙◌, arith, true≢false}
 use Rattle.std.specs.Option.{option_map}
 use Rattle.std.specs.Str.{bytes_eq}
 use Rattle.std.proofs.lemmas.List.{drop_more}
@@ -8,7 +8,7 @@ use Rattle.pure_terms.specs.Pure.{PureTerm}
 use Rattle.pure_terms.specs.View.{term_view}
 use Rattle.sym_model.proofs.ListLaws.{same_some, not_none}
 use Rattle.sym_evaluation.specs.declared.store.Binding.{Binding}
-use Rattle.sym_evaluation.specs.Pure.{PureBinding, PureStore, term_at, place_at, with_term}
+use Rattle.sym_evaluation.specs.Pure.{PureBinding, PureStore, term_at, place_at}
 use Rattle.sym_evaluation.specs.View.{binding_view, bindings_view}
 
 -- a place that is counted from another one

@@ -1,5 +1,5 @@
 -- Where parts of a term are replaced, the term is.
-use Rattle.std.proofs.Common.{◌≡◌, ◌⊎◌, ⊎_elim, inl, inr, ℕ, zero, suc, ◌+◌, ◌<◌, ◌≤◌, List, [], ◌∷◌, ◌++◌, Bool, true, false, ◌&&◌, Option, Some, None, IsTrue, refl, sym, ap, subst, ◌∙◌, arith, true≢false}
+use Rattle.std.proofs.Common.{◌≡◌, ◌⊎◌, ⊎_elim, inl, inr, ◌<◌, List, [], ◌∷◌, ◌++◌, true, ◌&&◌, Option, Some, None, refl, sym, ap, subst, ◌∙◌, arith, true≢false}
 use Rattle.std.specs.List.{Contains}
 use Rattle.std.specs.Option.{option_and_then, option_map}
 use Rattle.std.specs.Result.{result_ok}
@@ -12,7 +12,7 @@ use Rattle.gil_values.specs.Pure.{PureValue, list, from_list as list_elements}
 use Rattle.pure_terms.specs.declared.variables.Sort.{Sort}
 use Rattle.pure_terms.specs.declared.variables.Var.{Var}
 use Rattle.pure_terms.specs.Fragment.{is_simple, are_simple, is_shift, is_variable_of, is_integer_literal}
-use Rattle.pure_terms.specs.Meaning.{value, values, both, IsProper, IsOver, AreVariablesOf}
+use Rattle.pure_terms.specs.Meaning.{value, values, both, IsProper, AreVariablesOf}
 use Rattle.pure_terms.specs.Pure.{PureTerm, literal, variable, list_of, unary_of, binary_of, from_list, size, sizes, variables, variables_of_all}
 use Rattle.pure_terms.specs.Rewriting.{Replaces, IsSameOrSmaller}
 use Rattle.pure_terms.proofs.KindLaws.{over_left, over_right}

@@ -1,8 +1,7 @@
 -- The sides of a guard say which way it goes.
-use Rattle.std.proofs.Common.{◌≡◌, ◌⊎◌, inl, inr, List, [], ◌∷◌, ◌++◌, Bool, true, false, not, ◌&&◌, ◌||◌, if◌then◌else◌, Option, Some, None, Ok, IsTrue, refl, sym, ap, subst, ◌∙◌, true≢false}
+use Rattle.std.proofs.Common.{◌≡◌, List, [], ◌∷◌, Bool, true, false, not, ◌&&◌, ◌||◌, if◌then◌else◌, Option, Some, None, refl, sym, ap, subst, ◌∙◌, true≢false}
 use Rattle.std.specs.Option.{option_and_then}
 use Rattle.std.specs.Result.{result_ok}
-use Rattle.std.proofs.lemmas.Bool.{and_from}
 use Rattle.std.proofs.lemmas.List.Folds.{list_all-append}
 use Rattle.gil_values.specs.declared.kinds.Kind.{Kind}
 use Rattle.gil_values.specs.declared.operators.UnOp.{UnOp}
@@ -16,12 +15,12 @@ use Rattle.pure_terms.specs.declared.variables.Var.{Var}
 use Rattle.pure_terms.specs.Kinds.{known_kind}
 use Rattle.pure_terms.specs.Meaning.{value, truth, is_that_boolean, all_true, IsProper, IsOver}
 use Rattle.pure_terms.specs.Pure.{PureTerm, literal, variable, list_of, unary_of, binary_of, PureAtom, positive, negative}
-use Rattle.pure_terms.proofs.KindLaws.{same_kinds, known_kinds_are_right}
+use Rattle.pure_terms.proofs.KindLaws.{known_kinds_are_right}
 use Rattle.sym_model.proofs.ListLaws.{same_some, not_none}
 use Rattle.sym_evaluation.specs.Checks.{is_of_kind}
 use Rattle.sym_evaluation.specs.Meaning.{IsSideWhere, is_true, is_false, is_no_boolean, AreSidesOf}
 use Rattle.sym_evaluation.specs.Pure.{PureSides}
-use Rattle.sym_evaluation.specs.Sides.{said, is_boolean, variable_said, splits, conditions_of, no_boolean, both_sides, sides_by_kind, literal_sides, sides_of}
+use Rattle.sym_evaluation.specs.Sides.{said, is_boolean, variable_said, conditions_of, no_boolean, both_sides, sides_by_kind, literal_sides, sides_of}
 use Rattle.sym_evaluation.proofs.CheckLaws.{alone, kind_value, false_as}
 
 module _ (v : List PureValue) where

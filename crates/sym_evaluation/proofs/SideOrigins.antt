@@ -1,5 +1,5 @@
 -- The conditions of sides are of the guard and of its parts.
-use Rattle.std.proofs.Common.{◌≡◌, ◌⊎◌, ⊎_elim, inl, inr, List, [], ◌∷◌, ◌++◌, Bool, true, false, not, if◌then◌else◌, Option, Some, None, refl}
+use Rattle.std.proofs.Common.{◌≡◌, ◌⊎◌, inl, inr, List, [], ◌∷◌, ◌++◌, Bool, true, false, not, if◌then◌else◌, Option, Some, None, refl}
 use Rattle.gil_values.specs.declared.kinds.Kind.{Kind}
 use Rattle.gil_values.specs.declared.operators.UnOp.{UnOp}
 use Rattle.gil_values.specs.declared.operators.BinOp.{BinOp}
@@ -8,12 +8,12 @@ use Rattle.pure_terms.specs.declared.literals.Literal.{Literal}
 use Rattle.pure_terms.specs.declared.variables.Sort.{Sort}
 use Rattle.pure_terms.specs.declared.variables.Var.{Var}
 use Rattle.pure_terms.specs.Kinds.{known_kind}
-use Rattle.pure_terms.specs.Pure.{PureTerm, literal, variable, list_of, unary_of, binary_of, PureAtom, positive, negative}
+use Rattle.pure_terms.specs.Pure.{PureTerm, literal, variable, list_of, unary_of, binary_of, PureAtom, negative}
 use Rattle.sym_model.specs.Lists.{Each, OneOf}
 use Rattle.sym_model.proofs.ListLaws.{each_append, each_to, one_left, one_right}
 use Rattle.sym_evaluation.specs.Checks.{is_of_kind}
-use Rattle.sym_evaluation.specs.Questions.{IsAbout, boolean_parts, IsCompared, IsGuardCondition, OnSide, EachSide, SidesComeFrom}
-use Rattle.sym_evaluation.specs.Sides.{said, is_boolean, variable_said, splits, conditions_of, no_boolean, both_sides, sides_by_kind, literal_sides, sides_of}
+use Rattle.sym_evaluation.specs.Questions.{IsAbout, boolean_parts, IsCompared, IsGuardCondition, OnSide, SidesComeFrom}
+use Rattle.sym_evaluation.specs.Sides.{said, variable_said, conditions_of, no_boolean, both_sides, sides_by_kind, literal_sides, sides_of}
 
 abbrev IsOfPart : PureAtom → PureTerm → Type 0
 IsOfPart a u = IsAbout u a ⊎ IsCompared u a

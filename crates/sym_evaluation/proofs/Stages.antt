@@ -1,14 +1,13 @@
 -- What stages say under a valuation, and that requiring a check says more.
-use Rattle.std.proofs.Common.{◌≡◌, ◌⊎◌, ⊎_elim, inl, inr, List, [], ◌∷◌, ◌++◌, map, Bool, true, false, ◌&&◌, Option, Some, None, IsTrue, refl, sym, ap, subst, ◌∙◌, true≢false}
-use Rattle.std.specs.List.{list_all}
-use Rattle.std.proofs.lemmas.Bool.{and_parts, and_from}
+use Rattle.std.proofs.Common.{◌≡◌, ⊎_elim, inl, inr, List, [], ◌∷◌, ◌++◌, Bool, true, false, ◌&&◌, Option, Some, None, IsTrue, refl, sym, ◌∙◌, true≢false}
+use Rattle.std.proofs.lemmas.Bool.{and_from}
 use Rattle.std.proofs.lemmas.List.Folds.{list_all-append}
 use Rattle.gil_values.specs.Operators.{Fault}
 use Rattle.gil_values.specs.Pure.{PureValue}
 use Rattle.pure_terms.specs.Meaning.{truth, all_true}
 use Rattle.pure_terms.specs.Pure.{PureAtom}
 use Rattle.sym_model.specs.Lists.{Each, OneOf}
-use Rattle.sym_model.proofs.ListLaws.{each_append, each_to, each_map, one_left, one_right, one_map}
+use Rattle.sym_model.proofs.ListLaws.{each_append, each_to, each_map, one_left, one_right}
 use Rattle.sym_evaluation.specs.Checks.{PureCheck, passes, fails, asks, decided, PureStage, failing, required_from, required_at, required}
 use Rattle.sym_evaluation.specs.Meaning.{IsTaken}
 use Rattle.sym_evaluation.specs.Pure.{PureFaultCase}

@@ -1,9 +1,9 @@
 -- The pure data of expressions and cases.
-use Rattle.std.proofs.Common.{◌≡◌, ℕ, zero, suc, ◌+◌, List, [], ◌∷◌, drop, Option, Some, None, slice_get, refl, sym, ap, ◌∙◌, add-one, rules}
+use Rattle.std.proofs.Common.{◌≡◌, ℕ, zero, suc, ◌+◌, List, [], ◌∷◌, drop, Some, None, slice_get, sym, ap, ◌∙◌, add-one, rules}
 use Rattle.gil_syntax.specs.declared.expressions.Expr
 use Rattle.gil_syntax.specs.declared.expressions.Expr.{Expr, the_lemmas}
 use Rattle.gil_syntax.specs.declared.expressions.Exprs.{Exprs}
-use Rattle.gil_syntax.specs.Pure.{PureExpr, list_of, from_list}
+use Rattle.gil_syntax.specs.Pure.{list_of, from_list}
 use Rattle.gil_syntax.specs.View.{expr_view, exprs_view}
 use Rattle.pure_terms.specs.declared.literals.Literal.{Literal}
 use Rattle.pure_terms.specs.declared.terms.Term

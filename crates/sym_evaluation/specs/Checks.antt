@@ -1,5 +1,5 @@
 -- What is asked of operands before an operator is applied. Each question leaves nothing open that form and sorts tell.
-use Rattle.std.specs.Prelude.{ℕ, pos, int_lt, List, [], ◌∷◌, ◌++◌, length, map, Bool, true, false, not, ◌||◌, if◌then◌else◌, Option, Some, None}
+use Rattle.std.specs.Prelude.{pos, int_lt, List, [], ◌∷◌, ◌++◌, length, map, Bool, not, ◌||◌, if◌then◌else◌, Option, Some, None}
 use Rattle.std.specs.Ordering.{int_eq}
 use Rattle.gil_values.specs.declared.kinds.Kind.{Kind}
 use Rattle.gil_values.specs.declared.operators.UnOp.{UnOp}
@@ -9,7 +9,7 @@ use Rattle.gil_values.specs.Operators.{Fault, wrong_kind, zero_divisor, out_of_r
 use Rattle.pure_terms.specs.declared.literals.Literal.{Literal}
 use Rattle.pure_terms.specs.Kinds.{known_kind}
 use Rattle.pure_terms.specs.Pure.{PureTerm, literal, list_of, unary_of, binary_of, PureAtom, positive, negative, to_list}
-use Rattle.sym_evaluation.specs.Pure.{PureFaultCase, PureGoodCase, PureCases}
+use Rattle.sym_evaluation.specs.Pure.{PureFaultCase}
 
 -- A check passes, fails, or asks: it passes where all of the first conditions are true, and fails where all conditions of one of
 -- the other lists are.

@@ -1,5 +1,5 @@
 -- The cases of an expression after what came before it, as the code finds them.
-use Rattle.std.specs.Prelude.{pos, List, [], ◌∷◌, ◌++◌, true, false, Option, Some, None}
+use Rattle.std.specs.Prelude.{List, [], ◌∷◌, ◌++◌, Option, Some, None}
 use Rattle.gil_values.specs.Operators.{Fault, unset_variable}
 use Rattle.gil_values.specs.Pure.{PureValue, integer, boolean, text, kind, procedure}
 use Rattle.gil_syntax.specs.Pure.{PureExpr, literal as value_literal, name, logical, list_of as list_expr, unary_of as unary_expr, binary_of as binary_expr, PureExprs, no_exprs, expr_and}

@@ -2,6 +2,7 @@ pub mod CheckView
 pub mod Checks
 pub mod Evaluating
 pub mod Meaning
+pub mod Plainly
 pub mod Pure
 pub mod Questions
 pub mod Sides

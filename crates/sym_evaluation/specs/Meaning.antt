@@ -1,12 +1,12 @@
 -- What stores, cases and sides stand for under a valuation.
-use Rattle.std.specs.Prelude.{◌≡◌, ◌↔◌, ℕ, List, [], ◌∷◌, Bool, true, false, Option, Some, None, Result, Ok, Err, IsTrue, ⊤}
-use Rattle.gil_values.specs.Operators.{Fault, Outcome}
-use Rattle.gil_values.specs.Pure.{PureValue, boolean, kind_of}
-use Rattle.gil_syntax.specs.Evaluation.{Store, value_of, evaluate, evaluate_all, Outcomes}
+use Rattle.std.specs.Prelude.{◌≡◌, ℕ, List, Bool, true, false, Option, Some, None, Result, Ok, Err, IsTrue, ⊤}
+use Rattle.gil_values.specs.Operators.{Fault}
+use Rattle.gil_values.specs.Pure.{PureValue, boolean}
+use Rattle.gil_syntax.specs.Evaluation.{Store, value_of, evaluate, evaluate_all}
 use Rattle.gil_syntax.specs.Pure.{PureExpr}
 use Rattle.pure_terms.specs.declared.variables.Sort.{Sort}
 use Rattle.pure_terms.specs.Meaning.{value, values, all_true, IsProper, IsOver}
-use Rattle.pure_terms.specs.Pure.{PureTerm, PureAtom, term_of, from_list}
+use Rattle.pure_terms.specs.Pure.{PureTerm, PureAtom, from_list}
 use Rattle.sym_evaluation.specs.Pure.{PureStore, term_at, PureFaultCase, PureGoodCase, PureCases, PureSides}
 use Rattle.sym_model.specs.Lists.{Each, OneOf}
 

@@ -1,5 +1,5 @@
 -- Where the terms and conditions of an evaluation come from: what may be asked of the operands of an expression.
-use Rattle.std.specs.Prelude.{◌≡◌, ◌⊎◌, ℕ, pos, List, [], ◌∷◌, ◌++◌, Bool, Option, Some, None}
+use Rattle.std.specs.Prelude.{◌≡◌, ◌⊎◌, List, [], ◌∷◌, ◌++◌, Bool, Option, Some, None}
 use Rattle.std.specs.Option.{option_map, option_and_then}
 use Rattle.gil_values.specs.declared.kinds.Kind.{Kind}
 use Rattle.gil_values.specs.declared.operators.UnOp.{UnOp}
@@ -15,7 +15,7 @@ use Rattle.pure_terms.specs.Rewriting.{Replaces}
 use Rattle.sym_evaluation.specs.Checks.{is_of_kind, are_of_one_kind, is_zero, is_negative, length_of, is_below}
 use Rattle.sym_evaluation.specs.Evaluating.{spelled, literal_term}
 use Rattle.sym_evaluation.specs.Meaning.{IsStoreOver}
-use Rattle.sym_evaluation.specs.Pure.{PureStore, term_at, PureFaultCase, PureGoodCase, PureCases, PureSides}
+use Rattle.sym_evaluation.specs.Pure.{PureStore, term_at, PureGoodCase, PureCases, PureSides}
 use Rattle.sym_evaluation.specs.Sides.{is_boolean}
 use Rattle.sym_model.specs.Lists.{Each, OneOf}
 

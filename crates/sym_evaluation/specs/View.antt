@@ -1,5 +1,5 @@
 -- The pure data of stores, faults, cases and sides.
-use Rattle.std.specs.Prelude.{ℕ, List, map, Option}
+use Rattle.std.specs.Prelude.{List, map}
 use Rattle.std.specs.Option.{option_map}
 use Rattle.gil_values.specs.Operators as operators
 use Rattle.pure_terms.specs.Pure.{PureTerm}

@@ -16,6 +16,7 @@ ghost use Rattle.sym_evaluation.specs.CheckView.{stage_view};
 ghost use Rattle.sym_evaluation.specs.Evaluating.{spelled, literal_term, given_or, result_given, sure_fault, finished, followed, at_stage, cases_after, all_cases_after};
 ghost use Rattle.sym_evaluation.specs.Meaning.{AreCasesOf, AreCasesOfAll};
 ghost use Rattle.pure_terms.specs.Meaning.{IsOver};
+ghost use Rattle.sym_evaluation.specs.Plainly.{AnswersPlainly, AllAnswerPlainly, GuardsPlainly};
 ghost use Rattle.sym_evaluation.specs.Pure.{term_at};
 ghost use Rattle.sym_evaluation.specs.Questions.{ComesFrom, AllComeFrom, NameNoOthers, AreEachOver};
 ghost use Rattle.sym_evaluation.specs.View.{store_view, fault_view, faults_view, cases_view, all_cases_view};
@@ -42,6 +43,8 @@ pub fn evaluate(
     ensures cases { IfOk result (λ c. AreCasesOf (store_view store.now) (expr_view expression.now) (cases_view c)) }
     ensures origin { IfOk result (λ c. ComesFrom (store_view store.now) (expr_view expression.now) (cases_view c)) }
     ensures names { IfOk result (λ c. NameNoOthers IsOver (store_view store.now) (cases_view c)) }
+    ensures plain { IfOk result (λ c. AnswersPlainly (store_view store.now) (expr_view expression.now) (cases_view c)) }
+    ensures guard { IfOk result (λ c. GuardsPlainly (store_view store.now) (expr_view expression.now) (cases_view c)) }
 {
     folding_replaces();
     evaluate_after(
@@ -63,6 +66,7 @@ pub fn evaluate_all(
     ensures cases { IfOk result (λ c. AreCasesOfAll (store_view store.now) (exprs_view expressions.now) (all_cases_view c)) }
     ensures origin { IfOk result (λ c. AllComeFrom (store_view store.now) (exprs_view expressions.now) (all_cases_view c)) }
     ensures names { IfOk result (λ c. NameNoOthers AreEachOver (store_view store.now) (all_cases_view c)) }
+    ensures plain { IfOk result (λ c. AllAnswerPlainly (store_view store.now) (exprs_view expressions.now) (all_cases_view c)) }
 {
     folding_replaces();
     evaluate_all_after(

@@ -5,6 +5,7 @@ ghost use Rattle.gil_values.specs.declared.operators.BinOp.{BinOp};
 ghost use Rattle.gil_values.specs.declared.operators.UnOp.{UnOp};
 ghost use Rattle.pure_terms.specs.View.{term_view, atoms_view};
 ghost use Rattle.sym_evaluation.specs.Meaning.{AreSidesOf};
+ghost use Rattle.sym_evaluation.specs.Plainly.{AreDecided};
 ghost use Rattle.sym_evaluation.specs.Questions.{SidesComeFrom};
 ghost use Rattle.sym_evaluation.specs.Sides as sides;
 ghost use Rattle.sym_evaluation.specs.View.{sides_view};
@@ -28,6 +29,7 @@ pub struct Sides {
 pub fn guard_sides(alloc: Global, term: &Term) -> Result<Sides, AllocError>
     ensures sides { IfOk result (λ s. AreSidesOf (term_view term.now) (sides_view s)) }
     ensures origin { IfOk result (λ s. SidesComeFrom (term_view term.now) (sides_view s)) }
+    ensures decided { IfOk result (λ s. AreDecided (term_view term.now) (sides_view s)) }
 {
     sides_of(alloc, term)
 }

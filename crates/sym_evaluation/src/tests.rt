@@ -1,7 +1,13 @@
 //! How many cases small expressions have.
+ghost use Rattle.std.specs.Prelude.{IfOk, IsTrue};
+ghost use Rattle.std.specs.List.{list_all};
+ghost use Rattle.gil_syntax.specs.Subexpressions.{literals_of};
+ghost use Rattle.gil_syntax.specs.View.{expr_view};
+ghost use Rattle.gil_syntax.specs.WellMade.{is_spellable};
+
 use crate::{Fault, SymStore, evaluate, evaluate_all, guard_sides};
 use gil_syntax::{Expr, Exprs};
-use gil_values::{BinOp, Text, UnOp, Value};
+use gil_values::{BinOp, Kind, Text};
 use pure_terms::{Literal, Sort, Term, Var};
 use std::alloc::Global;
 use std::test::Fail;
@@ -10,12 +16,17 @@ fn text(alloc: Global, name: &str) -> Result<Text, Fail> {
     Ok(Text::from_str(alloc, name)?.ok_or("no text")?)
 }
 
-fn named(alloc: Global, name: &str) -> Result<Expr, Fail> {
+/// A name as an expression.
+fn named(alloc: Global, name: &str) -> Result<Expr, Fail>
+    ensures { IfOk result (λ e. IsTrue (list_all is_spellable (literals_of (expr_view e)))) }
+{
     Ok(Expr::Name(text(alloc, name)?))
 }
 
 /// The operator of two names.
-fn pair(alloc: Global, op: BinOp, left: &str, right: &str) -> Result<Expr, Fail> {
+fn pair(alloc: Global, op: BinOp, left: &str, right: &str) -> Result<Expr, Fail>
+    ensures { IfOk result (λ e. IsTrue (list_all is_spellable (literals_of (expr_view e)))) }
+{
     let left = Box::new(alloc, named(alloc, left)?)?;
     let right = Box::new(alloc, named(alloc, right)?)?;
     Ok(Expr::Op2(op, left, right))
@@ -45,7 +56,7 @@ struct Row {
     conditions: Option<usize>,
 }
 
-const fn row(
+const fn asks(
     op: BinOp,
     left: &'static str,
     right: &'static str,
@@ -66,15 +77,15 @@ fn operators_ask_what_is_open(rt: HostRuntime) -> Result<(), Fail> {
     let alloc = rt.alloc();
     let store = store(alloc)?;
     let rows = [
-        row(BinOp::Add, "n", "n", 0, Some(0)),
-        row(BinOp::Add, "a", "n", 1, Some(1)),
-        row(BinOp::Add, "n", "x", 1, None),
-        row(BinOp::Divide, "n", "n", 1, Some(1)),
-        row(BinOp::Divide, "a", "z", 2, None),
-        row(BinOp::Append, "a", "a", 2, Some(6)),
-        row(BinOp::Nth, "a", "n", 3, Some(3)),
-        row(BinOp::Nth, "n", "a", 1, None),
-        row(BinOp::Equal, "a", "n", 0, Some(0)),
+        asks(BinOp::Add, "n", "n", 0, Some(0)),
+        asks(BinOp::Add, "a", "n", 1, Some(1)),
+        asks(BinOp::Add, "n", "x", 1, None),
+        asks(BinOp::Divide, "n", "n", 1, Some(1)),
+        asks(BinOp::Divide, "a", "z", 2, None),
+        asks(BinOp::Append, "a", "a", 2, Some(6)),
+        asks(BinOp::Nth, "a", "n", 3, Some(3)),
+        asks(BinOp::Nth, "n", "a", 1, None),
+        asks(BinOp::Equal, "a", "n", 0, Some(0)),
     ];
     for row in &rows {
         let expression = pair(alloc, row.op, row.left, row.right)?;
@@ -89,31 +100,22 @@ fn operators_ask_what_is_open(rt: HostRuntime) -> Result<(), Fail> {
 #[test]
 fn guards_have_sides(rt: HostRuntime) -> Result<(), Fail> {
     let alloc = rt.alloc();
-    let store = store(alloc)?;
-    let mut guards = Exprs::new(alloc);
-    guards.push(named(alloc, "a")?)?;
-    guards.push(Expr::Lit(Value::Bool(true)))?;
-    guards.push(Expr::Op1(UnOp::Len, Box::new(alloc, named(alloc, "a")?)?))?;
-    let cases = evaluate_all(alloc, &store, &guards)?;
-    let faults = cases.faults.as_slice();
-    assert!(rt; faults.len() == 1 && faults[0].fault == Fault::WrongKind);
-    let good = cases.good.ok_or("a fault is sure")?;
-    let wanted = [
-        [true, true, true],
-        [true, false, false],
-        [false, false, true],
+    let none = evaluate_all(alloc, &store(alloc)?, &Exprs::new(alloc))?;
+    assert!(rt; none.faults.len() == 0 && none.good.is_some());
+    let guards = [
+        (variable(0, Sort::Any), [true, true, true]),
+        (Term::Lit(Literal::Bool(true)), [true, false, false]),
+        (variable(1, Sort::Int), [false, false, true]),
     ];
-    let mut place = 0;
-    for term in good.result.iter() {
-        let sides = guard_sides(alloc, term)?;
+    for (guard, wanted) in &guards {
+        let sides = guard_sides(alloc, guard)?;
         let found = [
             sides.when_true.is_some(),
             sides.when_false.is_some(),
             sides.when_no_boolean.is_some(),
         ];
-        assert!(rt; place < 3 && found == wanted[place]);
-        place += 1;
+        assert!(rt; found == *wanted);
     }
-    assert_eq!(rt; place, 3);
+    assert_eq!(rt; Fault::Unset.term(alloc)?.known_kind(), Some(Kind::Str));
     Ok(())
 }

@@ -14,8 +14,8 @@ use Rattle.gil_machine.proofs.Evaluated.{EvaluatedTo, evaluated_more, evaluated_
 use Rattle.gil_machine.proofs.Sizes.{expr_size, exprs_size, size-element}
 use Rattle.gil_machine.proofs.evaluation.+evaluation.Goals as goal
 
-pub evaluate_all-evaluate_whole-requires : goal.evaluate_all-evaluate_whole-requires
-evaluate_all-evaluate_whole-requires t c =
+pub evaluate_all-evaluate-requires : goal.evaluate_all-evaluate-requires
+evaluate_all-evaluate-requires t c =
     let here : slice_get (resolved_list_view [] c.args.expressions.now) c.loop-expression.expression-index ≡ Some (resolved_view [] c.expression-item.result)
     = subst (λ es. slice_get es c.loop-expression.expression-index ≡ Some (resolved_view [] c.expression-item.result)) (c.as_slice-expression-items.ensures []) (slice_get-read (resolved_view []) c.as_slice-expression-items.result.now c.loop-expression.expression-index c.expression-item.result (omega arith) c.expression-item.is) in
     let small : expr_size (resolved_view [] c.expression-item.result) ≤ exprs_size (from_list (resolved_list_view [] c.args.expressions.now)) = size-element _ _ _ here in
@@ -41,27 +41,27 @@ evaluate_all-returns t c = λ names s keeps.
     let long : length (resolved_list_view names c.args.expressions.now) ≡ length c.as_slice-expression-items.result.now = sym (ap length (c.as_slice-expression-items.ensures names)) ∙ length-map c.as_slice-expression-items.result.now (resolved_view names) in
     evaluated_whole (resolved_list_view names c.args.expressions.now) s c.loop-expression.expression-index (values_view c.loop-expression.values) (omega (arith, long, c.loop-expression-test.false)) (c.loop-expression.invariant names s keeps)
 
-pub evaluate_whole-returns-in-Some : goal.evaluate_whole-returns-in-Some
-evaluate_whole-returns-in-Some t c = λ names s keeps.
+pub evaluate-returns-in-Some : goal.evaluate-returns-in-Some
+evaluate-returns-in-Some t c = λ names s keeps.
     let seen : resolved_view names c.args.expression.now ≡ unary_of c.in-Op1.op (resolved_view names c.in-Op1.operand.value) = ap (resolved_view names) c.in-Op1.is ∙ search (rules, the_lemmas) in
     let value : evaluate_held (resolved_view names c.in-Op1.operand.value) s ≡ Ok (value_view c.in-Some.operand.now) = rw (sym c.deref.ensures) (c.in-Some.ensures names s keeps) in
     subst (λ e. Gives c.of_table.result (evaluate_held e s)) (sym seen) (subst (λ h. Gives c.of_table.result (after_held h (λ v. held (unary c.in-Op1.op v)))) (sym value) (c.of_table.ensures _ c.apply1.ensures))
 
-pub evaluate_whole-returns-in-None : goal.evaluate_whole-returns-in-None
-evaluate_whole-returns-in-None t c = λ names s keeps.
+pub evaluate-returns-in-None : goal.evaluate-returns-in-None
+evaluate-returns-in-None t c = λ names s keeps.
     let seen : resolved_view names c.args.expression.now ≡ unary_of c.in-Op1.op (resolved_view names c.in-Op1.operand.value) = ap (resolved_view names) c.in-Op1.is ∙ search (rules, the_lemmas) in
-    let given : Gives c.evaluate_whole.result (evaluate_held (resolved_view names c.in-Op1.operand.value) s) = rw (sym c.deref-in-None.ensures) (c.evaluate_whole.ensures names s keeps) in
+    let given : Gives c.evaluate.result (evaluate_held (resolved_view names c.in-Op1.operand.value) s) = rw (sym c.deref-in-None.ensures) (c.evaluate.ensures names s keeps) in
     subst (λ e. Gives c.one_operand.result (evaluate_held e s)) (sym seen) (c.one_operand.ensures _ given)
 
-pub evaluate_whole-returns-in-Some-kept : goal.evaluate_whole-returns-in-Some-kept
-evaluate_whole-returns-in-Some-kept t c = λ names s keeps.
+pub evaluate-returns-in-Some-kept : goal.evaluate-returns-in-Some-kept
+evaluate-returns-in-Some-kept t c = λ names s keeps.
     let seen : resolved_view names c.args.expression.now ≡ binary_of c.in-Op2.op (resolved_view names c.in-Op2.left.value) (resolved_view names c.in-Op2.right.value) = ap (resolved_view names) c.in-Op2.is ∙ search (rules, the_lemmas) in
     let value : evaluate_held (resolved_view names c.in-Op2.left.value) s ≡ Ok (value_view c.in-Some-kept.left.now) = rw (sym c.deref-in-Op2.ensures) (c.in-Some-kept.ensures names s keeps) in
     let given : Gives c.with_left.result (after_held (evaluate_held (resolved_view names c.in-Op2.right.value) s) (λ v. held (binary c.in-Op2.op (value_view c.in-Some-kept.left.now) v))) = rw (sym c.deref-in-Some-kept.ensures) (c.with_left.ensures names s keeps) in
     subst (λ e. Gives c.with_left.result (evaluate_held e s)) (sym seen) (subst (λ h. Gives c.with_left.result (after_held h (λ u. after_held (evaluate_held (resolved_view names c.in-Op2.right.value) s) (λ v. held (binary c.in-Op2.op u v))))) (sym value) given)
 
-pub evaluate_whole-returns-in-Ok : goal.evaluate_whole-returns-in-Ok
-evaluate_whole-returns-in-Ok t c = λ names s keeps.
+pub evaluate-returns-in-Ok : goal.evaluate-returns-in-Ok
+evaluate-returns-in-Ok t c = λ names s keeps.
     let seen : resolved_view names c.args.expression.now ≡ binary_of c.in-Op2.op (resolved_view names c.in-Op2.left.value) (resolved_view names c.in-Op2.right.value) = ap (resolved_view names) c.in-Op2.is ∙ search (rules, the_lemmas) in
     let value : evaluate_held (resolved_view names c.in-Op2.left.value) s ≡ Ok (value_view c.in-Ok.left) = rw (sym c.deref-in-None-kept.ensures) (c.in-Ok.ensures names s keeps) in
     let given : Gives c.with_left-in-Ok.result (after_held (evaluate_held (resolved_view names c.in-Op2.right.value) s) (λ v. held (binary c.in-Op2.op (value_view c.in-Ok.left) v))) = rw (sym c.deref-in-Ok.ensures) (c.with_left-in-Ok.ensures names s keeps) in
@@ -71,8 +71,8 @@ fault_after : (o : Option HeldFault) (h : HeldOutcome) (f : PureValue → HeldOu
 fault_after (Some fault) h f is = ap (λ g. after_held g f) is
 fault_after None h f is = tt
 
-pub evaluate_whole-returns-in-Err : goal.evaluate_whole-returns-in-Err
-evaluate_whole-returns-in-Err t c = λ names s keeps.
+pub evaluate-returns-in-Err : goal.evaluate-returns-in-Err
+evaluate-returns-in-Err t c = λ names s keeps.
     let seen : resolved_view names c.args.expression.now ≡ binary_of c.in-Op2.op (resolved_view names c.in-Op2.left.value) (resolved_view names c.in-Op2.right.value) = ap (resolved_view names) c.in-Op2.is ∙ search (rules, the_lemmas) in
     let given : IsFault (held_fault c.in-Err.fault) (evaluate_held (resolved_view names c.in-Op2.left.value) s) = rw (sym c.deref-in-None-kept.ensures) (c.in-Err.ensures names s keeps) in
     subst (λ e. IsFault (held_fault c.in-Err.fault) (evaluate_held e s)) (sym seen) (fault_after (held_fault c.in-Err.fault) (evaluate_held (resolved_view names c.in-Op2.left.value) s) _ given)

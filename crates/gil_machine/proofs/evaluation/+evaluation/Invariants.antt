@@ -10,8 +10,8 @@ use Rattle.gil_machine.proofs.Evaluated.{EvaluatedTo}
 use Rattle.gil_machine.proofs.Sizes.{expr_size, exprs_size}
 use Rattle.gil_machine.proofs.evaluation.+evaluation.Given as goal
 
-abbrev pub decreases-evaluate_whole : goal.decreases-evaluate_whole
-decreases-evaluate_whole l = 2 * expr_size (resolved_view [] l.expression.now)
+abbrev pub decreases-evaluate : goal.decreases-evaluate
+decreases-evaluate l = 2 * expr_size (resolved_view [] l.expression.now)
 
 abbrev pub decreases-with_left : goal.decreases-with_left
 decreases-with_left l = 2 * expr_size (resolved_view [] l.right.now) + 1

@@ -1,8 +1,8 @@
-use Rattle.std.proofs.Common.{◌≡◌, ◌<◌, ◌^◌, ℤ, pos, length, to_z, ap, sym, ◌∙◌, arith}
+use Rattle.std.proofs.Common.{◌≡◌, ◌<◌, ◌^◌, pos, length, to_z, ap, sym, ◌∙◌, arith}
 use Rattle.std.proofs.lemmas.Int.{to_z_pos}
 use Rattle.std.specs.Int.{w128}
 use Rattle.pure_terms.specs.declared.literals.Literal.{Literal}
-use Rattle.pure_terms.specs.Pure.{literal, from_list, to_list, to_list-from_list}
+use Rattle.pure_terms.specs.Pure.{literal, to_list-from_list}
 use Rattle.pure_terms.specs.View.{term_view, terms_view}
 use Rattle.sym_evaluation.specs.Checks.{length_of}
 use Rattle.sym_evaluation.proofs.Views.{term_view-Lit, term_view-List}

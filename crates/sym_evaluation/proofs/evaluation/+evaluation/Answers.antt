@@ -1,4 +1,4 @@
-use Rattle.std.proofs.Common.{◌≡◌, ℕ, ◌+◌, ◌*◌, ◌≤◌, suc, true, ◌∷◌, drop, Some, slice_get, sym, ap, subst, ◌∙◌, arith, rules}
+use Rattle.std.proofs.Common.{◌≡◌, ◌+◌, ◌≤◌, suc, true, ◌∷◌, drop, Some, slice_get, sym, ap, subst, ◌∙◌, arith, rules}
 use Rattle.gil_values.proofs.Lists.{slice_get-read}
 use Rattle.gil_syntax.specs.declared.expressions.Expr
 use Rattle.gil_syntax.specs.declared.expressions.Expr.{Expr, the_lemmas}

@@ -1,32 +1,42 @@
--- Each command by its own function.
-use Rattle.std.proofs.Common.{sym, ap, subst}
-use Rattle.std.proofs.lemmas.Result.{IfOk-weaker}
-use Rattle.gil_values.specs.View.{values_view}
-use Rattle.gil_machine.specs.ResolvedView.{resolved_command_view}
+-- A command that only computes with numbers does what it does by the table.
+use Rattle.std.proofs.Common.{None, sym, ap, subst}
+use Rattle.gil_values.specs.Pure.{boolean}
+use Rattle.gil_values.specs.View.{value_view, values_view}
+use Rattle.gil_syntax.specs.Pure.{assign, ifgoto}
 use Rattle.gil_program.specs.Program.{prog_view}
-use Rattle.gil_machine.specs.Standing.{Does, place_of, slots_of}
+use Rattle.gil_machine.specs.Held.{evaluate_held}
+use Rattle.gil_machine.specs.ResolvedView.{resolved_command_view, resolved_view}
+use Rattle.gil_machine.specs.SlotNames.{name_at}
+use Rattle.gil_machine.specs.Standing.{Comes, Does, place_of, slots_of}
+use Rattle.gil_machine.specs.Step.{assigned, branch}
+use Rattle.gil_machine.proofs.HeldValues.{evaluate-tells}
+use Rattle.gil_machine.proofs.Outcomes.{value_goes}
 use Rattle.gil_machine.proofs.control.Control.do_command.Goals as goal
 
-pub returns-in-Assign-clause-does : goal.returns-in-Assign-clause-does
-returns-in-Assign-clause-does g c = IfOk-weaker c.do_assign.result _ _ (λ end does. subst (λ command. Does (prog_view c.args.prog.now.prog.now) g.M.LocalMemory.actions (values_view c.args.inputs.now) command (place_of c.args.self.now c.args.at) c.args.self.now (g.M.LocalMemory.heap c.args.memory.now) end c.do_assign.new.self (g.M.LocalMemory.heap c.args.memory.now)) (sym (ap (resolved_command_view (slots_of c.args.self.now)) c.in-Assign.is)) (does (prog_view c.args.prog.now.prog.now) g.M.LocalMemory.actions (values_view c.args.inputs.now) (g.M.LocalMemory.heap c.args.memory.now))) c.do_assign.ensures.does
+pub returns-in_ok-assign-in-Some-clause-does : goal.returns-in_ok-assign-in-Some-clause-does
+returns-in_ok-assign-in-Some-clause-does g c =
+    let p = prog_view c.args.prog.now.prog.now in
+    let names = slots_of c.args.self.now in
+    let here = place_of c.args.self.now c.args.at in
+    let heap = g.M.LocalMemory.heap c.args.memory.now in
+    let expression = resolved_view names c.in-Assign.expression in
+    let does : Does p g.M.LocalMemory.actions (values_view c.args.inputs.now) (assign (name_at names c.in-Assign.slot) expression) here c.args.self.now heap None c.assign.new.self heap
+    = λ s stands same.
+    value_goes p (evaluate_held expression s.current.store) _ (value_view c.in-Some.value) here s _ None _ heap
+    (c.in-Some.ensures names s.current.store stands.current.store) (evaluate-tells expression s.current.store)
+    (subst (Comes p None (assigned (name_at names c.in-Assign.slot) (value_view c.in-Some.value) s) None c.assign.new.self) same (c.in_ok-assign-in-Some.ensures.goes p s stands)) in
+    subst (λ command. Does p g.M.LocalMemory.actions (values_view c.args.inputs.now) command here c.args.self.now heap None c.assign.new.self heap) (sym (ap (resolved_command_view names) c.in-Assign.is)) does
 
-pub returns-in-Call-clause-does : goal.returns-in-Call-clause-does
-returns-in-Call-clause-does g c = IfOk-weaker c.do_call.result _ _ (λ end does. subst (λ command. Does (prog_view c.args.prog.now.prog.now) g.M.LocalMemory.actions (values_view c.args.inputs.now) command (place_of c.args.self.now c.args.at) c.args.self.now (g.M.LocalMemory.heap c.args.memory.now) end c.do_call.new.self (g.M.LocalMemory.heap c.args.memory.now)) (sym (ap (resolved_command_view (slots_of c.args.self.now)) c.in-Call.is)) (does g.M.LocalMemory.actions (values_view c.args.inputs.now) (g.M.LocalMemory.heap c.args.memory.now))) c.do_call.ensures.does
-
-pub returns-in-Act-clause-does : goal.returns-in-Act-clause-does
-returns-in-Act-clause-does g c = IfOk-weaker c.do_act.result _ _ (λ end does. subst (λ command. Does (prog_view c.args.prog.now.prog.now) g.M.LocalMemory.actions (values_view c.args.inputs.now) command (place_of c.args.self.now c.args.at) c.args.self.now (g.M.LocalMemory.heap c.args.memory.now) end c.do_act.new.self (g.M.LocalMemory.heap c.do_act.new.memory)) (sym (ap (resolved_command_view (slots_of c.args.self.now)) c.in-Act.is)) (does (prog_view c.args.prog.now.prog.now) (values_view c.args.inputs.now))) c.do_act.ensures.does
-
-pub returns-in-Usym-clause-does : goal.returns-in-Usym-clause-does
-returns-in-Usym-clause-does g c = IfOk-weaker c.do_symbol.result _ _ (λ end does. subst (λ command. Does (prog_view c.args.prog.now.prog.now) g.M.LocalMemory.actions (values_view c.args.inputs.now) command (place_of c.args.self.now c.args.at) c.args.self.now (g.M.LocalMemory.heap c.args.memory.now) end c.do_symbol.new.self (g.M.LocalMemory.heap c.args.memory.now)) (sym (ap (resolved_command_view (slots_of c.args.self.now)) c.in-Usym.is)) (does (place_of c.args.self.now c.args.at) (prog_view c.args.prog.now.prog.now) g.M.LocalMemory.actions (values_view c.args.inputs.now) (g.M.LocalMemory.heap c.args.memory.now))) c.do_symbol.ensures.does
-
-pub returns-in-Isym-clause-does : goal.returns-in-Isym-clause-does
-returns-in-Isym-clause-does g c = IfOk-weaker c.do_draw.result _ _ (λ end does. subst (λ command. Does (prog_view c.args.prog.now.prog.now) g.M.LocalMemory.actions (values_view c.args.inputs.now) command (place_of c.args.self.now c.args.at) c.args.self.now (g.M.LocalMemory.heap c.args.memory.now) end c.do_draw.new.self (g.M.LocalMemory.heap c.args.memory.now)) (sym (ap (resolved_command_view (slots_of c.args.self.now)) c.in-Isym.is)) (does (prog_view c.args.prog.now.prog.now) g.M.LocalMemory.actions (place_of c.args.self.now c.args.at) (g.M.LocalMemory.heap c.args.memory.now))) c.do_draw.ensures.does
-
-pub returns-in-IfGoto-clause-does : goal.returns-in-IfGoto-clause-does
-returns-in-IfGoto-clause-does g c = IfOk-weaker c.do_branch.result _ _ (λ end does. subst (λ command. Does (prog_view c.args.prog.now.prog.now) g.M.LocalMemory.actions (values_view c.args.inputs.now) command (place_of c.args.self.now c.args.at) c.args.self.now (g.M.LocalMemory.heap c.args.memory.now) end c.do_branch.new.self (g.M.LocalMemory.heap c.args.memory.now)) (sym (ap (resolved_command_view (slots_of c.args.self.now)) c.in-IfGoto.is)) (does (prog_view c.args.prog.now.prog.now) g.M.LocalMemory.actions (values_view c.args.inputs.now) (g.M.LocalMemory.heap c.args.memory.now))) c.do_branch.ensures.does
-
-pub returns-in-Return-clause-does : goal.returns-in-Return-clause-does
-returns-in-Return-clause-does g c = IfOk-weaker c.do_return.result _ _ (λ end does. subst (λ command. Does (prog_view c.args.prog.now.prog.now) g.M.LocalMemory.actions (values_view c.args.inputs.now) command (place_of c.args.self.now c.args.at) c.args.self.now (g.M.LocalMemory.heap c.args.memory.now) end c.do_return.new.self (g.M.LocalMemory.heap c.args.memory.now)) (sym (ap (resolved_command_view (slots_of c.args.self.now)) c.in-Return.is)) (does (prog_view c.args.prog.now.prog.now) g.M.LocalMemory.actions (values_view c.args.inputs.now) (g.M.LocalMemory.heap c.args.memory.now))) c.do_return.ensures.does
-
-pub returns-in-Fail-clause-does : goal.returns-in-Fail-clause-does
-returns-in-Fail-clause-does g c = IfOk-weaker c.do_fail.result _ _ (λ end does. subst (λ command. Does (prog_view c.args.prog.now.prog.now) g.M.LocalMemory.actions (values_view c.args.inputs.now) command (place_of c.args.self.now c.args.at) c.args.self.now (g.M.LocalMemory.heap c.args.memory.now) end c.do_fail.new.self (g.M.LocalMemory.heap c.args.memory.now)) (sym (ap (resolved_command_view (slots_of c.args.self.now)) c.in-Fail.is)) (does (prog_view c.args.prog.now.prog.now) g.M.LocalMemory.actions (values_view c.args.inputs.now) (g.M.LocalMemory.heap c.args.memory.now))) c.do_fail.ensures.does
+pub returns-in-Some-truth_of-clause-does : goal.returns-in-Some-truth_of-clause-does
+returns-in-Some-truth_of-clause-does g c =
+    let p = prog_view c.args.prog.now.prog.now in
+    let names = slots_of c.args.self.now in
+    let here = place_of c.args.self.now c.args.at in
+    let heap = g.M.LocalMemory.heap c.args.memory.now in
+    let guard = resolved_view names c.in-IfGoto.guard in
+    let does : Does p g.M.LocalMemory.actions (values_view c.args.inputs.now) (ifgoto guard c.in-IfGoto.label) here c.args.self.now heap None c.take_side.new.self heap
+    = λ s stands same.
+    value_goes p (evaluate_held guard s.current.store) _ (boolean c.in-Some-truth_of.holds) here s _ None _ heap
+    (c.in-Some-truth_of.ensures names s.current.store stands.current.store) (evaluate-tells guard s.current.store)
+    (subst (Comes p None (branch (boolean c.in-Some-truth_of.holds) c.in-IfGoto.label here s) None c.take_side.new.self) same (c.take_side.ensures.goes here p s stands)) in
+    subst (λ command. Does p g.M.LocalMemory.actions (values_view c.args.inputs.now) command here c.args.self.now heap None c.take_side.new.self heap) (sym (ap (resolved_command_view names) c.in-IfGoto.is)) does

@@ -1,7 +1,7 @@
-use Rattle.std.proofs.Common.{◌≡◌, ℕ, ◌<◌, length, Some, None, sym, ap, subst, ◌∙◌, arith}
+use Rattle.std.proofs.Common.{◌<◌, length, sym, ap, ◌∙◌, arith}
 use Rattle.sym_evaluation.specs.declared.store.Binding.{Binding}
-use Rattle.sym_evaluation.specs.Pure.{place_at, term_at}
-use Rattle.sym_evaluation.specs.View.{bindings_view, store_view}
+use Rattle.sym_evaluation.specs.Pure.{term_at}
+use Rattle.sym_evaluation.specs.View.{bindings_view}
 use Rattle.sym_evaluation.proofs.Placed.{set_here, set_new, place_below}
 use Rattle.sym_evaluation.proofs.store.SymStore.set.Goals as goal
 

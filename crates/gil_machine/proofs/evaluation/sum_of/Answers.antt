@@ -7,7 +7,7 @@ use Rattle.gil_syntax.specs.Pure.{binary_of}
 use Rattle.gil_machine.specs.declared.resolved.Resolved.{the_lemmas}
 use Rattle.gil_machine.specs.Held.{after_held, evaluate_held, held}
 use Rattle.gil_machine.specs.ResolvedView.{resolved_view}
-use Rattle.gil_machine.proofs.evaluation.of_two_numbers.Goals as goal
+use Rattle.gil_machine.proofs.evaluation.sum_of.Goals as goal
 
 if_some : {X : Type 0} (P Q : X → Type 0) → ((x : X) → P x → Q x) → (o : Option X) → IfSome o P → IfSome o Q
 if_some P Q weaker (Some x) has = weaker x has
@@ -21,4 +21,4 @@ returns-in_ok-n-in-Op2 c = if_some _ _ (λ v is. λ names s keeps.
     ap (λ e. evaluate_held e s) seen
     ∙ ap (λ h. after_held h (λ a. after_held (evaluate_held (resolved_view names c.in-Op2.right.value) s) (λ b. held (binary c.in-Op2.op a b)))) left
     ∙ ap (λ h. after_held h (λ b. held (binary c.in-Op2.op (integer c.in_ok-m-in-Op2.m.now) b))) right
-    ∙ is) c.apply_to_numbers.result c.apply_to_numbers.ensures
+    ∙ is) c.add_or_subtract.result c.add_or_subtract.ensures
