@@ -5,3 +5,5 @@ pub mod KindsApart
 pub mod Stepping
 pub mod Ordering
 pub mod Meeting
+pub mod Opened
+pub mod KindsFit

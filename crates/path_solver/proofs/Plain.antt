@@ -62,7 +62,7 @@ sides_of vars a sides h is = ⊎_elim equal truth (says a sides is) where
 
 -- ---- elements
 
-element_side : (vars : List Sort) (ts : PureTerms) (j : ℕ) (s : PureTerm) → IsSide vars (list_of ts) → slice_get (to_list ts) j ≡ Some s → IsSide vars s
+pub element_side : (vars : List Sort) (ts : PureTerms) (j : ℕ) (s : PureTerm) → IsSide vars (list_of ts) → slice_get (to_list ts) j ≡ Some s → IsSide vars s
 element_side vars no_terms j s h at = cc
 element_side vars (term_and t ts) zero s h at =
     let simple = and_parts (is_simple t) (are_simple ts) h.simple in
