@@ -7,3 +7,5 @@ pub mod Ordering
 pub mod Meeting
 pub mod Opened
 pub mod KindsFit
+pub mod RowLists
+pub mod RowSums

@@ -39,3 +39,12 @@ place_before None place places = places
 abbrev pub places_from : ℕ → List PureAtom → List ℕ
 places_from place [] = []
 places_from place (a ∷ atoms) = place_before (row_of a) place (places_from (place + 1) atoms)
+
+-- a row that was found, and its place
+abbrev pub found_rows : Option LinearRow → List LinearRow
+found_rows (Some r) = r ∷ []
+found_rows None = []
+
+abbrev pub found_places : ℕ → Option LinearRow → List ℕ
+found_places place (Some r) = place ∷ []
+found_places place None = []

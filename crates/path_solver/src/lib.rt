@@ -5,6 +5,7 @@ mod applying;
 mod atoms;
 mod kinding;
 mod kinds;
+mod listing;
 mod nodes;
 mod numbering;
 mod offsets;

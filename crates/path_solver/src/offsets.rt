@@ -1,5 +1,5 @@
 //! Whole numbers as a variable plus a number.
-ghost use Rattle.std.specs.Prelude.{◌≡◌, ◌^◌, pos, neg_ℤ, true};
+ghost use Rattle.std.specs.Prelude.{◌≡◌, ◌^◌, ◌≤ℤ◌, pos, neg_ℤ, true, IfSome};
 ghost use Rattle.std.specs.Option.{option_map};
 ghost use Rattle.pure_terms.specs.Fragment.{has_literals_between};
 ghost use Rattle.pure_terms.specs.View.{term_view};
@@ -67,9 +67,11 @@ fn shifted(of: Option<u64>, plus: Option<i128>) -> Option<Offset>
 }
 
 /// A whole number by form and sort as a variable plus a number.
-fn offset_of(term: &Term) -> Option<Offset>
+pub(crate) fn offset_of(term: &Term) -> Option<Offset>
     requires { has_literals_between (neg_ℤ (pos (2 ^ 80))) (pos (2 ^ 80)) (term_view term.now) ≡ true }
-    ensures { option_map offset_view result ≡ side_of (term_view term.now) }
+    ensures side { option_map offset_view result ≡ side_of (term_view term.now) }
+    ensures low { IfSome result (λ o. neg_ℤ (pos (2 ^ 80)) ≤ℤ o.plus) }
+    ensures high { IfSome result (λ o. o.plus ≤ℤ pos (2 ^ 80)) }
 {
     match term {
         Term::Lit(Literal::Int(n)) => Some(Offset { of: None, plus: *n }),
