@@ -9,3 +9,4 @@ pub mod Opened
 pub mod KindsFit
 pub mod RowLists
 pub mod RowSums
+pub mod RowTruths

@@ -152,3 +152,67 @@ module _ (list : List PureAtom) where
         let whole = total_same (f ∷ fs) all in
         let rest = held_same fs both.1 in
         λ i. is_held (first i) && (is_held (whole i) && rest i)
+
+  -- ---- different atoms
+
+  not_among : (f : Factor) → Placed f → (fs : List Factor) → AllFactors fs → list_any (eqb f.atom) (map (λ g. g.atom) fs) ≡ false → list_any (eqb (get_or (places_from 0 list) f.atom 0)) (map (λ g. g.atom) (map (moved (places_from 0 list)) fs)) ≡ false
+  not_among f at [] all none = refl
+  not_among f at (g ∷ fs) all none =
+      let both = and_parts (is_linear_factor g.factor (slice_get (rows_from list) g.atom)) (list_all (λ f. is_linear_factor f.factor (slice_get (rows_from list) f.atom)) fs) all in
+      let parts = or_parts (eqb f.atom g.atom) (list_any (eqb f.atom) (map (λ h. h.atom) fs)) none in
+      let there = placed g both.0 in
+      or_from _ _ (ne_eqb (get_or (places_from 0 list) f.atom 0) (get_or (places_from 0 list) g.atom 0) (λ same. eqb-false f.atom g.atom parts.0 (apart there same))) (not_among f at fs both.1 parts.1) where
+        place_of : (h : Factor) → (p : Placed h) → slice_get (places_from 0 list) h.atom ≡ Some (get_or (places_from 0 list) h.atom 0)
+        place_of h p = p.there.at_place ∙ ap Some (sym (get_or_from_slice_get (places_from 0 list) h.atom (0 + p.there.place) 0 p.there.at_place))
+
+        apart : Placed g → get_or (places_from 0 list) f.atom 0 ≡ get_or (places_from 0 list) g.atom 0 → f.atom ≡ g.atom
+        apart there same = places_apart list 0 f.atom g.atom (get_or (places_from 0 list) f.atom 0) (place_of f at) (place_of g there ∙ ap Some (sym same))
+
+  pub apart_same : (fs : List Factor) → AllFactors fs → are_apart (map (λ f. f.atom) fs) ≡ true → are_apart (map (λ f. f.atom) (map (moved (places_from 0 list)) fs)) ≡ true
+  apart_same [] all h = refl
+  apart_same (f ∷ fs) all h =
+      let both = and_parts (is_linear_factor f.factor (slice_get (rows_from list) f.atom)) (list_all (λ f. is_linear_factor f.factor (slice_get (rows_from list) f.atom)) fs) all in
+      let parts = and_parts (not (list_any (eqb f.atom) (map (λ g. g.atom) fs))) (are_apart (map (λ g. g.atom) fs)) h in
+      and_from _ _ (not_from_false _ (not_among f (placed f both.0) fs both.1 (not-true _ parts.0))) (apart_same fs both.1 parts.1)
+
+  -- ---- factors of rows that the code can hold
+
+  abbrev pub AreRowsHeld : Type 0
+  AreRowsHeld = (i : ℕ) (a : PureAtom) (r : Row) → slice_get list i ≡ Some a → row_of a ≡ Some r → is_held_row r ≡ true
+
+  pub factors_same : AreRowsHeld → (fs : List Factor) → AllFactors fs → are_factors list (map (moved (places_from 0 list)) fs) ≡ true
+  factors_same held [] all = refl
+  factors_same held (f ∷ fs) all =
+      let both = and_parts (is_linear_factor f.factor (slice_get (rows_from list) f.atom)) (list_all (λ f. is_linear_factor f.factor (slice_get (rows_from list) f.atom)) fs) all in
+      and_from _ _ (one (placed f both.0) both.0) (factors_same held fs both.1) where
+        one : Placed f → is_linear_factor f.factor (slice_get (rows_from list) f.atom) ≡ true → is_factor_of f.factor (row_at list (get_or (places_from 0 list) f.atom 0)) ≡ true
+        one at is =
+            let linear : (is_equality (relation_of at.there.row.is_equal) || int_lt (pos 0) f.factor) ≡ true = ap (λ (r : LinearRow). is_equality r.relation || int_lt (pos 0) f.factor) (sym at.there.is) ∙ ap (is_linear_factor f.factor) (sym at.at_row) ∙ is in
+            ap (is_factor_of f.factor) at.at ∙ and_from _ _ (held at.there.place at.there.atom at.there.row at.there.at at.there.is_row) (ap (λ b. b || int_lt (pos 0) f.factor) (sym (equality_same at.there.row.is_equal)) ∙ linear)
+
+  divides_back : (d : ℕ) (fs : List Factor) → DividesEach d (map (moved (places_from 0 list)) fs) → DividesEach d fs
+  divides_back d [] h = h
+  divides_back d (f ∷ fs) h = (h.0, divides_back d fs h.1)
+
+  pub sum_closes : AreRowsHeld → (fs : List Factor) → IsCombination (rows_from list) fs → SumCloses list (map (moved (places_from 0 list)) fs)
+  sum_closes held fs h = record {
+    apart = apart_same fs h.factors h.apart;
+    factors = factors_same held fs h.factors;
+    constant = subst (λ n. pos 0 <ℤ n) (total_same (λ row. row.constant) (λ row. row.constant) (λ r. refl) fs h.factors) h.constant;
+    variables = λ x. sym (total_same (linear_coefficient x) (coefficient x) (coefficient_same x) fs h.factors) ∙ h.variables x;
+    no_divisor = λ d each. h.no_divisor d (divides_back d fs each);
+    held_constant = sym (held_same (λ row. row.constant) (λ row. row.constant) (λ r. refl) fs h.factors) ∙ h.held_constant;
+    held_variables = λ x. sym (held_same (linear_coefficient x) (coefficient x) (coefficient_same x) fs h.factors) ∙ h.held_variables x;
+  }
+
+  -- each row of an atom is one of the list
+  pub row_listed : (i : ℕ) (a : PureAtom) (r : Row) → slice_get list i ≡ Some a → row_of a ≡ Some r → (k : ℕ) × (slice_get (rows_from list) k ≡ Some (linear_row r))
+  row_listed i a r at is = listed list i at where
+    before : (o : Option Row) (rows : List LinearRow) → (k : ℕ) × (slice_get rows k ≡ Some (linear_row r)) → (k : ℕ) × (slice_get (row_before o rows) k ≡ Some (linear_row r))
+    before (Some s) rows (k, there) = (suc k, there)
+    before None rows found = found
+
+    listed : (xs : List PureAtom) (i : ℕ) → slice_get xs i ≡ Some a → (k : ℕ) × (slice_get (rows_from xs) k ≡ Some (linear_row r))
+    listed [] i at = cc
+    listed (x ∷ xs) zero at = (0, ap (λ o. slice_get (row_before o (rows_from xs)) 0) (ap row_of (same_Some x a at) ∙ is))
+    listed (x ∷ xs) (suc i) at = before (row_of x) (rows_from xs) (listed xs i at)
