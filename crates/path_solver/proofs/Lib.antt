@@ -10,3 +10,4 @@ pub mod KindsFit
 pub mod RowLists
 pub mod RowSums
 pub mod RowTruths
+pub mod RowsMet
