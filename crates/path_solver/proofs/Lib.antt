@@ -11,3 +11,4 @@ pub mod RowLists
 pub mod RowSums
 pub mod RowTruths
 pub mod RowsMet
+pub mod RowsFit
