@@ -12,3 +12,4 @@ pub mod RowSums
 pub mod RowTruths
 pub mod RowsMet
 pub mod RowsFit
+pub mod Fitting

@@ -101,7 +101,7 @@ plus_zero m = omega (arith, ints)
 minus_is : (k m : ℤ) → k +ℤ neg_ℤ m ≡ k -ℤ m
 minus_is k m = omega (arith, ints)
 
-integer_of_sort : (w : PureValue) → has_sort Sort.Int w ≡ true → (n : ℤ) × (w ≡ integer n)
+pub integer_of_sort : (w : PureValue) → has_sort Sort.Int w ≡ true → (n : ℤ) × (w ≡ integer n)
 integer_of_sort (integer n) h = (n, refl)
 integer_of_sort (boolean b) h = absurd (false≢true h)
 integer_of_sort (text cs) h = absurd (false≢true h)
