@@ -152,3 +152,44 @@ module _ (vars : List Sort) (list : List PureAtom) (c : PureClasses) (node : IsN
         let says = says_kind vars a has.fact (plain_given has.place a at) said in
         let (l, e) = first_literal (variable says.x) (facts has.place a at says.x has.fact.kind (says.so has.so) (ap is_small_kind has.kind ∙ small)) in
         (l, joined has.equated (subst (λ s. Equates (given_list c) s (literal l)) (sym says.subject) e))
+
+  settled_side : (t : PureTerm) → IsTableSide vars t → ((u : PureTerm) → first_in_class c.nodes Wanted.KnownKind t ≡ Some u → is_variable_of Sort.Bool u ≡ true → is_some (first_in_class c.nodes Wanted.Literal t) ≡ true)
+      → (k : Kind) → kind_with kinds t ≡ Some k → is_small_kind k ≡ true → (l : Literal) × Equates (given_list c) t (literal l)
+  settled_side t side settled k is small =
+      let there = side_kind vars list c node v one two kinds are t side in
+      let same : there.kind ≡ k = same_Some there.kind k (sym there.is ∙ is) in
+      ⊎_elim (λ has. by_term 0 (positive t) t t side settled there.kind (ap is_small_kind same ∙ small) has) (λ has. by_fact t there.kind (ap is_small_kind same ∙ small) has) there.has
+
+  has_no_number : (t : PureTerm) → first_in_class c.nodes Wanted.Number t ≡ None → HasNoNumber (given_list c) t
+  has_no_number t none u e = or_parts (is_variable_of Sort.Int u) (is_integer_literal u) (first-none c node.whole (forms_given vars list c node) (clear_given vars list c node) Wanted.Number t none u e)
+
+  -- a disequality of which one side is equated with no number
+  pub may_differ : (i : ℕ) (a : PureAtom) (s t : PureTerm) → slice_get (given_list c) i ≡ Some a → a ≡ negative (equals s t) → is_flat s ≡ true → is_flat t ≡ true
+      → (first_in_class c.nodes Wanted.Number s ≡ None) ⊎ (first_in_class c.nodes Wanted.Number t ≡ None) → MayDiffer vars (given_list c) kinds a
+  may_differ i a s t at is flat_s flat_t free =
+      let both = flat_sides vars s t (subst (IsPlainAtom vars) is (plain_given i a at)) flat_s flat_t in
+      let settled = sides i a at s t is flat_s flat_t in
+      record {
+        left = s;
+        right = t;
+        is = is;
+        left_side = record { flat = flat_s; over = both.0.over; narrow = both.0.narrow; settled = settled_side s both.0 settled.0 };
+        right_side = record { flat = flat_t; over = both.1.over; narrow = both.1.narrow; settled = settled_side t both.1 settled.1 };
+        apart = linked i a at s t is;
+        open_side = ⊎_elim (λ none. inl (has_no_number s none)) (λ none. inr (has_no_number t none)) free;
+      }
+
+-- ---- numbers
+
+module _ (vars : List Sort) (list : List PureAtom) (c : PureClasses) (node : IsNode vars list c) (v : List PureValue) (solved : IsSolution vars (rows_from c.list) v) (meeting : AreDone Rule.Meeting c v) where
+  moderate_number : (x : ℕ) → slice_get vars x ≡ Some Sort.Int → IsModerateNumber (slice_get v x)
+  moderate_number x at =
+      let (w, there) = found v x (subst (λ n. x < n) (sym solved.proper.one_each) (slice_get_within vars x Sort.Int at)) in
+      let (n, is) = integer_of_sort w (solved.proper.sorts x Sort.Int w at there) in
+      record { number = n; is = there ∙ ap Some is; between = ap (has_numbers_between (neg_ℤ (pos (2 ^ 124))) (pos (2 ^ 124))) (sym is) ∙ passes_at (has_numbers_between (neg_ℤ (pos (2 ^ 124))) (pos (2 ^ 124))) v x w solved.moderate there }
+
+  pub numbers_fit : FitNumbers vars (given_list c) v
+  numbers_fit = record {
+    each = moderate_number;
+    equated = integers_same vars list c node v (rows_are_met vars c.list (plain_there vars list c node) v solved.proper solved.met c refl) (all_met vars list c node v meeting);
+  }

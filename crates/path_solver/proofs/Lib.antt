@@ -13,3 +13,4 @@ pub mod RowTruths
 pub mod RowsMet
 pub mod RowsFit
 pub mod Fitting
+pub mod Sounding
