@@ -81,7 +81,7 @@ known_inhabited (list_of ts) k is = ap is_empty_kind (sym (same_Some Kind.List k
 known_inhabited (unary_of op t) k is = ap is_empty_kind (sym (same_Some (kind_of_unary op) k is)) ∙ unary_inhabited op
 known_inhabited (binary_of op s t) k is = binary_inhabited op (known_kind s) (known_kind t) (known_inhabited s) (known_inhabited t) k is
 
-same_kind-refl : (k : Kind) → same_kind k k ≡ true
+pub same_kind-refl : (k : Kind) → same_kind k k ≡ true
 same_kind-refl Kind.Int = refl
 same_kind-refl Kind.Bool = refl
 same_kind-refl Kind.Str = refl
@@ -105,10 +105,10 @@ facts_same f g so also h = by_test (same_kind f.kind g.kind) refl where
   by_test false is = absurd (both_ways (are_facts_apart f g) h ((λ j. if is j then ((f.is_so && not g.is_so) || (not f.is_so && g.is_so)) else (so j && also j))))
 
 module _ (vars : List Sort) (list : List PureAtom) (c : PureClasses) (node : IsNode vars list c) (v : List PureValue) (one : AreDone Rule.OneKind c v) (two : AreDone Rule.TwoKinds c v) where
-  said_once : (i : ℕ) (f : KindFact) → kind_fact_at (given_list c) i ≡ Some f → (u : PureTerm) → Equates (given_list c) f.subject u → is_against_kind f.is_so f.kind (known_kind u) ≡ false
+  pub said_once : (i : ℕ) (f : KindFact) → kind_fact_at (given_list c) i ≡ Some f → (u : PureTerm) → Equates (given_list c) f.subject u → is_against_kind f.is_so f.kind (known_kind u) ≡ false
   said_once i f is u e = sym (against_is f u) ∙ option_and_then_some kind_fact_of (slice_get (given_list c) i) f is (λ a at said. one i a at f said u e)
 
-  said_twice : (i j : ℕ) (f g : KindFact) → kind_fact_at (given_list c) i ≡ Some f → kind_fact_at (given_list c) j ≡ Some g → Equates (given_list c) f.subject g.subject → are_facts_apart f g ≡ false
+  pub said_twice : (i j : ℕ) (f g : KindFact) → kind_fact_at (given_list c) i ≡ Some f → kind_fact_at (given_list c) j ≡ Some g → Equates (given_list c) f.subject g.subject → are_facts_apart f g ≡ false
   said_twice i j f g is also e = option_and_then_some kind_fact_of (slice_get (given_list c) i) f is (λ a at said.
       option_and_then_some kind_fact_of (slice_get (given_list c) j) g also (λ b there told. two i a at f said j b there g told e))
 

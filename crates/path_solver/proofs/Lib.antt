@@ -14,3 +14,4 @@ pub mod RowsMet
 pub mod RowsFit
 pub mod Fitting
 pub mod Sounding
+pub mod Modelling

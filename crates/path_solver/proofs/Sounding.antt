@@ -18,7 +18,7 @@ both_some (Some w) (Some us) ws is = (w, (us, (refl, (refl, same_Some (w ∷ us)
 both_some (Some w) None ws is = cc
 both_some None p ws is = cc
 
-element_value : (v : List PureValue) (ts : PureTerms) (ws : List PureValue) (j : ℕ) (s : PureTerm) → values v ts ≡ Some ws → slice_get (to_list ts) j ≡ Some s → (w : PureValue) × ((value v s ≡ Some w) × (slice_get ws j ≡ Some w))
+pub element_value : (v : List PureValue) (ts : PureTerms) (ws : List PureValue) (j : ℕ) (s : PureTerm) → values v ts ≡ Some ws → slice_get (to_list ts) j ≡ Some s → (w : PureValue) × ((value v s ≡ Some w) × (slice_get ws j ≡ Some w))
 element_value v no_terms ws j s is at = cc
 element_value v (term_and t ts) ws zero s is at =
     let (w, (us, (first, (rest, same)))) = both_some (value v t) (values v ts) ws is in
@@ -28,7 +28,7 @@ element_value v (term_and t ts) ws (suc j) s is at =
     let (u, (has, there)) = element_value v ts us j s rest at in
     (u, (has, ap (λ (xs : List PureValue). slice_get xs (suc j)) (sym same) ∙ there))
 
-list_value : (v : List PureValue) (ts : PureTerms) (w : PureValue) → value v (list_of ts) ≡ Some w → (ws : List PureValue) × ((values v ts ≡ Some ws) × (w ≡ list (from_list ws)))
+pub list_value : (v : List PureValue) (ts : PureTerms) (w : PureValue) → value v (list_of ts) ≡ Some w → (ws : List PureValue) × ((values v ts ≡ Some ws) × (w ≡ list (from_list ws)))
 list_value v ts w is = by_values (values v ts) refl is where
   by_values : (o : Option (List PureValue)) → values v ts ≡ o → option_map (λ ws. list (from_list ws)) o ≡ Some w → (ws : List PureValue) × ((values v ts ≡ Some ws) × (w ≡ list (from_list ws)))
   by_values (Some ws) are same = (ws, (are, sym (same_Some (list (from_list ws)) w same)))
@@ -43,7 +43,7 @@ from_list_same (u ∷ us) (w ∷ ws) e =
     let rest : from_list us ≡ from_list ws = cc in
     (λ i. first i ∷ from_list_same us ws rest i)
 
-lists_same : (us ws : List PureValue) → list (from_list us) ≡ list (from_list ws) → us ≡ ws
+pub lists_same : (us ws : List PureValue) → list (from_list us) ≡ list (from_list ws) → us ≡ ws
 lists_same us ws e = let inner : from_list us ≡ from_list ws = cc in from_list_same us ws inner
 
 module _ (vars : List Sort) (atoms : List PureAtom) (v : List PureValue) (over : (i : ℕ) (a : PureAtom) → slice_get atoms i ≡ Some a → IsOver vars (term_of a)) (all : (i : ℕ) (a : PureAtom) → slice_get atoms i ≡ Some a → is_some (equality_of a) ≡ true → truth v a ≡ true) where
