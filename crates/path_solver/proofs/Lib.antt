@@ -15,3 +15,4 @@ pub mod RowsFit
 pub mod Fitting
 pub mod Sounding
 pub mod Modelling
+pub mod Disequalities

@@ -48,7 +48,7 @@ AreRowsMet c v = (i : ℕ) (s t : PureTerm) → equality_at c.list i ≡ Some (r
 abbrev pub AreAllMet : PureClasses → Type 0
 AreAllMet c = (i : ℕ) (s t : PureTerm) → equality_at c.list i ≡ Some (record { left = s; right = t }) → IsMet c s t × IsMet c t s
 
-number_side : (t : PureTerm) → is_wanted Wanted.Number t ≡ true → is_integer_side t ≡ true
+pub number_side : (t : PureTerm) → is_wanted Wanted.Number t ≡ true → is_integer_side t ≡ true
 number_side (literal (Literal.Int n)) is = refl
 number_side (literal (Literal.Bool b)) is = absurd (false≢true is)
 number_side (literal (Literal.Str cs)) is = absurd (false≢true is)
