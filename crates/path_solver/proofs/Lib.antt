@@ -16,3 +16,4 @@ pub mod Fitting
 pub mod Sounding
 pub mod Modelling
 pub mod Disequalities
+pub mod ListValues

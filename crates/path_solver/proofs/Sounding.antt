@@ -13,7 +13,7 @@ use Rattle.equality_core.specs.Equating.{Equates, itself, by_atom, turned, joine
 record HasValues (v : List PureValue) (ts : PureTerms) (ws : List PureValue) : Type 0 where
   are : values v ts ≡ Some ws
 
-both_some : (o : Option PureValue) (p : Option (List PureValue)) (ws : List PureValue) → both o p ≡ Some ws → (w : PureValue) × ((us : List PureValue) × ((o ≡ Some w) × ((p ≡ Some us) × (w ∷ us ≡ ws))))
+pub both_some : (o : Option PureValue) (p : Option (List PureValue)) (ws : List PureValue) → both o p ≡ Some ws → (w : PureValue) × ((us : List PureValue) × ((o ≡ Some w) × ((p ≡ Some us) × (w ∷ us ≡ ws))))
 both_some (Some w) (Some us) ws is = (w, (us, (refl, (refl, same_Some (w ∷ us) ws is))))
 both_some (Some w) None ws is = cc
 both_some None p ws is = cc
