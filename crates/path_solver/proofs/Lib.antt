@@ -17,3 +17,4 @@ pub mod Sounding
 pub mod Modelling
 pub mod Disequalities
 pub mod ListValues
+pub mod Model
