@@ -1,7 +1,0 @@
-pub mod Atoms
-pub mod Kinds
-pub mod Nodes
-pub mod Rows
-pub mod Rules
-pub mod Sides
-pub mod Steps
