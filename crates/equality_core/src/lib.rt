@@ -12,6 +12,7 @@ mod letters;
 mod linking;
 mod nodes;
 mod opening;
+mod parts;
 mod rooting;
 mod sides;
 mod solving;
