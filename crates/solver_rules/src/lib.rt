@@ -22,6 +22,8 @@ pub use laws::{
 };
 pub use listing::{RowList, rows_of};
 pub use nodes::Node;
+pub use numbering::order_at;
+pub use pairs::{Pair, disequality_of, flat_disequality};
 pub use rules::Rule;
 pub use running::run;
 pub use steps::Step;

@@ -1,5 +1,5 @@
 //! Rules about whole numbers.
-ghost use Rattle.std.specs.Prelude.{◌≡◌, slice_get, true, Some, IfOk};
+ghost use Rattle.std.specs.Prelude.{◌≡◌, slice_get, true, Some, IfOk, IfSome};
 ghost use Rattle.pure_terms.specs.Fragment.{is_flat, is_integer_side};
 ghost use Rattle.gil_values.specs.View.{values_view};
 ghost use Rattle.pure_terms.specs.Meaning.{truth};
@@ -190,6 +190,28 @@ pub(crate) fn orders(
             }
             Ok(Some(ordered(alloc, node, place, pair.left, pair.right)?))
         }
+        None => Ok(None),
+    }
+}
+
+/// The order of the whole numbers that the atom at a place says to be different, whatever the numbers.
+pub fn order_at(alloc: Global, node: &Node<'_>, place: usize) -> Result<Option<Step>, AllocError>
+    requires node { IsNodeOf node.now }
+    ensures { IfOk result (λ found. IfSome found (IsStep (vars_of node.now) (list_of_node node.now))) }
+{
+    match node.list.get(place) {
+        Some(atom) => match disequality_of(atom) {
+            Some(pair) => {
+                if !is_integer_side(pair.left) {
+                    return Ok(None);
+                }
+                if !is_integer_side(pair.right) {
+                    return Ok(None);
+                }
+                Ok(Some(ordered(alloc, node, place, pair.left, pair.right)?))
+            }
+            None => Ok(None),
+        },
         None => Ok(None),
     }
 }

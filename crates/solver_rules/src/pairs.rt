@@ -16,9 +16,9 @@ use solver_proof::are_other_kinds;
 
 /// Two terms.
 #[derive(Clone, Copy)]
-pub(crate) struct Pair<'a> {
-    pub(crate) left: &'a Term,
-    pub(crate) right: &'a Term,
+pub struct Pair<'a> {
+    pub left: &'a Term,
+    pub right: &'a Term,
 }
 
 /// What is said of a term's kind.
@@ -41,7 +41,7 @@ fn sides_of(term: &Term) -> Option<Pair<'_>>
 }
 
 /// The two terms that an atom says to be different.
-pub(crate) fn disequality_of(atom: &Atom) -> Option<Pair<'_>>
+pub fn disequality_of(atom: &Atom) -> Option<Pair<'_>>
     ensures found { IfSome result (λ p. atom_view atom.now ≡ negative (equals (term_view p.left.now) (term_view p.right.now))) }
     ensures none { IfNone result ((s t : PureTerm) → atom_view atom.now ≡ negative (equals s t) → ⊥) }
 {
@@ -191,7 +191,7 @@ pub(crate) fn is_flat(term: &Term) -> bool
 }
 
 /// The literals or variables that an atom says to be different.
-pub(crate) fn flat_disequality(atom: &Atom) -> Option<Pair<'_>>
+pub fn flat_disequality(atom: &Atom) -> Option<Pair<'_>>
     ensures found { IfSome result (λ p. atom_view atom.now ≡ negative (equals (term_view p.left.now) (term_view p.right.now))) }
     ensures left { IfSome result (λ p. is_flat (term_view p.left.now) ≡ true) }
     ensures right { IfSome result (λ p. is_flat (term_view p.right.now) ≡ true) }
