@@ -1,10 +1,12 @@
 //! The next step on a list of atoms of the fragment: a valuation that meets it, a proof that closes it, or what to split it by.
 #![tactic(auto)]
 
+mod choosing;
 mod loose;
 mod models;
 mod numbers;
 mod plain;
+mod ranges;
 mod steps;
 mod trying;
 

@@ -5,7 +5,7 @@ ghost use Rattle.solver_rules.specs.Steps.{IsPlainAtom, ArePlain};
 
 use pure_terms::{Atom, Atoms, VarTable};
 
-fn is_plain(vars: &VarTable, atom: &Atom) -> bool
+pub(crate) fn is_plain(vars: &VarTable, atom: &Atom) -> bool
     ensures { IsTrue result ↔ IsPlainAtom vars.now (atom_view atom.now) }
 {
     if !atom.term().is_over(vars) {

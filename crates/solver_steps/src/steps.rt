@@ -8,13 +8,29 @@ ghost use Rattle.solver_rules.specs.Nodes.{vars_of, list_of_node, classes_of, Is
 ghost use Rattle.solver_rules.specs.Rows.{rows_from};
 ghost use Rattle.solver_rules.specs.Steps.{ArePlain, IsNode, IsStep};
 
+use crate::choosing::chosen;
 use crate::models::model_of;
 use crate::numbers::{NumbersFound, numbers_of};
 use crate::trying::run_each;
 use equality_core::{Classes, Classified, classify};
 use pure_terms::{Atoms, VarTable};
-use solver_rules::{KindsFound, Node, Rule, Step, kinds_of};
+use solver_rules::{KindsFound, Node, Rule, Step, kinds_of, run};
 use std::alloc::{AllocError, Global};
+
+/// The split that tells most, or the one that is given.
+fn better_split(alloc: Global, node: &Node<'_>, step: Step) -> Result<Step, AllocError>
+    requires node { IsNodeOf node.now }
+    requires step { IsStep (vars_of node.now) (list_of_node node.now) step }
+    ensures { IfOk result (IsStep (vars_of node.now) (list_of_node node.now)) }
+{
+    match step {
+        Step::Split(term) => match chosen(alloc, node)? {
+            Some(split) => Ok(split),
+            None => Ok(Step::Split(term)),
+        },
+        other => Ok(other),
+    }
+}
 
 /// The step where numbers solve the rows: what closes the list or must hold comes first, and what has most cases last.
 fn step_with_numbers(alloc: Global, node: &Node<'_>) -> Result<Step, AllocError>
@@ -31,10 +47,12 @@ fn step_with_numbers(alloc: Global, node: &Node<'_>) -> Result<Step, AllocError>
         Rule::SmallFact,
         Rule::SmallSide,
         Rule::Lists,
-        Rule::Orders,
     ];
     if let Some(step) = run_each(alloc, node, &rules)? {
         return Ok(step);
+    }
+    if let Some(step) = run(alloc, node, Rule::Orders)? {
+        return better_split(alloc, node, step);
     }
     match kinds_of(alloc, node)? {
         KindsFound::All(kinds) => Ok(Step::Model(model_of(alloc, node, &kinds)?)),

@@ -2,7 +2,7 @@ use Rattle.std.proofs.Common.{[], ◌∷◌, refl, subst}
 use Rattle.gil_values.specs.View.{values_view}
 use Rattle.solver_rules.specs.declared.rules.Rule.{Rule}
 use Rattle.solver_rules.specs.Kinds.{AreFound}
-use Rattle.solver_rules.specs.Nodes.{vars_of, classes_of, IsStepOr}
+use Rattle.solver_rules.specs.Nodes.{vars_of, classes_of, IsRun, IsStepOr}
 use Rattle.solver_rules.specs.Rules.{AreDone}
 use Rattle.solver_steps.specs.Steps.{AreAllDone}
 use Rattle.solver_steps.proofs.steps.step_with_numbers.Goals as goal
@@ -16,8 +16,8 @@ model_of-requires c = record {
     done = done;
   };
 } where
-  all : AreAllDone (Rule.Linked ∷ Rule.OneKind ∷ Rule.TwoKinds ∷ Rule.Meeting ∷ Rule.Numbers ∷ Rule.SmallFact ∷ Rule.SmallSide ∷ Rule.Lists ∷ Rule.Orders ∷ []) (classes_of c.args.node.now) (values_view c.args.node.now.numbers.now)
-  all = subst (IsStepOr c.args.node.now (AreAllDone (Rule.Linked ∷ Rule.OneKind ∷ Rule.TwoKinds ∷ Rule.Meeting ∷ Rule.Numbers ∷ Rule.SmallFact ∷ Rule.SmallSide ∷ Rule.Lists ∷ Rule.Orders ∷ []) (classes_of c.args.node.now) (values_view c.args.node.now.numbers.now))) c.in_default.is c.in_ok-step.ensures
+  all : AreAllDone (Rule.Linked ∷ Rule.OneKind ∷ Rule.TwoKinds ∷ Rule.Meeting ∷ Rule.Numbers ∷ Rule.SmallFact ∷ Rule.SmallSide ∷ Rule.Lists ∷ []) (classes_of c.args.node.now) (values_view c.args.node.now.numbers.now)
+  all = subst (IsStepOr c.args.node.now (AreAllDone (Rule.Linked ∷ Rule.OneKind ∷ Rule.TwoKinds ∷ Rule.Meeting ∷ Rule.Numbers ∷ Rule.SmallFact ∷ Rule.SmallSide ∷ Rule.Lists ∷ []) (classes_of c.args.node.now) (values_view c.args.node.now.numbers.now))) c.in_default.is c.in_ok-step.ensures
 
   done : (rule : Rule) → AreDone rule (classes_of c.args.node.now) (values_view c.args.node.now.numbers.now)
   done Rule.Linked = all 0 Rule.Linked refl
@@ -28,4 +28,4 @@ model_of-requires c = record {
   done Rule.SmallFact = all 5 Rule.SmallFact refl
   done Rule.SmallSide = all 6 Rule.SmallSide refl
   done Rule.Lists = all 7 Rule.Lists refl
-  done Rule.Orders = all 8 Rule.Orders refl
+  done Rule.Orders = subst (IsRun c.args.node.now Rule.Orders) c.in_default-2.is c.in_ok-step-2.ensures
