@@ -123,7 +123,7 @@ pub(crate) fn variables_at<'a>(
 }
 
 /// The expression at the front.
-pub(crate) fn expression_at<'a>(
+pub fn expression_at<'a>(
     alloc: Global,
     position: Position,
     cursor: Cursor<'a>,

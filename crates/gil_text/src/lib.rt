@@ -18,5 +18,8 @@ mod texts;
 mod vocabulary;
 
 pub use annotations::{Annotation, annotation_at, read_assertions};
+pub use assertions::expression_at;
+pub use nesting::nesting_fault;
+pub use reading::byte_before;
 pub use refused::{Refused, RefusedKind};
-pub use texts::read_prog;
+pub use texts::{place_of, read_prog, tokens_of};
