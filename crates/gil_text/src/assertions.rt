@@ -134,7 +134,7 @@ pub fn expression_at<'a>(
 }
 
 /// The expressions up to the closing sign, with commas between them.
-pub(crate) fn expressions_at<'a>(
+pub fn expressions_at<'a>(
     alloc: Global,
     position: Position,
     closing: Sign,

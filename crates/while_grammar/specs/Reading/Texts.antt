@@ -10,16 +10,20 @@ use Rattle.gil_grammar.specs.Reading.Vocabulary.{word_of}
 use Rattle.while_grammar.specs.Reading.Statements.{function_at}
 use Rattle.while_grammar.specs.Texts.{SourceItem, a_function, a_spec, a_pred, PlacedItem}
 
+-- an item, by its word
+abbrev pub a_spec_at : List Lexeme → Reading SourceItem
+a_spec_at ls = spec_at Whole (behind ls) >>= λ s. Some (a_spec s.0, s.1)
+
+abbrev pub a_pred_at : List Lexeme → Reading SourceItem
+a_pred_at ls = pred_at Whole (behind ls) >>= λ d. Some (a_pred d.0, d.1)
+
+-- the items that were read before, and those that are still read
+abbrev pub with_items : List PlacedItem → Option (List PlacedItem) → Option (List PlacedItem)
+with_items front read = read >>= λ items. Some (front ++ items)
+
 module _ (place : ℕ → ℕ) where
-  -- an item, by its word
   abbrev pub a_function_at : List Lexeme → Reading SourceItem
   a_function_at ls = function_at place ls >>= λ f. Some (a_function f.0, f.1)
-
-  abbrev pub a_spec_at : List Lexeme → Reading SourceItem
-  a_spec_at ls = spec_at Whole (behind ls) >>= λ s. Some (a_spec s.0, s.1)
-
-  abbrev pub a_pred_at : List Lexeme → Reading SourceItem
-  a_pred_at ls = pred_at Whole (behind ls) >>= λ d. Some (a_pred d.0, d.1)
 
   abbrev pub item_by : Word → List Lexeme → Reading SourceItem
   item_by words.Func ls = a_function_at ls
@@ -29,10 +33,6 @@ module _ (place : ℕ → ℕ) where
 
   unfoldable pub item_at : List Lexeme → Reading SourceItem
   item_at ls = word_of (first_form ls) >>= λ word. item_by word ls
-
-  -- the items that were read before, and those that are still read
-  abbrev pub with_items : List PlacedItem → Option (List PlacedItem) → Option (List PlacedItem)
-  with_items front read = read >>= λ items. Some (front ++ items)
 
   -- the items of which the lexemes consist, at most n
   unfoldable pub items_at : ℕ → List Lexeme → Option (List PlacedItem)
