@@ -1,1 +1,3 @@
 mod ItemLoop
+mod NamingLemmas
+mod RefusalLemmas

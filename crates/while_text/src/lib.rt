@@ -5,6 +5,10 @@ mod assignments;
 mod blocks;
 mod items;
 mod located;
+mod naming;
 mod pieces;
 mod reading;
+mod texts;
 mod worded;
+
+pub use texts::read_parts;
