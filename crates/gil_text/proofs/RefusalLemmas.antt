@@ -22,7 +22,7 @@ use Rattle.gil_grammar.proofs.TextLaws.{program_takes, program_again, nested_who
 use Rattle.gil_text.specs.declared.refused.RefusedKind.{RefusedKind}
 use Rattle.gil_text.specs.declared.refused.RefusedKind.TheVariants as refusals
 use Rattle.gil_text.specs.Located.{PureLocated, located_of}
-use Rattle.gil_text.specs.Refusals.{lexical, AreLexemesOf, IsRefusedFor}
+use Rattle.gil_text.specs.Refusals.{lexical, HasNoTokens, AreLexemesOf, IsRefusedFor}
 
 pub lexical_refusal : (kind : LexKind) (bytes : List ℕ) (at : ℕ) → (kind ≢ kinds.Memory → (tokens : List Token) → AreTokensOf tokens bytes → ⊥) → IsRefusedFor bytes at (lexical kind)
 lexical_refusal kinds.Memory bytes at h = tt
@@ -30,6 +30,13 @@ lexical_refusal kinds.Byte bytes at h = h (λ e. cc)
 lexical_refusal kinds.Open bytes at h = h (λ e. cc)
 lexical_refusal kinds.Escape bytes at h = h (λ e. cc)
 lexical_refusal kinds.Wide bytes at h = h (λ e. cc)
+
+pub no_tokens : (kind : LexKind) (bytes : List ℕ) → (kind ≢ kinds.Memory → (tokens : List Token) → AreTokensOf tokens bytes → ⊥) → HasNoTokens bytes (lexical kind)
+no_tokens kinds.Memory bytes h = tt
+no_tokens kinds.Byte bytes h = h (λ e. cc)
+no_tokens kinds.Open bytes h = h (λ e. cc)
+no_tokens kinds.Escape bytes h = h (λ e. cc)
+no_tokens kinds.Wide bytes h = h (λ e. cc)
 
 map_some : {X Y : Type 0} (f : X → Y) (o : Option X) (y : Y) → option_map f o ≡ Some y → (x : X) × (o ≡ Some x) × (f x ≡ y)
 map_some f (Some x) y e = (x, refl, cc)

@@ -1,5 +1,5 @@
 -- Why a text is refused.
-use Rattle.std.specs.Prelude.{◌≡◌, ℕ, List, Some, slice_get}
+use Rattle.std.specs.Prelude.{◌≡◌, ◌==◌, ℕ, List, Some, length, slice_get, if◌then◌else◌}
 use Rattle.gil_lexer.specs.declared.forms.Token.{Token}
 use Rattle.gil_lexer.specs.declared.faults.LexKind.{LexKind}
 use Rattle.gil_lexer.specs.declared.faults.LexKind.TheVariants as kinds
@@ -8,7 +8,7 @@ use Rattle.gil_lexemes.specs.declared.standing.Lexeme.{Lexeme}
 use Rattle.gil_lexemes.specs.Lexemes.{StandForAll}
 use Rattle.gil_syntax.specs.Valid.{IsNamedFault}
 use Rattle.gil_grammar.specs.Nesting.{IsNested}
-use Rattle.gil_grammar.specs.Texts.{PlacedItem, SpellsItems, BeginsWithProc, Spell, parts_of, places_of}
+use Rattle.gil_grammar.specs.Texts.{PlacedItem, SpellsItems, BeginsWithProc, Spell, byte_before, parts_of, places_of}
 use Rattle.gil_text.specs.declared.refused.Refused.{Refused}
 use Rattle.gil_text.specs.declared.refused.RefusedKind.{RefusedKind}
 use Rattle.gil_text.specs.declared.refused.RefusedKind.TheVariants.{Lex, Nesting, Syntax, Invalid, Limit, Entry, Modes, Memory}
@@ -17,6 +17,16 @@ use Rattle.gil_text.specs.declared.refused.RefusedKind.TheVariants.{Lex, Nesting
 abbrev pub lexical : LexKind → RefusedKind
 lexical kinds.Memory = Memory
 lexical _ = Lex
+
+-- why bytes have no tokens: they spell none, or memory ran out
+abbrev pub HasNoTokens : List ℕ → RefusedKind → Type 0
+HasNoTokens bytes Lex = (tokens : List Token) → AreTokensOf tokens bytes → ⊥
+HasNoTokens bytes Memory = Unit {0}
+HasNoTokens bytes _ = ⊥
+
+-- the byte at which the last `left` tokens begin, or the text's length where that is none
+abbrev pub place_of : List ℕ → List Token → ℕ → ℕ
+place_of bytes tokens left = if left == 0 then length bytes else byte_before tokens left
 
 -- the tokens of the bytes, and the lexemes that they stand for
 pub record AreLexemesOf (tokens : List Token) (lexemes : List Lexeme) (bytes : List ℕ) : Type 0 where

@@ -123,7 +123,7 @@ pub(crate) fn variables_at<'a>(
 }
 
 /// The expression at the front.
-pub(crate) fn expression_at<'a>(
+pub fn expression_at<'a>(
     alloc: Global,
     position: Position,
     cursor: Cursor<'a>,
@@ -134,7 +134,7 @@ pub(crate) fn expression_at<'a>(
 }
 
 /// The expressions up to the closing sign, with commas between them.
-pub(crate) fn expressions_at<'a>(
+pub fn expressions_at<'a>(
     alloc: Global,
     position: Position,
     closing: Sign,

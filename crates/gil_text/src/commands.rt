@@ -162,7 +162,7 @@ fn assert_at<'a>(alloc: Global, cursor: Cursor<'a>) -> Result<(Command, Cursor<'
 }
 
 /// The names up to the closing sign, with commas between them.
-pub(crate) fn names_at<'a>(
+pub fn names_at<'a>(
     alloc: Global,
     closing: Sign,
     cursor: Cursor<'a>,
@@ -216,7 +216,7 @@ fn invariant_at<'a>(alloc: Global, cursor: Cursor<'a>) -> Result<(Command, Curso
 }
 
 /// The command of which assertions are made, which begins with this reserved word.
-pub(crate) fn logic_at<'a>(
+pub fn logic_at<'a>(
     alloc: Global,
     word: Word,
     cursor: Cursor<'a>,

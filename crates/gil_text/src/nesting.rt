@@ -22,7 +22,7 @@ fn open_by(count: u32, form: Form) -> u32
 }
 
 /// Where more brackets are open than may be, how many tokens are left from the first one on that opens one too many.
-pub(crate) fn nesting_fault(cursor: Cursor<'_>) -> Option<usize>
+pub fn nesting_fault(cursor: Cursor<'_>) -> Option<usize>
     ensures none { IfNone result (IsNested cursor.entry) }
     ensures some { OnSome result (IsNested cursor.entry → ⊥) }
 {

@@ -57,7 +57,7 @@ fn proc_at<'a>(alloc: Global, cursor: Cursor<'a>) -> Result<(Proc, Cursor<'a>), 
 
 /// `name(x : sort, ..) [#x : sort, ..] { precondition } { postcondition } ..`, behind `spec`.
 #[tactic(auto, unfolding(gil_grammar::specs::Reading::Programs::spec_at))]
-pub(crate) fn spec_at<'a>(
+pub fn spec_at<'a>(
     alloc: Global,
     extent: Extent,
     cursor: Cursor<'a>,
@@ -83,7 +83,7 @@ pub(crate) fn spec_at<'a>(
 
 /// `name(x : sort, ..; x : sort, ..) [#x : sort, ..] { case } ..`, behind `pred`.
 #[tactic(auto, unfolding(gil_grammar::specs::Reading::Programs::pred_at))]
-pub(crate) fn pred_at<'a>(
+pub fn pred_at<'a>(
     alloc: Global,
     extent: Extent,
     cursor: Cursor<'a>,

@@ -12,7 +12,7 @@ use gil_lexer::{Token, Word};
 use std::alloc::Global;
 
 /// The byte at which the last tokens begin, so many of them.
-pub(crate) fn byte_before(tokens: &[Token], left: usize) -> usize
+pub fn byte_before(tokens: &[Token], left: usize) -> usize
     ensures { result ≡ text.byte_before tokens.now left }
 {
     match tokens.get(tokens.len().saturating_sub(left)) {

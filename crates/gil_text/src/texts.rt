@@ -7,7 +7,7 @@ ghost use Rattle.gil_program.specs.Program.{prog_view};
 ghost use Rattle.gil_grammar.specs.Texts.{PlacedItem, Spell, SpellProgram};
 ghost use Rattle.gil_text.specs.declared.refused.RefusedKind.TheVariants.{Memory};
 ghost use Rattle.gil_text.specs.Located.{located_of, located_view};
-ghost use Rattle.gil_text.specs.Refusals.{IsRefused, lexical};
+ghost use Rattle.gil_text.specs.Refusals.{HasNoTokens, IsRefused, lexical, place_of};
 
 use crate::located::Located;
 use crate::nesting::nesting_fault;
@@ -31,9 +31,10 @@ fn lexical(kind: LexKind) -> RefusedKind
 }
 
 /// The tokens of a text.
-fn tokens_of(alloc: Global, bytes: &[u8]) -> Result<Tokens, Refused>
+pub fn tokens_of(alloc: Global, bytes: &[u8]) -> Result<Tokens, Refused>
     ensures tokens { IfOk result (λ tokens. AreTokensOf tokens bytes.now) }
     ensures slices { IfOk result (λ tokens. All (IsSlice bytes.now) tokens) }
+    ensures lexical { IfErr result (λ refused. HasNoTokens bytes.now refused.kind) }
     ensures refused { IfErr result (IsRefused bytes.now) }
 {
     match lex(alloc, bytes) {
@@ -46,7 +47,9 @@ fn tokens_of(alloc: Global, bytes: &[u8]) -> Result<Tokens, Refused>
 }
 
 /// The byte at which the last tokens of the text begin, so many of them, or its length where there are none.
-pub(crate) fn place_of(bytes: &[u8], tokens: &[Token], left: usize) -> usize {
+pub fn place_of(bytes: &[u8], tokens: &[Token], left: usize) -> usize
+    ensures { result ≡ place_of bytes.now tokens.now left }
+{
     if left == 0 {
         bytes.len()
     } else {

@@ -100,7 +100,7 @@ pub(crate) fn sort_of_word(word: Word) -> Option<SpecSort>
 }
 
 /// The kind of inputs that a reserved word names.
-pub(crate) fn input_of_word(word: Word) -> Option<Kind>
+pub fn input_of_word(word: Word) -> Option<Kind>
     ensures { result ≡ read.input_of_word word }
 {
     match word {
@@ -112,7 +112,7 @@ pub(crate) fn input_of_word(word: Word) -> Option<Kind>
 }
 
 /// The reserved word that a token of this form is.
-pub(crate) fn word_of(form: Option<Form>) -> Option<Word>
+pub fn word_of(form: Option<Form>) -> Option<Word>
     ensures { result ≡ read.word_of form }
 {
     match form {

@@ -1,0 +1,4 @@
+pub mod NameLaws
+pub mod StatementReads
+pub mod StatementTakes
+pub mod TextLaws

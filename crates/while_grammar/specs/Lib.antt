@@ -1,0 +1,4 @@
+pub mod Vocabulary
+pub mod Statements
+pub mod Texts
+pub mod Reading

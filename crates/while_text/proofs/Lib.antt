@@ -1,0 +1,3 @@
+mod ItemLoop
+mod NamingLemmas
+mod RefusalLemmas

@@ -1,0 +1,18 @@
+use Rattle.while_text.specs.Located.{located_view}
+use Rattle.while_text.proofs.RefusalLemmas.{items_spell, stop_refusal}
+use Rattle.while_text.proofs.texts.read_located.Goals as goal
+
+pub returns-in-Ok-clause-ok : goal.returns-in-Ok-clause-ok
+returns-in-Ok-clause-ok c =
+    let stand = rw c.as_slice.ensures at c.new-cursor.ensures in
+    let nested = rw c.copy.ensures at c.in_default.ensures.none in
+    let names = rw (c.copy-2.ensures, c.in-Ok-None.field-0-is) at c.in-Ok-None.ensures.none in
+    let read = rw c.as_slice-in-Ok-None.ensures at c.in-Ok.ensures in
+    items_spell c.args.bytes.now c.in_ok-tokens.tokens c.new-cursor.result c.in_ok-tokens.ensures.tokens stand (located_view c.in-Ok.located) nested names read
+
+pub returns-in-Ok-None-clause-refused : goal.returns-in-Ok-None-clause-refused
+returns-in-Ok-None-clause-refused c =
+    let stand = rw c.as_slice.ensures at c.new-cursor.ensures in
+    let nested = rw c.copy.ensures at c.in_default.ensures.none in
+    let read = rw c.as_slice-in-Ok-None.ensures at c.in-Err-source_at.ensures in
+    rw c.stopped.ensures (stop_refusal c.args.bytes.now c.in_ok-tokens.tokens c.new-cursor.result c.in_ok-tokens.ensures.tokens stand nested c.in-Err-source_at.stop read)

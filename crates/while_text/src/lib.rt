@@ -1,0 +1,14 @@
+//! Reads While programs.
+#![tactic(auto)]
+
+mod assignments;
+mod blocks;
+mod items;
+mod located;
+mod naming;
+mod pieces;
+mod reading;
+mod texts;
+mod worded;
+
+pub use texts::read_parts;

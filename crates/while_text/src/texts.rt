@@ -1,0 +1,70 @@
+//! Reading whole texts.
+ghost use Rattle.std.specs.Prelude.{◌≡◌, List, IfOk, IfErr, MatchResult};
+ghost use Rattle.gil_text.specs.declared.refused.RefusedKind.TheVariants.{Memory};
+ghost use Rattle.while_syntax.specs.Pure.{PureSource};
+ghost use Rattle.while_syntax.specs.View.{source_parts_view};
+ghost use Rattle.while_grammar.specs.Texts.{PlacedItem, SpellItems, SpellSource};
+ghost use Rattle.while_text.specs.Located.{located_of, located_view};
+ghost use Rattle.while_text.specs.Refusals.{IsRefusedTree, kind_of};
+
+use crate::located::Located;
+use crate::naming::foreign_name;
+use crate::reading::source_at;
+use gil_lexemes::{Cursor, Stop};
+use gil_lexer::Tokens;
+use gil_text::{Refused, RefusedKind, nesting_fault, place_of, tokens_of};
+use std::alloc::Global;
+use while_syntax::SourceParts;
+
+/// The refusal of a text of which so many tokens are left, or that memory ran out.
+fn stopped(bytes: &[u8], tokens: &Tokens, stop: Stop) -> Refused
+    ensures { result.kind ≡ kind_of stop }
+{
+    match stop {
+        Stop::Syntax(left) => Refused {
+            at: place_of(bytes, tokens.as_slice(), left),
+            kind: RefusedKind::Syntax,
+        },
+        Stop::Memory => Refused {
+            at: bytes.len(),
+            kind: RefusedKind::Memory,
+        },
+    }
+}
+
+/// The items of the source that the text spells.
+pub(crate) fn read_located(alloc: Global, bytes: &[u8]) -> Result<Located, Refused>
+    ensures ok { IfOk result (λ located. (items : List PlacedItem) × SpellItems bytes.now items × (located_view located ≡ located_of items)) }
+    ensures refused { IfErr result (IsRefusedTree bytes.now) }
+{
+    let tokens = tokens_of(alloc, bytes)?;
+    let cursor = Cursor::new(bytes, tokens.as_slice());
+    if let Some(left) = nesting_fault(cursor.copy()) {
+        return Err(Refused {
+            at: place_of(bytes, tokens.as_slice(), left),
+            kind: RefusedKind::Nesting,
+        });
+    }
+    match foreign_name(alloc, cursor.copy()) {
+        Ok(None) => match source_at(alloc, tokens.as_slice(), cursor) {
+            Ok(located) => Ok(located),
+            Err(stop) => Err(stopped(bytes, &tokens, stop)),
+        },
+        Ok(Some(left)) => Err(stopped(bytes, &tokens, Stop::Syntax(left))),
+        Err(stop) => Err(stopped(bytes, &tokens, stop)),
+    }
+}
+
+/// The trees of the program that the bytes spell. A refusal names the first kind that applies.
+pub fn read_parts(alloc: Global, bytes: &[u8]) -> Result<SourceParts, Refused>
+    // What is read are the trees of the text.
+    ensures ok { IfOk result (λ parts. SpellSource bytes.now (source_parts_view parts)) }
+    // A text of trees is accepted, as these.
+    ensures only { (source : PureSource) → SpellSource bytes.now source
+        → MatchResult result (λ parts. source_parts_view parts ≡ source) (λ refused. refused.kind ≡ Memory) }
+    // The refusal is the first that applies.
+    ensures refused { IfErr result (IsRefusedTree bytes.now) }
+{
+    let located = read_located(alloc, bytes)?;
+    Ok(located.parts)
+}
