@@ -102,7 +102,7 @@ module _ {S : Type 0} (p : PureParts) (m : Actions) (stands : S → List PureVal
   own_on c next adds (inr left) = subst (AddsOwn own path) (sym left.is) (record { added = adds.added; conds = adds.conds; each = adds.each })
 
   satisfiable_on : (c : Candidate S) (next : PurePath S) → ¬ IsUnknown c.path.ending → Stays p path c next → StaysSatisfiable path next
-  satisfiable_on c next known (inl kept) = λ v meets still. subst (λ (n : PurePath S). (w : List PureValue) × Satisfies n.vars w n.conds) (sym kept.is) kept.met
+  satisfiable_on c next known (inl kept) = λ v meets still. subst (λ (n : PurePath S). (w : List PureValue) × Satisfies n.vars w n.conds) (sym kept.is) (kept.met v meets)
   satisfiable_on c next known (inr left) = λ v meets still. absurd (still (unknown_ends c next left))
 
   rightly_on : (c : Candidate S) (next : PurePath S) → ¬ IsUnknown c.path.ending → Stays p path c next → IsRightlyUnknown p path next next.ending

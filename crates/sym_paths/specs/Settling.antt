@@ -29,11 +29,11 @@ ended_unknown c place reason = record c.path { given = c.path.given ++ c.no_faul
 
 -- ---- what becomes of a candidate
 
--- it stays: some valuation meets it, and it needs no literal form
-pub record IsKept {S : Type 0} (c : Candidate S) (next : PurePath S) : Type 0 where
+-- it stays: where some valuation meets the old path, some meets it, and it needs no literal form
+pub record IsKept {S : Type 0} (path : PurePath S) (c : Candidate S) (next : PurePath S) : Type 0 where
   pub is : next ≡ c.path
   pub no_form : has_open c.path.conds ≡ false
-  pub met : (w : List PureValue) × Satisfies c.path.vars w c.path.conds
+  pub met : (v : List PureValue) → Satisfies path.vars v path.conds → (w : List PureValue) × Satisfies c.path.vars w c.path.conds
 
 -- it ends as unknown: its list is outside the fragment
 pub record IsLeftUnknown {S : Type 0} (p : PureParts) (path : PurePath S) (c : Candidate S) (next : PurePath S) : Type 0 where
@@ -45,7 +45,7 @@ pub record IsLeftUnknown {S : Type 0} (p : PureParts) (path : PurePath S) (c : C
   pub at : IsPlaceOf p path.stack place
 
 abbrev pub Stays : {S : Type 0} → PureParts → PurePath S → Candidate S → PurePath S → Type 0
-Stays p path c next = IsKept c next ⊎ IsLeftUnknown p path c next
+Stays p path c next = IsKept path c next ⊎ IsLeftUnknown p path c next
 
 -- The paths are what becomes of the candidates, in order.
 abbrev pub AreSettled : {S : Type 0} → PureParts → PurePath S → List (Candidate S) → List (PurePath S) → Type 0

@@ -1,0 +1,9 @@
+pub mod Acting
+pub mod CallCases
+pub mod Calling
+pub mod Copying
+pub mod Following
+pub mod Naming
+pub mod Outcomes
+pub mod Returning
+pub mod Turning

@@ -1,0 +1,6 @@
+pub mod Acting
+pub mod Calls
+pub mod Cases
+pub mod Copies
+pub mod Guards
+pub mod Returns
