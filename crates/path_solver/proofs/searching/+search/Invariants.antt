@@ -1,0 +1,30 @@
+use Rattle.std.proofs.Common.{◌≡◌, ◌+◌, ◌*◌, take}
+use Rattle.pure_terms.specs.View.{atoms_view}
+use Rattle.solver_proof.specs.Closing.{CloseEach}
+use Rattle.solver_proof.specs.Pure.{from_list}
+use Rattle.solver_proof.specs.View.{proofs_view}
+use Rattle.path_solver.proofs.searching.+search.Given as goal
+
+abbrev pub decreases-search : goal.decreases-search
+decreases-search l = 5 * l.depth + 4
+
+abbrev pub decreases-search_split : goal.decreases-search_split
+decreases-search_split l = 5 * l.depth + 3
+
+abbrev pub decreases-search_branches : goal.decreases-search_branches
+decreases-search_branches l = 5 * l.depth + 3
+
+abbrev pub decreases-search_second : goal.decreases-search_second
+decreases-search_second l = 5 * l.depth + 2
+
+abbrev pub decreases-search_each : goal.decreases-search_each
+decreases-search_each l = 5 * l.depth + 2
+
+abbrev pub decreases-search_with : goal.decreases-search_with
+decreases-search_with l = 5 * l.depth + 1
+
+abbrev pub invariant-search_each-loop-atom : goal.invariant-search_each-loop-atom
+invariant-search_each-loop-atom l = record {
+  same : l.list ≡ l.fn.list;
+  closed : CloseEach l.vars (atoms_view l.fn.list) (take l.atom-index (atoms_view l.more)) (from_list (proofs_view l.proofs));
+}

@@ -1,0 +1,216 @@
+//! The search over splits of a list of atoms of the fragment.
+ghost use Rattle.std.specs.Prelude.{◌≡◌, [], ◌∷◌, ◌++◌, IfOk, OnOk};
+ghost use Rattle.pure_terms.specs.Pure.{PureAtom, positive, negative};
+ghost use Rattle.pure_terms.specs.View.{term_view, atom_view, atoms_view};
+ghost use Rattle.solver_proof.specs.Closing.{Closes};
+ghost use Rattle.solver_proof.specs.View.{proof_view};
+ghost use Rattle.solver_rules.specs.Steps.{IsPlainAtom, ArePlain, IsSplit};
+ghost use Rattle.path_solver.specs.Searching.{IsFound, IsBranch, AreEach, AreBranches};
+
+use crate::branches::{Branches, differences_at, joined, kinds_of, values_at};
+use crate::lists::cut_last;
+use crate::taking::{Kept, moved_proof};
+use pure_terms::{Atom, Atoms, Term, Valuation, VarTable};
+use solver_proof::{Proof, Proofs, accepts};
+use solver_rules::Step;
+use solver_steps::next_step;
+use std::alloc::{AllocError, Global};
+
+/// What is found of a list.
+#[derive(Drop)]
+pub(crate) enum Found {
+    /// This valuation satisfies it.
+    Model(Valuation),
+    /// This proof closes it.
+    Closed(Proof),
+}
+
+/// What is found where an atom is appended.
+#[derive(Drop)]
+pub(crate) enum Branch {
+    /// What is found of the list without it too.
+    Whole(Found),
+    /// A proof that closes the list with it.
+    Under(Proof),
+}
+
+/// What is found where one of several atoms is appended.
+#[derive(Drop)]
+pub(crate) enum Each {
+    /// What is found of the list without them too.
+    Whole(Found),
+    /// A proof for each of them.
+    Under(Proofs),
+}
+
+/// Searches a list. It is made longer and cut back; where memory wants it may stay longer.
+#[cycle(search)]
+pub(crate) fn search(
+    alloc: Global,
+    vars: &VarTable,
+    list: &mut Atoms,
+    depth: u64,
+) -> Result<Found, AllocError>
+    requires plain { ArePlain vars.now (atoms_view list.old) }
+    ensures same { OnOk result (list.new ≡ list.old) }
+    ensures found { IfOk result (IsFound vars.now (atoms_view list.old)) }
+{
+    match next_step(alloc, vars, list)? {
+        Step::Model(valuation) => Ok(Found::Model(valuation)),
+        Step::Closed(proof) => Ok(Found::Closed(proof)),
+        Step::Split(term) => search_split(alloc, vars, list, term, depth),
+        Step::Cases(subject) => {
+            let branches = kinds_of(alloc, vars, list, subject)?;
+            search_branches(alloc, vars, list, branches, depth)
+        }
+        Step::Values(place) => {
+            let branches = values_at(alloc, vars, list, place)?;
+            search_branches(alloc, vars, list, branches, depth)
+        }
+        Step::Differ(place) => {
+            let branches = differences_at(alloc, vars, list, place)?;
+            search_branches(alloc, vars, list, branches, depth)
+        }
+    }
+}
+
+/// Searches a list where a term is true, and where it is false.
+#[cycle(search)]
+fn search_split(
+    alloc: Global,
+    vars: &VarTable,
+    list: &mut Atoms,
+    term: Term,
+    depth: u64,
+) -> Result<Found, AllocError>
+    requires plain { ArePlain vars.now (atoms_view list.old) }
+    requires split { IsSplit vars.now (term_view term) }
+    ensures same { OnOk result (list.new ≡ list.old) }
+    ensures found { IfOk result (IsFound vars.now (atoms_view list.old)) }
+{
+    let holds = Atom::Holds(term.copy(alloc)?);
+    match search_with(alloc, vars, list, holds, depth)? {
+        Branch::Whole(found) => Ok(found),
+        Branch::Under(first) => search_second(alloc, vars, list, term, first, depth),
+    }
+}
+
+/// Searches a list where a term is false, after a proof where it is true.
+#[cycle(search)]
+fn search_second(
+    alloc: Global,
+    vars: &VarTable,
+    list: &mut Atoms,
+    term: Term,
+    first: Proof,
+    depth: u64,
+) -> Result<Found, AllocError>
+    requires plain { ArePlain vars.now (atoms_view list.old) }
+    requires split { IsSplit vars.now (term_view term) }
+    requires first { Closes vars.now (atoms_view list.old ++ positive (term_view term) ∷ []) (proof_view first) }
+    ensures same { OnOk result (list.new ≡ list.old) }
+    ensures found { IfOk result (IsFound vars.now (atoms_view list.old)) }
+{
+    let fails = Atom::Not(term.copy(alloc)?);
+    match search_with(alloc, vars, list, fails, depth)? {
+        Branch::Whole(found) => Ok(found),
+        Branch::Under(second) => {
+            let first = Box::new(alloc, first)?;
+            let second = Box::new(alloc, second)?;
+            Ok(Found::Closed(Proof::Split(term, first, second)))
+        }
+    }
+}
+
+/// Searches a list with each of some atoms, of which one holds.
+#[cycle(search)]
+fn search_branches(
+    alloc: Global,
+    vars: &VarTable,
+    list: &mut Atoms,
+    branches: Branches,
+    depth: u64,
+) -> Result<Found, AllocError>
+    requires plain { ArePlain vars.now (atoms_view list.old) }
+    requires branches { AreBranches vars.now (atoms_view list.old) branches }
+    ensures same { OnOk result (list.new ≡ list.old) }
+    ensures found { IfOk result (IsFound vars.now (atoms_view list.old)) }
+{
+    match search_each(alloc, vars, list, &branches.atoms, depth)? {
+        Each::Whole(found) => Ok(found),
+        Each::Under(proofs) => Ok(Found::Closed(joined(branches.form, proofs))),
+    }
+}
+
+/// Searches a list with each of some atoms in turn.
+#[cycle(search)]
+fn search_each(
+    alloc: Global,
+    vars: &VarTable,
+    list: &mut Atoms,
+    more: &Atoms,
+    depth: u64,
+) -> Result<Each, AllocError>
+    requires plain { ArePlain vars.now (atoms_view list.old) }
+    requires more { ArePlain vars.now (atoms_view more.now) }
+    ensures same { OnOk result (list.new ≡ list.old) }
+    ensures each { IfOk result (AreEach vars.now (atoms_view list.old) (atoms_view more.now)) }
+{
+    let mut proofs = Proofs::new(alloc);
+    for atom in more.as_slice() {
+        let appended = atom.copy(alloc)?;
+        match search_with(alloc, vars, list, appended, depth)? {
+            Branch::Whole(found) => return Ok(Each::Whole(found)),
+            Branch::Under(proof) => proofs.push(proof)?,
+        }
+    }
+    Ok(Each::Under(proofs))
+}
+
+/// Searches a list with an atom appended.
+#[cycle(search)]
+fn search_with(
+    alloc: Global,
+    vars: &VarTable,
+    list: &mut Atoms,
+    atom: Atom,
+    depth: u64,
+) -> Result<Branch, AllocError>
+    requires plain { ArePlain vars.now (atoms_view list.old) }
+    requires atom { IsPlainAtom vars.now (atom_view atom) }
+    ensures same { OnOk result (list.new ≡ list.old) }
+    ensures branch { IfOk result (IsBranch vars.now (atoms_view list.old) (atom_view atom)) }
+{
+    if depth == 0 {
+        return Err(AllocError);
+    }
+    list.push(atom)?;
+    let found = search(alloc, vars, list, depth - 1)?;
+    cut_last(alloc, list)?;
+    without_last(alloc, vars, list, found)
+}
+
+/// What is found of a list with one atom more, where it is taken away again. A proof that doesn't need the atom stands for
+/// the list itself, so that no other branch is searched.
+fn without_last(
+    alloc: Global,
+    vars: &VarTable,
+    list: &Atoms,
+    found: Found,
+) -> Result<Branch, AllocError>
+    ensures { IfOk result (λ b. (a : PureAtom) → IsFound vars.now (atoms_view list.now ++ a ∷ []) found → IsBranch vars.now (atoms_view list.now) a b) }
+{
+    match found {
+        Found::Model(valuation) => Ok(Branch::Whole(Found::Model(valuation))),
+        Found::Closed(proof) => match moved_proof(alloc, &proof, list.len()) {
+            Ok(shorter) => {
+                if accepts(vars, list, &shorter) {
+                    return Ok(Branch::Whole(Found::Closed(shorter)));
+                }
+                Ok(Branch::Under(proof))
+            }
+            Err(Kept::Named) => Ok(Branch::Under(proof)),
+            Err(Kept::Memory) => Err(AllocError),
+        },
+    }
+}
