@@ -8,6 +8,8 @@ mod located;
 mod naming;
 mod pieces;
 mod reading;
+#[cfg(test)]
+mod tests;
 mod texts;
 mod worded;
 
