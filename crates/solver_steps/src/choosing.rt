@@ -168,12 +168,7 @@ fn nearer(first: Option<Near>, second: Near) -> Near {
 }
 
 /// How far the second side may be from the first one.
-fn distance(
-    alloc: Global,
-    count: usize,
-    rows: &Rows,
-    sides: Sides,
-) -> Result<Range, AllocError> {
+fn distance(alloc: Global, count: usize, rows: &Rows, sides: Sides) -> Result<Range, AllocError> {
     let ranges = ranges_from(alloc, count, rows, node_at(sides.first))?;
     let range = range_of(ranges.as_slice(), sides.second);
     match 0i128.checked_sub(sides.first.plus) {

@@ -196,10 +196,7 @@ fn steps_are_found(rt: HostRuntime) -> Result<(), Fail> {
             &[Said(true, KindOf(3), Equal, K(Kind::Bool))],
             Found::Values,
         ),
-        (
-            &[Said(false, Pair(0, 1), Equal, Pair(1, 2))],
-            Found::Differ,
-        ),
+        (&[Said(false, Pair(0, 1), Equal, Pair(1, 2))], Found::Differ),
     ];
     for (list, wanted) in cases {
         assert_eq!(rt; step_of(rt.alloc(), list)?, wanted);
