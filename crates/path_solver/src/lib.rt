@@ -15,3 +15,6 @@ mod testing;
 pub use solutions::Solution;
 pub use solvers::PathSolver;
 pub use solving::solve;
+
+#[cfg(test)]
+mod tests;
