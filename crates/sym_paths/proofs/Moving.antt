@@ -55,7 +55,7 @@ nothing_more v ws none = sym (ap (λ us. v ++ us) none ∙ append-nil v)
 proper_as_it_is : (vars : List Sort) (v : List PureValue) → IsProper vars v → IsProper (vars ++ []) (v ++ [])
 proper_as_it_is vars v proper = subst (λ xs. IsProper xs (v ++ [])) (sym (append-nil vars)) (subst (IsProper vars) (sym (append-nil v)) proper)
 
-above : (ns : List ℕ) → (b : ℕ) × ((n : ℕ) → Contains ns n → n < b)
+pub above : (ns : List ℕ) → (b : ℕ) × ((n : ℕ) → Contains ns n → n < b)
 above [] = (0, λ n has. absurd (none_contained n has))
 above (k ∷ ns) =
     let (b, less) = above ns in (
