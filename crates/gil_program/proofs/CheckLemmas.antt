@@ -12,6 +12,7 @@ use Rattle.gil_syntax.specs.Valid.{is_among, has_twice, Signature, core_predicat
 use Rattle.gil_program.specs.ByName.{AreDistinct}
 use Rattle.gil_program.specs.First.{HasNone}
 use Rattle.gil_program.specs.Items.{before_proc, before_pred, items_before, item_of, StandsAt}
+use Rattle.gil_program.specs.Uncounted.{passes_limit, has_fault_but_length_if_there, fault_but_length_at}
 use Rattle.gil_program.specs.declared.items.ItemRef.{ItemRef}
 use Rattle.gil_program.proofs.BodyLemmas.{list_any-map}
 use Rattle.gil_program.proofs.ByNameLemmas.{map-seen}
@@ -123,3 +124,7 @@ module _ (p : PureParts) where
 pub on_ok : {X E : Type 0} (r : Result X E) (P Q : Type 0) → (P → Q) → OnOk r P → OnOk r Q
 on_ok (Ok x) P Q f h = f h
 on_ok (Err e) P Q f h = h
+
+-- the limits that the item with this number passes
+pub past_limit_here : (p : PureParts) (i : ℕ) (r : ItemRef) → StandsAt p i r → fault_but_length_at p TooMany i ≡ passes_limit p (items_before p r) (item_of r)
+past_limit_here p i r stands j = has_fault_but_length_if_there TooMany p (stands.before j) (stands.item j)

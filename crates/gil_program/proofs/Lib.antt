@@ -9,5 +9,6 @@ pub mod NameLemmas
 pub mod PieceLemmas
 pub mod ProgramLemmas
 pub mod SimpleLemmas
+pub mod UncountedLemmas
 pub mod UnknownLemmas
 pub mod WellMadeLemmas

@@ -2,8 +2,9 @@
 use Rattle.std.proofs.Common.{◌≡◌, ℕ, suc, ◌+◌, ◌<◌, List, [], ◌∷◌, ◌++◌, map, take, length, filter, Bool, true, false, cond, ◌||◌, leb, refl, sym, ap, ◌∙◌, arith}
 use Rattle.std.proofs.lemmas.List.{length-take}
 use Rattle.gil_syntax.specs.Pure.{PureProc, PureSpec, PurePredDef, PureParts}
-use Rattle.gil_syntax.specs.Valid.{ProgramItem, a_proc, a_spec, a_pred, same_list, most_items, is_large, has_wide_literal, is_too_many}
+use Rattle.gil_syntax.specs.Valid.{ProgramItem, a_proc, a_spec, a_pred, same_list, most_items, has_many_names, is_large, has_wide_literal, is_too_many}
 use Rattle.gil_program.specs.Items.{before_proc, before_spec, before_pred}
+use Rattle.gil_program.specs.Uncounted.{passes_limit}
 
 module _ (keep : ProgramItem → Bool) where
   abbrev kept : List ProgramItem → ℕ
@@ -50,6 +51,9 @@ module _ (p : PureParts) (k : ℕ) where
 
   pub proc_too_many : (q : PureProc) → k < length p.procs → (leb most_items k || is_large (a_proc q) || has_wide_literal p (a_proc q)) ≡ is_too_many p (before_proc p k) (a_proc q)
   proc_too_many q below = ap (λ n. leb most_items n || is_large (a_proc q) || has_wide_literal p (a_proc q)) (sym (procs_kept q below))
+
+  pub proc_past_limit : (q : PureProc) → k < length p.procs → (leb most_items k || has_many_names (a_proc q) || has_wide_literal p (a_proc q)) ≡ passes_limit p (before_proc p k) (a_proc q)
+  proc_past_limit q below = ap (λ n. leb most_items n || has_many_names (a_proc q) || has_wide_literal p (a_proc q)) (sym (procs_kept q below))
 
   pub spec_too_many : (s : PureSpec) → k < length p.specs → (leb most_items k || is_large (a_spec s) || has_wide_literal p (a_spec s)) ≡ is_too_many p (before_spec p k) (a_spec s)
   spec_too_many s below = ap (λ n. leb most_items n || is_large (a_spec s) || has_wide_literal p (a_spec s)) (sym (specs_kept s below))

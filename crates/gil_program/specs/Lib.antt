@@ -7,3 +7,4 @@ pub mod Parts
 pub mod Program
 pub mod Sought
 pub mod Values
+pub mod Uncounted

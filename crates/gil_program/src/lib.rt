@@ -13,12 +13,14 @@ mod named;
 mod program;
 mod seeking;
 mod simple;
+mod uncounted;
 mod unknown;
 mod well_made;
 
 pub use invalid::Invalid;
 pub use program::Prog;
 pub use simple::is_simple;
+pub use uncounted::check_but_length;
 pub use well_made::is_well_made;
 
 #[cfg(test)]

@@ -8,6 +8,7 @@ ghost use Rattle.gil_syntax.specs.View.{command_view, numbered_command_view, pro
 ghost use Rattle.gil_syntax.specs.Pure.{PureParts};
 ghost use Rattle.gil_program.specs.Items.{before_proc, before_spec, before_pred};
 ghost use Rattle.gil_program.specs.Sought.{is_wide_literal, no_use};
+ghost use Rattle.gil_program.specs.Uncounted.{passes_limit};
 
 use crate::seeking::{Sought, in_assertion, in_assertions, in_body};
 use gil_syntax::{Body, Command, Expr, NumberedCommand, PredDef, PredUse, Proc, Spec};
@@ -76,6 +77,13 @@ fn body_has_large_invariant(body: &Body) -> bool
     ensures { result ≡ list_any (λ c. valid.has_many_variables c.command) (map numbered_command_view body.now) }
 {
     has_large_invariant(body.as_slice())
+}
+
+/// Whether a procedure has too many parameters, or an invariant in it too many variables.
+fn has_many_names(proc: &Proc) -> bool
+    ensures { result ≡ valid.has_many_names (a_proc (proc_view proc.now)) }
+{
+    proc.params.len() > MOST_PARAMS || body_has_large_invariant(&proc.body)
 }
 
 /// Whether a procedure passes a limit.
@@ -149,4 +157,11 @@ pub(crate) fn pred_is_too_many(place: usize, pred: &PredDef) -> bool
     ensures { (p : PureParts) → place < length p.preds → result ≡ is_too_many p (before_pred p place) (a_pred (pred_def_view pred.now)) }
 {
     place >= MOST_ITEMS || is_large_pred(pred) || pred_has_wide_literal(pred)
+}
+
+/// Whether a procedure stands past the limit of its list, or passes a limit, whatever the number of its commands.
+pub(crate) fn proc_passes_limit(place: usize, proc: &Proc) -> bool
+    ensures { (p : PureParts) → place < length p.procs → result ≡ passes_limit p (before_proc p place) (a_proc (proc_view proc.now)) }
+{
+    place >= MOST_ITEMS || has_many_names(proc) || proc_has_wide_literal(proc)
 }
