@@ -9,6 +9,7 @@ use Rattle.gil_syntax.specs.declared.validity.InvalidKind.{InvalidKind}
 use Rattle.gil_syntax.specs.declared.validity.InvalidKind.TheVariants.{Duplicate, BadLabel, NoEnd, UnknownName, Arity, TooMany, Memory}
 use Rattle.gil_syntax.specs.Pure.{literal, name, assign, act, list_of, from_list, fail, vanish, return, PureExpr, PureNumberedCommand, PureSpec, PurePredDef, PureParts}
 use Rattle.gil_syntax.specs.Valid.{ProgramItem, a_proc, a_spec, a_pred, items_of, is_bad_jump, has_bad_label, last_ends_body, has_no_end, has_many_commands, has_many_names, has_wide_literal, has_fault, has_fault_if_there, IsValid, IsNamedFault}
+use Rattle.gil_program.specs.Uncounted.{has_fault_but_length_if_there, IsValidButLength}
 use Rattle.source_meaning.specs.Code.{jump, truth}
 use Rattle.source_meaning.specs.Procedures.{placed, null, nulls}
 use Rattle.source_meaning.specs.Names.{temporary, temporaries_from}
@@ -271,3 +272,22 @@ module _ (source : PureSource) (valid : IsValidSource source) (short : first_too
   -- so no fault of it is named
   pub none_named : (kind : InvalidKind) (i : ℕ) → IsNamedFault (compiled source) kind i → ⊥
   none_named kind i named = compiled_is_valid kind i named.at_fault
+
+-- ---- from the program to the source
+
+-- a source whose program has no fault but for the number of commands has none
+module _ (source : PureSource) where
+  fault_there : (kind : InvalidKind) (before : List ProgramItem) (o : Option ProgramItem) → IsTrue (has_source_fault_if_there kind (compiled source) before o)
+      → IsTrue (has_fault_but_length_if_there kind (compiled source) before o)
+  fault_there kind before None h = absurd (cc)
+  fault_there Duplicate before (Some item) h = h
+  fault_there BadLabel before (Some item) h = absurd (cc)
+  fault_there NoEnd before (Some item) h = absurd (cc)
+  fault_there UnknownName before (Some item) h = h
+  fault_there Arity before (Some item) h = h
+  fault_there TooMany before (Some item) h = h
+  fault_there Memory before (Some item) h = absurd (cc)
+
+  pub source_is_valid : IsValidButLength (compiled source) → IsValidSource source
+  source_is_valid valid kind i h =
+      valid kind i (fault_there kind (take i (items_of (compiled source))) (slice_get (items_of (compiled source)) i) h)

@@ -1,16 +1,12 @@
 -- Which trees are sources: those whose compiled program is valid, the number of commands of a procedure left aside.
-use Rattle.std.specs.Prelude.{ℕ, List, [], ◌∷◌, length, take, slice_get, Bool, false, ◌||◌, nat_le, nat_lt, if◌then◌else◌, Option, Some, None, IsTrue}
-use Rattle.std.specs.List.{filter}
+use Rattle.std.specs.Prelude.{ℕ, List, [], ◌∷◌, length, take, slice_get, Bool, false, nat_lt, if◌then◌else◌, Option, Some, None, IsTrue}
 use Rattle.gil_syntax.specs.declared.validity.InvalidKind.{InvalidKind}
 use Rattle.gil_syntax.specs.declared.validity.InvalidKind.TheVariants.{Duplicate, BadLabel, NoEnd, UnknownName, Arity, TooMany, Memory}
 use Rattle.gil_syntax.specs.Pure.{PureParts}
-use Rattle.gil_syntax.specs.Valid.{ProgramItem, items_of, most_items, same_list, is_duplicate, has_unknown_name, has_wrong_arity, has_many_names, has_wide_literal}
+use Rattle.gil_syntax.specs.Valid.{ProgramItem, items_of, most_items, is_duplicate, has_unknown_name, has_wrong_arity}
+use Rattle.gil_program.specs.Uncounted.{passes_limit}
 use Rattle.while_syntax.specs.Pure.{PureFunction, PureSource}
 use Rattle.while_compiler.specs.Compiled.{compiled, compiled_function}
-
--- more functions, specifications or predicates than there may be, more parameters or variables, or a wide literal
-abbrev pub passes_limit : PureParts → List ProgramItem → ProgramItem → Bool
-passes_limit p before item = nat_le most_items (length (filter (same_list item) before)) || has_many_names item || has_wide_literal p item
 
 -- the faults that a source may have: of labels and last commands it has none
 abbrev pub has_source_fault : InvalidKind → PureParts → List ProgramItem → ProgramItem → Bool

@@ -5,6 +5,7 @@ mod compiling;
 mod control;
 mod examples;
 mod limits;
+mod making;
 mod programs;
 mod records;
 mod simple;

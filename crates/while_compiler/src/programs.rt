@@ -32,6 +32,16 @@ fn body_code(alloc: Global, function: &Function) -> Result<Body, AllocError>
     Ok(code)
 }
 
+/// The procedure of a function, however long it is.
+fn procedure_of(alloc: Global, function: &Function) -> Result<Proc, AllocError>
+    ensures { IfOk result (λ proc. proc_view proc ≡ compiled.compiled_function (function_view function.now)) }
+{
+    let body = body_code(alloc, function)?;
+    let name = function.name.copy(alloc)?;
+    let params = copy_texts(alloc, &function.params)?;
+    Ok(Proc { name, params, body })
+}
+
 /// The procedure of a function, where it isn't too long.
 fn procedure(alloc: Global, function: &Function) -> Result<Proc, TooMany>
     ensures proc { IfOk result (λ proc. proc_view proc ≡ compiled.compiled_function (function_view function.now)) }
@@ -39,13 +49,37 @@ fn procedure(alloc: Global, function: &Function) -> Result<Proc, TooMany>
     ensures long { IfErr result (λ e. e ≢ Memory → is_too_long (function_view function.now) ≡ true) }
     ensures limit { IfErr result (λ e. IsLimitOf (Some function.now.at) e) }
 {
-    let body = body_code(alloc, function)?;
-    if code_len(&body) > MOST_COMMANDS {
+    let proc = procedure_of(alloc, function)?;
+    if code_len(&proc.body) > MOST_COMMANDS {
         return Err(TooMany::Limit(function.at as usize));
     }
-    let name = function.name.copy(alloc)?;
-    let params = copy_texts(alloc, &function.params)?;
-    Ok(Proc { name, params, body })
+    Ok(proc)
+}
+
+/// The procedures of functions, however long they are.
+fn procedures_of(alloc: Global, functions: &Functions) -> Result<Procs, AllocError>
+    ensures { IfOk result (λ procs. map proc_view procs ≡ map compiled.compiled_function (map function_view functions.now)) }
+{
+    let functions = functions.as_slice();
+    let mut procs = Procs::new(alloc);
+    for function in functions {
+        procs.push(procedure_of(alloc, function)?)?;
+    }
+    Ok(procs)
+}
+
+/// The parts of the compiled program, however long its procedures are.
+pub(crate) fn parts_of(alloc: Global, source: &SourceParts) -> Result<Parts, AllocError>
+    ensures { IfOk result (λ parts. parts_view parts ≡ compiled.compiled (source_parts_view source.now)) }
+{
+    let procs = procedures_of(alloc, &source.functions)?;
+    let specs = copy_specs(alloc, &source.specs)?;
+    let preds = copy_preds(alloc, &source.preds)?;
+    Ok(Parts {
+        procs,
+        specs,
+        preds,
+    })
 }
 
 /// The procedures of functions, where none is too long.
