@@ -72,6 +72,7 @@ const ALL_KINDS: [Kind; 9] = [
 ];
 
 /// A variable of sort any has one of the kinds.
+#[inline(never)]
 pub(crate) fn kinds_of(
     alloc: Global,
     vars: &VarTable,
@@ -90,6 +91,7 @@ pub(crate) fn kinds_of(
 }
 
 /// The variable of which an atom says a kind with few values has one of them.
+#[inline(never)]
 pub(crate) fn values_at(
     alloc: Global,
     vars: &VarTable,
@@ -116,6 +118,7 @@ pub(crate) fn values_at(
 }
 
 /// Some elements of list terms that differ do.
+#[inline(never)]
 pub(crate) fn differences_at(
     alloc: Global,
     vars: &VarTable,

@@ -19,6 +19,7 @@ pub(crate) fn copy_of(alloc: Global, atoms: &Atoms) -> Result<Atoms, AllocError>
 }
 
 /// Takes the last atom away. The others are moved, and none is copied.
+#[inline(never)]
 pub(crate) fn cut_last(alloc: Global, list: &mut Atoms) -> Result<(), AllocError>
     ensures { OnOk result ((kept : List Atom) (last : Atom) → list.old ≡ kept ++ last ∷ [] → list.new ≡ kept) }
 {

@@ -124,6 +124,7 @@ fn search_second(
 
 /// Searches a list with each of some atoms, of which one holds.
 #[cycle(search)]
+#[inline(never)]
 fn search_branches(
     alloc: Global,
     vars: &VarTable,
@@ -192,6 +193,7 @@ fn search_with(
 
 /// What is found of a list with one atom more, where it is taken away again. A proof that doesn't need the atom stands for
 /// the list itself, so that no other branch is searched.
+#[inline(never)]
 fn without_last(
     alloc: Global,
     vars: &VarTable,

@@ -17,7 +17,7 @@ use solver_proof::accepts;
 use std::alloc::{AllocError, Global};
 
 /// So many splits may stand within each other. A search that would go deeper is answered as want of memory.
-const GREATEST_DEPTH: u64 = 4_096;
+const GREATEST_DEPTH: u64 = 2_000;
 
 /// Solves a list of atoms over the variables of a table. Atoms that aren't of the fragment by themselves are simplified by the rules,
 /// and what is found then is tested on the atoms as they were given.
