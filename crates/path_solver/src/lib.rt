@@ -1,0 +1,10 @@
+//! The solver: it searches over splits for a valuation that satisfies a list of atoms, or puts together a proof that there is none.
+#![tactic(auto)]
+
+mod solutions;
+mod solvers;
+mod solving;
+
+pub use solutions::Solution;
+pub use solvers::PathSolver;
+pub use solving::solve;
