@@ -1,6 +1,6 @@
 -- How a call ends, from what its stages leave.
 use Rattle.std.proofs.Common.{◌≡◌, ◌⊎◌, inl, inr, ◌≤◌, ◌++◌, ℕ, List, length, Option, Some, None, IfSome, refl, sym, ◌∙◌, ap, subst}
-use Rattle.std.specs.Io.KnownBytes.{append_known}
+use Rattle.std.specs.Io.KnownBytes.{append_known, IsAtEnd}
 use Rattle.gillian_words.specs.Asked.{Asked, AskFor}
 use Rattle.gillian_core.specs.declared.refusals.Refusal.{Refusal}
 use Rattle.gillian_core.specs.declared.status.Status.{Status}
@@ -8,7 +8,7 @@ use Rattle.gillian_core.specs.declared.status.Status.TheVariants.{Good, Found, W
 use Rattle.gillian_core.specs.Outcomes.{Call, IsReported, Ends, written, write_failed, read_failed, out_of_memory, MayWrite, IsRead, IsRefused, IsRight, OfBytes, Output, a_report, a_program, Refuses, Reports, answer_status, output_status, output_text}
 use Rattle.gillian_core.specs.Finishing.{Finishes, Answers, IsResponseOrRefusal}
 use Rattle.gillian_core.specs.Refusals.{refusal_line}
-use Rattle.gillian_core.specs.Reports.{PureAnswer, clean, bug, returned, failed, vanished, cut, no_input, bad_input, number}
+use Rattle.gillian_core.specs.Reports.{PureAnswer, clean, bug, returned, failed, vanished, cut, no_input, bad_input, number, sat, unsat, unknown}
 
 pub ends_of_finish : (c : Call) (status result : Status) (text : List ℕ) → MayWrite c status text
     → Finishes c.taken c.taken_after c.write_faults c.write_faults_after text status result → Ends c result
@@ -26,6 +26,9 @@ by_answer c cut text read reports = (read, reports)
 by_answer c (no_input draw) text read reports = (read, reports)
 by_answer c (bad_input draw) text read reports = (read, reports)
 by_answer c (number place) text read reports = (read, reports)
+by_answer c (sat bindings) text read reports = (read, reports)
+by_answer c (unsat names proof) text read reports = (read, reports)
+by_answer c (unknown place) text read reports = (read, reports)
 
 may_report : (c : Call) (output : Output) (text : List ℕ) → IsRead c → Reports c (output_status output) text → MayWrite c (output_status output) text
 may_report c (a_report r) text read reports = by_answer c r.answer text read reports
@@ -67,6 +70,9 @@ no_answer_too_large cut e = cc
 no_answer_too_large (no_input draw) e = cc
 no_answer_too_large (bad_input draw) e = cc
 no_answer_too_large (number place) e = cc
+no_answer_too_large (sat bindings) e = cc
+no_answer_too_large (unsat names proof) e = cc
+no_answer_too_large (unknown place) e = cc
 
 no_output_too_large : (output : Output) → output_status output ≡ TooLarge → ⊥
 no_output_too_large (a_report r) e = no_answer_too_large r.answer e
@@ -140,6 +146,30 @@ refused_if_text c result (written Memory text may e) h = absurd may
 refused_if_text c result (write_failed status text may rose part) h = cc
 refused_if_text c result (read_failed rose nothing) h = cc
 refused_if_text c result (out_of_memory nothing) h = cc
+
+-- where an output or a refusal is written, the source was read to its end
+pub read_if_answered : (c : Call) (result : Status) → Ends c result → IsReported result ⊎ (result ≡ Text) → IsAtEnd c.left_after
+read_if_answered c result (written Good text may e) h = may.0.end
+read_if_answered c result (written Found text may e) h = may.0.end
+read_if_answered c result (written Text text may e) h = may.0.end
+read_if_answered c result (written Words text may e) (inl (inl h)) = cc
+read_if_answered c result (written Words text may e) (inl (inr h)) = cc
+read_if_answered c result (written Words text may e) (inr h) = cc
+read_if_answered c result (written TooLarge text may e) (inl (inl h)) = cc
+read_if_answered c result (written TooLarge text may e) (inl (inr h)) = cc
+read_if_answered c result (written TooLarge text may e) (inr h) = cc
+read_if_answered c result (written ReadFault text may e) h = absurd may
+read_if_answered c result (written WriteFault text may e) h = absurd may
+read_if_answered c result (written Memory text may e) h = absurd may
+read_if_answered c result (write_failed status text may rose part) (inl (inl h)) = cc
+read_if_answered c result (write_failed status text may rose part) (inl (inr h)) = cc
+read_if_answered c result (write_failed status text may rose part) (inr h) = cc
+read_if_answered c result (read_failed rose nothing) (inl (inl h)) = cc
+read_if_answered c result (read_failed rose nothing) (inl (inr h)) = cc
+read_if_answered c result (read_failed rose nothing) (inr h) = cc
+read_if_answered c result (out_of_memory nothing) (inl (inl h)) = cc
+read_if_answered c result (out_of_memory nothing) (inl (inr h)) = cc
+read_if_answered c result (out_of_memory nothing) (inr h) = cc
 
 -- with a fault of the source, and where memory runs out, nothing is written
 pub nothing_written : (c : Call) (result : Status) → Ends c result → (result ≡ ReadFault) ⊎ (result ≡ Memory) → c.taken_after ≡ c.taken

@@ -1,8 +1,10 @@
 pub mod Cases
 pub mod Ending
+pub mod Joined
 pub mod Paths
 pub mod Refusing
 pub mod Runs
+pub mod Solutions
 pub mod Spelled
 pub mod Standing
 pub mod WholeRuns

@@ -8,8 +8,9 @@ use Rattle.gil_syntax.specs.Pure.{PureParts}
 use Rattle.gil_syntax.specs.Valid.{IsValid}
 use Rattle.gil_grammar.specs.Texts.{SpellProgram}
 use Rattle.gil_machine.specs.Run.{IsEntry}
+use Rattle.atom_text.specs.Accepted.{PureAtomText, SpellAtoms}
 use Rattle.gillian_words.specs.declared.options.Mode.{Mode}
-use Rattle.gillian_words.specs.declared.options.Mode.TheVariants.{Run, Test, Compile}
+use Rattle.gillian_words.specs.declared.options.Mode.TheVariants.{Run, Test, Compile, Solve}
 use Rattle.gillian_words.specs.Asked.{Asked}
 use Rattle.gillian_core.specs.declared.programs.Command.{Command}
 use Rattle.gillian_core.specs.Grammar.{Spells}
@@ -28,11 +29,12 @@ pub record IsTextOf (bytes : List ℕ) (p : PureParts) : Type 0 where
   pub valid : IsValid p
 
 -- What a mode accepts: `run` the texts of programs in which it finds its entry, without parameters; `test` those of forward
--- programs, whose one procedure `main` is its entry; `compile` the texts of programs.
+-- programs, whose one procedure `main` is its entry; `compile` the texts of programs; `solve` those of variables and atoms.
 abbrev pub IsAcceptedBy : Mode → Asked → List ℕ → Type 0
 IsAcceptedBy Run a bytes = (p : PureParts) × IsTextOf bytes p × IsEntry p a.entry
 IsAcceptedBy Test a bytes = (commands : List Command) × Spell bytes commands × (a.entry ≡ codes "main")
 IsAcceptedBy Compile a bytes = (p : PureParts) × IsTextOf bytes p
+IsAcceptedBy Solve a bytes = (t : PureAtomText) × SpellAtoms bytes t
 
 -- the text is accepted where this is asked
 abbrev pub IsAccepted : Asked → List ℕ → Type 0

@@ -1,8 +1,14 @@
 -- The answers of the code as data.
 use Rattle.gil_values.specs.View.{value_view, values_view}
+use Rattle.std.specs.Prelude.{map}
+use Rattle.solver_proof.specs.View.{proof_view}
 use Rattle.gillian_core.specs.declared.answers.Answer.{Answer}
-use Rattle.gillian_core.specs.declared.answers.Answer.TheVariants.{Clean, Bug, Returned, Failed, Vanished, Cut, NoInput, BadInput, Number}
-use Rattle.gillian_core.specs.Reports.{PureAnswer, clean, bug, returned, failed, vanished, cut, no_input, bad_input, number}
+use Rattle.gillian_core.specs.declared.answers.Answer.TheVariants.{Clean, Bug, Returned, Failed, Vanished, Cut, NoInput, BadInput, Number, Sat, Unsat, Unknown}
+use Rattle.gillian_core.specs.declared.answers.Binding.{Binding}
+use Rattle.gillian_core.specs.Reports.{PureBinding, PureAnswer, clean, bug, returned, failed, vanished, cut, no_input, bad_input, number, sat, unsat, unknown}
+
+abbrev pub binding_view : Binding → PureBinding
+binding_view b = record { name = b.name; value = value_view b.value }
 
 abbrev pub answer_view : Answer → PureAnswer
 answer_view Clean = clean
@@ -14,3 +20,6 @@ answer_view Cut = cut
 answer_view (NoInput draw) = no_input draw
 answer_view (BadInput draw) = bad_input draw
 answer_view (Number place) = number place
+answer_view (Sat bindings) = sat (map binding_view bindings)
+answer_view (Unsat names proof) = unsat names (proof_view proof)
+answer_view (Unknown place) = unknown place

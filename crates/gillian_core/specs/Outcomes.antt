@@ -11,7 +11,7 @@ use Rattle.gillian_core.specs.declared.refusals.Refusal.{Refusal}
 use Rattle.gillian_core.specs.declared.status.Status.{Status}
 use Rattle.gillian_core.specs.declared.status.Status.TheVariants.{Good, Found, Words, Text, ReadFault, WriteFault, Memory, TooLarge}
 use Rattle.gillian_core.specs.Refusals.{IsRefusal, refusal_line}
-use Rattle.gillian_core.specs.Reports.{PureAnswer, clean, bug, returned, failed, vanished, cut, no_input, bad_input, number}
+use Rattle.gillian_core.specs.Reports.{PureAnswer, clean, bug, returned, failed, vanished, cut, no_input, bad_input, number, sat, unsat, unknown}
 use Rattle.gillian_core.specs.Reports.{Report, line, report_text}
 use Rattle.gillian_core.specs.Right.{IsCompiled, IsRightAnswer}
 use Rattle.gillian_core.specs.Words.{WordsFit, head_of}
@@ -78,7 +78,7 @@ abbrev pub output_text : Output → List ℕ
 output_text (a_report r) = report_text r
 output_text (a_program p) = printed_program p
 
--- a run that returned or vanished and a clean verdict are good
+-- a run that returned or vanished, a clean verdict, and a solution with values or a proof are good
 abbrev pub answer_status : PureAnswer → Status
 answer_status clean = Good
 answer_status (bug place value inputs) = Found
@@ -89,6 +89,9 @@ answer_status cut = Found
 answer_status (no_input draw) = Found
 answer_status (bad_input draw) = Found
 answer_status (number place) = Found
+answer_status (sat bindings) = Good
+answer_status (unsat names proof) = Good
+answer_status (unknown place) = Found
 
 abbrev pub output_status : Output → Status
 output_status (a_report r) = answer_status r.answer

@@ -3,9 +3,13 @@ use Rattle.std.specs.Prelude.{◌≡◌, ℕ, List, ◌++◌, length, codes}
 use Rattle.gil_values.specs.Printed.{numeral}
 use Rattle.gil_syntax.specs.Pure.{PureParts}
 use Rattle.gil_syntax.specs.declared.validity.InvalidKind.TheVariants as faults
+use Rattle.gil_text.specs.declared.refused.RefusedKind.{RefusedKind}
 use Rattle.gil_text.specs.declared.refused.RefusedKind.TheVariants as reader
-use Rattle.gil_text.specs.Refusals.{IsRefusedFor}
+use Rattle.gil_text.specs.Refusals as program
+use Rattle.atom_text.specs.Refusals as atoms
 use Rattle.gil_machine.specs.Run.{IsEntry}
+use Rattle.gillian_words.specs.declared.options.Mode.{Mode}
+use Rattle.gillian_words.specs.declared.options.Mode.TheVariants.{Run, Test, Compile, Solve}
 use Rattle.gillian_words.specs.Asked.{Asked}
 use Rattle.gillian_core.specs.declared.refusals.Refusal.{Refusal}
 use Rattle.gillian_core.specs.declared.refusals.RefusalKind.{RefusalKind}
@@ -33,19 +37,26 @@ kind_word Form = codes "form"
 abbrev pub refusal_line : Refusal → List ℕ
 refusal_line r = line (codes "refused " ++ kind_word r.kind ++ codes " at " ++ numeral r.at)
 
+-- The kind is the first that applies to a text by itself, at this byte, for the reader of what a mode works on.
+abbrev pub IsUnreadBy : Mode → List ℕ → ℕ → RefusedKind → Type 0
+IsUnreadBy Run bytes at kind = program.IsRefusedFor bytes at kind
+IsUnreadBy Test bytes at kind = program.IsRefusedFor bytes at kind
+IsUnreadBy Compile bytes at kind = program.IsRefusedFor bytes at kind
+IsUnreadBy Solve bytes at kind = atoms.IsRefusedFor bytes at kind
+
 -- The kind is the first that applies, at this byte. Those up to `too-many` are the reader's, by the text alone. `entry` is that
 -- of a program without the procedure that is asked for, or with parameters of it, at the text's length. `form`, at 0, is that of
 -- a program of a form that isn't built.
 abbrev pub IsFirstKind : Asked → List ℕ → ℕ → RefusalKind → Type 0
-IsFirstKind a bytes at Lex = IsRefusedFor bytes at reader.Lex
-IsFirstKind a bytes at Nesting = IsRefusedFor bytes at reader.Nesting
-IsFirstKind a bytes at Syntax = IsRefusedFor bytes at reader.Syntax
-IsFirstKind a bytes at Duplicate = IsRefusedFor bytes at (reader.Invalid faults.Duplicate)
-IsFirstKind a bytes at Label = IsRefusedFor bytes at (reader.Invalid faults.BadLabel)
-IsFirstKind a bytes at NoEnd = IsRefusedFor bytes at (reader.Invalid faults.NoEnd)
-IsFirstKind a bytes at UnknownName = IsRefusedFor bytes at (reader.Invalid faults.UnknownName)
-IsFirstKind a bytes at Arity = IsRefusedFor bytes at (reader.Invalid faults.Arity)
-IsFirstKind a bytes at TooMany = IsRefusedFor bytes at (reader.Invalid faults.TooMany)
+IsFirstKind a bytes at Lex = IsUnreadBy a.mode bytes at reader.Lex
+IsFirstKind a bytes at Nesting = IsUnreadBy a.mode bytes at reader.Nesting
+IsFirstKind a bytes at Syntax = IsUnreadBy a.mode bytes at reader.Syntax
+IsFirstKind a bytes at Duplicate = IsUnreadBy a.mode bytes at (reader.Invalid faults.Duplicate)
+IsFirstKind a bytes at Label = IsUnreadBy a.mode bytes at (reader.Invalid faults.BadLabel)
+IsFirstKind a bytes at NoEnd = IsUnreadBy a.mode bytes at (reader.Invalid faults.NoEnd)
+IsFirstKind a bytes at UnknownName = IsUnreadBy a.mode bytes at (reader.Invalid faults.UnknownName)
+IsFirstKind a bytes at Arity = IsUnreadBy a.mode bytes at (reader.Invalid faults.Arity)
+IsFirstKind a bytes at TooMany = IsUnreadBy a.mode bytes at (reader.Invalid faults.TooMany)
 IsFirstKind a bytes at Limit = ⊥
 IsFirstKind a bytes at Entry = (p : PureParts) × IsTextOf bytes p × (IsEntry p a.entry → ⊥) × (at ≡ length bytes)
 IsFirstKind a bytes at Modes = ⊥

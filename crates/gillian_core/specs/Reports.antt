@@ -1,19 +1,26 @@
 -- The texts of reports: a head line, and a line for the answer.
 use Rattle.std.specs.Prelude.{ℕ, List, [], ◌∷◌, ◌++◌, codes}
+use Rattle.std.specs.List.{join_by}
 use Rattle.gil_values.specs.Pure.{PureValue}
 use Rattle.gil_values.specs.Printed.{numeral, printed_value}
 use Rattle.gil_values.specs.declared.places.Place.{Place}
+use Rattle.solver_proof.specs.Pure.{PureProof}
+use Rattle.solver_print.specs.Proofs.{printed_proof}
 use Rattle.value_print.specs.Pieces.{printed_place, printed_list}
 
--- what a report of one procedure is about
-pub record Head : Type 0 where
-  pub mode : List ℕ
-  pub language : List ℕ
-  pub entry : List ℕ
-  pub bound : ℕ
+-- What a report is about: of a mode and a language, one procedure and a bound, or the whole text.
+pub data Head : Type 0 where
+  of_entry : List ℕ → List ℕ → List ℕ → ℕ → Head
+  of_text : List ℕ → List ℕ → Head
 
--- A verdict of `test` is `clean` or a bug. The others are how a run ends: draws are numbered from 1, and `number` has the
--- place of the first result that leaves 128 bits.
+-- a variable and its value
+pub record PureBinding : Type 0 where
+  pub name : List ℕ
+  pub value : PureValue
+
+-- A verdict of `test` is `clean` or a bug. A solution of `solve` is `sat` with the values of the variables, `unsat` with a
+-- proof and the names of the variables 0, 1, 2 and so on, or `unknown` with the place of an atom. The others are how a run
+-- ends: draws are numbered from 1, and `number` has the place of the first result that leaves 128 bits.
 pub data PureAnswer : Type 0 where
   clean : PureAnswer
   bug : Place → PureValue → List PureValue → PureAnswer
@@ -24,6 +31,9 @@ pub data PureAnswer : Type 0 where
   no_input : ℕ → PureAnswer
   bad_input : ℕ → PureAnswer
   number : Place → PureAnswer
+  sat : List PureBinding → PureAnswer
+  unsat : List (List ℕ) → PureProof → PureAnswer
+  unknown : ℕ → PureAnswer
 
 pub record Report : Type 0 where
   pub head : Head
@@ -34,8 +44,17 @@ abbrev pub line : List ℕ → List ℕ
 line characters = characters ++ 10 ∷ []
 
 abbrev pub head_line : Head → List ℕ
-head_line h =
-    line (codes "gillian " ++ h.mode ++ codes " " ++ h.language ++ codes " entry " ++ h.entry ++ codes " bound " ++ numeral h.bound)
+head_line (of_entry mode language entry bound) =
+    line (codes "gillian " ++ mode ++ codes " " ++ language ++ codes " entry " ++ entry ++ codes " bound " ++ numeral bound)
+head_line (of_text mode language) = line (codes "gillian " ++ mode ++ codes " " ++ language)
+
+-- `x = 7`
+abbrev pub printed_binding : PureBinding → List ℕ
+printed_binding b = b.name ++ codes " = " ++ printed_value b.value
+
+-- `[x = 7, y = true]`
+abbrev pub printed_bindings : List PureBinding → List ℕ
+printed_bindings bs = codes "[" ++ join_by printed_binding (codes ", ") bs ++ codes "]"
 
 abbrev pub answer_line : PureAnswer → List ℕ
 answer_line clean = line (codes "clean")
@@ -48,6 +67,9 @@ answer_line cut = line (codes "cut")
 answer_line (no_input draw) = line (codes "no input " ++ numeral draw)
 answer_line (bad_input draw) = line (codes "bad input " ++ numeral draw)
 answer_line (number place) = line (codes "number " ++ printed_place place)
+answer_line (sat bindings) = line (codes "sat " ++ printed_bindings bindings)
+answer_line (unsat names proof) = line (codes "unsat " ++ printed_proof names proof)
+answer_line (unknown place) = line (codes "unknown " ++ numeral place)
 
 abbrev pub report_text : Report → List ℕ
 report_text r = head_line r.head ++ answer_line r.answer

@@ -1,5 +1,5 @@
 -- Which answers are right, by the mode that is asked for.
-use Rattle.std.specs.Prelude.{◌≡◌, ℕ, List, []}
+use Rattle.std.specs.Prelude.{◌≡◌, ℕ, List, [], map}
 use Rattle.std.specs.FinMap.{empty}
 use Rattle.gil_syntax.specs.Pure.{PureParts}
 use Rattle.mem_model.specs.Actions.{Actions}
@@ -8,13 +8,18 @@ use Rattle.gil_machine.specs.Held.{HeldEnd, ended as held_end, number as held_nu
 use Rattle.gil_machine.specs.Run.{IsBug, IsClean, IsEntry}
 use Rattle.gil_machine.specs.State.{Ending, returned as end_returned, failed as end_failed, vanished as end_vanished}
 use Rattle.gil_machine.specs.State.{no_input as end_no_input, bad_input as end_bad_input, cut as end_cut}
+use Rattle.pure_terms.specs.Deciding.{IsRight as IsRightDecision, sat as decided_sat, unknown as decided_unknown}
+use Rattle.pure_terms.specs.Meaning.{IsUnsatisfiable}
+use Rattle.pure_terms.specs.declared.deciders.Reason.{Reason}
+use Rattle.solver_proof.specs.Closing.{Closes}
+use Rattle.atom_text.specs.Accepted.{PureAtomText, SpellAtoms}
 use Rattle.gillian_words.specs.declared.options.Mode.{Mode}
-use Rattle.gillian_words.specs.declared.options.Mode.TheVariants.{Run, Test, Compile}
+use Rattle.gillian_words.specs.declared.options.Mode.TheVariants.{Run, Test, Compile, Solve}
 use Rattle.gillian_words.specs.Asked.{Asked}
 use Rattle.gillian_core.specs.declared.programs.Command.{Command}
 use Rattle.gillian_core.specs.Accepted.{IsTextOf, Spell}
 use Rattle.gillian_core.specs.Programs.{program_of}
-use Rattle.gillian_core.specs.Reports.{PureAnswer, clean, bug, returned, failed, vanished, cut, no_input, bad_input, number}
+use Rattle.gillian_core.specs.Reports.{PureAnswer, clean, bug, returned, failed, vanished, cut, no_input, bad_input, number, sat, unsat, unknown}
 
 -- ---- run
 
@@ -55,6 +60,27 @@ pub record IsRightTest (a : Asked) (bytes : List ℕ) (answer : PureAnswer) : Ty
   pub text : Spell bytes commands
   pub verdict : IsRightVerdict (program_of commands) a.entry a.bound answer
 
+-- ---- solve
+
+-- the place of the atom that a reason names
+abbrev pub place_of : Reason → ℕ
+place_of (Reason.Atom i) = i
+place_of (Reason.Number i) = i
+
+-- `sat` is right where the variables have proper values that make every atom true; `unsat` where no proper values do, and
+-- the proof closes the list; `unknown` where the list isn't in the fragment, and the atom is one that keeps it out.
+abbrev pub IsRightSolution : PureAtomText → PureAnswer → Type 0
+IsRightSolution t (sat bindings) = (map (λ b. b.name) bindings ≡ t.names) × IsRightDecision t.vars t.atoms (decided_sat (map (λ b. b.value) bindings))
+IsRightSolution t (unsat names proof) = (names ≡ t.names) × Closes t.vars t.atoms proof × IsUnsatisfiable t.vars t.atoms
+IsRightSolution t (unknown place) = (reason : Reason) × (place_of reason ≡ place) × IsRightDecision t.vars t.atoms (decided_unknown reason)
+IsRightSolution t _ = ⊥
+
+-- the bytes are a text of variables and atoms, and the solution is right for them
+pub record IsSolved (bytes : List ℕ) (answer : PureAnswer) : Type 0 where
+  pub solved : PureAtomText
+  pub text : SpellAtoms bytes solved
+  pub solution : IsRightSolution solved answer
+
 -- ---- each mode
 
 -- the program is what is to be written of the bytes: that of which they are a text
@@ -62,12 +88,14 @@ abbrev pub IsCompiled : Mode → List ℕ → PureParts → Type 0
 IsCompiled Run bytes p = ⊥
 IsCompiled Test bytes p = ⊥
 IsCompiled Compile bytes p = IsTextOf bytes p
+IsCompiled Solve bytes p = ⊥
 
 -- the answer is right for the bytes where this is asked of the mode
 abbrev pub IsRightOf : Mode → Asked → List ℕ → PureAnswer → Type 0
 IsRightOf Run a bytes answer = IsRightRun a bytes answer
 IsRightOf Test a bytes answer = IsRightTest a bytes answer
 IsRightOf Compile a bytes answer = ⊥
+IsRightOf Solve a bytes answer = IsSolved bytes answer
 
 abbrev pub IsRightAnswer : Asked → List ℕ → PureAnswer → Type 0
 IsRightAnswer a bytes answer = IsRightOf a.mode a bytes answer

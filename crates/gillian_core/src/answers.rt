@@ -1,7 +1,19 @@
 //! The answers that reports give.
-use gil_values::{Place, Value, Values};
+use gil_values::{Place, Text, Value, Values};
+use sequence::Sequence;
+use solver_print::Names;
+use solver_proof::Proof;
 
-/// An answer: the verdict of a test, or how a run ended.
+/// A variable and its value.
+#[derive(Debug, Drop)]
+pub struct Binding {
+    pub name: Text,
+    pub value: Value,
+}
+
+pub type Bindings = Sequence<Binding>;
+
+/// An answer: the verdict of a test, how a run ended, or the solution of a list of atoms.
 #[derive(Debug, Drop)]
 pub enum Answer {
     /// No run fails.
@@ -23,4 +35,10 @@ pub enum Answer {
     BadInput(u32),
     /// A result at this place leaves 128 bits.
     Number(Place),
+    /// These values make every atom true.
+    Sat(Bindings),
+    /// This proof shows that no values make every atom true. The variables 0, 1, 2 and so on have these names.
+    Unsat(Names, Proof),
+    /// The list isn't in the fragment. The place of an atom that keeps it out.
+    Unknown(usize),
 }

@@ -12,6 +12,7 @@ mod reading;
 mod refusals;
 mod reports;
 mod running;
+mod solving;
 mod status;
 mod testing;
 mod top;

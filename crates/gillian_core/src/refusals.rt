@@ -1,11 +1,10 @@
 //! Why a text isn't accepted, and the line that says so.
 ghost use Rattle.std.specs.Prelude.{◌≡◌, ◌≢◌, ◌++◌, List, ℕ, IfOk, OnOk, string_bytes};
-ghost use Rattle.gil_text.specs.Refusals.{IsRefused};
 ghost use Rattle.gil_text.specs.declared.refused.RefusedKind.TheVariants as reader;
 ghost use Rattle.gillian_words.specs.Asked.{Asked};
 ghost use Rattle.gillian_core.specs.Accepted.{IsAccepted};
 ghost use Rattle.gillian_core.specs.Finishing.{IsStop};
-ghost use Rattle.gillian_core.specs.Refusals.{IsFirstKind, kind_word, refusal_line};
+ghost use Rattle.gillian_core.specs.Refusals.{IsFirstKind, IsUnreadBy, kind_word, refusal_line};
 
 use gil_syntax::InvalidKind;
 use gil_text::{Refused, RefusedKind};
@@ -69,9 +68,9 @@ impl From<AllocError> for Stop {
     }
 }
 
-/// What a refusal by the reader of GIL texts is, where the text isn't accepted.
+/// What a refusal by the reader of a mode's texts is, where the text isn't accepted.
 pub fn stop_of(refused: Refused) -> Stop
-    ensures { (a : Asked) (bytes : List ℕ) → IsRefused bytes refused
+    ensures { (a : Asked) (bytes : List ℕ) → IsUnreadBy a.mode bytes refused.at refused.kind
         → (refused.kind ≢ reader.Memory → IsAccepted a bytes → ⊥) → IsStop a bytes result }
 {
     match kind_of(refused.kind) {
@@ -86,7 +85,7 @@ pub fn stop_of(refused: Refused) -> Stop
 /// The kind of a refusal by the reader, and want of memory where it is no refusal.
 fn kind_of(kind: RefusedKind) -> Result<RefusalKind, AllocError>
     ensures kind { IfOk result (λ k. (a : Asked) (bytes : List ℕ) (at : ℕ)
-        → IsRefused bytes (record { at = at; kind = kind }) → IsFirstKind a bytes at k) }
+        → IsUnreadBy a.mode bytes at kind → IsFirstKind a bytes at k) }
     ensures other { OnOk result (kind ≢ reader.Memory) }
 {
     match kind {
@@ -104,7 +103,7 @@ fn kind_of(kind: RefusedKind) -> Result<RefusalKind, AllocError>
 /// The kind of a refusal for a fault of a program.
 fn kind_of_fault(fault: InvalidKind) -> Result<RefusalKind, AllocError>
     ensures { IfOk result (λ k. (a : Asked) (bytes : List ℕ) (at : ℕ)
-        → IsRefused bytes (record { at = at; kind = reader.Invalid fault }) → IsFirstKind a bytes at k) }
+        → IsUnreadBy a.mode bytes at (reader.Invalid fault) → IsFirstKind a bytes at k) }
 {
     match fault {
         InvalidKind::Duplicate => Ok(RefusalKind::Duplicate),

@@ -1,19 +1,24 @@
 //! The texts of reports.
-ghost use Rattle.std.specs.Prelude.{◌≡◌, ◌++◌, string_bytes, OnOk, IfOk};
+ghost use Rattle.std.specs.Prelude.{◌≡◌, ◌++◌, codes, map, string_bytes, OnOk, IfOk};
+ghost use Rattle.std.specs.List.{join_by};
 ghost use Rattle.gil_values.specs.View.{value_view, values_view};
 ghost use Rattle.gillian_words.specs.Asked.{mode_word, language_word};
 ghost use Rattle.gillian_words.specs.View.{words_view};
-ghost use Rattle.gillian_core.specs.Answers.{answer_view};
+ghost use Rattle.solver_proof.specs.View.{proof_view};
+ghost use Rattle.gillian_core.specs.Answers.{answer_view, binding_view};
 ghost use Rattle.gillian_core.specs.Outcomes.{answer_status};
-ghost use Rattle.gillian_core.specs.Reports.{head_line, answer_line, report_text, bug, returned, failed, no_input, bad_input, number};
+ghost use Rattle.gillian_core.specs.Reports.{head_line, of_entry, of_text, answer_line, report_text, printed_binding};
+ghost use Rattle.gillian_core.specs.Reports.{bug, returned, failed, no_input, bad_input, number, sat, unsat, unknown};
 ghost use Rattle.gillian_core.specs.Words.{head_of};
 
-use crate::answers::Answer;
+use crate::answers::{Answer, Binding, Bindings};
 use crate::status::Status;
 use gil_values::{Place, Value, Values};
 use gillian_words::{Language, Mode, Words};
+use solver_print::{Names, push_proof};
+use solver_proof::Proof;
 use std::alloc::{AllocError, Global};
-use value_print::{push_number, push_place, push_value, push_values};
+use value_print::{push_number, push_place, push_separator, push_value, push_values};
 
 /// The text of the report of an answer to words.
 pub fn report_of(alloc: Global, words: &Words, answer: &Answer) -> Result<String, AllocError>
@@ -30,6 +35,17 @@ pub fn report_of(alloc: Global, words: &Words, answer: &Answer) -> Result<String
 fn push_head(out: &mut String, words: &Words) -> Result<(), AllocError>
     ensures { OnOk result (string_bytes out.new ≡ string_bytes out.old ++ head_line (head_of (words_view words.now))) }
 {
+    match words.mode {
+        Mode::Run | Mode::Test => push_entry_head(out, words),
+        Mode::Compile | Mode::Solve => push_text_head(out, words),
+    }
+}
+
+/// Adds the head line of a report of one procedure.
+fn push_entry_head(out: &mut String, words: &Words) -> Result<(), AllocError>
+    ensures { OnOk result (string_bytes out.new ≡ string_bytes out.old
+        ++ head_line (of_entry (mode_word words.now.mode) (language_word words.now.second) words.now.entry words.now.bound)) }
+{
     out.push_str("gillian ")?;
     out.push_str(word_of_mode(words.mode))?;
     out.push_str(" ")?;
@@ -42,6 +58,19 @@ fn push_head(out: &mut String, words: &Words) -> Result<(), AllocError>
     Ok(())
 }
 
+/// Adds the head line of a report of a whole text.
+fn push_text_head(out: &mut String, words: &Words) -> Result<(), AllocError>
+    ensures { OnOk result (string_bytes out.new ≡ string_bytes out.old
+        ++ head_line (of_text (mode_word words.now.mode) (language_word words.now.second))) }
+{
+    out.push_str("gillian ")?;
+    out.push_str(word_of_mode(words.mode))?;
+    out.push_str(" ")?;
+    out.push_str(word_of_language(words.second))?;
+    out.push_str("\n")?;
+    Ok(())
+}
+
 /// The word of a mode.
 fn word_of_mode(mode: Mode) -> &'static str
     ensures { result.now ≡ mode_word mode }
@@ -50,6 +79,7 @@ fn word_of_mode(mode: Mode) -> &'static str
         Mode::Run => "run",
         Mode::Test => "test",
         Mode::Compile => "compile",
+        Mode::Solve => "solve",
     }
 }
 
@@ -59,6 +89,7 @@ fn word_of_language(language: Language) -> &'static str
 {
     match language {
         Language::GilRecord => "gil-record",
+        Language::Atoms => "atoms",
     }
 }
 
@@ -80,6 +111,9 @@ fn push_answer(out: &mut String, answer: &Answer) -> Result<(), AllocError>
         Answer::NoInput(draw) => push_no_input(out, *draw),
         Answer::BadInput(draw) => push_bad_input(out, *draw),
         Answer::Number(place) => push_too_wide(out, place),
+        Answer::Sat(bindings) => push_sat(out, bindings),
+        Answer::Unsat(names, proof) => push_unsat(out, names, proof),
+        Answer::Unknown(place) => push_unknown(out, *place),
     }
 }
 
@@ -155,17 +189,73 @@ fn push_too_wide(out: &mut String, place: &Place) -> Result<(), AllocError>
     Ok(())
 }
 
+/// Adds the line of values that make every atom true.
+fn push_sat(out: &mut String, bindings: &Bindings) -> Result<(), AllocError>
+    ensures { OnOk result (string_bytes out.new ≡ string_bytes out.old ++ answer_line (sat (map binding_view bindings.now))) }
+{
+    out.push_str("sat [")?;
+    push_bindings(out, bindings.as_slice())?;
+    out.push_str("]\n")?;
+    Ok(())
+}
+
+/// Adds variables with their values, with commas between them.
+fn push_bindings(out: &mut String, bindings: &[Binding]) -> Result<(), AllocError>
+    ensures { OnOk result (string_bytes out.new ≡ string_bytes out.old
+        ++ join_by (λ b. printed_binding (binding_view b)) (codes ", ") bindings.now) }
+{
+    for (index, binding) in bindings.iter().enumerate() {
+        push_separator(out, ", ", index)?;
+        push_binding(out, binding)?;
+    }
+    Ok(())
+}
+
+/// Adds a variable with its value.
+fn push_binding(out: &mut String, binding: &Binding) -> Result<(), AllocError>
+    ensures { OnOk result (string_bytes out.new ≡ string_bytes out.old ++ printed_binding (binding_view binding.now)) }
+{
+    out.push_str(binding.name.as_str())?;
+    out.push_str(" = ")?;
+    push_value(out, &binding.value)
+}
+
+/// Adds the line of a proof that no values make every atom true.
+fn push_unsat(out: &mut String, names: &Names, proof: &Proof) -> Result<(), AllocError>
+    ensures { OnOk result (string_bytes out.new ≡ string_bytes out.old ++ answer_line (unsat names.now (proof_view proof.now))) }
+{
+    out.push_str("unsat ")?;
+    push_proof(out, names, proof)?;
+    out.push_str("\n")?;
+    Ok(())
+}
+
+/// Adds the line of a list that isn't in the fragment.
+fn push_unknown(out: &mut String, place: usize) -> Result<(), AllocError>
+    ensures { OnOk result (string_bytes out.new ≡ string_bytes out.old ++ answer_line (unknown place)) }
+{
+    out.push_str("unknown ")?;
+    push_number(out, place as u64)?;
+    out.push_str("\n")?;
+    Ok(())
+}
+
 /// The status of an answer.
 pub fn status_of(answer: &Answer) -> Status
     ensures { result ≡ answer_status (answer_view answer.now) }
 {
     match answer {
-        Answer::Clean | Answer::Returned(_) | Answer::Vanished => Status::Good,
+        Answer::Clean
+        | Answer::Returned(_)
+        | Answer::Vanished
+        | Answer::Sat(_)
+        | Answer::Unsat(_, _) => Status::Good,
         Answer::Bug { .. }
         | Answer::Failed(_, _)
         | Answer::Cut
         | Answer::NoInput(_)
         | Answer::BadInput(_)
-        | Answer::Number(_) => Status::Found,
+        | Answer::Number(_)
+        | Answer::Unknown(_) => Status::Found,
     }
 }

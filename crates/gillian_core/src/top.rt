@@ -19,10 +19,12 @@ use crate::compiling::compile;
 use crate::refusals::{Refusal, Stop, refusal_text};
 use crate::reports::{report_of, status_of};
 use crate::running::run;
+use crate::solving::solution;
 use crate::status::Status;
 use crate::testing::test;
 use gil_io::{ReadEnd, Sink, Source, read_all, write_all};
 use gillian_words::{Mode, Words, WordsFault, read_words};
+use rewrite_book::RuleBook;
 use std::alloc::{AllocError, Global};
 
 /// The most bytes that a source text may have.
@@ -43,12 +45,14 @@ struct Response {
 }
 
 /// Does what the words ask with the text that the source gives. The words are read first, then the source to its end,
-/// then the text; then the work is done and the whole output is built, and only then is the first byte written.
+/// then the text; then the work is done and the whole output is built, and only then is the first byte written. The rules
+/// may be any: what is answered is right whatever they are.
 ///
 /// What the clauses say of bytes, they say of a source or a sink that tells them.
 pub fn gillian<S: Source, K: Sink>(
     alloc: Global,
     words: &Vec<String>,
+    rules: &RuleBook,
     source: &mut S,
     out: &mut K,
 ) -> Status
@@ -85,13 +89,14 @@ pub fn gillian<S: Source, K: Sink>(
     // What is written with each status, and of which text a part is written with 5.
     ensures ends { Ends (call_of S.left S.faults K.taken K.faults (spelled words.now) source.old source.new out.old out.new) result }
 {
-    respond(alloc, words, source, out)
+    respond(alloc, words, rules, source, out)
 }
 
 /// Reads the words, the source and the text, and answers.
 fn respond<S: Source, K: Sink>(
     alloc: Global,
     words: &Vec<String>,
+    rules: &RuleBook,
     source: &mut S,
     out: &mut K,
 ) -> Status
@@ -108,7 +113,7 @@ fn respond<S: Source, K: Sink>(
         Err(WordsFault::Memory) => return Status::Memory,
     };
     match read_all(alloc, source, MOST_BYTES) {
-        Ok(bytes) => answer(alloc, &task, &bytes, out),
+        Ok(bytes) => answer(alloc, &task, rules, &bytes, out),
         Err(ReadEnd::ReadFault) => Status::ReadFault,
         Err(ReadEnd::TooLarge) => finish_line(out, REFUSED_SIZE, Status::TooLarge),
         Err(ReadEnd::Memory) => Status::Memory,
@@ -116,11 +121,17 @@ fn respond<S: Source, K: Sink>(
 }
 
 /// Answers the whole text.
-fn answer<K: Sink>(alloc: Global, words: &Words, bytes: &[u8], out: &mut K) -> Status
+fn answer<K: Sink>(
+    alloc: Global,
+    words: &Words,
+    rules: &RuleBook,
+    bytes: &[u8],
+    out: &mut K,
+) -> Status
     requires { words.now.bound ≤ 10000 }
     ensures { Answers (words_view words.now) bytes.now (K.taken out.old) (K.taken out.new) (K.faults out.old) (K.faults out.new) result }
 {
-    match response_to(alloc, words, bytes) {
+    match response_to(alloc, words, rules, bytes) {
         Ok(response) => finish(out, &response.text, response.status),
         Err(_) => Status::Memory,
     }
@@ -144,11 +155,16 @@ fn finish<K: Sink>(out: &mut K, text: &[u8], status: Status) -> Status
 }
 
 /// The response to a text.
-fn response_to(alloc: Global, words: &Words, bytes: &[u8]) -> Result<Response, AllocError>
+fn response_to(
+    alloc: Global,
+    words: &Words,
+    rules: &RuleBook,
+    bytes: &[u8],
+) -> Result<Response, AllocError>
     requires { words.now.bound ≤ 10000 }
     ensures { IfOk result (λ response. IsResponseOrRefusal (words_view words.now) bytes.now response.status response.text.items) }
 {
-    match work(alloc, words, bytes) {
+    match work(alloc, words, rules, bytes) {
         Ok(response) => Ok(response),
         Err(Stop::Refused(refusal)) => refuse(alloc, refusal),
         Err(Stop::Memory) => Err(AllocError),
@@ -167,28 +183,66 @@ fn refuse(alloc: Global, refusal: Refusal) -> Result<Response, AllocError>
 }
 
 /// Does what is asked with a text.
-fn work(alloc: Global, words: &Words, bytes: &[u8]) -> Result<Response, Stop>
+fn work(alloc: Global, words: &Words, rules: &RuleBook, bytes: &[u8]) -> Result<Response, Stop>
     requires { words.now.bound ≤ 10000 }
     ensures response { IfOk result (λ response. IsResponse (words_view words.now) bytes.now response.status response.text.items) }
     ensures stop { IfErr result (IsStop (words_view words.now) bytes.now) }
 {
     match words.mode {
-        Mode::Run => {
-            let answer = run(alloc, words, bytes)?;
-            Ok(report(alloc, words, &answer)?)
-        }
-        Mode::Test => {
-            let answer = test(alloc, words, bytes)?;
-            Ok(report(alloc, words, &answer)?)
-        }
-        Mode::Compile => {
-            let text = compile(alloc, words, bytes)?;
-            Ok(Response {
-                status: Status::Good,
-                text,
-            })
-        }
+        Mode::Run => run_response(alloc, words, bytes),
+        Mode::Test => test_response(alloc, words, bytes),
+        Mode::Compile => compile_response(alloc, words, bytes),
+        Mode::Solve => solve_response(alloc, words, rules, bytes),
     }
+}
+
+/// The report of a run.
+fn run_response(alloc: Global, words: &Words, bytes: &[u8]) -> Result<Response, Stop>
+    requires mode { words.now.mode ≡ Mode.Run }
+    requires bound { words.now.bound ≤ 10000 }
+    ensures response { IfOk result (λ response. IsResponse (words_view words.now) bytes.now response.status response.text.items) }
+    ensures stop { IfErr result (IsStop (words_view words.now) bytes.now) }
+{
+    let answer = run(alloc, words, bytes)?;
+    Ok(report(alloc, words, &answer)?)
+}
+
+/// The report of a verdict.
+fn test_response(alloc: Global, words: &Words, bytes: &[u8]) -> Result<Response, Stop>
+    requires { words.now.mode ≡ Mode.Test }
+    ensures response { IfOk result (λ response. IsResponse (words_view words.now) bytes.now response.status response.text.items) }
+    ensures stop { IfErr result (IsStop (words_view words.now) bytes.now) }
+{
+    let answer = test(alloc, words, bytes)?;
+    Ok(report(alloc, words, &answer)?)
+}
+
+/// A program as text.
+fn compile_response(alloc: Global, words: &Words, bytes: &[u8]) -> Result<Response, Stop>
+    requires { words.now.mode ≡ Mode.Compile }
+    ensures response { IfOk result (λ response. IsResponse (words_view words.now) bytes.now response.status response.text.items) }
+    ensures stop { IfErr result (IsStop (words_view words.now) bytes.now) }
+{
+    let text = compile(alloc, words, bytes)?;
+    Ok(Response {
+        status: Status::Good,
+        text,
+    })
+}
+
+/// The report of a solution.
+fn solve_response(
+    alloc: Global,
+    words: &Words,
+    rules: &RuleBook,
+    bytes: &[u8],
+) -> Result<Response, Stop>
+    requires { words.now.mode ≡ Mode.Solve }
+    ensures response { IfOk result (λ response. IsResponse (words_view words.now) bytes.now response.status response.text.items) }
+    ensures stop { IfErr result (IsStop (words_view words.now) bytes.now) }
+{
+    let answer = solution(alloc, words, rules, bytes)?;
+    Ok(report(alloc, words, &answer)?)
 }
 
 /// The report of an answer.

@@ -6,9 +6,9 @@ use Rattle.gil_lexer.specs.Bytes.{quote}
 use Rattle.gil_lexer.specs.Spelling.{SpellsText}
 use Rattle.gil_lexer.proofs.LiteralLaws.{literal_once}
 use Rattle.gillian_words.specs.declared.options.Language.{Language}
-use Rattle.gillian_words.specs.declared.options.Language.TheVariants.{GilRecord}
+use Rattle.gillian_words.specs.declared.options.Language.TheVariants.{GilRecord, Atoms}
 use Rattle.gillian_words.specs.declared.options.Mode.{Mode}
-use Rattle.gillian_words.specs.declared.options.Mode.TheVariants.{Run, Test, Compile}
+use Rattle.gillian_words.specs.declared.options.Mode.TheVariants.{Run, Test, Compile, Solve}
 use Rattle.gillian_words.specs.declared.scan.Scan.TheVariants.{Outside}
 use Rattle.gillian_words.specs.Asked.{Asked, AskFor, IsOption, SpellsBound, SpellsEntry, mode_word, language_word}
 use Rattle.gillian_words.specs.Inputs.{comma, boolean_word, SpellsInput, SpellsInputs, SpellsNumber, SpellsSome}
@@ -115,15 +115,25 @@ one_mode : (m n : Mode) → mode_word m ≡ mode_word n → m ≡ n
 one_mode Run Run e = refl
 one_mode Run Test e = cc
 one_mode Run Compile e = cc
+one_mode Run Solve e = cc
 one_mode Test Run e = cc
 one_mode Test Test e = refl
 one_mode Test Compile e = cc
+one_mode Test Solve e = cc
 one_mode Compile Run e = cc
 one_mode Compile Test e = cc
 one_mode Compile Compile e = refl
+one_mode Compile Solve e = cc
+one_mode Solve Run e = cc
+one_mode Solve Test e = cc
+one_mode Solve Compile e = cc
+one_mode Solve Solve e = refl
 
 one_language : (l m : Language) → language_word l ≡ language_word m → l ≡ m
 one_language GilRecord GilRecord e = refl
+one_language GilRecord Atoms e = cc
+one_language Atoms GilRecord e = cc
+one_language Atoms Atoms e = refl
 
 same_word : (given : Option (List ℕ)) (word other : List ℕ) → given ≡ Some word → given ≡ Some other → word ≡ other
 same_word given word other e f = cc

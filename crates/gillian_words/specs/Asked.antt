@@ -5,9 +5,9 @@ use Rattle.std.specs.Str.Parse.{IsNumeral, digits_value}
 use Rattle.gil_values.specs.Pure.{PureValue}
 use Rattle.gil_lexer.specs.Spelling.{IsName}
 use Rattle.gillian_words.specs.declared.options.Language.{Language}
-use Rattle.gillian_words.specs.declared.options.Language.TheVariants.{GilRecord}
+use Rattle.gillian_words.specs.declared.options.Language.TheVariants.{GilRecord, Atoms}
 use Rattle.gillian_words.specs.declared.options.Mode.{Mode}
-use Rattle.gillian_words.specs.declared.options.Mode.TheVariants.{Run, Test, Compile}
+use Rattle.gillian_words.specs.declared.options.Mode.TheVariants.{Run, Test, Compile, Solve}
 use Rattle.gillian_words.specs.Inputs.{SpellsInputs}
 use Rattle.gillian_words.specs.Line.{AreTaken, matched}
 
@@ -24,25 +24,41 @@ abbrev pub mode_word : Mode → List ℕ
 mode_word Run = codes "run"
 mode_word Test = codes "test"
 mode_word Compile = codes "compile"
+mode_word Solve = codes "solve"
 
 abbrev pub language_word : Language → List ℕ
 language_word GilRecord = codes "gil-record"
+language_word Atoms = codes "atoms"
+
+-- which sources a mode works on: `solve` on atoms, the others on programs
+abbrev pub takes_language : Mode → Language → Bool
+takes_language Run GilRecord = true
+takes_language Test GilRecord = true
+takes_language Compile GilRecord = true
+takes_language Solve GilRecord = false
+takes_language Run Atoms = false
+takes_language Test Atoms = false
+takes_language Compile Atoms = false
+takes_language Solve Atoms = true
 
 -- which options a mode takes
 abbrev pub takes_bound : Mode → Bool
 takes_bound Run = true
 takes_bound Test = true
 takes_bound Compile = false
+takes_bound Solve = false
 
 abbrev pub takes_entry : Mode → Bool
 takes_entry Run = true
 takes_entry Test = true
 takes_entry Compile = false
+takes_entry Solve = false
 
 abbrev pub takes_inputs : Mode → Bool
 takes_inputs Run = true
 takes_inputs Test = false
 takes_inputs Compile = false
+takes_inputs Solve = false
 
 abbrev pub takes_json : Mode → Bool
 takes_json mode = false
@@ -88,6 +104,7 @@ given_by words = record {
 pub record Asks (g : Given) (a : Asked) : Type 0 where
   pub mode : g.mode ≡ Some (mode_word a.mode)
   pub second : g.second ≡ Some (language_word a.second)
+  pub taken : IsTrue (takes_language a.mode a.second)
   pub bound : IsOption (takes_bound a.mode) SpellsBound 1000 g.bound a.bound
   pub entry : IsOption (takes_entry a.mode) SpellsEntry (codes "main") g.entry a.entry
   pub inputs : IsOption (takes_inputs a.mode) SpellsInputs [] g.inputs a.inputs

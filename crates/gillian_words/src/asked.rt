@@ -1,7 +1,7 @@
 //! What words ask for.
-ghost use Rattle.std.specs.Prelude.{◌≡◌, Some, IfOk, IsErrOf};
+ghost use Rattle.std.specs.Prelude.{◌≡◌, Some, IfOk, IsErrOf, IsTrue};
 ghost use Rattle.std.specs.Option.{option_map};
-ghost use Rattle.gillian_words.specs.Asked.{AskFor, Asked, Asks, is_given, language_word, mode_word};
+ghost use Rattle.gillian_words.specs.Asked.{AskFor, Asked, Asks, is_given, language_word, mode_word, takes_language};
 ghost use Rattle.gillian_words.specs.Line.{spelled};
 ghost use Rattle.gillian_words.specs.View.{given_view, words_view};
 
@@ -70,6 +70,9 @@ fn asked(alloc: Global, given: &Given) -> Result<Words, WordsFault>
     let Some(second) = given.second.and_then(Language::of_word) else {
         return Err(WordsFault::Refused);
     };
+    if !mode.takes_language(second) {
+        return Err(WordsFault::Refused);
+    }
     with_options(alloc, mode, second, given)
 }
 
@@ -82,6 +85,7 @@ fn with_options(
 ) -> Result<Words, WordsFault>
     requires mode { option_map (λ s. s.now) given.now.mode ≡ Some (mode_word mode) }
     requires second { option_map (λ s. s.now) given.now.second ≡ Some (language_word second) }
+    requires taken { IsTrue (takes_language mode second) }
     ensures asked { IfOk result (λ w. Asks (given_view given.now) (words_view w)) }
     ensures refused { IsErrOf result WordsFault.Refused → (a : Asked) → Asks (given_view given.now) a → ⊥ }
 {

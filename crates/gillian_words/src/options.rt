@@ -20,6 +20,8 @@ pub enum Mode {
     Test,
     /// The program as GIL text.
     Compile,
+    /// A solution of a list of atoms.
+    Solve,
 }
 
 /// The language of the source.
@@ -27,12 +29,14 @@ pub enum Mode {
 pub enum Language {
     /// GIL over records.
     GilRecord,
+    /// Variables and atoms over them.
+    Atoms,
 }
 
 impl Mode {
     ghost use Rattle.std.specs.Prelude.{◌≡◌, ◌≢◌, IfSome, IfNone};
     ghost use Rattle.gillian_words.specs.declared.options.Mode.{Mode};
-    ghost use Rattle.gillian_words.specs.Asked.{mode_word, takes_bound, takes_entry, takes_inputs, takes_json};
+    ghost use Rattle.gillian_words.specs.Asked.{mode_word, takes_bound, takes_entry, takes_inputs, takes_json, takes_language};
 
     /// The mode of a word.
     pub(crate) fn of_word(word: &str) -> Option<Mode>
@@ -43,7 +47,18 @@ impl Mode {
             "run" => Some(Mode::Run),
             "test" => Some(Mode::Test),
             "compile" => Some(Mode::Compile),
+            "solve" => Some(Mode::Solve),
             _ => None,
+        }
+    }
+
+    /// Whether the mode works on sources of the language.
+    pub(crate) fn takes_language(self, language: Language) -> bool
+        ensures { result ≡ takes_language self language }
+    {
+        match language {
+            Language::GilRecord => !matches!(self, Mode::Solve),
+            Language::Atoms => matches!(self, Mode::Solve),
         }
     }
 
@@ -81,6 +96,7 @@ impl Language {
     {
         match word {
             "gil-record" => Some(Language::GilRecord),
+            "atoms" => Some(Language::Atoms),
             _ => None,
         }
     }

@@ -4,12 +4,13 @@ use Rattle.gillian_words.specs.declared.options.Mode.TheVariants.{Test}
 use Rattle.gillian_words.specs.View.{words_view}
 use Rattle.gillian_core.specs.declared.refusals.RefusalKind.TheVariants.{Entry, Form}
 use Rattle.gillian_core.proofs.Cases.{not_true}
-use Rattle.gillian_core.proofs.Refusing.{not_accepted_by, refused_by}
+use Rattle.gillian_core.proofs.Refusing.{not_accepted_by, refused_by, unread_where}
 use Rattle.gillian_core.proofs.testing.stop_untested.Goals as goal
 
 pub returns-in-Err : goal.returns-in-Err
 returns-in-Err c =
-    c.stop_of.ensures (words_view c.args.words.now) c.args.bytes.now c.in-Err.ensures.refused
+    c.stop_of.ensures (words_view c.args.words.now) c.args.bytes.now
+    (unread_where (words_view c.args.words.now) Test c.args.bytes.now c.in-Err.refused.at c.in-Err.refused.kind c.requires.mode c.in-Err.ensures.refused)
     (λ other. not_accepted_by (words_view c.args.words.now) Test c.args.bytes.now c.requires.mode c.requires.none)
 
 pub returns-then-is_entry : goal.returns-then-is_entry

@@ -1,0 +1,26 @@
+-- Printed lists, element by element.
+use Rattle.std.proofs.Common.{◌≡◌, ℕ, List, [], ◌∷◌, ◌++◌, map, refl, sym, ap, ◌∙◌, append_assoc}
+use Rattle.std.specs.List.{join_by, flat_map}
+use Rattle.std.specs.Prelude.{codes}
+use Rattle.gillian_core.specs.declared.answers.Binding.{Binding}
+use Rattle.gillian_core.specs.Answers.{binding_view}
+use Rattle.gillian_core.specs.Reports.{printed_binding, answer_line, sat}
+
+-- what is printed of elements that a function sees so
+pub join_by-seen : {X Y : Type 0} (printed : Y → List ℕ) (view : X → Y) (separator : List ℕ) (xs : List X)
+    → join_by printed separator (map view xs) ≡ join_by (λ x. printed (view x)) separator xs
+join_by-seen printed view separator [] = refl
+join_by-seen {X = X} printed view separator (x ∷ xs) = ap (λ rest. printed (view x) ++ rest) (later xs)
+  where
+    later : (ys : List X) → flat_map (λ y. separator ++ printed y) (map view ys) ≡ flat_map (λ y. separator ++ printed (view y)) ys
+    later [] = refl
+    later (y ∷ ys) = ap (λ rest. (separator ++ printed (view y)) ++ rest) (later ys)
+
+-- the line of values, piece by piece
+pub sat_added : (start before mid all : List ℕ) (bs : List Binding) → before ≡ start ++ codes "sat [" → mid ≡ before ++ join_by (λ (b : Binding). printed_binding (binding_view b)) (codes ", ") bs
+    → all ≡ mid ++ codes "]\n" → all ≡ start ++ answer_line (sat (map binding_view bs))
+sat_added start before mid all bs e f g =
+    let joined : List ℕ = join_by (λ (b : Binding). printed_binding (binding_view b)) (codes ", ") bs in
+    rw (g, f, e, join_by-seen printed_binding binding_view (codes ", ") bs)
+    (append_assoc (start ++ codes "sat [") joined (codes "]\n") ∙ append_assoc start (codes "sat [") (joined ++ codes "]\n")
+    ∙ ap (λ text. start ++ (codes "sat [" ++ text)) (sym (append_assoc joined (codes "]") (10 ∷ []))))

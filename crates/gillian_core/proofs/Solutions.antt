@@ -1,0 +1,31 @@
+-- The values of variables with their names, and what is known of a text that is solved.
+use Rattle.std.proofs.Common.{◌≡◌, ◌+◌, ℕ, List, [], ◌∷◌, ◌++◌, length, map, take, Some, slice_get, refl, sym, ap, ◌∙◌, add-one}
+use Rattle.std.proofs.lemmas.List.{length-map, map_push}
+use Rattle.gil_values.specs.View.{value_view}
+use Rattle.pure_terms.proofs.Evaluated.{take-push}
+use Rattle.atom_text.specs.declared.sources.Declaration.{Declaration}
+use Rattle.atom_text.specs.Accepted.{PureAtomText, SpellAtoms}
+use Rattle.gillian_core.specs.declared.answers.Binding.{Binding}
+use Rattle.gillian_core.specs.Answers.{binding_view}
+use Rattle.gillian_core.specs.Reports.{PureBinding}
+
+-- each variable of a text has a name
+pub named_variables : (bytes : List ℕ) (t : PureAtomText) → SpellAtoms bytes t → length t.names ≡ length t.vars
+named_variables bytes t (source, s, says) =
+    ap length (sym says.names) ∙ length-map source.declarations (λ (d : Declaration). d.name)
+    ∙ sym (length-map source.declarations (λ (d : Declaration). d.sort)) ∙ ap length says.vars
+
+pub names_seen : (bs : List Binding) → map (λ (b : PureBinding). b.name) (map binding_view bs) ≡ map (λ (b : Binding). b.name) bs
+names_seen [] = refl
+names_seen (b ∷ bs) = ap (λ xs. b.name ∷ xs) (names_seen bs)
+
+pub values_seen : (bs : List Binding) → map (λ (b : PureBinding). b.value) (map binding_view bs) ≡ map (λ (b : Binding). value_view b.value) bs
+values_seen [] = refl
+values_seen (b ∷ bs) = ap (λ xs. value_view b.value ∷ xs) (values_seen bs)
+
+-- one binding more, of which f sees the next of a list
+pub one_more : {X : Type 0} (f : Binding → X) (bs : List Binding) (b : Binding) (all : List Binding) (xs : List X) (i : ℕ) (x : X) → all ≡ bs ++ b ∷ [] → f b ≡ x
+    → slice_get xs i ≡ Some x → map f bs ≡ take i xs → map f all ≡ take (i + 1) xs
+one_more f bs b all xs i x pushed seen here before =
+    ap (map f) pushed ∙ map_push f bs b ∙ ap (λ ys. ys ++ f b ∷ []) before ∙ ap (λ y. take i xs ++ y ∷ []) seen
+    ∙ sym (take-push xs i x here) ∙ ap (λ k. take k xs) (sym (add-one i))

@@ -1,0 +1,84 @@
+//! The mode `solve`: a solution of a list of atoms.
+ghost use Rattle.std.specs.Prelude.{◌≡◌, length, map, IfOk, IfErr};
+ghost use Rattle.gil_values.specs.View.{value_view, values_view};
+ghost use Rattle.pure_terms.specs.Meaning.{AreOver};
+ghost use Rattle.pure_terms.specs.View.{atoms_view};
+ghost use Rattle.atom_text.specs.Accepted.{text_view};
+ghost use Rattle.gillian_words.specs.View.{words_view};
+ghost use Rattle.gillian_core.specs.Answers.{answer_view};
+ghost use Rattle.gillian_core.specs.Finishing.{IsStop};
+ghost use Rattle.gillian_core.specs.Right.{IsRightSolution, IsSolved, place_of};
+
+use crate::answers::{Answer, Binding, Bindings};
+use crate::refusals::{Stop, stop_of};
+use atom_text::{AtomText, read_atoms};
+use gil_values::Values;
+use gillian_words::{Mode, Words};
+use path_solver::{Solution, solve};
+use pure_terms::Reason;
+use rewrite_book::RuleBook;
+use sequence::Sequence;
+use solver_print::Names;
+use solver_proof::closed_lists_have_no_solution;
+use std::alloc::{AllocError, Global};
+
+/// The solution that is asked for. Atoms outside the fragment are simplified by the rules.
+pub fn solution(
+    alloc: Global,
+    words: &Words,
+    rules: &RuleBook,
+    bytes: &[u8],
+) -> Result<Answer, Stop>
+    requires mode { words.now.mode ≡ Mode.Solve }
+    ensures answer { IfOk result (λ answer. IsSolved bytes.now (answer_view answer)) }
+    ensures stop { IfErr result (IsStop (words_view words.now) bytes.now) }
+{
+    match read_atoms(alloc, bytes) {
+        Ok(text) => Ok(solution_of(alloc, rules, text)?),
+        Err(refused) => Err(stop_of(refused)),
+    }
+}
+
+/// The solution of a text.
+fn solution_of(alloc: Global, rules: &RuleBook, text: AtomText) -> Result<Answer, AllocError>
+    requires over { AreOver text.vars (atoms_view text.atoms) }
+    requires named { length text.names ≡ length text.vars }
+    ensures { IfOk result (λ answer. IsRightSolution (text_view text) (answer_view answer)) }
+{
+    closed_lists_have_no_solution();
+    let AtomText { names, vars, atoms } = text;
+    match solve(alloc, &vars, &atoms, rules)? {
+        Solution::Sat(values) => Ok(Answer::Sat(bindings_of(alloc, &names, &values)?)),
+        Solution::Unsat(proof) => Ok(Answer::Unsat(names, proof)),
+        Solution::Unknown(reason) => Ok(Answer::Unknown(place_of(reason))),
+    }
+}
+
+/// The place of the atom that a reason names.
+fn place_of(reason: Reason) -> usize
+    ensures { result ≡ place_of reason }
+{
+    match reason {
+        Reason::Atom(place) => place,
+        Reason::Number(place) => place,
+    }
+}
+
+/// Variables with these names and values, in their order.
+fn bindings_of(alloc: Global, names: &Names, values: &Values) -> Result<Bindings, AllocError>
+    requires { length names.now ≡ length (values_view values.now) }
+    ensures names { IfOk result (λ bindings. map (λ b. b.name) bindings ≡ names.now) }
+    ensures values { IfOk result (λ bindings. map (λ b. value_view b.value) bindings ≡ values_view values.now) }
+{
+    let mut bindings = Sequence::new(alloc);
+    for (index, value) in values.as_slice().iter().enumerate() {
+        let Some(name) = names.get(index) else {
+            unreachable!()
+        };
+        bindings.push(Binding {
+            name: name.copy(alloc)?,
+            value: value.copy(alloc)?,
+        })?;
+    }
+    Ok(bindings)
+}
