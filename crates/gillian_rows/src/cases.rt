@@ -38,6 +38,18 @@ pub struct Case {
     pub failing_writes: Vec<usize>,
     /// How many bytes the sink takes in all.
     pub room: Option<usize>,
+    /// The rules by which terms are simplified.
+    #[serde(default)]
+    pub rules: Rules,
+}
+
+/// Rules by which terms are simplified: those that the program has, or none.
+#[derive(Clone, Copy, Debug, Default, Deserialize)]
+#[serde(rename_all = "lowercase")]
+pub enum Rules {
+    #[default]
+    Shipped,
+    None,
 }
 
 /// What must be written: a text, to its last byte, or any text with this beginning, where several are right.
@@ -82,6 +94,8 @@ pub enum Piece {
     Repeat(Repeat),
     /// One byte, until the source has so many bytes.
     Fill(Fill),
+    /// Two texts with a number between them, for each number from 0 on, so many times.
+    Numbered(Numbered),
 }
 
 #[derive(Debug, Drop, Deserialize)]
@@ -96,6 +110,14 @@ pub struct Repeat {
 pub struct Fill {
     pub byte: u8,
     pub size: usize,
+}
+
+#[derive(Debug, Drop, Deserialize)]
+#[serde(deny_unknown_fields)]
+pub struct Numbered {
+    pub before: String,
+    pub after: String,
+    pub times: usize,
 }
 
 /// Why the pieces make no source.
@@ -121,7 +143,7 @@ impl SourceText {
             SourceText::Text(text) => add(&mut bytes, text.as_bytes())?,
             SourceText::Pieces(pieces) => {
                 for piece in pieces {
-                    piece.add_to(&mut bytes)?;
+                    piece.add_to(alloc, &mut bytes)?;
                 }
             }
         }
@@ -131,7 +153,7 @@ impl SourceText {
 
 impl Piece {
     /// Adds the bytes of the piece.
-    fn add_to(&self, bytes: &mut Vec<u8>) -> Result<(), SourceFault> {
+    fn add_to(&self, alloc: Global, bytes: &mut Vec<u8>) -> Result<(), SourceFault> {
         match self {
             Piece::Text(text) => add(bytes, text.as_bytes()),
             Piece::Bytes(more) => add(bytes, more),
@@ -144,6 +166,14 @@ impl Piece {
             Piece::Fill(fill) => {
                 for _ in bytes.len()..fill.size {
                     add(bytes, &[fill.byte])?;
+                }
+                Ok(())
+            }
+            Piece::Numbered(numbered) => {
+                for number in 0..numbered.times {
+                    add(bytes, numbered.before.as_bytes())?;
+                    add(bytes, number.to_string(alloc)?.as_bytes())?;
+                    add(bytes, numbered.after.as_bytes())?;
                 }
                 Ok(())
             }
