@@ -15,4 +15,4 @@ mod texts;
 mod worded;
 
 pub use laws::texts_compile_to_well_made_programs;
-pub use texts::read_parts;
+pub use texts::{read, read_parts};
