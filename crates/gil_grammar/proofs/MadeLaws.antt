@@ -78,10 +78,10 @@ pub record Made (test : Bool) (rest : List Lexeme) : Type 0 where
   pub proper : AreProper rest
 
 -- a thing of which the test holds is spelled
-abbrev Makes : {X : Type 0} → (X → List Lexeme → List Lexeme → Type 0) → (X → Bool) → Type 0
+abbrev pub Makes : {X : Type 0} → (X → List Lexeme → List Lexeme → Type 0) → (X → Bool) → Type 0
 Makes {X} spells test = (x : X) (ls rest : List Lexeme) → AreProper ls → spells x ls rest → Made (test x) rest
 
-after : (l : Lexeme) (ls rest : List Lexeme) → ls ≡ l ∷ rest → AreProper ls → AreProper rest
+pub after : (l : Lexeme) (ls rest : List Lexeme) → ls ≡ l ∷ rest → AreProper ls → AreProper rest
 after l ls rest is p = (subst AreProper is p).1
 
 module _ {X : Type 0} (spells : X → List Lexeme → List Lexeme → Type 0) (test : X → Bool) (makes : Makes spells test) where
@@ -103,7 +103,7 @@ module _ {X : Type 0} (spells : X → List Lexeme → List Lexeme → Type 0) (t
       let others = more_make separator xs behind rest first.proper more in
       record { is = and_from _ _ first.is others.is; proper = others.proper }
 
-  separated_make : (separator : Lexeme) (xs : List X) (ls rest : List Lexeme) → AreProper ls → SpellsSeparated spells separator xs ls rest → Made (list_all test xs) rest
+  pub separated_make : (separator : Lexeme) (xs : List X) (ls rest : List Lexeme) → AreProper ls → SpellsSeparated spells separator xs ls rest → Made (list_all test xs) rest
   separated_make separator [] ls rest p is = record { is = refl; proper = subst AreProper is p }
   separated_make separator (x ∷ xs) ls rest p (behind, one, more) =
       let first = makes x ls behind p one in
@@ -128,7 +128,7 @@ named_makes : (position : Position) (x : List ℕ) (l : Lexeme) → IsProper l �
 named_makes position x l p (inl is) = not_from_false _ (subst IsProper is p)
 named_makes position x l p (inr (word, says, is)) = not_from_false _ (serving_has_no_hash position word x says)
 
-program_name : (x : List ℕ) → IsProper (lexemes.Name x) → is_program_name x ≡ true
+pub program_name : (x : List ℕ) → IsProper (lexemes.Name x) → is_program_name x ≡ true
 program_name x p = not_from_false _ p
 
 -- ---- expressions
@@ -153,7 +153,7 @@ both_lists : (es ds : List PureExpr) → list_all is_well_made_node es ≡ true 
 both_lists es ds a b = list_all-append is_well_made_node es ds ∙ and_from _ _ a b
 
 mutual
-  expr_makes : (position : Position) (e : PureExpr) (ls rest : List Lexeme) → AreProper ls → SpellsExpr position e ls rest → Made (is_well_made_expr e) rest
+  pub expr_makes : (position : Position) (e : PureExpr) (ls rest : List Lexeme) → AreProper ls → SpellsExpr position e ls rest → Made (is_well_made_expr e) rest
   expr_makes position (literal v) ls rest p (l, says, is) = record { is = one_node _ (literal_makes v l says); proper = after l ls rest is p }
   expr_makes position (name x) ls rest p (l, says, is) = record { is = one_node _ (named_makes position x l (subst AreProper is p).0 says); proper = after l ls rest is p }
   expr_makes position (logical x) ls rest p (there, is) = record { is = one_node _ (subst AreProper is p).0; proper = after _ ls rest is p }
@@ -182,7 +182,7 @@ mutual
       let others = more_elements_make position es behind rest first.proper k in
       record { is = both_lists (subexpressions e) (subexpressions_of_all es) first.is others.is; proper = others.proper }
 
-exprs_make : (position : Position) (es : List PureExpr) (ls rest : List Lexeme) → AreProper ls → SpellsExprs position es ls rest → Made (list_all is_well_made_expr es) rest
+pub exprs_make : (position : Position) (es : List PureExpr) (ls rest : List Lexeme) → AreProper ls → SpellsExprs position es ls rest → Made (list_all is_well_made_expr es) rest
 exprs_make position es ls rest p h = separated_make (SpellsExpr position) is_well_made_expr (expr_makes position) comma es ls rest p h
 
 -- ---- parameters and assertions
@@ -238,20 +238,20 @@ item_exprs (item ∷ items) e =
     let parts = and_parts (list_all is_well_made_expr (exprs_of_item item)) _ e in
     list_all_both (exprs_of_item item) (flat_map exprs_of_item items) parts.0 (item_exprs items parts.1)
 
-input_makes : (k : Kind) (word : Word) → input_word k ≡ Some word → is_drawable k ≡ true
+pub input_makes : (k : Kind) (word : Word) → input_word k ≡ Some word → is_drawable k ≡ true
 input_makes kinds.Int word e = refl
 input_makes kinds.Bool word e = refl
 input_makes kinds.Str word e = refl
 input_makes _ word e = absurd cc
 
-name_makes : Makes SpellsName is_program_name
+pub name_makes : Makes SpellsName is_program_name
 name_makes x ls rest p is = let h = subst AreProper is p in record { is = program_name x h.0; proper = h.1 }
 
 -- a command without names, with one expression
 one_expr : (e : PureExpr) → is_well_made_expr e ≡ true → list_all is_well_made_expr (e ∷ []) ≡ true
 one_expr e h = and_from _ true h refl
 
-command_makes : Makes SpellsCommand is_well_made_command
+pub command_makes : Makes SpellsCommand is_well_made_command
 command_makes (assign x e) ls rest p (value, is, h) =
     let front = subst AreProper is p in
     let read = expr_makes positions.Command e value rest front.1.1 h in

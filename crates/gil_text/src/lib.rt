@@ -21,6 +21,7 @@ pub use annotations::{Annotation, annotation_at, read_assertions};
 pub use assertions::{expression_at, expressions_at};
 pub use commands::{logic_at, names_at};
 pub use nesting::nesting_fault;
+pub use places::place_at;
 pub use programs::{pred_at, spec_at};
 pub use reading::byte_before;
 pub use refused::{Refused, RefusedKind};

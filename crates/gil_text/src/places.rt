@@ -3,8 +3,8 @@ ghost use Rattle.std.specs.Prelude.{◌≡◌, ◌++◌, slice_get};
 
 use crate::located::Places;
 
-/// The place of an item, of which there are so many procedures, then specifications, then predicates.
-pub(crate) fn place_at(procs: &Places, specs: &Places, preds: &Places, item: usize) -> Option<usize>
+/// The place of an item, of which there are so many procedures or functions, then specifications, then predicates.
+pub fn place_at(procs: &Places, specs: &Places, preds: &Places, item: usize) -> Option<usize>
     ensures { result ≡ slice_get (procs.now ++ specs.now ++ preds.now) item }
 {
     if item < procs.len() {

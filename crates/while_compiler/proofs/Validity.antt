@@ -1,5 +1,5 @@
 -- A compiled program is valid, but for the number of its commands, where its source is.
-use Rattle.std.proofs.Common.{◌≡◌, ℕ, zero, suc, ◌+◌, ◌≤◌, pos, List, [], ◌∷◌, ◌++◌, map, take, length, Bool, true, false, cond, Option, Some, None, slice_get, is_some, IsTrue, not, append_assoc, refl, sym, ap, subst, ◌∙◌, true≢false, arith, length-append}
+use Rattle.std.proofs.Common.{◌≡◌, ◌≢◌, ℕ, zero, suc, ◌+◌, ◌≤◌, pos, List, [], ◌∷◌, ◌++◌, map, take, length, Bool, true, false, cond, Option, Some, None, slice_get, is_some, IsTrue, not, append_assoc, refl, sym, ap, subst, ◌∙◌, true≢false, arith, length-append}
 use Rattle.std.specs.Prelude.{codes, ◌||◌, int_lt, int_le}
 use Rattle.std.specs.List.{list_any}
 use Rattle.std.proofs.lemmas.Bool.{lt-leb}
@@ -291,3 +291,36 @@ module _ (source : PureSource) where
   pub source_is_valid : IsValidButLength (compiled source) → IsValidSource source
   source_is_valid valid kind i h =
       valid kind i (fault_there kind (take i (items_of (compiled source))) (slice_get (items_of (compiled source)) i) h)
+
+  fault_back : (kind : InvalidKind) (before : List ProgramItem) (o : Option ProgramItem) → kind ≢ BadLabel → kind ≢ NoEnd
+      → IsTrue (has_fault_but_length_if_there kind (compiled source) before o) → IsTrue (has_source_fault_if_there kind (compiled source) before o)
+  fault_back kind before None a b h = absurd (cc)
+  fault_back Duplicate before (Some item) a b h = h
+  fault_back BadLabel before (Some item) a b h = absurd (a refl)
+  fault_back NoEnd before (Some item) a b h = absurd (b refl)
+  fault_back UnknownName before (Some item) a b h = h
+  fault_back Arity before (Some item) a b h = h
+  fault_back TooMany before (Some item) a b h = h
+  fault_back Memory before (Some item) a b h = absurd (cc)
+
+  labelled : (i : ℕ) (o : Option ProgramItem) → slice_get (items_of (compiled source)) i ≡ o
+      → IsTrue (has_fault_but_length_if_there BadLabel (compiled source) (take i (items_of (compiled source))) o) → ⊥
+  labelled i None is h = absurd (cc)
+  labelled i (Some item) is h = true≢false (sym h ∙ passes_none has_bad_label (items_of (compiled source)) i item
+      (none_of_items has_bad_label (λ s. refl) (λ d. refl) (compiled source) (no_function has_bad_label source.functions no_bad_label)) is)
+
+  ended : (i : ℕ) (o : Option ProgramItem) → slice_get (items_of (compiled source)) i ≡ o
+      → IsTrue (has_fault_but_length_if_there NoEnd (compiled source) (take i (items_of (compiled source))) o) → ⊥
+  ended i None is h = absurd (cc)
+  ended i (Some item) is h = true≢false (sym h ∙ passes_none has_no_end (items_of (compiled source)) i item
+      (none_of_items has_no_end (λ s. refl) (λ d. refl) (compiled source) (no_function has_no_end source.functions has_end)) is)
+
+  -- a source without a fault has a program without one, but for the number of commands
+  pub program_is_valid : IsValidSource source → IsValidButLength (compiled source)
+  program_is_valid valid Duplicate i h = valid Duplicate i (fault_back Duplicate (take i (items_of (compiled source))) (slice_get (items_of (compiled source)) i) (λ e. cc) (λ e. cc) h)
+  program_is_valid valid BadLabel i h = labelled i (slice_get (items_of (compiled source)) i) refl h
+  program_is_valid valid NoEnd i h = ended i (slice_get (items_of (compiled source)) i) refl h
+  program_is_valid valid UnknownName i h = valid UnknownName i (fault_back UnknownName (take i (items_of (compiled source))) (slice_get (items_of (compiled source)) i) (λ e. cc) (λ e. cc) h)
+  program_is_valid valid Arity i h = valid Arity i (fault_back Arity (take i (items_of (compiled source))) (slice_get (items_of (compiled source)) i) (λ e. cc) (λ e. cc) h)
+  program_is_valid valid TooMany i h = valid TooMany i (fault_back TooMany (take i (items_of (compiled source))) (slice_get (items_of (compiled source)) i) (λ e. cc) (λ e. cc) h)
+  program_is_valid valid Memory i h = valid Memory i (fault_back Memory (take i (items_of (compiled source))) (slice_get (items_of (compiled source)) i) (λ e. cc) (λ e. cc) h)

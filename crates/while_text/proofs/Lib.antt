@@ -1,3 +1,4 @@
 mod ItemLoop
+pub mod MadeLaws
 mod NamingLemmas
 mod RefusalLemmas

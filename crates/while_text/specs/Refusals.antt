@@ -1,17 +1,20 @@
 -- Why a text is refused.
-use Rattle.std.specs.Prelude.{ℕ, List, IsTrue}
+use Rattle.std.specs.Prelude.{◌≡◌, ℕ, List, ◌++◌, slice_get, Some, IsTrue}
+use Rattle.std.specs.List.{filter_map}
 use Rattle.gil_lexer.specs.declared.forms.Token.{Token}
 use Rattle.gil_lexer.specs.Texts.{AreTokensOf}
 use Rattle.gil_lexemes.specs.declared.standing.Lexeme.{Lexeme}
 use Rattle.gil_lexemes.specs.declared.stops.Stop.{Stop}
 use Rattle.gil_lexemes.specs.declared.stops.Stop.TheVariants as stops
 use Rattle.gil_grammar.specs.Nesting.{IsNested}
-use Rattle.gil_grammar.specs.Texts.{byte_before}
+use Rattle.gil_grammar.specs.Texts.{byte_before, place_if}
+use Rattle.gil_program.specs.Uncounted.{IsNamedButLength}
 use Rattle.gil_text.specs.declared.refused.Refused.{Refused}
 use Rattle.gil_text.specs.declared.refused.RefusedKind.{RefusedKind}
-use Rattle.gil_text.specs.declared.refused.RefusedKind.TheVariants.{Lex, Nesting, Syntax, Memory}
+use Rattle.gil_text.specs.declared.refused.RefusedKind.TheVariants.{Lex, Nesting, Syntax, Invalid, Memory}
 use Rattle.gil_text.specs.Refusals.{AreLexemesOf}
-use Rattle.while_grammar.specs.Texts.{PlacedItem, SpellsItems, BeginsWithFunction}
+use Rattle.while_grammar.specs.Texts.{PlacedItem, SpellsItems, BeginsWithFunction, SpellItems, as_function, as_spec, as_pred, source_of}
+use Rattle.while_compiler.specs.Compiled.{compiled}
 use Rattle.while_grammar.specs.Vocabulary.{are_source_lexemes}
 
 -- the kind of a refusal where a reader of lexemes stops
@@ -32,3 +35,23 @@ SpellsNoTree bytes _ = ⊥
 
 abbrev pub IsRefusedTree : List ℕ → Refused → Type 0
 IsRefusedTree bytes refused = SpellsNoTree bytes refused.kind
+
+-- ---- sources
+
+-- the bytes at which the items begin: those of the functions, then of the specifications, then of the predicates
+abbrev pub places_of : List PlacedItem → List ℕ
+places_of items =
+    filter_map (λ i. place_if i.at (as_function i.item)) items
+    ++ filter_map (λ i. place_if i.at (as_spec i.item)) items
+    ++ filter_map (λ i. place_if i.at (as_pred i.item)) items
+
+-- A text is refused with the first of these kinds that applies: it spells no tree; or its trees' program has a fault, the number of
+-- commands aside, and the fault that is named is at the item that begins at that byte.
+abbrev pub IsRefusedFor : List ℕ → ℕ → RefusedKind → Type 0
+IsRefusedFor bytes at (Invalid kind) =
+    (items : List PlacedItem) × (i : ℕ) × SpellItems bytes items × IsNamedButLength (compiled (source_of items)) kind i
+    × (slice_get (places_of items) i ≡ Some at)
+IsRefusedFor bytes at kind = SpellsNoTree bytes kind
+
+abbrev pub IsRefused : List ℕ → Refused → Type 0
+IsRefused bytes refused = IsRefusedFor bytes refused.at refused.kind

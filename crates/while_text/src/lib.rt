@@ -4,6 +4,7 @@
 mod assignments;
 mod blocks;
 mod items;
+mod laws;
 mod located;
 mod naming;
 mod pieces;
@@ -13,4 +14,5 @@ mod tests;
 mod texts;
 mod worded;
 
-pub use texts::read_parts;
+pub use laws::texts_compile_to_well_made_programs;
+pub use texts::{read, read_parts};

@@ -1,5 +1,6 @@
 //! Texts that are read, and texts that are refused.
-use crate::read_parts;
+use crate::{read, read_parts};
+use gil_syntax::InvalidKind;
 use gil_text::{Refused, RefusedKind};
 use std::process::Abort;
 
@@ -10,7 +11,7 @@ const PROGRAM: &str =
  if ((x = 1)) { x = 2; } else { fail \"no\"; } if (true) { }\n\
  while ((x < 3)) invariant (x) [#n] { list(x; #n) } { x = (x + 1); while (false) { return x; } }\n\
  fold list(x; y); unfold list(x; y); assert { emp };\n return Null;\n}\n\
- func f(p, q) { return p; } spec f(p, q) [] { emp } { (ret = p) } pred mine(x; y: list) [] { emp }";
+ func f(p, q) { return p; } spec f(p, q) [] { emp } { (ret = p) } pred list(x; y: list) [] { emp }";
 
 #[test]
 fn every_statement_is_read(rt: HostRuntime) {
@@ -66,6 +67,40 @@ fn other_texts_are_refused(rt: HostRuntime) {
         match read_parts(rt.alloc(), text.as_bytes()) {
             Ok(_) => panic!(rt; "accepted: {text}"),
             Err(refused) => assert_eq!(rt; refused, Refused { at, kind }, "{text}"),
+        }
+    }
+}
+
+// Texts of trees that make no source, the byte at which the item at fault begins, and its fault.
+const INVALID: [(&str, usize, InvalidKind); 5] = [
+    ("func f() { } func f() { }", 13, InvalidKind::Duplicate),
+    ("func f(x, x) { }", 0, InvalidKind::Duplicate),
+    (
+        "func f() { } spec g() [] { emp } { emp }",
+        13,
+        InvalidKind::UnknownName,
+    ),
+    ("func f() { fold p(1;); }", 0, InvalidKind::UnknownName),
+    (
+        "func f(x) { } pred p(;) [] { emp } spec f() [] { emp } { emp }",
+        35,
+        InvalidKind::Arity,
+    ),
+];
+
+#[test]
+fn sources_are_read_and_faults_are_named(rt: HostRuntime) {
+    match read(rt.alloc(), PROGRAM.as_bytes()) {
+        Ok(source) => assert_eq!(rt; source.parts.functions.len(), 2),
+        Err(refused) => panic!(rt; "{refused}"),
+    }
+    for (text, at, kind) in INVALID {
+        match read(rt.alloc(), text.as_bytes()) {
+            Ok(_) => panic!(rt; "accepted: {text}"),
+            Err(refused) => {
+                let kind = RefusedKind::Invalid(kind);
+                assert_eq!(rt; refused, Refused { at, kind }, "{text}");
+            }
         }
     }
 }

@@ -5,15 +5,19 @@ ghost use Rattle.while_syntax.specs.Pure.{PureSource};
 ghost use Rattle.while_syntax.specs.View.{source_parts_view};
 ghost use Rattle.while_grammar.specs.Texts.{PlacedItem, SpellItems, SpellSource};
 ghost use Rattle.while_text.specs.Located.{located_of, located_view};
-ghost use Rattle.while_text.specs.Refusals.{IsRefusedTree, kind_of};
+ghost use Rattle.while_compiler.specs.Source.{source_view};
+ghost use Rattle.while_compiler.specs.Valid.{IsValidSource};
+ghost use Rattle.while_text.specs.Refusals.{IsRefused, IsRefusedTree, kind_of};
 
 use crate::located::Located;
 use crate::naming::foreign_name;
 use crate::reading::source_at;
 use gil_lexemes::{Cursor, Stop};
 use gil_lexer::Tokens;
-use gil_text::{Refused, RefusedKind, nesting_fault, place_of, tokens_of};
+use gil_syntax::InvalidKind;
+use gil_text::{Refused, RefusedKind, nesting_fault, place_at, place_of, tokens_of};
 use std::alloc::Global;
+use while_compiler::Source;
 use while_syntax::SourceParts;
 
 /// The refusal of a text of which so many tokens are left, or that memory ran out.
@@ -25,10 +29,17 @@ fn stopped(bytes: &[u8], tokens: &Tokens, stop: Stop) -> Refused
             at: place_of(bytes, tokens.as_slice(), left),
             kind: RefusedKind::Syntax,
         },
-        Stop::Memory => Refused {
-            at: bytes.len(),
-            kind: RefusedKind::Memory,
-        },
+        Stop::Memory => stopped_for_memory(bytes),
+    }
+}
+
+/// That memory ran out.
+fn stopped_for_memory(bytes: &[u8]) -> Refused
+    ensures { result.kind ≡ Memory }
+{
+    Refused {
+        at: bytes.len(),
+        kind: RefusedKind::Memory,
     }
 }
 
@@ -67,4 +78,36 @@ pub fn read_parts(alloc: Global, bytes: &[u8]) -> Result<SourceParts, Refused>
 {
     let located = read_located(alloc, bytes)?;
     Ok(located.parts)
+}
+
+/// The source that the bytes spell. A refusal names the first kind that applies, and for `Invalid` the byte at which the item begins.
+pub fn read(alloc: Global, bytes: &[u8]) -> Result<Source, Refused>
+    // What is read is the source of the text.
+    ensures ok { IfOk result (λ source. SpellSource bytes.now (source_view source)) }
+    // A text of a source without a fault is accepted, as that source.
+    ensures only { (source : PureSource) → SpellSource bytes.now source → IsValidSource source
+        → MatchResult result (λ found. source_view found ≡ source) (λ refused. refused.kind ≡ Memory) }
+    // The refusal is the first that applies.
+    ensures refused { IfErr result (IsRefused bytes.now) }
+{
+    let Located {
+        parts,
+        functions_at,
+        specs_at,
+        preds_at,
+    } = read_located(alloc, bytes)?;
+    let invalid = match Source::new(alloc, parts) {
+        Ok(source) => return Ok(source),
+        Err(invalid) => invalid,
+    };
+    match invalid.kind {
+        InvalidKind::Memory => Err(stopped_for_memory(bytes)),
+        _ => match place_at(&functions_at, &specs_at, &preds_at, invalid.item) {
+            Some(at) => Err(Refused {
+                at,
+                kind: RefusedKind::Invalid(invalid.kind),
+            }),
+            None => unreachable!(),
+        },
+    }
 }
