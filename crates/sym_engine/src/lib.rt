@@ -11,6 +11,3 @@ pub use candidates::{Candidate, Candidates};
 pub use settling::settle;
 pub use silent::{draw, pass, take_symbol, vanish};
 pub use valued::{assign_candidates, fail_candidates, return_candidates};
-
-#[cfg(test)]
-mod tests;
