@@ -1,0 +1,79 @@
+-- The frames of a path: the one that runs, what an assignment makes of it, and what `return` does.
+use Rattle.std.proofs.Common.{◌≡◌, ℕ, suc, zero, ◌+◌, ◌-◌, ◌<◌, ◌≤◌, List, [], ◌∷◌, ◌++◌, length, map, reverse, slice_get, Some, Result, Ok, Err, IfOk, sym, ap, subst, ◌∙◌, arith}
+use Rattle.std.proofs.lemmas.List.{length-map, length-reverse, map-append, reverse-append}
+use Rattle.gil_syntax.specs.Pure.{PureExpr}
+use Rattle.pure_terms.specs.Meaning.{IsOver}
+use Rattle.pure_terms.specs.Pure.{PureTerm}
+use Rattle.sym_engine.specs.Lawful.{MayAdvance}
+use Rattle.sym_model.proofs.ListLaws.{same_some, not_none}
+use Rattle.sym_evaluation.specs.Meaning.{AreCasesOf}
+use Rattle.sym_evaluation.specs.Pure.{PureStore, PureGoodCase, PureCases}
+use Rattle.sym_evaluation.specs.Questions.{ComesFrom, NameNoOthers}
+use Rattle.sym_evaluation.specs.View.{store_view}
+use Rattle.sym_paths.specs.Laws.{IsBound}
+use Rattle.sym_paths.specs.Moves.{running_store, advanced}
+use Rattle.sym_paths.specs.Valued.{IsEvaluated}
+use Rattle.sym_paths.specs.declared.frames.Frame.{Frame}
+use Rattle.sym_paths.specs.Pure.{PureFrame, PurePath}
+use Rattle.sym_paths.specs.Settling.{Candidate}
+use Rattle.sym_paths.specs.View.{frame_view, frames_view}
+use Rattle.sym_steps.specs.Returns.{Resumes, returning, resuming, Returns}
+
+pub frames_count : (fs : List Frame) → length (frames_view fs) ≡ length fs
+frames_count fs = length-reverse (map frame_view fs) ∙ length-map fs frame_view
+
+-- the store of the last frame is that of the one that runs
+pub last_runs : (fs front : List Frame) (f : Frame) → fs ≡ front ++ f ∷ [] → running_store (frames_view fs) ≡ store_view f.store
+last_runs fs front f is =
+    ap (λ gs. running_store (frames_view gs)) is
+    ∙ ap (λ gs. running_store (reverse gs)) (map-append frame_view front (f ∷ []))
+    ∙ ap running_store (reverse-append (map frame_view front) (frame_view f ∷ []))
+
+pub evaluated_in : (bs cs : PureStore) (e : PureExpr) (cases : PureCases PureTerm) → bs ≡ cs → AreCasesOf cs e cases → ComesFrom cs e cases → NameNoOthers IsOver cs cases → IsEvaluated bs e cases
+evaluated_in bs cs e cases same are come name = subst (λ ds. IsEvaluated ds e cases) (sym same) (record { are_cases = are; origin = come; names = name })
+
+pub assigned_frames : (fs gs new : List PureFrame) (f : PureFrame) (x : List ℕ) (t : PureTerm) (bs : PureStore) → fs ≡ f ∷ gs → IsBound f.store x t bs → new ≡ record f { next = f.next + 1; store = bs } ∷ gs
+    → (cs : PureStore) × (IsBound (running_store fs) x t cs × (new ≡ advanced cs fs))
+assigned_frames fs gs new f x t bs first bound is = subst (λ hs. (cs : PureStore) × (IsBound (running_store hs) x t cs × (new ≡ advanced cs hs))) (sym first) (bs, (bound, is))
+
+pub never_empty : (fs : List PureFrame) → MayAdvance fs → fs ≡ [] → ⊥
+never_empty fs may none = let no_frame : ⊥ = subst MayAdvance none may in no_frame
+
+module _ {S : Type 0} (path : PurePath S) (g : PureGoodCase PureTerm) (d : Candidate S) where
+  pub entry_returns : (fs : List PureFrame) → MayAdvance fs → length fs ≤ 1 → d ≡ returning path g → Returns path fs g (d ∷ [])
+  entry_returns [] may few is = absurd may
+  entry_returns (f ∷ []) may few is = ap (λ c. c ∷ []) is
+  entry_returns (f ∷ h ∷ fs) may few is = let many : suc (suc (length fs)) ≤ 1 = few in absurd (omega (arith, many))
+
+  pub caller_resumes : (fs gs hs : List PureFrame) (f caller : PureFrame) → fs ≡ f ∷ gs → gs ≡ caller ∷ hs → (next : PureFrame) × (Resumes g.result caller next × (d ≡ resuming path (next ∷ hs) g)) → Returns path fs g (d ∷ [])
+  caller_resumes fs gs hs f caller first second (next, (resumes, is)) =
+      subst (λ xs. Returns path xs g (d ∷ [])) (sym (first ∙ ap (λ xs. f ∷ xs) second)) (next, (resumes, ap (λ c. c ∷ []) is))
+
+-- more than one frame: one waits
+pub some_wait : (fs : List Frame) (f : PureFrame) (gs : List PureFrame) → 1 < length fs → frames_view fs ≡ f ∷ gs → gs ≡ [] → ⊥
+some_wait fs f gs many is none =
+    let one : length fs ≡ 1 = sym (frames_count fs) ∙ ap length (is ∙ ap (λ xs. f ∷ xs) none) in omega (arith, many, one)
+
+-- ---- what a call answers
+
+module _ {X E : Type 0} where
+  pub if_ok_map : (P Q : X → Type 0) (r : Result X E) → ((x : X) → P x → Q x) → IfOk r P → IfOk r Q
+  if_ok_map P Q (Ok x) go is = go x is
+  if_ok_map P Q (Err e) go is = tt
+
+  pub if_ok_three : (P Q R T : X → Type 0) (r : Result X E) → ((x : X) → P x → Q x → R x → T x) → IfOk r P → IfOk r Q → IfOk r R → IfOk r T
+  if_ok_three P Q R T (Ok x) go p q s = go x p q s
+  if_ok_three P Q R T (Err e) go p q s = tt
+
+-- ---- the last frame
+
+last_part : (fs : List Frame) (n : ℕ) (f : Frame) → slice_get fs n ≡ Some f → suc n ≡ length fs → (front : List Frame) × (fs ≡ front ++ f ∷ [])
+last_part [] n f at is = not_none at
+last_part (g ∷ []) zero f at is = ([], ap (λ x. x ∷ []) (same_some at))
+last_part (g ∷ h ∷ fs) zero f at is = let no : 1 ≡ suc (suc (length fs)) = is in absurd (omega (arith, no))
+last_part (g ∷ fs) (suc n) f at is =
+    let same : suc (suc n) ≡ suc (length fs) = is in
+    let (front, whole) = last_part fs n f at (omega (arith, same)) in (g ∷ front, ap (λ xs. g ∷ xs) whole)
+
+pub last_read : (fs : List Frame) (f : Frame) → 1 ≤ length fs → slice_get fs (length fs - 1) ≡ Some f → running_store (frames_view fs) ≡ store_view f.store
+last_read fs f some at = let (front, whole) = last_part fs (length fs - 1) f at (omega (arith, some)) in last_runs fs front f whole

@@ -1,0 +1,4 @@
+pub mod Copied
+pub mod Fragments
+pub mod Leaving
+pub mod Settled

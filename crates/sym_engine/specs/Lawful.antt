@@ -1,0 +1,51 @@
+-- What the code of a step promises: candidates that keep the laws of a command, and paths that are those of the step.
+use Rattle.std.specs.Prelude.{◌≡◌, ℕ, ◌+◌, ◌<◌, ◌^◌, List, [], ◌∷◌, ◌++◌, Some, None}
+use Rattle.gil_values.specs.declared.places.Place.{Place}
+use Rattle.gil_values.specs.Pure.{PureValue}
+use Rattle.gil_syntax.specs.Pure.{PureParts, PureCommand, assign, call, act, ifgoto, return, fail, PureNumberedCommand}
+use Rattle.mem_model.specs.Actions.{Actions}
+use Rattle.mem_model.specs.Heaps.{Heap}
+use Rattle.pure_terms.specs.Pure.{PureTerm, PureAtom}
+use Rattle.sym_evaluation.specs.Questions.{IsAsked}
+use Rattle.sym_model.specs.Terms.{StateTerms}
+use Rattle.sym_paths.specs.Meaning.{IsOverTable, command_of_path}
+use Rattle.sym_paths.specs.Moves.{running_store}
+use Rattle.sym_paths.specs.Pure.{PureFrame, PurePath}
+use Rattle.sym_paths.specs.Settling.{Candidate, AreCandidates}
+use Rattle.sym_paths.specs.Valued.{place_at}
+use Rattle.sym_steps.specs.Acting.{IsAskedByAction}
+use Rattle.sym_steps.specs.Calls.{IsAskedByCall}
+use Rattle.sym_steps.specs.Guards.{IsAskedByGuard}
+
+-- a frame runs, and may go to the command after the one at which it stands
+abbrev pub MayAdvance : List PureFrame → Type 0
+MayAdvance [] = ⊥
+MayAdvance (f ∷ fs) = f.next + 1 < 2 ^ 64
+
+-- the path goes on with these frames where these conditions are true, under which there is no fault
+abbrev pub proceeding : {S : Type 0} → PurePath S → List PureFrame → List PureAtom → Candidate S
+proceeding path fs conds = record {
+  path = record path { conds = path.conds ++ conds; stack = fs; steps = path.steps + 1 };
+  no_fault = conds;
+}
+
+module _ {S : Type 0} (stands : S → List PureValue → Heap → Type 0) (terms : S → StateTerms)
+    (asked : List ℕ → List PureTerm → List PureTerm) (m : Actions) where
+  -- the conditions that are a command's own; commands that ask nothing have none
+  abbrev pub IsOwnOf : PurePath S → PureCommand → PureAtom → Type 0
+  IsOwnOf path (assign x e) a = IsAsked (running_store path.stack) e a
+  IsOwnOf path (fail e) a = IsAsked (running_store path.stack) e a
+  IsOwnOf path (return e) a = IsAsked (running_store path.stack) e a
+  IsOwnOf path (ifgoto e label) a = IsAskedByGuard (running_store path.stack) e a
+  IsOwnOf path (call x e es) a = IsAskedByCall (running_store path.stack) e es a
+  IsOwnOf path (act x action es) a = IsAskedByAction terms asked path action es a
+  IsOwnOf path _ a = ⊥
+
+  abbrev pub IsOwnAt : PureParts → PurePath S → PureAtom → Type 0
+  IsOwnAt p path a = (c : PureNumberedCommand) × ((command_of_path p path ≡ Some c) × IsOwnOf path c.command a)
+
+  -- wherever the path stands at the command, at this place, these are its candidates
+  abbrev pub AreLawful : PurePath S → Place → PureCommand → List (Candidate S) → Type 0
+  AreLawful path here command cs =
+      (p : PureParts) (c : PureNumberedCommand) → IsOverTable terms path → path.ending ≡ None → command_of_path p path ≡ Some c
+      → c.command ≡ command → place_at path.stack c ≡ here → AreCandidates p m stands terms (IsOwnOf path command) path cs

@@ -1,0 +1,12 @@
+-- The pure data of candidates.
+use Rattle.std.specs.Prelude.{List, map}
+use Rattle.pure_terms.specs.View.{atoms_view}
+use Rattle.sym_engine.specs.declared.candidates.Candidate.{Candidate}
+use Rattle.sym_paths.specs.Settling.{Candidate as PureCandidate}
+use Rattle.sym_paths.specs.View.{path_view}
+
+abbrev pub candidate_view : {S : Type 0} → Candidate S → PureCandidate S
+candidate_view c = record { path = path_view c.path; no_fault = atoms_view c.no_fault }
+
+abbrev pub candidates_view : {S : Type 0} → List (Candidate S) → List (PureCandidate S)
+candidates_view cs = map candidate_view cs

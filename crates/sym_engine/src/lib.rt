@@ -1,0 +1,13 @@
+//! Symbolic execution: candidates for the next paths of a step, and what a decider leaves of them.
+#![tactic(auto)]
+
+mod candidates;
+mod frames;
+mod settling;
+mod silent;
+mod valued;
+
+pub use candidates::{Candidate, Candidates};
+pub use settling::settle;
+pub use silent::{draw, pass, take_symbol, vanish};
+pub use valued::{assign_candidates, fail_candidates, return_candidates};
