@@ -5,6 +5,7 @@ mod choosing;
 mod loose;
 mod models;
 mod numbers;
+mod ordering;
 mod plain;
 mod ranges;
 mod steps;

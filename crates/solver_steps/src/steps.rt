@@ -11,6 +11,7 @@ ghost use Rattle.solver_rules.specs.Steps.{ArePlain, IsNode, IsStep};
 use crate::choosing::chosen;
 use crate::models::model_of;
 use crate::numbers::{NumbersFound, numbers_of};
+use crate::ordering::in_order;
 use crate::trying::run_each;
 use equality_core::{Classes, Classified, classify};
 use pure_terms::{Atoms, VarTable};
@@ -71,7 +72,7 @@ fn step_with_classes(
     ensures { IfOk result (IsStep vars.now (atoms_view list.now)) }
 {
     match numbers_of(alloc, vars, classes)? {
-        NumbersFound::Closed(proof) => Ok(Step::Closed(proof)),
+        NumbersFound::Closed(proof) => Ok(Step::Closed(in_order(alloc, vars, list, proof)?)),
         NumbersFound::Numbers(numbers) => {
             let node = Node {
                 vars,
