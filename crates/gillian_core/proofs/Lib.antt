@@ -2,6 +2,7 @@ pub mod Cases
 pub mod Ending
 pub mod Joined
 pub mod Paths
+pub mod ProgramTexts
 pub mod Refusing
 pub mod Runs
 pub mod Solutions

@@ -100,7 +100,7 @@ output_status (a_program p) = Good
 -- what is asked for is written of a text
 abbrev pub IsRightOutput : Asked → List ℕ → Output → Type 0
 IsRightOutput a bytes (a_report r) = (r.head ≡ head_of a) × IsRightAnswer a bytes r.answer
-IsRightOutput a bytes (a_program p) = IsCompiled a.mode bytes p
+IsRightOutput a bytes (a_program p) = IsCompiled a.mode a bytes p
 
 -- The output is right for the bytes, and is what the words ask for.
 abbrev pub IsRight : List (List ℕ) → List ℕ → Output → Type 0

@@ -1,23 +1,29 @@
 -- Which answers are right, by the mode that is asked for.
-use Rattle.std.specs.Prelude.{◌≡◌, ℕ, List, [], map}
+use Rattle.std.specs.Prelude.{◌≡◌, ℕ, List, [], Some, map}
 use Rattle.std.specs.FinMap.{empty}
 use Rattle.gil_syntax.specs.Pure.{PureParts}
 use Rattle.mem_model.specs.Actions.{Actions}
 use Rattle.record_heap.specs.Table.{record_actions}
 use Rattle.gil_machine.specs.Held.{HeldEnd, ended as held_end, number as held_number, held_run_of}
 use Rattle.gil_machine.specs.Run.{IsBug, IsClean, IsEntry}
-use Rattle.gil_machine.specs.State.{Ending, returned as end_returned, failed as end_failed, vanished as end_vanished}
+use Rattle.gil_machine.specs.State.{End, Ending, returned as end_returned, failed as end_failed, vanished as end_vanished}
 use Rattle.gil_machine.specs.State.{no_input as end_no_input, bad_input as end_bad_input, cut as end_cut}
 use Rattle.pure_terms.specs.Deciding.{IsRight as IsRightDecision, sat as decided_sat, unknown as decided_unknown}
 use Rattle.pure_terms.specs.Meaning.{IsUnsatisfiable}
 use Rattle.pure_terms.specs.declared.deciders.Reason.{Reason}
 use Rattle.solver_proof.specs.Closing.{Closes}
 use Rattle.atom_text.specs.Accepted.{PureAtomText, SpellAtoms}
+use Rattle.while_syntax.specs.Pure.{PureSource}
+use Rattle.while_syntax.specs.Meaning.{source_end}
+use Rattle.while_grammar.specs.Texts.{SpellSource}
+use Rattle.while_compiler.specs.SameEnds.{HasSameEnds}
+use Rattle.gillian_words.specs.declared.options.Language.{Language}
+use Rattle.gillian_words.specs.declared.options.Language.TheVariants.{GilRecord, Atoms, While}
 use Rattle.gillian_words.specs.declared.options.Mode.{Mode}
 use Rattle.gillian_words.specs.declared.options.Mode.TheVariants.{Run, Test, Compile, Solve}
 use Rattle.gillian_words.specs.Asked.{Asked}
 use Rattle.gillian_core.specs.declared.programs.Command.{Command}
-use Rattle.gillian_core.specs.Accepted.{IsTextOf, Spell}
+use Rattle.gillian_core.specs.Accepted.{IsTextIn, Spell}
 use Rattle.gillian_core.specs.Programs.{program_of}
 use Rattle.gillian_core.specs.Reports.{PureAnswer, clean, bug, returned, failed, vanished, cut, no_input, bad_input, number, sat, unsat, unknown}
 
@@ -37,13 +43,27 @@ abbrev pub end_answer : HeldEnd → PureAnswer
 end_answer (held_end e) = ending_answer e.ending
 end_answer (held_number place h) = number place
 
--- The bytes are a text of a program, and the answer is how the run of the entry ends, from the empty heap of records and the
--- counter 0, on the inputs and within the bound that are asked for.
+-- The source ends so by the meaning of its statements, from the empty heap of records and the counter 0 and on the inputs that are
+-- asked for. Of the two answers that are no ends nothing is said.
+abbrev pub IsEndOfSource : Asked → PureSource → PureAnswer → Type 0
+IsEndOfSource a s cut = Unit {0}
+IsEndOfSource a s (number place) = Unit {0}
+IsEndOfSource a s answer = (n : ℕ) × (e : End) × (source_end s record_actions a.entry [] empty 0 a.inputs n ≡ Some e) × (answer ≡ ending_answer e.ending)
+
+-- what the answer says of the text itself, where its language is compiled
+abbrev pub IsMeant : Language → Asked → List ℕ → PureAnswer → Type 0
+IsMeant GilRecord a bytes answer = Unit {0}
+IsMeant Atoms a bytes answer = Unit {0}
+IsMeant While a bytes answer = (s : PureSource) × SpellSource bytes s × IsEndOfSource a s answer
+
+-- The bytes are a text with a program, and the answer is how the run of the entry ends, from the empty heap of records and the
+-- counter 0, on the inputs and within the bound that are asked for. A text that is compiled ends so itself.
 pub record IsRightRun (a : Asked) (bytes : List ℕ) (answer : PureAnswer) : Type 0 where
   pub program : PureParts
-  pub text : IsTextOf bytes program
+  pub text : IsTextIn a.second bytes program
   pub entry : IsEntry program a.entry
   pub ends : answer ≡ end_answer (held_run_of program record_actions a.entry [] empty 0 a.inputs a.bound)
+  pub meant : IsMeant a.second a bytes answer
 
 -- ---- test
 
@@ -81,14 +101,26 @@ pub record IsSolved (bytes : List ℕ) (answer : PureAnswer) : Type 0 where
   pub text : SpellAtoms bytes solved
   pub solution : IsRightSolution solved answer
 
+-- ---- compile
+
+-- what the program has of the text itself, where its language is compiled: the same ends
+abbrev pub KeepsEnds : Language → List ℕ → PureParts → Type 0
+KeepsEnds GilRecord bytes p = Unit {0}
+KeepsEnds Atoms bytes p = Unit {0}
+KeepsEnds While bytes p = (s : PureSource) × SpellSource bytes s × HasSameEnds s p
+
+-- the bytes are a text with this program, which has its ends
+abbrev pub IsProgramOf : Asked → List ℕ → PureParts → Type 0
+IsProgramOf a bytes p = IsTextIn a.second bytes p × KeepsEnds a.second bytes p
+
 -- ---- each mode
 
--- the program is what is to be written of the bytes: that of which they are a text
-abbrev pub IsCompiled : Mode → List ℕ → PureParts → Type 0
-IsCompiled Run bytes p = ⊥
-IsCompiled Test bytes p = ⊥
-IsCompiled Compile bytes p = IsTextOf bytes p
-IsCompiled Solve bytes p = ⊥
+-- the program is what is to be written of the bytes where this is asked of the mode
+abbrev pub IsCompiled : Mode → Asked → List ℕ → PureParts → Type 0
+IsCompiled Run a bytes p = ⊥
+IsCompiled Test a bytes p = ⊥
+IsCompiled Compile a bytes p = IsProgramOf a bytes p
+IsCompiled Solve a bytes p = ⊥
 
 -- the answer is right for the bytes where this is asked of the mode
 abbrev pub IsRightOf : Mode → Asked → List ℕ → PureAnswer → Type 0

@@ -13,6 +13,7 @@ mod refusals;
 mod reports;
 mod running;
 mod solving;
+mod sources;
 mod status;
 mod testing;
 mod top;

@@ -68,9 +68,9 @@ impl From<AllocError> for Stop {
     }
 }
 
-/// What a refusal by the reader of a mode's texts is, where the text isn't accepted.
+/// What a refusal by the reader of a language is, where the text isn't accepted.
 pub fn stop_of(refused: Refused) -> Stop
-    ensures { (a : Asked) (bytes : List ℕ) → IsUnreadBy a.mode bytes refused.at refused.kind
+    ensures { (a : Asked) (bytes : List ℕ) → IsUnreadBy a.second bytes refused.at refused.kind
         → (refused.kind ≢ reader.Memory → IsAccepted a bytes → ⊥) → IsStop a bytes result }
 {
     match kind_of(refused.kind) {
@@ -85,7 +85,7 @@ pub fn stop_of(refused: Refused) -> Stop
 /// The kind of a refusal by the reader, and want of memory where it is no refusal.
 fn kind_of(kind: RefusedKind) -> Result<RefusalKind, AllocError>
     ensures kind { IfOk result (λ k. (a : Asked) (bytes : List ℕ) (at : ℕ)
-        → IsUnreadBy a.mode bytes at kind → IsFirstKind a bytes at k) }
+        → IsUnreadBy a.second bytes at kind → IsFirstKind a bytes at k) }
     ensures other { OnOk result (kind ≢ reader.Memory) }
 {
     match kind {
@@ -103,7 +103,7 @@ fn kind_of(kind: RefusedKind) -> Result<RefusalKind, AllocError>
 /// The kind of a refusal for a fault of a program.
 fn kind_of_fault(fault: InvalidKind) -> Result<RefusalKind, AllocError>
     ensures { IfOk result (λ k. (a : Asked) (bytes : List ℕ) (at : ℕ)
-        → IsUnreadBy a.mode bytes at (reader.Invalid fault) → IsFirstKind a bytes at k) }
+        → IsUnreadBy a.second bytes at (reader.Invalid fault) → IsFirstKind a bytes at k) }
 {
     match fault {
         InvalidKind::Duplicate => Ok(RefusalKind::Duplicate),

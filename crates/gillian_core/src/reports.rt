@@ -90,6 +90,7 @@ fn word_of_language(language: Language) -> &'static str
     match language {
         Language::GilRecord => "gil-record",
         Language::Atoms => "atoms",
+        Language::While => "while",
     }
 }
 

@@ -7,16 +7,15 @@ ghost use Rattle.gil_machine.specs.Held.{HeldEnd, held_run_of};
 ghost use Rattle.gil_machine.specs.Run.{IsEntry};
 ghost use Rattle.gil_machine.specs.Standing.{IsEndOf};
 ghost use Rattle.gillian_words.specs.View.{words_view};
-ghost use Rattle.gillian_core.specs.Accepted.{IsTextOf};
 ghost use Rattle.gillian_core.specs.Answers.{answer_view};
 ghost use Rattle.gillian_core.specs.Finishing.{IsStop};
 ghost use Rattle.gillian_core.specs.Right.{IsRightRun, end_answer};
 
 use crate::answers::Answer;
-use crate::refusals::{Refusal, RefusalKind, Stop, stop_of};
+use crate::refusals::{Refusal, RefusalKind, Stop};
+use crate::sources::program;
 use gil_machine::{End, run_entry};
 use gil_program::Prog;
-use gil_text::read_prog;
 use gil_values::{Text, Values};
 use gillian_words::{Mode, Words};
 use mem_model::LocalMemory;
@@ -30,10 +29,7 @@ pub fn run(alloc: Global, words: &Words, bytes: &[u8]) -> Result<Answer, Stop>
     ensures answer { IfOk result (λ answer. IsRightRun (words_view words.now) bytes.now (answer_view answer)) }
     ensures stop { IfErr result (IsStop (words_view words.now) bytes.now) }
 {
-    let prog = match read_prog(alloc, bytes) {
-        Ok(prog) => prog,
-        Err(refused) => return Err(stop_of(refused)),
-    };
+    let prog = program(alloc, words, bytes)?;
     match end_of_entry::<RecordHeap>(alloc, &prog, &words.entry, &words.inputs, words.bound)? {
         Some(answer) => Ok(answer),
         None => Err(Stop::Refused(Refusal {

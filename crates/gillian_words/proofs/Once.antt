@@ -1,12 +1,12 @@
 -- Words ask for one thing at most.
-use Rattle.std.proofs.Common.{◌≡◌, ℕ, ℤ, List, [], ◌∷◌, ◌++◌, length, get_or, Bool, true, false, Option, Some, None, refl, sym, ◌∙◌, ap, ap₂, subst, arith, length-append, codes}
+use Rattle.std.proofs.Common.{◌≡◌, ℕ, ℤ, List, [], ◌∷◌, ◌++◌, length, get_or, Bool, true, false, Option, Some, None, refl, sym, ◌∙◌, ap, ap₂, subst, arith, length-append, codes, IsTrue, nat_eq}
 use Rattle.std.specs.Str.Parse.{IsNumeral, without_leading_sign}
 use Rattle.gil_values.specs.Pure.{PureValue, integer, boolean, text, symbol, kind, procedure, list}
 use Rattle.gil_lexer.specs.Bytes.{quote}
 use Rattle.gil_lexer.specs.Spelling.{SpellsText}
 use Rattle.gil_lexer.proofs.LiteralLaws.{literal_once}
 use Rattle.gillian_words.specs.declared.options.Language.{Language}
-use Rattle.gillian_words.specs.declared.options.Language.TheVariants.{GilRecord, Atoms}
+use Rattle.gillian_words.specs.declared.options.Language.TheVariants.{GilRecord, Atoms, While}
 use Rattle.gillian_words.specs.declared.options.Mode.{Mode}
 use Rattle.gillian_words.specs.declared.options.Mode.TheVariants.{Run, Test, Compile, Solve}
 use Rattle.gillian_words.specs.declared.scan.Scan.TheVariants.{Outside}
@@ -129,11 +129,20 @@ one_mode Solve Test e = cc
 one_mode Solve Compile e = cc
 one_mode Solve Solve e = refl
 
+-- the word begins with this character
+abbrev begins_with : ℕ → List ℕ → Type 0
+begins_with c word = IsTrue (nat_eq (get_or word 0 0) c)
+
 one_language : (l m : Language) → language_word l ≡ language_word m → l ≡ m
 one_language GilRecord GilRecord e = refl
 one_language GilRecord Atoms e = cc
+one_language GilRecord While e = cc
 one_language Atoms GilRecord e = cc
 one_language Atoms Atoms e = refl
+one_language Atoms While e = let h = subst (begins_with 97) e refl in cc
+one_language While GilRecord e = cc
+one_language While Atoms e = let h = subst (begins_with 119) e refl in cc
+one_language While While e = refl
 
 same_word : (given : Option (List ℕ)) (word other : List ℕ) → given ≡ Some word → given ≡ Some other → word ≡ other
 same_word given word other e f = cc

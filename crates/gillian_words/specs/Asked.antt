@@ -5,7 +5,7 @@ use Rattle.std.specs.Str.Parse.{IsNumeral, digits_value}
 use Rattle.gil_values.specs.Pure.{PureValue}
 use Rattle.gil_lexer.specs.Spelling.{IsName}
 use Rattle.gillian_words.specs.declared.options.Language.{Language}
-use Rattle.gillian_words.specs.declared.options.Language.TheVariants.{GilRecord, Atoms}
+use Rattle.gillian_words.specs.declared.options.Language.TheVariants.{GilRecord, Atoms, While}
 use Rattle.gillian_words.specs.declared.options.Mode.{Mode}
 use Rattle.gillian_words.specs.declared.options.Mode.TheVariants.{Run, Test, Compile, Solve}
 use Rattle.gillian_words.specs.Inputs.{SpellsInputs}
@@ -29,8 +29,9 @@ mode_word Solve = codes "solve"
 abbrev pub language_word : Language → List ℕ
 language_word GilRecord = codes "gil-record"
 language_word Atoms = codes "atoms"
+language_word While = codes "while"
 
--- which sources a mode works on: `solve` on atoms, the others on programs
+-- which sources a mode works on: `solve` on atoms, the others on programs, of which those in While aren't tested
 abbrev pub takes_language : Mode → Language → Bool
 takes_language Run GilRecord = true
 takes_language Test GilRecord = true
@@ -40,6 +41,10 @@ takes_language Run Atoms = false
 takes_language Test Atoms = false
 takes_language Compile Atoms = false
 takes_language Solve Atoms = true
+takes_language Run While = true
+takes_language Test While = false
+takes_language Compile While = true
+takes_language Solve While = false
 
 -- which options a mode takes
 abbrev pub takes_bound : Mode → Bool

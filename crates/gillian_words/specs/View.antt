@@ -4,7 +4,7 @@ use Rattle.std.specs.Option.{option_map}
 use Rattle.clap.specs.Words.{found_of, first_value}
 use Rattle.clap.specs.declared.parser.matches.ArgMatches.{ArgMatches}
 use Rattle.gil_values.specs.View.{values_view}
-use Rattle.gillian_words.specs.declared.asked.Words.{Words}
+use Rattle.gillian_words.specs.declared.words.Words.{Words}
 use Rattle.gillian_words.specs.declared.line.Given.{Given as Matches}
 use Rattle.gillian_words.specs.Asked.{Asked, Given}
 

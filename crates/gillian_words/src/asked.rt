@@ -1,4 +1,4 @@
-//! What words ask for.
+//! Reading what words ask for.
 ghost use Rattle.std.specs.Prelude.{◌≡◌, Some, IfOk, IsErrOf, IsTrue};
 ghost use Rattle.std.specs.Option.{option_map};
 ghost use Rattle.gillian_words.specs.Asked.{AskFor, Asked, Asks, is_given, language_word, mode_word, takes_language};
@@ -7,24 +7,9 @@ ghost use Rattle.gillian_words.specs.View.{given_view, words_view};
 
 use crate::line::{Given, match_words};
 use crate::options::{Language, Mode, bound_option, entry_option, inputs_option};
-use gil_values::{Text, Values};
+use crate::words::Words;
 use std::alloc::{AllocError, Global};
 use thiserror::Error;
-
-/// What words ask for. Contracts see it as its pure data, by `words_view`.
-#[derive(Debug, Drop)]
-pub struct Words {
-    pub mode: Mode,
-    pub second: Language,
-    /// The most steps of a run.
-    pub bound: u32,
-    /// The procedure that a run begins in.
-    pub entry: Text,
-    /// The values that draws take, in order.
-    pub inputs: Values,
-    /// Whether the report is to be JSON.
-    pub json: bool,
-}
 
 /// Why there is nothing that words ask for.
 #[derive(Clone, Copy, Debug, Drop, PartialEq, Eq, Error)]

@@ -9,7 +9,9 @@ mod options;
 mod scan;
 #[cfg(test)]
 mod tests;
+mod words;
 
-pub use asked::{Words, WordsFault, read_words};
+pub use asked::{WordsFault, read_words};
 pub use laws::words_ask_for_one_thing;
 pub use options::{Language, Mode};
+pub use words::Words;

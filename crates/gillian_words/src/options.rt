@@ -31,6 +31,8 @@ pub enum Language {
     GilRecord,
     /// Variables and atoms over them.
     Atoms,
+    /// While, over records.
+    While,
 }
 
 impl Mode {
@@ -59,6 +61,7 @@ impl Mode {
         match language {
             Language::GilRecord => !matches!(self, Mode::Solve),
             Language::Atoms => matches!(self, Mode::Solve),
+            Language::While => matches!(self, Mode::Run | Mode::Compile),
         }
     }
 
@@ -97,6 +100,7 @@ impl Language {
         match word {
             "gil-record" => Some(Language::GilRecord),
             "atoms" => Some(Language::Atoms),
+            "while" => Some(Language::While),
             _ => None,
         }
     }
