@@ -13,7 +13,7 @@ use Rattle.pure_terms.specs.Kinds.{has_sort}
 use Rattle.pure_terms.specs.Pure.{variable}
 use Rattle.sym_model.proofs.ListLaws.{same_some, not_none}
 use Rattle.sym_paths.specs.Moves.{draw_sort}
-use Rattle.sym_paths.specs.Steps.{IsNext, drawn_from, IsInputFault, HasInput}
+use Rattle.sym_paths.specs.Steps.{IsNext, IsNewSort, drawn_from, IsInputFault, HasInput}
 
 by_draw : (P : Kind → Sort → Type 0) → P Kind.Int Sort.Int → P Kind.Bool Sort.Bool → P Kind.Str Sort.Str → (k : Kind) (sort : Sort) → draw_sort k ≡ Some sort → P k sort
 by_draw P number truth characters Kind.Int sort is = subst (P Kind.Int) (same_some is) number
@@ -28,6 +28,9 @@ by_draw P number truth characters Kind.Null sort is = not_none is
 
 pub drawn_is : (k : Kind) (sort : Sort) → draw_sort k ≡ Some sort → (n : ℕ) → drawn_from n (sort ∷ []) ≡ variable (record { number = n; sort = sort }) ∷ []
 drawn_is = by_draw (λ k sort. (n : ℕ) → drawn_from n (sort ∷ []) ≡ variable (record { number = n; sort = sort }) ∷ []) (λ n. refl) (λ n. refl) (λ n. refl)
+
+pub new_sort : (k : Kind) (sort : Sort) → draw_sort k ≡ Some sort → IsNewSort sort
+new_sort = by_draw (λ k sort. IsNewSort sort) tt tt tt
 
 pub drawn_next : (k : Kind) (sort : Sort) → draw_sort k ≡ Some sort → (inputs : List PureValue) (n d : ℕ) (w : PureValue) → IsNext inputs n d sort w → slice_get inputs d ≡ Some w
 drawn_next = by_draw (λ k sort. (inputs : List PureValue) (n d : ℕ) (w : PureValue) → IsNext inputs n d sort w → slice_get inputs d ≡ Some w)

@@ -15,9 +15,9 @@ use Rattle.pure_terms.proofs.VariableLaws.{slice_get-append, stay_when_tables_gr
 use Rattle.sym_evaluation.specs.Meaning.{AreSame, StandsFor}
 use Rattle.sym_evaluation.specs.Pure.{PureStore, term_at}
 use Rattle.sym_model.specs.Laws.{IsMeaning}
-use Rattle.sym_model.specs.Lists.{Each}
+use Rattle.sym_model.specs.Lists.{Each, IsAmong}
 use Rattle.sym_model.specs.Terms.{StateTerms, all_of}
-use Rattle.sym_model.proofs.ListLaws.{each_to}
+use Rattle.sym_model.proofs.ListLaws.{each_to, each_right, each_is_among}
 use Rattle.sym_paths.specs.Laws.{with_more, PathsMayGrow}
 use Rattle.sym_paths.specs.Meaning.{AreFrames, frames_of, Stands, OfEachName, IsOverTable, end_terms}
 use Rattle.sym_paths.specs.Pure.{PureFrame, PurePath}
@@ -55,6 +55,10 @@ module _ (vars : List Sort) (v more : List PureValue) (one_each : length v ≡ l
   agree-more t over x has =
       let within : x.number < length vars = slice_get_within vars x.number x.sort (over x has) in
       sym (slice_get-append v more x.number (omega (arith, within, one_each)))
+
+-- the elements of a later part are among all of them
+pub later_among : {A : Type 0} (xs ys : List A) → Each (λ a. IsAmong a (xs ++ ys)) ys
+later_among xs ys = each_right (λ a. IsAmong a (xs ++ ys)) xs ys (each_is_among (xs ++ ys))
 
 over_more : (vars sorts : List Sort) (t : PureTerm) → IsOver vars t → IsOver (vars ++ sorts) t
 over_more vars sorts t over = stay_when_tables_grow.over t vars sorts over

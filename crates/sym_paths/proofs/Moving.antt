@@ -33,7 +33,7 @@ use Rattle.sym_paths.specs.Moves.{NoOwn, IsLogic, running_store, advanced, draw_
 use Rattle.sym_paths.specs.Pure.{PureFrame, PureEnd, vanished, PurePath}
 use Rattle.sym_paths.specs.Steps.{HasInput, IsUnknown, AreNext, IsNext, AreNextPaths}
 use Rattle.sym_paths.proofs.Binding.{agree_bound, each_bound}
-use Rattle.sym_paths.proofs.Drawing.{drawn_is, drawn_next, next_drawn, not_fresh, some_fits, fits_kind, kind_fits, no_symbols, no_symbol_below, draws_this, input_there}
+use Rattle.sym_paths.proofs.Drawing.{drawn_is, new_sort, drawn_next, next_drawn, not_fresh, some_fits, fits_kind, kind_fits, no_symbols, no_symbol_below, draws_this, input_there}
 use Rattle.sym_paths.proofs.Growing.{path_stands, path_over}
 use Rattle.sym_paths.proofs.Silent.{stands_at, step-is, choice-is, same_and_none, silent_step}
 use Rattle.sym_paths.proofs.Valuations.{below_higher, below_next, next_fresh, later_variables_are_proper}
@@ -164,6 +164,7 @@ module _ {S : Type 0} (memory : MemoryName) (stands : S → List PureValue → H
     vanish_is command = silent_step p m stands terms path (vanishing path) [] over
         (record {
           vars = same_and_none path.vars path.vars refl;
+          sorts_are_new = tt;
           conds = refl;
           given = refl;
           choices = refl;
@@ -202,6 +203,7 @@ module _ {S : Type 0} (memory : MemoryName) (stands : S → List PureValue → H
     logic_is logic = silent_step p m stands terms path (passing path) [] over
         (record {
           vars = same_and_none path.vars path.vars refl;
+          sorts_are_new = tt;
           conds = refl;
           given = refl;
           choices = refl;
@@ -278,6 +280,7 @@ module _ {S : Type 0} (memory : MemoryName) (stands : S → List PureValue → H
       usym_is command = silent_step p m stands terms path (with_fresh path bs) (Sort.Fresh ∷ []) over
           (record {
             vars = refl;
+            sorts_are_new = (tt, tt);
             conds = refl;
             given = refl;
             choices = refl;
@@ -359,6 +362,7 @@ module _ {S : Type 0} (memory : MemoryName) (stands : S → List PureValue → H
       isym_is command = silent_step p m stands terms path (with_draw path sort bs) (sort ∷ []) over
           (record {
             vars = refl;
+            sorts_are_new = (new_sort k sort drawable, tt);
             conds = refl;
             given = refl;
             choices = refl;

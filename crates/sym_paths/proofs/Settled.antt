@@ -8,17 +8,25 @@ use Rattle.gil_machine.specs.Step.{step}
 use Rattle.mem_model.specs.Actions.{Actions}
 use Rattle.mem_model.specs.Heaps.{Heap}
 use Rattle.pure_terms.specs.declared.deciders.Reason.{Reason}
+use Rattle.pure_terms.specs.declared.variables.Sort.{Sort}
 use Rattle.pure_terms.specs.Meaning.{IsOver, Satisfies, IsUnsatisfiable}
 use Rattle.pure_terms.specs.Pure.{PureAtom, term_of}
-use Rattle.sym_model.specs.Lists.{Each, OneOf}
+use Rattle.sym_model.specs.Lists.{Each, OneOf, IsAmong}
 use Rattle.sym_model.specs.Meaning.{has_open}
 use Rattle.sym_model.specs.Terms.{StateTerms}
-use Rattle.sym_model.proofs.ListLaws.{each_append}
+use Rattle.sym_model.proofs.ListLaws.{each_append, each_to, one_with}
 use Rattle.sym_paths.specs.Meaning.{StandsForStep}
 use Rattle.sym_paths.specs.Pure.{PurePath}
 use Rattle.sym_paths.specs.Settling.{Candidate, ended_unknown, IsLeftUnknown, Stays, AreSettled, AreCandidates}
-use Rattle.sym_paths.specs.Steps.{Extends, IsUnknown, IsRightlyUnknown, Grows, AddsOwn, IsExact, HoldsAlong, StaysSatisfiable, AreNextPaths}
+use Rattle.sym_paths.specs.Steps.{Extends, IsUnknown, IsRightlyUnknown, Grows, AddsOwn, IsExact, ChoosesAlike, HoldsAlong, StaysSatisfiable, AreNextPaths}
 use Rattle.sym_paths.proofs.Silent.{rightly}
+
+each_both : {A : Type 0} (P Q : A → Type 0) (xs : List A) → Each P xs → Each Q xs → Each (λ x. P x × Q x) xs
+each_both P Q [] first second = tt
+each_both P Q (x ∷ xs) first second = ((first.0, second.0), each_both P Q xs first.1 second.1)
+
+over_among : (vars : List Sort) (a : PureAtom) (atoms : List PureAtom) → Each (λ b. IsOver vars (term_of b)) atoms → IsAmong a atoms → IsOver vars (term_of a)
+over_among vars a atoms over among = one_with (λ b. IsOver vars (term_of b)) (λ b. b ≡ a) atoms over among (λ b is_over is. subst (λ c. IsOver vars (term_of c)) is is_over)
 
 module _ {S : Type 0} (p : PureParts) (path : PurePath S) where
   each_settled : (P : Candidate S → Type 0) (Q : PurePath S → Type 0) → ((c : Candidate S) (next : PurePath S) → P c → Stays p path c next → Q next)
@@ -42,21 +50,24 @@ module _ {S : Type 0} (p : PureParts) (m : Actions) (stands : S → List PureVal
   unknown_ends : (c : Candidate S) (next : PurePath S) (left : IsLeftUnknown p path c next) → IsUnknown next.ending
   unknown_ends c next left = subst (λ (n : PurePath S). IsUnknown n.ending) (sym left.is) tt
 
-  unknown_grows : (c : Candidate S) (place : Place) (reason : Reason) → Grows terms path c.path → Each (λ a. IsOver c.path.vars (term_of a)) c.no_fault → Grows terms path (ended_unknown c place reason)
-  unknown_grows c place reason g over = record {
+  unknown_grows : (c : Candidate S) (place : Place) (reason : Reason) → Grows terms path c.path → Each (λ a. IsAmong a c.path.conds) c.no_fault → Grows terms path (ended_unknown c place reason)
+  unknown_grows c place reason g among = record {
     new_vars = g.new_vars;
     vars = g.vars;
+    sorts = g.sorts;
     drawn = g.drawn;
     new_conds = g.new_conds;
     conds = g.conds;
     new_given = g.new_given ++ c.no_fault;
     given = ap (λ xs. xs ++ c.no_fault) g.given ∙ append_assoc path.given g.new_given c.no_fault;
+    assumed = each_append (λ a. IsAmong a c.path.conds) g.new_given c.no_fault g.assumed among;
     chosen = g.chosen;
     choices = g.choices;
     steps = g.steps;
     over = record {
       conds = g.over.conds;
-      given = each_append (λ a. IsOver c.path.vars (term_of a)) c.path.given c.no_fault g.over.given over;
+      given = each_append (λ a. IsOver c.path.vars (term_of a)) c.path.given c.no_fault g.over.given
+          (each_to (λ a. IsAmong a c.path.conds) (λ a. IsOver c.path.vars (term_of a)) c.no_fault (λ a is. over_among c.path.vars a c.path.conds g.over.conds is) among);
       stores = g.over.stores;
       memory = g.over.memory;
       drawn = g.over.drawn;
@@ -64,7 +75,7 @@ module _ {S : Type 0} (p : PureParts) (m : Actions) (stands : S → List PureVal
     };
   }
 
-  grows_on : (c : Candidate S) (next : PurePath S) → Grows terms path c.path × Each (λ a. IsOver c.path.vars (term_of a)) c.no_fault → Stays p path c next → Grows terms path next
+  grows_on : (c : Candidate S) (next : PurePath S) → Grows terms path c.path × Each (λ a. IsAmong a c.path.conds) c.no_fault → Stays p path c next → Grows terms path next
   grows_on c next g (inl kept) = subst (Grows terms path) (sym kept.is) g.0
   grows_on c next g (inr left) = subst (Grows terms path) (sym left.is) (unknown_grows c left.place left.reason g.0 g.1)
 
@@ -92,6 +103,15 @@ module _ {S : Type 0} (p : PureParts) (m : Actions) (stands : S → List PureVal
   exact_on c next exact (inl kept) = subst (IsExact p m stands path) (sym kept.is) (exact kept.no_form)
   exact_on c next exact (inr left) = λ inputs v w s is ext known meets. absurd (known (unknown_ends c next left))
 
+  choice_on : (c : Candidate S) (next : PurePath S) → (has_open c.path.conds ≡ false → IsExact p m stands path c.path) × ¬ IsUnknown c.path.ending → Stays p path c next → ChoosesAlike p m stands path next
+  choice_on c next (exact, known) (inl kept) =
+      subst (ChoosesAlike p m stands path) (sym kept.is) (λ inputs v w s is ext none meets. (exact none inputs v w s is ext known meets).0)
+  choice_on c next (exact, known) (inr left) =
+      subst (ChoosesAlike p m stands path) (sym left.is)
+      (λ inputs v w s is ext none meets. (exact none inputs v w s is
+      (record { new_vars = ext.new_vars; new_values = ext.new_values; vars = ext.vars; values = ext.values; in_turn = ext.in_turn }) known
+      (record { proper = meets.proper; true_there = meets.true_there })).0)
+
   along_on : (c : Candidate S) (next : PurePath S) → HoldsAlong p m stands path c.path × ((place : Place) (reason : Reason) → HoldsAlong p m stands path (ended_unknown c place reason))
       → Stays p path c next → HoldsAlong p m stands path next
   along_on c next along (inl kept) = subst (HoldsAlong p m stands path) (sym kept.is) along.0
@@ -111,9 +131,11 @@ module _ {S : Type 0} (p : PureParts) (m : Actions) (stands : S → List PureVal
 
   pub settled_are_next : (cs : List (Candidate S)) (nexts : List (PurePath S)) → AreCandidates p m stands terms own path cs → AreSettled p path cs nexts → AreNextPaths p m stands terms own path nexts
   settled_are_next cs nexts laws settled = record {
-    growth = each_settled p path (λ c. Grows terms path c.path × Each (λ a. IsOver c.path.vars (term_of a)) c.no_fault) (Grows terms path) grows_on cs nexts laws.growth settled;
+    growth = each_settled p path (λ c. Grows terms path c.path × Each (λ a. IsAmong a c.path.conds) c.no_fault) (Grows terms path) grows_on cs nexts laws.growth settled;
     cover = λ inputs v s is has. one_settled p path (Covered inputs v s) (CoveredNext inputs v s) (λ c covered unmet. unmet covered.0 covered.1.1) (covers_on inputs v s) cs nexts (laws.cover inputs v s is has) settled;
     exact = each_settled p path (λ c. has_open c.path.conds ≡ false → IsExact p m stands path c.path) (IsExact p m stands path) exact_on cs nexts laws.exact settled;
+    choices = each_settled p path (λ c. (has_open c.path.conds ≡ false → IsExact p m stands path c.path) × ¬ IsUnknown c.path.ending) (ChoosesAlike p m stands path) choice_on cs nexts
+        (each_both (λ c. has_open c.path.conds ≡ false → IsExact p m stands path c.path) (λ c. ¬ IsUnknown c.path.ending) cs laws.exact laws.known) settled;
     along = each_settled p path (λ c. HoldsAlong p m stands path c.path × ((place : Place) (reason : Reason) → HoldsAlong p m stands path (ended_unknown c place reason))) (HoldsAlong p m stands path) along_on cs nexts laws.along settled;
     own_conditions = each_settled p path (λ c. AddsOwn own path c.path) (AddsOwn own path) own_on cs nexts laws.own_conditions settled;
     satisfiable = each_settled p path (λ c. ¬ IsUnknown c.path.ending) (StaysSatisfiable path) satisfiable_on cs nexts laws.known settled;

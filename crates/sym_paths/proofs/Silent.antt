@@ -12,11 +12,12 @@ use Rattle.mem_model.specs.Actions.{Actions}
 use Rattle.mem_model.specs.Heaps.{Heap}
 use Rattle.pure_terms.specs.declared.variables.Sort.{Sort}
 use Rattle.pure_terms.specs.Meaning.{all_true, IsProper}
+use Rattle.sym_model.specs.Lists.{Each}
 use Rattle.sym_model.specs.Terms.{StateTerms}
 use Rattle.sym_paths.specs.Meaning.{AreFrames, frames_of, Stands, StandsForStep, IsOverTable, command_of_frames}
 use Rattle.sym_paths.specs.Moves.{NoOwn}
 use Rattle.sym_paths.specs.Pure.{PureFrame, PureEnd, returned, failed, missed, vanished, cut, unknown, PurePath}
-use Rattle.sym_paths.specs.Steps.{AreNext, drawn_from, Extends, HasInput, IsUnknown, IsChosen, IsRightlyUnknown, Grows, Covers, IsExact, HoldsAlong, StaysSatisfiable, AreNextPaths}
+use Rattle.sym_paths.specs.Steps.{AreNext, drawn_from, Extends, HasInput, IsUnknown, IsChosen, IsNewSort, IsRightlyUnknown, Grows, Covers, IsExact, ChoosesAlike, HoldsAlong, StaysSatisfiable, AreNextPaths}
 use Rattle.sym_paths.proofs.Growing.{all_true-more}
 
 -- ---- where a state stands
@@ -54,6 +55,7 @@ pub record IsSilent {S : Type 0} (p : PureParts) (m : Actions) (stands : S → L
 -- the next path is the old one, but for its variables, stack, memory, steps and end
 pub record IsUnasked {S : Type 0} (terms : S → StateTerms) (path next : PurePath S) (sorts : List Sort) : Type 0 where
   pub vars : next.vars ≡ path.vars ++ sorts
+  pub sorts_are_new : Each IsNewSort sorts
   pub conds : next.conds ≡ path.conds
   pub given : next.given ≡ path.given
   pub choices : next.choices ≡ path.choices
@@ -80,11 +82,13 @@ module _ {S : Type 0} (p : PureParts) (m : Actions) (stands : S → List PureVal
   grows = record {
     new_vars = sorts;
     vars = unasked.vars;
+    sorts = unasked.sorts_are_new;
     drawn = unasked.drawn;
     new_conds = [];
     conds = same_and_none next.conds path.conds unasked.conds;
     new_given = [];
     given = same_and_none next.given path.given unasked.given;
+    assumed = tt;
     chosen = None;
     choices = same_and_none next.choices path.choices unasked.choices;
     steps = unasked.steps;
@@ -109,6 +113,9 @@ module _ {S : Type 0} (p : PureParts) (m : Actions) (stands : S → List PureVal
       let proper : IsProper (path.vars ++ sorts) (v ++ ws) = subst (λ u. IsProper (path.vars ++ sorts) u) same (subst (λ vars. IsProper vars w) unasked.vars meets.proper) in
       (chosen_none v s is, subst (λ u. StandsForStep p m stands next u s next.ending (step p m inputs s)) (sym same) (silent.leads inputs v ws s is in_turn proper))
 
+  chooses_alike : ChoosesAlike p m stands path next
+  chooses_alike inputs v w s is ext none meets = chosen_none v s is
+
   along : HoldsAlong p m stands path next
   along inputs v w s is ext given chosen goes =
       let (ws, (same, in_turn)) = extended_by inputs s path next sorts v w unasked.vars ext in
@@ -124,6 +131,7 @@ module _ {S : Type 0} (p : PureParts) (m : Actions) (stands : S → List PureVal
     growth = (grows, tt);
     cover = covers;
     exact = (exact, tt);
+    choices = (chooses_alike, tt);
     along = (along, tt);
     own_conditions = (record { added = []; conds = same_and_none next.conds path.conds unasked.conds; each = tt }, tt);
     satisfiable = (satisfiable, tt);

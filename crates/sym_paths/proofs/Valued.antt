@@ -23,7 +23,7 @@ use Rattle.pure_terms.specs.Pure.{PureTerm, PureAtom, term_of}
 use Rattle.sym_evaluation.specs.Meaning.{IsTaken, IsClosed, IsGood, SayOutcome, HasValue}
 use Rattle.sym_evaluation.specs.Pure.{PureStore, term_at, PureFaultCase, PureGoodCase, PureCases}
 use Rattle.sym_evaluation.specs.Questions.{IsAsked, OnConditions, OnResult}
-use Rattle.sym_model.specs.Lists.{Each, OneOf}
+use Rattle.sym_model.specs.Lists.{Each, OneOf, IsAmong}
 use Rattle.sym_model.specs.Meaning.{has_open}
 use Rattle.sym_model.specs.Terms.{StateTerms}
 use Rattle.sym_model.proofs.ListLaws.{each_append, each_at, each_map, each_to, each_by_place, one_map, one_left, one_right}
@@ -35,6 +35,7 @@ use Rattle.sym_paths.specs.Pure.{PureFrame, PurePath}
 use Rattle.sym_paths.specs.Settling.{Candidate, ended_unknown, AreCandidates}
 use Rattle.sym_paths.specs.Steps.{Extends, IsUnknown, IsChosen, GoesOnAs, Grows, AddsOwn, IsExact, HoldsAlong}
 use Rattle.sym_paths.proofs.Binding.{agree_bound, each_bound}
+use Rattle.sym_paths.proofs.Growing.{later_among}
 use Rattle.sym_paths.proofs.Moving.{nothing_more, none_next, advanced_frames, running_stands, running_each, advanced_each, open_is_known}
 use Rattle.sym_paths.proofs.Silent.{stands_at, step-is, choice-is, extended_by, same_and_none}
 
@@ -82,7 +83,7 @@ going_on_met v (Err f) cases g here s go_on says is goes = absurd goes
 
 -- what the candidate for a result must do
 record GoodLaws {S : Type 0} (stands : S → List PureValue → Heap → Type 0) (terms : S → StateTerms) (p : PureParts) (m : Actions) (own : PureAtom → Type 0) (path : PurePath S) (g : PureGoodCase PureTerm) (d : Candidate S) : Type 0 where
-  growth : Grows terms path d.path × Each (λ a. IsOver d.path.vars (term_of a)) d.no_fault
+  growth : Grows terms path d.path × Each (λ a. IsAmong a d.path.conds) d.no_fault
   known : ¬ IsUnknown d.path.ending
   vars : d.path.vars ≡ path.vars
   conds : d.path.conds ≡ path.conds ++ g.conds
@@ -183,11 +184,13 @@ module _ {S : Type 0} (stands : S → List PureValue → Heap → Type 0) (terms
     fault_grows = record {
       new_vars = [];
       vars = same_and_none path.vars path.vars refl;
+      sorts = tt;
       drawn = same_and_none path.drawn path.drawn refl;
       new_conds = fc.conds;
       conds = refl;
       new_given = fc.conds;
       given = refl;
+      assumed = later_among path.conds fc.conds;
       chosen = None;
       choices = same_and_none path.choices path.choices refl;
       steps = refl;
@@ -257,11 +260,13 @@ module _ {S : Type 0} (stands : S → List PureValue → Heap → Type 0) (terms
     good_grows = record {
       new_vars = [];
       vars = same_and_none path.vars path.vars refl;
+      sorts = tt;
       drawn = same_and_none path.drawn path.drawn refl;
       new_conds = g.conds;
       conds = refl;
       new_given = [];
       given = same_and_none path.given path.given refl;
+      assumed = tt;
       chosen = None;
       choices = same_and_none path.choices path.choices refl;
       steps = refl;
@@ -286,7 +291,7 @@ module _ {S : Type 0} (stands : S → List PureValue → Heap → Type 0) (terms
 
     assigned_keeps : GoodLaws stands terms p m (IsAsked (running_store path.stack) e) path g (assigned path bs g)
     assigned_keeps = record {
-      growth = (good_grows, good_over);
+      growth = (good_grows, later_among path.conds g.conds);
       known = open_is_known path.ending no_end;
       vars = refl;
       conds = refl;
@@ -342,11 +347,13 @@ module _ {S : Type 0} (stands : S → List PureValue → Heap → Type 0) (terms
         record {
           new_vars = [];
           vars = same_and_none path.vars path.vars refl;
+          sorts = tt;
           drawn = same_and_none path.drawn path.drawn refl;
           new_conds = g.conds;
           conds = refl;
           new_given = g.conds;
           given = refl;
+          assumed = later_among path.conds g.conds;
           chosen = None;
           choices = same_and_none path.choices path.choices refl;
           steps = refl;
@@ -432,7 +439,7 @@ module _ {S : Type 0} (stands : S → List PureValue → Heap → Type 0) (terms
 
     are_candidates : (cs : List (Candidate S)) → AreForCases path here Makes cases cs → AreCandidates p m stands terms Own path cs
     are_candidates cs are = record {
-      growth = each_candidate (λ d. Grows terms path d.path × Each (λ a. IsOver d.path.vars (term_of a)) d.no_fault) (λ i fc which. (fault_grows i fc which, tt)) (λ g d laws. laws.growth) cs are;
+      growth = each_candidate (λ d. Grows terms path d.path × Each (λ a. IsAmong a d.path.conds) d.no_fault) (λ i fc which. (fault_grows i fc which, tt)) (λ g d laws. laws.growth) cs are;
       known = each_candidate (λ d. ¬ IsUnknown d.path.ending) (λ i fc which unknown. unknown) (λ g d laws. laws.known) cs are;
       cover = λ inputs v s is has. subst (OneOf (Covered inputs v s is)) (sym are.1.0) (covers_by inputs v s is (evaluate e s.current.store) (says v s is) are.0 are.1.1);
       exact = each_candidate (λ d. has_open d.path.conds ≡ false → IsExact p m stands path d.path) (λ i fc which no_form. fault_exact i fc which) (λ g d laws no_form. laws.exact) cs are;

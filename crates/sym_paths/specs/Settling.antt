@@ -10,8 +10,8 @@ use Rattle.mem_model.specs.Actions.{Actions}
 use Rattle.mem_model.specs.Heaps.{Heap}
 use Rattle.pure_terms.specs.declared.deciders.Reason.{Reason}
 use Rattle.pure_terms.specs.Fragment.{InFragment}
-use Rattle.pure_terms.specs.Meaning.{IsOver, Satisfies, IsUnsatisfiable}
-use Rattle.pure_terms.specs.Pure.{PureAtom, term_of}
+use Rattle.pure_terms.specs.Meaning.{Satisfies, IsUnsatisfiable}
+use Rattle.pure_terms.specs.Pure.{PureAtom}
 use Rattle.sym_model.specs.Lists.{Each, OneOf, IsAmong}
 use Rattle.sym_model.specs.Meaning.{has_open}
 use Rattle.sym_model.specs.Terms.{StateTerms}
@@ -68,7 +68,7 @@ module _ {S : Type 0} (p : PureParts) (m : Actions) (stands : S → List PureVal
 -- The laws of the paths of a step, before a decider is asked.
 pub record AreCandidates {S : Type 0} (p : PureParts) (m : Actions) (stands : S → List PureValue → Heap → Type 0) (terms : S → StateTerms)
     (own : PureAtom → Type 0) (path : PurePath S) (cs : List (Candidate S)) : Type 0 where
-  pub growth : Each (λ c. Grows terms path c.path × Each (λ a. IsOver c.path.vars (term_of a)) c.no_fault) cs
+  pub growth : Each (λ c. Grows terms path c.path × Each (λ a. IsAmong a c.path.conds) c.no_fault) cs
   pub known : Each (λ c. ¬ IsUnknown c.path.ending) cs
   pub cover : CandidatesCover p m stands path cs
   pub exact : Each (λ c. has_open c.path.conds ≡ false → IsExact p m stands path c.path) cs

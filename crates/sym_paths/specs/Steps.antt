@@ -1,5 +1,5 @@
 -- What a step of a path must do: the laws of the paths that it answers, of which each extends the old one.
-use Rattle.std.specs.Prelude.{◌≡◌, ◌⊎◌, ℕ, suc, ◌+◌, ◌<◌, ◌^◌, ℤ, pos, neg_ℤ, ◌-ℤ◌, ◌+ℤ◌, ◌≤ℤ◌, List, [], ◌∷◌, ◌++◌, length, slice_get, Option, Some, None, IsTrue, ⊤}
+use Rattle.std.specs.Prelude.{◌≡◌, ◌⊎◌, ℕ, suc, ◌+◌, ◌<◌, ◌^◌, ℤ, pos, neg_ℤ, ◌-ℤ◌, ◌+ℤ◌, ◌≤ℤ◌, List, [], ◌∷◌, ◌++◌, length, slice_get, false, Option, Some, None, IsTrue, ⊤}
 use Rattle.gil_values.specs.declared.places.Place.{Place}
 use Rattle.gil_values.specs.Pure.{PureValue, symbol}
 use Rattle.gil_syntax.specs.Pure.{PureParts, PureCommand, PureNumberedCommand}
@@ -15,9 +15,10 @@ use Rattle.pure_terms.specs.Fragment.{InFragment}
 use Rattle.pure_terms.specs.Meaning.{all_true, Satisfies}
 use Rattle.pure_terms.specs.Pure.{PureTerm, variable, PureAtom}
 use Rattle.sym_model.specs.Laws.{IsPlainWithin, IsDecidedWithin}
-use Rattle.sym_model.specs.Lists.{Each, OneOf}
+use Rattle.sym_model.specs.Lists.{Each, OneOf, IsAmong}
+use Rattle.sym_model.specs.Meaning.{has_open}
 use Rattle.sym_model.specs.Terms.{StateTerms}
-use Rattle.sym_paths.specs.Meaning.{StandsForStep, Stands, OfEachName, IsOverTable, command_of_frames, command_of_path}
+use Rattle.sym_paths.specs.Meaning.{StandsForStep, Stands, OfEachName, IsOverTable, end_terms, command_of_frames, command_of_path}
 use Rattle.sym_paths.specs.Pure.{PureFrame, PureEnd, unknown, PurePath}
 
 -- ---- new variables
@@ -70,6 +71,14 @@ pub record Extends {S : Type 0} (inputs : List PureValue) (s : State) (path next
   pub in_turn : AreNext inputs s.counter s.draws new_vars new_values
 
 -- ---- words
+
+-- the sorts of new variables: fresh, and those of draws
+abbrev pub IsNewSort : Sort → Type 0
+IsNewSort Sort.Fresh = ⊤
+IsNewSort Sort.Int = ⊤
+IsNewSort Sort.Bool = ⊤
+IsNewSort Sort.Str = ⊤
+IsNewSort sort = ⊥
 
 abbrev pub IsInputFault : Ending → Type 0
 IsInputFault (no_input k) = ⊤
@@ -126,15 +135,17 @@ are_narrow_bounds low high = (neg_ℤ (pos (2 ^ 80)) ≤ℤ low) × (high ≤ℤ
 -- ---- the laws
 
 -- Growth: everything is extended at its end, by what one step adds; the draws that are listed are the new variables that are no
--- fresh ones.
+-- fresh ones; what is newly assumed is among the conditions.
 pub record Grows {S : Type 0} (terms : S → StateTerms) (path next : PurePath S) : Type 0 where
   pub new_vars : List Sort
   pub vars : next.vars ≡ path.vars ++ new_vars
+  pub sorts : Each IsNewSort new_vars
   pub drawn : next.drawn ≡ path.drawn ++ drawn_from (length path.vars) new_vars
   pub new_conds : List PureAtom
   pub conds : next.conds ≡ path.conds ++ new_conds
   pub new_given : List PureAtom
   pub given : next.given ≡ path.given ++ new_given
+  pub assumed : Each (λ a. IsAmong a next.conds) new_given
   pub chosen : Option ℕ
   pub choices : IsChosen path next chosen
   pub steps : next.steps ≡ path.steps + 1
@@ -167,6 +178,13 @@ module _ {S : Type 0} (p : PureParts) (m : Actions) (stands : S → List PureVal
       (inputs v w : List PureValue) (s : State) → Stands stands path v s → Extends inputs s path next v w → ¬ IsUnknown next.ending
       → Satisfies next.vars w next.conds → IsStepOf inputs s path next w
 
+  -- Choice: where all conditions of an answered path are met, and none needs a literal form, the step makes its choice, whether the path
+  -- is unknown or not.
+  abbrev pub ChoosesAlike : PurePath S → PurePath S → Type 0
+  ChoosesAlike path next =
+      (inputs v w : List PureValue) (s : State) → Stands stands path v s → Extends inputs s path next v w → has_open next.conds ≡ false
+      → Satisfies next.vars w next.conds → IsChosen path next (choice_at p m s)
+
   -- Along: where what is assumed is met, and the step makes the choice and goes on as the path does, all conditions are met.
   abbrev pub HoldsAlong : PurePath S → PurePath S → Type 0
   HoldsAlong path next =
@@ -186,6 +204,7 @@ pub record AreNextPaths {S : Type 0} (p : PureParts) (m : Actions) (stands : S �
   pub growth : Each (Grows terms path) nexts
   pub cover : Covers p m stands path nexts
   pub exact : Each (IsExact p m stands path) nexts
+  pub choices : Each (ChoosesAlike p m stands path) nexts
   pub along : Each (HoldsAlong p m stands path) nexts
   pub own_conditions : Each (AddsOwn own path) nexts
   pub satisfiable : Each (StaysSatisfiable path) nexts
@@ -193,11 +212,12 @@ pub record AreNextPaths {S : Type 0} (p : PureParts) (m : Actions) (stands : S �
 
 -- ---- commands that keep paths in the fragment
 
--- A path that is plain within bounds: its terms are plain, and its conditions have forms of the fragment.
+-- A path that is plain within bounds: its terms are plain, those of its end too, and its conditions have forms of the fragment.
 pub record IsPlainPath {S : Type 0} (plain : S → ℤ → ℤ → Type 0) (low high : ℤ) (path : PurePath S) : Type 0 where
   pub stores : Each (λ f. OfEachName (IsPlainWithin low high) f.store) path.stack
   pub memory : plain path.memory low high
   pub conds : Each (IsDecidedWithin low high) path.conds
+  pub ending : Each (IsPlainWithin low high) (end_terms path.ending)
 
 -- Simple: at a command of the class, a path that is kept within bounds leads to paths that are kept within wider ones, of which none
 -- is unknown while the bounds are those of the fragment.

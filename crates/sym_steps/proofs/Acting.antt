@@ -28,11 +28,11 @@ use Rattle.sym_evaluation.specs.Meaning.{HaveValues}
 use Rattle.sym_evaluation.specs.Pure.{PureStore, PureGoodCase, PureCases}
 use Rattle.sym_evaluation.specs.Questions.{IsAsked, OnResult, AreEachFrom, AreEachOver, OnConditions}
 use Rattle.sym_model.specs.Laws.{IsMeaning, ActLaw, Serves, EachTerm}
-use Rattle.sym_model.specs.Lists.{Each, OneOf}
+use Rattle.sym_model.specs.Lists.{Each, OneOf, IsAmong}
 use Rattle.sym_model.specs.Meaning.{location_of, fresh_symbol, has_open, IsOutcome, IsBranchFor}
 use Rattle.sym_model.specs.Pure.{PureKey, PureResult, done, failed, missed, PureBranch, result_terms}
 use Rattle.sym_model.specs.Terms.{StateTerms, all_of, IsFreshOver, asked_of, IsOwnCondition}
-use Rattle.sym_model.proofs.ListLaws.{each_append, each_at, each_to, each_by_place}
+use Rattle.sym_model.proofs.ListLaws.{each_append, each_at, each_to, each_by_place, each_right}
 use Rattle.sym_paths.specs.Valued.{place_at}
 use Rattle.sym_paths.specs.Laws.{with_more, IsBound}
 use Rattle.sym_paths.specs.Meaning.{Stands, StandsForStep, OfEachName, IsOverTable, end_terms, command_of_path}
@@ -40,9 +40,9 @@ use Rattle.sym_paths.specs.Moves.{running_store, advanced}
 use Rattle.sym_paths.specs.Pure.{PureFrame, PureEnd, PurePath}
 use Rattle.sym_paths.specs.Pure as path_end
 use Rattle.sym_paths.specs.Settling.{Candidate, AreCandidates}
-use Rattle.sym_paths.specs.Steps.{AreNext, drawn_from, IsUnknown, IsChosen}
+use Rattle.sym_paths.specs.Steps.{AreNext, drawn_from, IsNewSort, IsUnknown, IsChosen}
 use Rattle.sym_paths.proofs.Binding.{agree_bound, each_bound}
-use Rattle.sym_paths.proofs.Growing.{path_stands, path_over}
+use Rattle.sym_paths.proofs.Growing.{path_stands, path_over, later_among}
 use Rattle.sym_paths.proofs.Moving.{none_next, advanced_frames, running_stands, running_each, advanced_each}
 use Rattle.sym_paths.proofs.Silent.{same_and_none}
 use Rattle.sym_paths.proofs.Valuations.{next_fresh, below_higher, below_next}
@@ -52,6 +52,10 @@ use Rattle.sym_steps.proofs.Following.{with_outcome, of_outcome, IsEvaluation, s
 use Rattle.sym_steps.proofs.Outcomes.{with_values-outcome}
 
 -- ---- new variables
+
+taken_are_new : (takes : Bool) → Each IsNewSort (taken takes)
+taken_are_new true = (tt, tt)
+taken_are_new false = tt
 
 last_is : {X : Type 0} (xs : List X) (y : X) (n : ℕ) → n ≡ length xs → slice_get (xs ++ y ∷ []) n ≡ Some y
 last_is [] y zero is = refl
@@ -242,11 +246,13 @@ module _ {S : Type 0} (memory : MemoryName) (stands : S → List PureValue → H
             record {
               new_vars = taken takes;
               vars = refl;
+              sorts = taken_are_new takes;
               drawn = same_and_none path.drawn path.drawn refl ∙ ap (λ ts. path.drawn ++ ts) (sym (no_draw takes (length path.vars)));
               new_conds = g.conds ++ b.conds;
               conds = refl;
               new_given = b.conds;
               given = refl;
+              assumed = each_right (λ a. IsAmong a (path.conds ++ (g.conds ++ b.conds))) g.conds b.conds (later_among path.conds (g.conds ++ b.conds));
               chosen = Some k;
               choices = refl;
               steps = refl;

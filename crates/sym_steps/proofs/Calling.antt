@@ -24,16 +24,17 @@ use Rattle.pure_terms.proofs.VariableLaws.{stay_when_tables_grow}
 use Rattle.sym_evaluation.specs.Meaning.{AreSame}
 use Rattle.sym_evaluation.specs.Pure.{PureStore, term_at, PureGoodCase, PureCases}
 use Rattle.sym_evaluation.specs.Questions.{IsAsked, IsFrom, EachCondition, OnConditions, OnResult, AreEachOver}
-use Rattle.sym_model.specs.Lists.{Each, OneOf}
+use Rattle.sym_model.specs.Lists.{Each, OneOf, IsAmong}
 use Rattle.sym_model.specs.Terms.{StateTerms, is_literal}
 use Rattle.sym_model.proofs.Asking.{both_parts}
-use Rattle.sym_model.proofs.ListLaws.{same_some, not_none, each_append, each_to}
+use Rattle.sym_model.proofs.ListLaws.{same_some, not_none, each_append, each_left, each_to}
 use Rattle.sym_paths.specs.Valued.{place_at, IsEvaluated}
 use Rattle.sym_paths.specs.Meaning.{AreFrames, Stands, StandsForStep, OfEachName, IsOverTable, command_of_path}
 use Rattle.sym_paths.specs.Moves.{running_store}
 use Rattle.sym_paths.specs.Pure.{PureFrame, PurePath}
 use Rattle.sym_paths.specs.Settling.{Candidate, AreCandidates}
 use Rattle.sym_paths.specs.Steps.{GoesOnAs}
+use Rattle.sym_paths.proofs.Growing.{later_among}
 use Rattle.sym_paths.proofs.Moving.{open_is_known}
 use Rattle.sym_paths.proofs.Silent.{same_and_none}
 use Rattle.sym_steps.specs.Cases.{AreOfCases, AreEvaluated}
@@ -228,11 +229,13 @@ module _ {S : Type 0} (stands : S → List PureValue → Heap → Type 0) (terms
           record {
             new_vars = [];
             vars = same_and_none path.vars path.vars refl;
+            sorts = tt;
             drawn = same_and_none path.drawn path.drawn refl;
             new_conds = g.conds;
             conds = refl;
             new_given = [];
             given = same_and_none path.given path.given refl;
+            assumed = tt;
             chosen = None;
             choices = same_and_none path.choices path.choices refl;
             steps = refl;
@@ -245,7 +248,7 @@ module _ {S : Type 0} (stands : S → List PureValue → Heap → Type 0) (terms
               ending = over.ending;
             };
           },
-          good_over,
+          later_among path.conds g.conds,
         );
         known = open_is_known path.ending no_end;
         vars = refl;
@@ -272,11 +275,13 @@ module _ {S : Type 0} (stands : S → List PureValue → Heap → Type 0) (terms
           record {
             new_vars = [];
             vars = same_and_none path.vars path.vars refl;
+            sorts = tt;
             drawn = same_and_none path.drawn path.drawn refl;
             new_conds = g.conds ++ asked;
             conds = refl;
             new_given = [];
             given = same_and_none path.given path.given refl;
+            assumed = tt;
             chosen = None;
             choices = same_and_none path.choices path.choices refl;
             steps = refl;
@@ -289,7 +294,7 @@ module _ {S : Type 0} (stands : S → List PureValue → Heap → Type 0) (terms
               ending = over.ending;
             };
           },
-          good_over,
+          each_left (λ a. IsAmong a (path.conds ++ (g.conds ++ asked))) g.conds asked (later_among path.conds (g.conds ++ asked)),
         );
         known = open_is_known path.ending no_end;
         vars = refl;

@@ -11,7 +11,7 @@ use Rattle.pure_terms.specs.declared.deciders.Reason.{Reason}
 use Rattle.pure_terms.specs.Meaning.{IsOver, Satisfies}
 use Rattle.pure_terms.specs.Pure.{PureTerm, PureAtom, term_of}
 use Rattle.sym_model.specs.Laws.{IsCopy}
-use Rattle.sym_model.specs.Lists.{Each, OneOf}
+use Rattle.sym_model.specs.Lists.{Each, OneOf, IsAmong}
 use Rattle.sym_model.specs.Meaning.{has_open}
 use Rattle.sym_model.specs.Terms.{StateTerms, all_of, AreEachOver}
 use Rattle.sym_paths.specs.Meaning.{StandsForStep}
@@ -72,18 +72,20 @@ module _ {S : Type 0} (stands : S → List PureValue → Heap → Type 0) (terms
 
   module _ (p : PureParts) (m : Actions) (own : PureAtom → Type 0) (path : PurePath S) where
     abbrev Grown : Candidate S → Type 0
-    Grown c = Grows terms path c.path × Each (λ a. IsOver c.path.vars (term_of a)) c.no_fault
+    Grown c = Grows terms path c.path × Each (λ a. IsAmong a c.path.conds) c.no_fault
 
     grows_copied : (c : Candidate S) (state : S) → IsCopy stands terms depends plain c.path.memory state → Grown c → Grown (copied c state)
     grows_copied c state copy (g, no_fault) = (
       record {
         new_vars = g.new_vars;
         vars = g.vars;
+        sorts = g.sorts;
         drawn = g.drawn;
         new_conds = g.new_conds;
         conds = g.conds;
         new_given = g.new_given;
         given = g.given;
+        assumed = g.assumed;
         chosen = g.chosen;
         choices = g.choices;
         steps = g.steps;

@@ -24,7 +24,7 @@ use Rattle.pure_terms.specs.Pure.{PureAtom, term_of}
 use Rattle.sym_evaluation.specs.Meaning.{Serves, IsTaken, IsClosed, IsGood, SayOutcome}
 use Rattle.sym_evaluation.specs.Pure.{PureStore, term_at, PureFaultCase, PureGoodCase, PureCases}
 use Rattle.sym_evaluation.specs.Questions.{OnConditions, EachCondition, NameNoOthers}
-use Rattle.sym_model.specs.Lists.{Each, OneOf}
+use Rattle.sym_model.specs.Lists.{Each, OneOf, IsAmong}
 use Rattle.sym_model.specs.Meaning.{is_open, has_open}
 use Rattle.sym_model.specs.Terms.{StateTerms}
 use Rattle.sym_model.proofs.ListLaws.{not_none, each_append, each_at, each_map, each_to, each_by_place, one_map, one_left, one_right}
@@ -34,7 +34,7 @@ use Rattle.sym_paths.specs.Moves.{running_store}
 use Rattle.sym_paths.specs.Pure.{PureFrame, PurePath}
 use Rattle.sym_paths.specs.Settling.{Candidate, ended_unknown, AreCandidates}
 use Rattle.sym_paths.specs.Steps.{AreNext, Extends, IsUnknown, IsChosen, GoesOnAs, Grows, AddsOwn, IsExact, HoldsAlong}
-use Rattle.sym_paths.proofs.Growing.{all_true-more}
+use Rattle.sym_paths.proofs.Growing.{all_true-more, later_among}
 use Rattle.sym_paths.proofs.Moving.{nothing_more, none_next, running_stands, running_each}
 use Rattle.sym_paths.proofs.Silent.{stands_at, step-is, choice-is, extended_by, same_and_none}
 use Rattle.sym_steps.specs.Cases.{AreResults, AreOfCases, failing_with}
@@ -168,7 +168,7 @@ module _ {S : Type 0} (stands : S → List PureValue → Heap → Type 0) (terms
 
     -- what a candidate for the result of a good case must do, with these new variables and further conditions
     pub record MakesNext (sorts : List Sort) (g : PureGoodCase X) (more : List PureAtom) (d : Candidate S) : Type 0 where
-      pub growth : Grows terms path d.path × Each (λ a. IsOver d.path.vars (term_of a)) d.no_fault
+      pub growth : Grows terms path d.path × Each (λ a. IsAmong a d.path.conds) d.no_fault
       pub known : ¬ IsUnknown d.path.ending
       pub vars : d.path.vars ≡ path.vars ++ sorts
       pub conds : d.path.conds ≡ path.conds ++ (g.conds ++ more)
@@ -311,11 +311,13 @@ module _ {S : Type 0} (stands : S → List PureValue → Heap → Type 0) (terms
       fault_grows = record {
         new_vars = [];
         vars = same_and_none path.vars path.vars refl;
+        sorts = tt;
         drawn = same_and_none path.drawn path.drawn refl;
         new_conds = fc.conds;
         conds = refl;
         new_given = fc.conds;
         given = refl;
+        assumed = later_among path.conds fc.conds;
         chosen = None;
         choices = same_and_none path.choices path.choices refl;
         steps = refl;
@@ -382,7 +384,7 @@ module _ {S : Type 0} (stands : S → List PureValue → Heap → Type 0) (terms
 
       pub are_candidates : (cs : List (Candidate S)) → AreOfCases path here Make cases cs → AreCandidates p m stands terms own path cs
       are_candidates cs are = record {
-        growth = each_candidate (λ d. Grows terms path d.path × Each (λ a. IsOver d.path.vars (term_of a)) d.no_fault) (λ i fc which. (fault_grows i fc which, tt)) (λ g more d is makes. makes.growth) cs are;
+        growth = each_candidate (λ d. Grows terms path d.path × Each (λ a. IsAmong a d.path.conds) d.no_fault) (λ i fc which. (fault_grows i fc which, tt)) (λ g more d is makes. makes.growth) cs are;
         known = each_candidate (λ d. ¬ IsUnknown d.path.ending) (λ i fc which unknown. unknown) (λ g more d is makes. makes.known) cs are;
         cover = λ inputs v s is has. subst (OneOf (Covered inputs v s)) (sym are.1.0) (covers_by inputs v s is (outcome s.current.store) refl (says v s is) are.0 are.1.1);
         exact = each_candidate (λ d. has_open d.path.conds ≡ false → IsExact p m stands path d.path) (λ i fc which no_form. fault_exact i fc which) (λ g more d is makes. good_exact sorts g more d is makes) cs are;
@@ -425,7 +427,7 @@ module _ {S : Type 0} (stands : S → List PureValue → Heap → Type 0) (terms
 
     -- what a candidate must do that adds no variable
     pub record MakesSame (g : PureGoodCase X) (more : List PureAtom) (d : Candidate S) : Type 0 where
-      pub growth : Grows terms path d.path × Each (λ a. IsOver d.path.vars (term_of a)) d.no_fault
+      pub growth : Grows terms path d.path × Each (λ a. IsAmong a d.path.conds) d.no_fault
       pub known : ¬ IsUnknown d.path.ending
       pub vars : d.path.vars ≡ path.vars
       pub conds : d.path.conds ≡ path.conds ++ (g.conds ++ more)
@@ -488,11 +490,13 @@ module _ {S : Type 0} (stands : S → List PureValue → Heap → Type 0) (terms
           record {
             new_vars = [];
             vars = same_and_none path.vars path.vars refl;
+            sorts = tt;
             drawn = same_and_none path.drawn path.drawn refl;
             new_conds = g.conds ++ more;
             conds = refl;
             new_given = g.conds ++ more;
             given = refl;
+            assumed = later_among path.conds (g.conds ++ more);
             chosen = None;
             choices = same_and_none path.choices path.choices refl;
             steps = refl;

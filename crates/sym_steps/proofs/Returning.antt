@@ -24,6 +24,7 @@ use Rattle.sym_paths.specs.Moves.{running_store}
 use Rattle.sym_paths.specs.Pure.{PureFrame, PurePath}
 use Rattle.sym_paths.specs.Settling.{Candidate, AreCandidates}
 use Rattle.sym_paths.specs.Steps.{GoesOnAs}
+use Rattle.sym_paths.proofs.Growing.{later_among}
 use Rattle.sym_paths.proofs.Binding.{agree_bound, each_bound}
 use Rattle.sym_paths.proofs.Moving.{open_is_known}
 use Rattle.sym_paths.proofs.Silent.{same_and_none}
@@ -117,11 +118,13 @@ module _ {S : Type 0} (stands : S → List PureValue → Heap → Type 0) (terms
           record {
             new_vars = [];
             vars = same_and_none path.vars path.vars refl;
+            sorts = tt;
             drawn = same_and_none path.drawn path.drawn refl;
             new_conds = g.conds;
             conds = refl;
             new_given = g.conds;
             given = refl;
+            assumed = later_among path.conds g.conds;
             chosen = None;
             choices = same_and_none path.choices path.choices refl;
             steps = refl;
@@ -173,11 +176,13 @@ module _ {S : Type 0} (stands : S → List PureValue → Heap → Type 0) (terms
           record {
             new_vars = [];
             vars = same_and_none path.vars path.vars refl;
+            sorts = tt;
             drawn = same_and_none path.drawn path.drawn refl;
             new_conds = g.conds;
             conds = refl;
             new_given = [];
             given = same_and_none path.given path.given refl;
+            assumed = tt;
             chosen = None;
             choices = same_and_none path.choices path.choices refl;
             steps = refl;
@@ -190,7 +195,7 @@ module _ {S : Type 0} (stands : S → List PureValue → Heap → Type 0) (terms
               ending = over.ending;
             };
           },
-          good_over,
+          later_among path.conds g.conds,
         );
         known = open_is_known path.ending no_end;
         vars = refl;

@@ -212,11 +212,13 @@ module _ {S : Type 0} (stands : S → List PureValue → Heap → Type 0) (terms
           record {
             new_vars = [];
             vars = same_and_none path.vars path.vars refl;
+            sorts = tt;
             drawn = same_and_none path.drawn path.drawn refl;
             new_conds = g.conds ++ more;
             conds = refl;
             new_given = [];
             given = same_and_none path.given path.given refl;
+            assumed = tt;
             chosen = Some side;
             choices = refl;
             steps = refl;
