@@ -1,0 +1,10 @@
+//! Symbolic testing: bugs that replay, and clean answers for all inputs within a bound.
+#![tactic(auto)]
+
+mod canonical;
+mod evaluating;
+mod testing;
+mod verdicts;
+
+pub use testing::test;
+pub use verdicts::Verdict;
