@@ -1,8 +1,9 @@
--- A valuation that meets atoms, with other symbols for its fresh variables and other values for the draws that no atom names, still meets them.
-use Rattle.std.proofs.Common.{◌≡◌, ◌⊎◌, ⊎_elim, inl, inr, ℕ, zero, suc, ◌+◌, ◌<◌, ◌≤◌, List, [], ◌∷◌, ◌++◌, map, length, slice_get, Bool, true, false, ◌||◌, ◌&&◌, if◌then◌else◌, eqb, Option, Some, None, IsTrue, refl, sym, ap, subst, ◌∙◌, arith, true≢false, add-zero, zero-add}
+-- A valuation that meets atoms, with other symbols for its fresh variables and other values for the draws that unlike atom names, still meets them.
+use Rattle.std.proofs.Common.{◌≡◌, take, add-one, ◌⊎◌, ⊎_elim, inl, inr, ℕ, zero, suc, ◌+◌, ◌<◌, ◌≤◌, List, [], ◌∷◌, ◌++◌, map, length, slice_get, Bool, true, false, ◌||◌, ◌&&◌, if◌then◌else◌, eqb, Option, Some, None, IsTrue, refl, sym, ap, subst, ◌∙◌, arith, true≢false, add-zero, zero-add}
 use Rattle.std.specs.List.{Contains, list_any}
 use Rattle.std.proofs.lemmas.Bool.{cases_eq, eq-eqb, ne_eqb}
-use Rattle.std.proofs.lemmas.List.{append-nil, append_assoc, length_push}
+use Rattle.std.proofs.lemmas.List.{append_assoc, length_push, length-take-le, take_all}
+use Rattle.std.proofs.lemmas.Option.{slice_get_within}
 use Rattle.std.proofs.lemmas.List.Elements.{Contains-append_left, Contains-append_right, Contains-append_cases, Contains-push}
 use Rattle.gil_values.specs.declared.kinds.Kind.{Kind}
 use Rattle.gil_values.specs.Pure.{PureValue, integer, boolean, text, symbol, kind, procedure, list, kind_of}
@@ -16,6 +17,7 @@ use Rattle.pure_terms.specs.Meaning.{truth, all_true, IsProper, AreOver, Satisfi
 use Rattle.pure_terms.specs.Naming.{names_number}
 use Rattle.pure_terms.specs.Pure.{PureAtom, term_of, variables, variables_of_atoms}
 use Rattle.pure_terms.specs.Renaming.{renamed, IsOneToOneOn}
+use Rattle.pure_terms.proofs.Evaluated.{take-push}
 use Rattle.pure_terms.proofs.Renamed.{renaming_keeps}
 use Rattle.pure_terms.proofs.VariableLaws.{depend_on_variables}
 use Rattle.sym_model.specs.Lists.{Each}
@@ -23,8 +25,7 @@ use Rattle.sym_model.proofs.ListLaws.{same_some, not_none}
 use Rattle.sym_paths.specs.Moves.{draw_sort}
 use Rattle.sym_paths.specs.Steps.{AreNext, IsNewSort, counter_after, counter_past, drawn_from}
 use Rattle.sym_paths.proofs.Drawing.{fits_kind, no_symbols}
-use Rattle.sym_test.specs.Canonical.{blank, IsAt, is_named, draws_among, IsCanonical}
-use Rattle.sym_test.specs.Undecided.{HaveValuation}
+use Rattle.sym_test.specs.Canonical.{blank, IsAt, is_named, draw_and, draws_among, HaveValuation, IsCanonical}
 
 -- ---- how the canonical valuation is made of another one
 
@@ -41,6 +42,48 @@ made_more named n [] [] (z ∷ ws) sort u w made last = absurd made
 made_more named n [] (v ∷ us) ws sort u w made last = absurd made
 made_more named n (s ∷ sorts) [] ws sort u w made last = absurd made
 made_more named n (s ∷ sorts) (v ∷ us) [] sort u w made last = absurd made
+
+past_more : (sorts : List Sort) (n : ℕ) (sort : Sort) → counter_past (sorts ++ sort ∷ []) n ≡ counter_after sort (counter_past sorts n)
+past_more [] n sort = refl
+past_more (s ∷ sorts) n sort = past_more sorts (counter_after s n) sort
+
+counter_steps : (sort : Sort) (n : ℕ) → counter_after sort n ≤ n + 1
+counter_steps Sort.Fresh n = omega arith
+counter_steps Sort.Int n = omega arith
+counter_steps Sort.Bool n = omega arith
+counter_steps Sort.Str n = omega arith
+counter_steps Sort.Sym n = omega arith
+counter_steps Sort.List n = omega arith
+counter_steps Sort.Any n = omega arith
+
+-- so many variables have their values
+pub record IsMadeTo (named : ℕ → Bool) (sorts : List Sort) (us ws : List PureValue) (i next : ℕ) : Type 0 where
+  pub made : IsMade named 0 (take i sorts) (take i us) ws
+  pub counted : next ≡ counter_past (take i sorts) 0
+  pub low : next ≤ i
+
+pub made_next : (named : ℕ → Bool) (sorts : List Sort) (us ws : List PureValue) (i next : ℕ) (sort : Sort) (u w : PureValue) → IsMadeTo named sorts us ws i next → slice_get sorts i ≡ Some sort → slice_get us i ≡ Some u
+    → IsAt (named i) next sort u w → IsMadeTo named sorts us (ws ++ w ∷ []) (i + 1) (counter_after sort next)
+made_next named sorts us ws i next sort u w so_far in_table at is =
+    let more_sorts : take (i + 1) sorts ≡ take i sorts ++ sort ∷ [] = ap (λ n. take n sorts) (add-one i) ∙ take-push sorts i sort in_table in
+    let more_values : take (i + 1) us ≡ take i us ++ u ∷ [] = ap (λ n. take n us) (add-one i) ∙ take-push us i u at in
+    let within : i < length sorts = slice_get_within sorts i sort in_table in
+    let place : length (take i sorts) ≡ i = length-take-le i sorts (omega (arith, within)) in
+    let steps : counter_after sort next ≤ next + 1 = counter_steps sort next in
+    let before : next ≤ i = so_far.low in
+    record {
+      made = subst (λ ss. IsMade named 0 ss (take (i + 1) us) (ws ++ w ∷ [])) (sym more_sorts)
+          (subst (λ vs. IsMade named 0 (take i sorts ++ sort ∷ []) vs (ws ++ w ∷ [])) (sym more_values)
+          (made_more named 0 (take i sorts) (take i us) ws sort u w so_far.made
+          (subst (λ n. IsAt (named (length (take i sorts))) n sort u w) so_far.counted (subst (λ n. IsAt (named n) next sort u w) (sym place) is))));
+      counted = ap (counter_after sort) so_far.counted ∙ sym (past_more (take i sorts) 0 sort) ∙ ap (λ ss. counter_past ss 0) (sym more_sorts);
+      low = omega (arith, steps, before);
+    }
+
+pub made_whole : (named : ℕ → Bool) (sorts : List Sort) (us ws : List PureValue) (i next : ℕ) → IsMadeTo named sorts us ws i next → length us ≡ length sorts → length sorts ≤ i → IsMade named 0 sorts us ws
+made_whole named sorts us ws i next so_far same past =
+    subst (λ ss. IsMade named 0 ss us ws) (take_all i sorts past)
+    (subst (λ vs. IsMade named 0 (take i sorts) vs ws) (take_all i us (omega (arith, same, past))) so_far.made)
 
 -- ---- sorts of new variables
 
@@ -198,13 +241,13 @@ cons_cases k ks m (zero, within, is) = inl is
 cons_cases k ks m (suc i, within, is) = inr (i, omega (arith, within), is)
 
 position-other : (k m : ℕ) (ks : List ℕ) → eqb k m ≡ false → position m (k ∷ ks) ≡ suc (position m ks)
-position-other k m ks no = ap (λ b. if b then 0 else suc (position m ks)) no
+position-other k m ks unlike = ap (λ b. if b then 0 else suc (position m ks)) unlike
 
 position-first : (k m : ℕ) (ks : List ℕ) → eqb k m ≡ true → position m (k ∷ ks) ≡ 0
-position-first k m ks yes = ap (λ b. if b then 0 else suc (position m ks)) yes
+position-first k m ks chosen = ap (λ b. if b then 0 else suc (position m ks)) chosen
 
 not_first : (k m : ℕ) (ks : List ℕ) → (k ≡ m → ⊥) → Contains (k ∷ ks) m → Contains ks m
-not_first k m ks no has = ⊎_elim (λ is. absurd (no is)) (λ later. later) (cons_cases k ks m has)
+not_first k m ks unlike has = ⊎_elim (λ is. absurd (unlike is)) (λ later. later) (cons_cases k ks m has)
 
 positions_apart : (ks : List ℕ) (m l : ℕ) → Contains ks m → Contains ks l → position m ks ≡ position l ks → m ≡ l
 positions_apart [] m l of_m of_l same = absurd (none_contained m of_m)
@@ -229,7 +272,7 @@ positions_apart (k ∷ ks) m l of_m of_l same =
 -- a symbol that occurs is that of a fresh variable
 where_fresh : (sorts : List Sort) (us : List PureValue) → Each IsNewSort sorts → IsProper sorts us → (m : ℕ) → OccursAmong m us → (x : ℕ) × ((slice_get sorts x ≡ Some Sort.Fresh) × (slice_get us x ≡ Some (symbol m)))
 where_fresh sorts [] new proper m occurs = absurd (none_contained m occurs)
-where_fresh [] (u ∷ us) new proper m occurs = let no : suc (length us) ≡ 0 = proper.one_each in absurd (omega (arith, no))
+where_fresh [] (u ∷ us) new proper m occurs = let unlike : suc (length us) ≡ 0 = proper.one_each in absurd (omega (arith, unlike))
 where_fresh (sort ∷ sorts) (u ∷ us) new proper m occurs =
     let fits : IsTrue (has_sort sort u) = proper.sorts 0 sort u refl refl in
     ⊎_elim
@@ -251,7 +294,7 @@ module _ (g : ℕ → ℕ) where
 
   -- the first variable
   first_agrees : (named : Bool) (n : ℕ) (sort : Sort) (u w : PureValue) (us : List PureValue) → IsNewSort sort → IsTrue (has_sort sort u) → IsAt named n sort u w → Counts n (u ∷ us) → named ≡ true → w ≡ renamed g u
-  first_agrees named n sort u w us new fits is counts yes =
+  first_agrees named n sort u w us new fits is counts chosen =
       ⊎_elim
       (λ (fresh : sort ≡ Sort.Fresh).
       let (m, of_m) = fresh_symbol u (subst (λ s. IsTrue (has_sort s u)) fresh fits) in
@@ -260,7 +303,7 @@ module _ (g : ℕ → ℕ) where
       let first : position m (m ∷ symbols_of_all us) ≡ 0 = position-first m m (symbols_of_all us) (eq-eqb m m refl) in
       let count : n ≡ g m = omega (arith, at, first) in
       fresh_is named n sort u w fresh is ∙ ap symbol count ∙ sym (ap (renamed g) of_m))
-      (λ (k, draws). draw_is named n sort u w (k, draws) is ∙ ap (λ b. if b then u else blank sort) yes ∙ sym (kept_name g u k sort draws (fits_kind k sort draws u fits)))
+      (λ (k, draws). draw_is named n sort u w (k, draws) is ∙ ap (λ b. if b then u else blank sort) chosen ∙ sym (kept_name g u k sort draws (fits_kind k sort draws u fits)))
       (fresh_or_draw sort new)
 
   -- after the first variable
@@ -283,13 +326,13 @@ module _ (g : ℕ → ℕ) where
 
   agrees : (named : ℕ → Bool) (n : ℕ) (sorts : List Sort) (us ws : List PureValue) → Each IsNewSort sorts → IsProper sorts us → IsMade named n sorts us ws → Counts n us
       → (x : ℕ) (s : Sort) → slice_get sorts x ≡ Some s → named x ≡ true → slice_get ws x ≡ slice_get (map (renamed g) us) x
-  agrees named n [] us ws new proper made counts x s in_table yes = not_none in_table
-  agrees named n (sort ∷ sorts) [] ws new proper made counts x s in_table yes = absurd made
-  agrees named n (sort ∷ sorts) (u ∷ us) [] new proper made counts x s in_table yes = absurd made
-  agrees named n (sort ∷ sorts) (u ∷ us) (w ∷ ws) new proper made counts zero s in_table yes =
-      ap Some (first_agrees (named 0) n sort u w us new.0 (proper.sorts 0 sort u refl refl) made.0 counts yes)
-  agrees named n (sort ∷ sorts) (u ∷ us) (w ∷ ws) new proper made counts (suc x) s in_table yes =
-      agrees (λ i. named (suc i)) (counter_after sort n) sorts us ws new.1 (tail_proper sort sorts u us proper) made.1 (counts_on n sort sorts u us new.0 new.1 proper counts) x s in_table yes
+  agrees named n [] us ws new proper made counts x s in_table chosen = not_none in_table
+  agrees named n (sort ∷ sorts) [] ws new proper made counts x s in_table chosen = absurd made
+  agrees named n (sort ∷ sorts) (u ∷ us) [] new proper made counts x s in_table chosen = absurd made
+  agrees named n (sort ∷ sorts) (u ∷ us) (w ∷ ws) new proper made counts zero s in_table chosen =
+      ap Some (first_agrees (named 0) n sort u w us new.0 (proper.sorts 0 sort u refl refl) made.0 counts chosen)
+  agrees named n (sort ∷ sorts) (u ∷ us) (w ∷ ws) new proper made counts (suc x) s in_table chosen =
+      agrees (λ i. named (suc i)) (counter_after sort n) sorts us ws new.1 (tail_proper sort sorts u us proper) made.1 (counts_on n sort sorts u us new.0 new.1 proper counts) x s in_table chosen
 
 -- ---- truth
 
@@ -390,16 +433,16 @@ as_many_draws k (Sort.Any ∷ sorts) (w ∷ ws) same = ap suc (as_many_draws (su
 
 open_is_blank : (named : ℕ → Bool) (n : ℕ) (sorts : List Sort) (us ws : List PureValue) → Each IsNewSort sorts → IsMade named n sorts us ws → (x : ℕ) (sort : Sort) → slice_get sorts x ≡ Some sort → ¬ (sort ≡ Sort.Fresh) → named x ≡ false
     → slice_get ws x ≡ Some (blank sort)
-open_is_blank named n [] us ws new made x s in_table other no = not_none in_table
-open_is_blank named n (sort ∷ sorts) [] ws new made x s in_table other no = absurd made
-open_is_blank named n (sort ∷ sorts) (u ∷ us) [] new made x s in_table other no = absurd made
-open_is_blank named n (sort ∷ sorts) (u ∷ us) (w ∷ ws) new made zero s in_table other no =
+open_is_blank named n [] us ws new made x s in_table other unlike = not_none in_table
+open_is_blank named n (sort ∷ sorts) [] ws new made x s in_table other unlike = absurd made
+open_is_blank named n (sort ∷ sorts) (u ∷ us) [] new made x s in_table other unlike = absurd made
+open_is_blank named n (sort ∷ sorts) (u ∷ us) (w ∷ ws) new made zero s in_table other unlike =
     let same : sort ≡ s = same_some in_table in
     ⊎_elim
     (λ fresh. absurd (other (sym same ∙ fresh)))
-    (λ draws. ap Some (draw_is (named 0) n sort u w draws made.0 ∙ ap (λ b. if b then u else blank sort) no ∙ ap blank same))
+    (λ draws. ap Some (draw_is (named 0) n sort u w draws made.0 ∙ ap (λ b. if b then u else blank sort) unlike ∙ ap blank same))
     (fresh_or_draw sort new.0)
-open_is_blank named n (sort ∷ sorts) (u ∷ us) (w ∷ ws) new made (suc x) s in_table other no = open_is_blank (λ i. named (suc i)) (counter_after sort n) sorts us ws new.1 made.1 x s in_table other no
+open_is_blank named n (sort ∷ sorts) (u ∷ us) (w ∷ ws) new made (suc x) s in_table other unlike = open_is_blank (λ i. named (suc i)) (counter_after sort n) sorts us ws new.1 made.1 x s in_table other unlike
 
 pub made_is_canonical : (vars : List Sort) (atoms : List PureAtom) (v w : List PureValue) → Each IsNewSort vars → AreOver vars atoms → Satisfies vars v atoms → IsMade (is_named atoms) 0 vars v w → IsCanonical vars atoms w
 made_is_canonical vars atoms v w new over sat made = record {
@@ -407,3 +450,55 @@ made_is_canonical vars atoms v w new over sat made = record {
   meets = made_meets vars atoms v w new over sat made;
   blank_where_open = open_is_blank (is_named atoms) 0 vars v w new made;
 }
+
+-- ---- there is one
+
+some_value : (named : Bool) (n : ℕ) (sort : Sort) (u : PureValue) → (w : PureValue) × IsAt named n sort u w
+some_value named n Sort.Fresh u = (symbol n, refl)
+some_value named n Sort.Int u = ((if named then u else blank Sort.Int), refl)
+some_value named n Sort.Bool u = ((if named then u else blank Sort.Bool), refl)
+some_value named n Sort.Str u = ((if named then u else blank Sort.Str), refl)
+some_value named n Sort.Sym u = ((if named then u else blank Sort.Sym), refl)
+some_value named n Sort.List u = ((if named then u else blank Sort.List), refl)
+some_value named n Sort.Any u = ((if named then u else blank Sort.Any), refl)
+
+some_made : (named : ℕ → Bool) (n : ℕ) (sorts : List Sort) (us : List PureValue) → length us ≡ length sorts → (ws : List PureValue) × IsMade named n sorts us ws
+some_made named n [] [] same = ([], tt)
+some_made named n [] (u ∷ us) same = absurd (omega (arith, same))
+some_made named n (sort ∷ sorts) [] same = absurd (omega (arith, same))
+some_made named n (sort ∷ sorts) (u ∷ us) same =
+    let (w, is) = some_value (named 0) n sort u in
+    let (ws, made) = some_made (λ i. named (suc i)) (counter_after sort n) sorts us (omega (arith, same)) in
+    (w ∷ ws, (is, made))
+
+pub some_canonical : (vars : List Sort) (atoms : List PureAtom) (v : List PureValue) → Each IsNewSort vars → AreOver vars atoms → Satisfies vars v atoms → (w : List PureValue) × IsCanonical vars atoms w
+some_canonical vars atoms v new over sat =
+    let (w, made) = some_made (is_named atoms) 0 vars v sat.proper.one_each in
+    (w, made_is_canonical vars atoms v w new over sat made)
+
+-- ---- draws, one by one
+
+draws_more : (sorts : List Sort) (ws : List PureValue) (sort : Sort) (w : PureValue) → length ws ≡ length sorts → draws_among (sorts ++ sort ∷ []) (ws ++ w ∷ []) ≡ draws_among sorts ws ++ draw_and sort w []
+draws_more [] [] sort w same = refl
+draws_more [] (v ∷ ws) sort w same = absurd (omega (arith, same))
+draws_more (s ∷ sorts) [] sort w same = absurd (omega (arith, same))
+draws_more (Sort.Fresh ∷ sorts) (v ∷ ws) sort w same = draws_more sorts ws sort w (omega (arith, same))
+draws_more (Sort.Int ∷ sorts) (v ∷ ws) sort w same = ap (λ us. v ∷ us) (draws_more sorts ws sort w (omega (arith, same)))
+draws_more (Sort.Bool ∷ sorts) (v ∷ ws) sort w same = ap (λ us. v ∷ us) (draws_more sorts ws sort w (omega (arith, same)))
+draws_more (Sort.Str ∷ sorts) (v ∷ ws) sort w same = ap (λ us. v ∷ us) (draws_more sorts ws sort w (omega (arith, same)))
+draws_more (Sort.Sym ∷ sorts) (v ∷ ws) sort w same = ap (λ us. v ∷ us) (draws_more sorts ws sort w (omega (arith, same)))
+draws_more (Sort.List ∷ sorts) (v ∷ ws) sort w same = ap (λ us. v ∷ us) (draws_more sorts ws sort w (omega (arith, same)))
+draws_more (Sort.Any ∷ sorts) (v ∷ ws) sort w same = ap (λ us. v ∷ us) (draws_more sorts ws sort w (omega (arith, same)))
+
+pub draws_next : (sorts : List Sort) (ws inputs : List PureValue) (i : ℕ) (sort : Sort) (w : PureValue) → length ws ≡ length sorts → inputs ≡ draws_among (take i sorts) (take i ws) → slice_get sorts i ≡ Some sort → slice_get ws i ≡ Some w
+    → inputs ++ draw_and sort w [] ≡ draws_among (take (i + 1) sorts) (take (i + 1) ws)
+draws_next sorts ws inputs i sort w same so_far in_table at =
+    let more_sorts : take (i + 1) sorts ≡ take i sorts ++ sort ∷ [] = ap (λ n. take n sorts) (add-one i) ∙ take-push sorts i sort in_table in
+    let more_values : take (i + 1) ws ≡ take i ws ++ w ∷ [] = ap (λ n. take n ws) (add-one i) ∙ take-push ws i w at in
+    let within : i < length sorts = slice_get_within sorts i sort in_table in
+    let place : length (take i sorts) ≡ i = length-take-le i sorts (omega (arith, within)) in
+    let value_place : length (take i ws) ≡ i = length-take-le i ws (omega (arith, within, same)) in
+    ap (λ us. us ++ draw_and sort w []) so_far ∙ sym (draws_more (take i sorts) (take i ws) sort w (value_place ∙ sym place)) ∙ (λ j. draws_among (sym more_sorts j) (sym more_values j))
+
+pub draws_whole : (sorts : List Sort) (ws inputs : List PureValue) (i : ℕ) → length ws ≡ length sorts → inputs ≡ draws_among (take i sorts) (take i ws) → length sorts ≤ i → inputs ≡ draws_among sorts ws
+draws_whole sorts ws inputs i same so_far past = so_far ∙ (λ j. draws_among (take_all i sorts past j) (take_all i ws (omega (arith, same, past)) j))

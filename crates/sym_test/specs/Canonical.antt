@@ -1,12 +1,18 @@
--- Canonical valuations: the fresh variables have the symbols 0, 1 and so on, and draws that no atom names are 0, false and the empty text.
+-- Valuations of inputs. In canonical ones the fresh variables have the symbols 0, 1 and so on, and draws that no atom names are 0, false and the empty text.
 use Rattle.std.specs.Prelude.{◌≡◌, ℕ, pos, List, [], ◌∷◌, slice_get, Bool, false, if◌then◌else◌, Some, IsTrue}
 use Rattle.std.specs.List.{list_any}
 use Rattle.gil_values.specs.Pure.{PureValue, integer, boolean, text, symbol}
 use Rattle.pure_terms.specs.declared.variables.Sort.{Sort}
-use Rattle.pure_terms.specs.Meaning.{all_true}
+use Rattle.pure_terms.specs.Meaning.{all_true, IsProper}
 use Rattle.pure_terms.specs.Naming.{names_number}
 use Rattle.pure_terms.specs.Pure.{PureAtom, term_of}
-use Rattle.sym_test.specs.Undecided.{HaveValuation}
+use Rattle.sym_paths.specs.Steps.{AreNext}
+
+-- The valuation of inputs: the variables that aren't fresh have the inputs in order, each of the variable's sort, and the fresh ones have
+-- the symbols 0, 1 and so on.
+pub record HaveValuation (vars : List Sort) (inputs v : List PureValue) : Type 0 where
+  pub in_turn : AreNext inputs 0 0 vars v
+  pub proper : IsProper vars v
 
 -- what a draw is that nothing says anything of
 abbrev pub blank : Sort → PureValue

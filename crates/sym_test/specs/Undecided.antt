@@ -23,42 +23,36 @@ use Rattle.sym_model.specs.Meaning.{has_open}
 use Rattle.sym_model.specs.Terms.{StateTerms}
 use Rattle.sym_paths.specs.Meaning.{Stands}
 use Rattle.sym_paths.specs.Pure.{PurePath}
-use Rattle.sym_paths.specs.Steps.{AreNext, place_of, IsFirstOutside}
+use Rattle.sym_paths.specs.Steps.{place_of, IsFirstOutside}
+use Rattle.sym_test.specs.Canonical.{HaveValuation}
 use Rattle.sym_test.specs.View.{PureQuery, PureVerdict, bug, clean, unknown}
-
--- ---- inputs and valuations
-
--- The valuation of inputs: the variables that aren't fresh have the inputs in order, each of the variable's sort, and the fresh ones have
--- the symbols 0, 1 and so on.
-pub record HaveValuation (vars : List Sort) (inputs v : List PureValue) : Type 0 where
-  pub in_turn : AreNext inputs 0 0 vars v
-  pub proper : IsProper vars v
 
 -- ---- runs
 
-module _ (p : PureParts) (m : Actions) (f : List ℕ) where
-  abbrev pub first_state : State
-  first_state = start p f [] empty 0
+-- the state in which a test begins
+abbrev pub first_state : PureParts → List ℕ → State
+first_state p f = start p f [] empty 0
 
+module _ (p : PureParts) (m : Actions) (f : List ℕ) where
   -- after exactly k steps the run stands at this command
-  pub record StandsAt (inputs : List PureValue) (k : ℕ) (state : State) (c : PureNumberedCommand) : Type 0 where
-    pub comes : reached p m inputs k first_state ≡ Some state
+  pub record StandsAtCommand (inputs : List PureValue) (k : ℕ) (state : State) (c : PureNumberedCommand) : Type 0 where
+    pub comes : reached p m inputs k (first_state p f) ≡ Some state
     pub at : command_at p state.current ≡ Some c
 
   -- After exactly k steps the run stands at the command of the place, and has made the choices, or all of them but the last.
   pub record ComesAlong (inputs : List PureValue) (k : ℕ) (place : Place) (path : List ℕ) : Type 0 where
     pub state : State
     pub command : PureNumberedCommand
-    pub stands : StandsAt inputs k state command
+    pub stands : StandsAtCommand inputs k state command
     pub at_place : place ≡ record { proc = state.current.procedure; at = command.at }
     pub last : Option ℕ
-    pub chosen : path ≡ choices p m inputs k first_state ++ with_choice last []
+    pub chosen : path ≡ choices p m inputs k (first_state p f) ++ with_choice last []
 
   -- the run does k steps, and with the choice of the command at which it stands then, if it makes one, these are its choices
   pub record IsAlong (inputs : List PureValue) (k : ℕ) (path : List ℕ) : Type 0 where
     pub state : State
-    pub comes : reached p m inputs k first_state ≡ Some state
-    pub chosen : choices p m inputs (suc k) first_state ≡ path
+    pub comes : reached p m inputs k (first_state p f) ≡ Some state
+    pub chosen : choices p m inputs (suc k) (first_state p f) ≡ path
 
   -- one of the commands at which the run stands after at most k steps isn't of simple form
   pub record MeetsOther (inputs : List PureValue) (k : ℕ) : Type 0 where
@@ -66,7 +60,7 @@ module _ (p : PureParts) (m : Actions) (f : List ℕ) where
     pub within : steps ≤ k
     pub state : State
     pub command : PureNumberedCommand
-    pub stands : StandsAt inputs steps state command
+    pub stands : StandsAtCommand inputs steps state command
     pub other : is_simple_command command.command ≡ false
 
 -- ---- where atoms come from
@@ -82,7 +76,7 @@ module _ {S : Type 0} (p : PureParts) (m : Actions) (stands : S → List PureVal
   pub record Describes (path : PurePath S) : Type 0 where
     pub met : (v : List PureValue) × Satisfies path.vars v path.conds
     pub comes : (inputs v : List PureValue) → HaveValuation path.vars inputs v → IsTrue (all_true v path.conds)
-        → (s : State) × ((reached p m inputs path.steps (first_state p m f) ≡ Some s) × Stands stands path v s)
+        → (s : State) × ((reached p m inputs path.steps (first_state p f) ≡ Some s) × Stands stands path v s)
 
   -- The path lies on the way to the query: it has the first ones of the variables, of the choices and of the conditions, and at most k steps.
   pub record IsOnTheWay (q : PureQuery) (k : ℕ) (path : PurePath S) : Type 0 where
@@ -107,7 +101,7 @@ module _ {S : Type 0} (p : PureParts) (m : Actions) (stands : S → List PureVal
     pub term : PureTerm
     pub asks : a ≡ opening term
     pub fails : (inputs v : List PureValue) (s : State) → HaveValuation q.vars inputs v → IsTrue (all_true v q.query)
-        → (reached p m inputs k (first_state p m f) ≡ Some s)
+        → (reached p m inputs k (first_state p f) ≡ Some s)
         → (w : PureValue) × ((e : End) × ((value v term ≡ Some w) × (step p m inputs s ≡ ends e) × (e.ending ≡ failed w q.place)))
     pub not_narrow : is_narrow_term term ≡ false
     pub met : List PureValue
@@ -126,7 +120,6 @@ IsOutsideAt atoms i = (¬ InFragment atoms) × ((reason : Reason) × (IsFirstOut
 
 -- Undecided: after exactly k steps, fewer than the bound, some run stands at the place along the path.
 --   come: so no place or path is invented;
---   not_simple: so no program is left undecided whose commands are all of simple form;
 --   given_suffices and leads: what is asked is what decides whether the run goes along the path, no more and no less;
 --   traced: so no atom is asked that no command asks;
 --   outside: so no list is handed out that a decider would have decided.
@@ -137,7 +130,6 @@ pub record IsUndecided {S : Type 0} (p : PureParts) (m : Actions) (stands : S �
   pub within : k < n
   pub inputs : List PureValue
   pub come : ComesAlong p m f inputs k q.place q.path
-  pub not_simple : keeps_plain → MeetsOther p m f inputs k
   pub given_suffices : (inputs v : List PureValue) → HaveValuation q.vars inputs v → IsAlong p m f inputs k q.path
       → IsTrue (all_true v q.given) → IsTrue (all_true v q.query)
   pub leads : has_open q.query ≡ false → (inputs v : List PureValue) → HaveValuation q.vars inputs v → IsTrue (all_true v q.given)

@@ -3,20 +3,29 @@ ghost use Rattle.std.specs.Prelude.{◌≡◌, ◌<◌, ◌^◌, ◌-◌, List, 
 ghost use Rattle.gil_values.specs.Pure.{PureValue};
 ghost use Rattle.gil_values.specs.View.{value_view, values_view};
 ghost use Rattle.pure_terms.specs.Meaning.{AreOver, Satisfies};
-ghost use Rattle.pure_terms.specs.View.{atoms_view};
+ghost use Rattle.pure_terms.specs.Naming.{names_number};
+ghost use Rattle.pure_terms.specs.Pure.{term_of};
+ghost use Rattle.pure_terms.specs.View.{atom_view, atoms_view};
+ghost use Rattle.std.specs.List.{list_any};
 ghost use Rattle.sym_model.specs.Lists.{Each};
 ghost use Rattle.sym_paths.specs.Steps.{IsNewSort, counter_after};
-ghost use Rattle.sym_test.specs.Canonical.{blank, is_named, draw_and, draws_among, IsAt, IsCanonical};
+ghost use Rattle.sym_test.specs.Canonical.{blank, draw_and, draws_among, IsAt, IsCanonical};
 
 use gil_values::{Text, Value, Values};
-use pure_terms::{Atoms, Sort, Valuation, VarTable};
+use pure_terms::{Atom, Atoms, Sort, Valuation, VarTable};
 use std::alloc::{AllocError, Global};
+
+fn names(atom: &Atom, number: u64) -> bool
+    ensures { result ≡ names_number number (term_of (atom_view atom.now)) }
+{
+    atom.term().names(number)
+}
 
 /// Whether some atom names the variable with a number.
 fn is_named(atoms: &Atoms, number: u64) -> bool
-    ensures { result ≡ is_named (atoms_view atoms.now) number }
+    ensures { result ≡ list_any (λ a. names_number number (term_of (atom_view a))) atoms.now }
 {
-    atoms.iter().any(|atom| atom.term().names(number))
+    atoms.iter().any(|atom| names(atom, number))
 }
 
 /// A draw that nothing says anything of.

@@ -1,10 +1,11 @@
 //! The value of a term under a valuation.
-ghost use Rattle.std.specs.Prelude.{◌≡◌, List, IfOk};
+ghost use Rattle.std.specs.Prelude.{◌≡◌, List, false, slice_get, IfOk, Some, Err};
 ghost use Rattle.std.specs.Option.{option_map};
 ghost use Rattle.gil_values.specs.Answers.{Answers};
 ghost use Rattle.gil_values.specs.Operators.{Outcome};
 ghost use Rattle.gil_values.specs.Pure.{PureValue};
 ghost use Rattle.gil_values.specs.View.{value_view, values_view};
+ghost use Rattle.pure_terms.specs.declared.truth.HoldsFault.TheVariants.{Number};
 ghost use Rattle.pure_terms.specs.Meaning.{literal_value};
 ghost use Rattle.pure_terms.specs.Pure.{PureTerm, PureTerms, list_of, unary_of, binary_of, from_list};
 ghost use Rattle.pure_terms.specs.Truth.{Evaluates, EvaluatesAll, IsDefined, with_last};
