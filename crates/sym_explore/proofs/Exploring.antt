@@ -1,0 +1,185 @@
+-- A step of exploration keeps trails and accounts.
+use Rattle.std.proofs.Common.{◌≡◌, ◌⊎◌, ⊎_elim, inl, inr, ℕ, zero, suc, ◌+◌, ◌<◌, ◌≤◌, List, [], ◌∷◌, ◌++◌, map, Option, Some, None, is_some, IsSome, false, true, IsTrue, refl, sym, ap, subst, ◌∙◌, arith, true≢false}
+use Rattle.std.specs.Option.{option_map}
+use Rattle.std.proofs.lemmas.List.{append-nil}
+use Rattle.gil_values.specs.Pure.{PureValue}
+use Rattle.gil_syntax.specs.Pure.{PureParts, PureNumberedCommand}
+use Rattle.gil_machine.specs.Run.{run, reached}
+use Rattle.gil_machine.specs.State.{State, End, Step, goes_on, ends, end_at, IsOver}
+use Rattle.gil_machine.specs.State as machine
+use Rattle.gil_machine.specs.Step.{step}
+use Rattle.mem_model.specs.Actions.{Actions}
+use Rattle.mem_model.specs.Heaps.{Heap}
+use Rattle.pure_terms.specs.Meaning.{Satisfies}
+use Rattle.pure_terms.specs.Pure.{PureTerm, PureAtom}
+use Rattle.sym_engine.specs.Lawful.{IsOwnAt}
+use Rattle.sym_explore.specs.Exploring.{MayGoOn, cut_off, IsFrom, IsEndedFrom, KeepAccounts}
+use Rattle.sym_explore.specs.Runs.{EndsAfter, StandsAt, StandsAfter, AccountsFor}
+use Rattle.sym_explore.specs.Trails.{IsNextPath, IsTrail}
+use Rattle.sym_explore.proofs.Following.{counter_at, draws_at, both_extend}
+use Rattle.sym_explore.proofs.RunSteps.{ends_stay}
+use Rattle.sym_explore.proofs.Trails.{stands_next, At}
+use Rattle.sym_model.specs.Lists.{Each, OneOf}
+use Rattle.sym_model.specs.Terms.{StateTerms}
+use Rattle.sym_model.proofs.ListLaws.{each_append, each_left, each_right, each_to, one_left, one_right, one_parts, one_with}
+use Rattle.sym_paths.specs.Meaning.{Stands, StandsForEnd, StandsForStep, IsOverTable, command_of_path}
+use Rattle.sym_paths.specs.Pure.{PureEnd, cut, unknown, PurePath}
+use Rattle.sym_paths.specs.Steps.{Extends, HasInput, IsInputFault, IsUnknown, Grows, IsExact, HoldsAlong, AddsOwn, StaysSatisfiable, IsRightlyUnknown, AreNextPaths}
+use Rattle.sym_step.specs.Recording.{IsRecorded, ChoosesWhereMet}
+use Rattle.sym_step.specs.Stepping.{AreAtCommands, MayStep}
+
+-- an end that is for want of input is over
+fault_is_over : (e : machine.Ending) → IsInputFault e → IsOver e
+fault_is_over (machine.no_input k) is = tt
+fault_is_over (machine.bad_input k) is = tt
+fault_is_over (machine.returned v) is = tt
+fault_is_over (machine.failed v place) is = tt
+fault_is_over machine.vanished is = tt
+fault_is_over machine.cut is = absurd is
+
+one_zip : {A : Type 0} (P Q R : A → Type 0) (xs : List A) → ((x : A) → P x → Q x → R x) → Each P xs → OneOf Q xs → OneOf R xs
+one_zip P Q R [] f all one = absurd one
+one_zip P Q R (x ∷ xs) f all (inl here) = inl (f x all.0 here)
+one_zip P Q R (x ∷ xs) f all (inr later) = inr (one_zip P Q R xs f all.1 later)
+
+module _ {S : Type 0} (p : PureParts) (m : Actions) (stands : S → List PureValue → Heap → Type 0) (terms : S → StateTerms)
+    (asked : List ℕ → List PureTerm → List PureTerm) where
+  abbrev pub IsNext : PurePath S → PurePath S → Type 0
+  IsNext = IsNextPath p m stands terms asked
+
+  -- the paths of a step are next paths
+  pub are_next : (path : PurePath S) (nexts : List (PurePath S)) → path.ending ≡ None → (c : PureNumberedCommand) → command_of_path p path ≡ Some c → Each (Grows terms path) nexts → Each (IsExact p m stands path) nexts
+      → Each (HoldsAlong p m stands path) nexts → Each (AddsOwn (IsOwnAt stands terms asked m p path) path) nexts → Each (StaysSatisfiable path) nexts
+      → Each (λ next. IsRightlyUnknown p path next next.ending) nexts → Each (IsRecorded p m path) nexts → Each (ChoosesWhereMet p m stands path) nexts → Each (IsNext path) nexts
+  are_next path [] open c at grows exact along own satisfiable rightly recorded steered = tt
+  are_next path (next ∷ nexts) open c at grows exact along own satisfiable rightly recorded steered = (
+    record {
+      going = open;
+      at_command = (c, at);
+      growth = grows.0;
+      exact = exact.0;
+      along = along.0;
+      own_conditions = own.0;
+      satisfiable = satisfiable.0;
+      unknown_rightly = rightly.0;
+      recorded = recorded.0;
+      steered = steered.0;
+    },
+    are_next path nexts open c at grows.1 exact.1 along.1 own.1 satisfiable.1 rightly.1 recorded.1 steered.1,
+  )
+
+  -- ---- accounts
+
+  module _ (bound : ℕ) where
+    has_input : (inputs : List PureValue) (s0 s : State) (n : ℕ) (r : Step) → reached p m inputs n s0 ≡ Some s → n < bound → ¬ IsInputFault (run p m inputs bound s0).ending → step p m inputs s ≡ r → HasInput r
+    has_input inputs s0 s n (goes_on t) at below fine is = tt
+    has_input inputs s0 s n (ends e) at below fine is =
+        λ fault. fine (subst (λ (x : End). IsInputFault x.ending) (sym (ends_stay p m inputs s0 s (suc n) e (inl (n, (refl, at, is))) bound (omega arith) (fault_is_over e.ending fault))) fault)
+
+    abbrev Accounts : PurePath S → List PureValue → List PureValue → State → PurePath S → Type 0
+    Accounts start inputs v0 s0 = AccountsFor p m stands inputs s0 start v0
+
+    account_next : (start path next : PurePath S) (inputs v0 v : List PureValue) (s0 s : State) (first : Extends inputs s0 start path v0 v) → StandsAt p m stands inputs s0 start path v path.steps s
+        → (w : List PureValue) → IsNext path next → Extends inputs s path next v w
+        → StandsForStep p m stands next w s next.ending (step p m inputs s) ⊎ (IsUnknown next.ending × Satisfies next.vars w next.conds) → Accounts start inputs v0 s0 next
+    account_next start path next inputs v0 v s0 s first at w nx ext what = (
+      w,
+      (both_extend inputs s0 start path next v0 v w s first ext (counter_at s0.counter s.counter start.vars path.vars first.new_vars first.vars at.symbols) (draws_at s0.draws s.draws start.vars path.vars first.new_vars first.vars at.draws),
+      ⊎_elim
+      (λ stood. let counted : suc path.steps ≡ next.steps = let more : next.steps ≡ path.steps + 1 = nx.growth.steps in omega (arith, more) in
+          inl (subst (λ n. StandsAfter p m stands inputs s0 start next w n next.ending) counted (stands_next p m stands terms asked inputs s0 start path next v w path.steps s nx at stood)))
+      inr what),
+    )
+
+    at_open : (start path : PurePath S) (inputs v : List PureValue) (s0 : State) → path.ending ≡ None
+        → StandsAfter p m stands inputs s0 start path v path.steps path.ending ⊎ (IsUnknown path.ending × Satisfies path.vars v path.conds) → (s : State) × StandsAt p m stands inputs s0 start path v path.steps s
+    at_open start path inputs v s0 open (inl after) = subst (StandsAfter p m stands inputs s0 start path v path.steps) open after
+    at_open start path inputs v s0 open (inr other) = absurd (subst IsUnknown open other.0)
+
+    abbrev Covered : List PureValue → List PureValue → State → PurePath S → PurePath S → Type 0
+    Covered inputs v s path next =
+        (w : List PureValue) × (Extends inputs s path next v w
+        × (StandsForStep p m stands next w s next.ending (step p m inputs s) ⊎ (IsUnknown next.ending × Satisfies next.vars w next.conds)))
+
+    pub accounts_next : (path : PurePath S) (nexts : List (PurePath S)) (own : PureAtom → Type 0) → path.ending ≡ None → path.steps < bound → Each (IsNext path) nexts → AreNextPaths p m stands terms own path nexts
+        → (start : PurePath S) (inputs v0 : List PureValue) (s0 : State) → ¬ IsInputFault (run p m inputs bound s0).ending → Accounts start inputs v0 s0 path → OneOf (Accounts start inputs v0 s0) nexts
+    accounts_next path nexts own open below each laws start inputs v0 s0 fine (v, (first, after)) =
+        let (s, at) = at_open start path inputs v s0 open after in
+        let covered = laws.cover inputs v s at.stands_for (has_input inputs s0 s path.steps (step p m inputs s) at.comes_to below fine refl) in
+        one_zip (IsNext path) (Covered inputs v s path) (Accounts start inputs v0 s0) nexts
+        (λ next nx (w, (ext, what)). account_next start path next inputs v0 v s0 s first at w nx ext what) each covered
+
+    -- a path without an end that did as many steps as the bound is cut, and accounts for what it accounted for
+    pub accounts_cut : (path : PurePath S) → path.ending ≡ None → (start : PurePath S) (inputs v0 : List PureValue) (s0 : State) → Accounts start inputs v0 s0 path → Accounts start inputs v0 s0 (cut_off path)
+    accounts_cut path open start inputs v0 s0 (v, (first, after)) =
+        let (s, at) = at_open start path inputs v s0 open after in
+        (
+          v,
+          (record { new_vars = first.new_vars; new_values = first.new_values; vars = first.vars; values = first.values; in_turn = first.in_turn },
+          inl
+          (s,
+          (end_at s machine.cut,
+          (inr (at.comes_to, refl),
+          record {
+            proper = at.stands_for.proper;
+            meets = at.stands_for.meets;
+            ending = refl;
+            memory = at.stands_for.memory;
+            symbols_below = at.stands_for.symbols_below;
+            draws = at.stands_for.draws;
+          })))),
+        )
+
+    pub accounts_first : (start : PurePath S) (inputs v0 : List PureValue) (s0 : State) → start.ending ≡ None → start.steps ≡ 0 → Stands stands start v0 s0 → Accounts start inputs v0 s0 start
+    accounts_first start inputs v0 s0 open first is = (
+      v0,
+      (record { new_vars = []; new_values = []; vars = sym (append-nil start.vars); values = sym (append-nil v0); in_turn = tt },
+      inl
+      (subst (StandsAfter p m stands inputs s0 start start v0 start.steps) (sym open)
+      (s0, record { comes_to = ap (λ n. reached p m inputs n s0) first; stands_for = is; symbols = refl; draws = refl }))),
+    )
+
+    -- ---- trails
+
+    abbrev From : PurePath S → PurePath S → Type 0
+    From = IsFrom p m stands terms asked bound
+
+    next_from : (start path : PurePath S) → From start path → path.steps < bound → (next : PurePath S) → IsNext path next → From start next
+    next_from start path from below next nx = record {
+      earlier = path ∷ from.earlier;
+      trail = (nx, from.trail);
+      within = let more : next.steps ≡ path.steps + 1 = nx.growth.steps in omega (arith, more, below);
+    }
+
+    pub nexts_from : (path : PurePath S) (nexts : List (PurePath S)) → path.steps < bound → Each (IsNext path) nexts → (start : PurePath S) → From start path → Each (From start) nexts
+    nexts_from path nexts below each start from = each_to (IsNext path) (From start) nexts (next_from start path from below) each
+
+    pub cut_from : (start path : PurePath S) → path.ending ≡ None → bound ≤ path.steps → From start path → IsEndedFrom p m stands terms asked bound start (cut_off path)
+    cut_from start path open past from = let within : path.steps ≤ bound = from.within in inr (path, (from, open, omega (arith, within, past), refl))
+
+  -- ---- steps that may be done
+
+  pub nexts_go_on : (path : PurePath S) (nexts : List (PurePath S)) → Each (IsNext path) nexts → Each (λ next. next.ending ≡ None → AreAtCommands p next.stack) nexts → Each (MayGoOn p terms) nexts
+  nexts_go_on path [] each placed = tt
+  nexts_go_on path (next ∷ nexts) each placed =
+      ((λ open early. record { going = open; early = early; placed = placed.0 open; over = each.0.growth.over }), nexts_go_on path nexts each.1 placed.1)
+
+-- ---- lists of paths that are left
+
+-- the last path is taken out
+pub rest_keeps : {A : Type 0} (P : A → Type 0) (all rest : List A) (x : A) → all ≡ rest ++ x ∷ [] → Each P all → Each P rest × P x
+rest_keeps P all rest x is each = let both : Each P (rest ++ x ∷ []) = subst (Each P) is each in (each_left P rest (x ∷ []) both, (each_right P rest (x ∷ []) both).0)
+
+pub last_or_rest : {A : Type 0} (P : A → Type 0) (all rest : List A) (x : A) → all ≡ rest ++ x ∷ [] → OneOf P all → P x ⊎ OneOf P rest
+last_or_rest P all rest x is one = ⊎_elim inr (λ last. inl (⊎_elim (λ here. here) absurd last)) (one_parts P rest (x ∷ []) (subst (OneOf P) is one))
+
+-- it is handed out, with what it becomes
+pub one_handed : {A : Type 0} (P : A → Type 0) (all rest : List A) (x y : A) → all ≡ rest ++ x ∷ [] → (P x → P y) → OneOf P all → OneOf P (y ∷ [] ++ rest)
+one_handed P all rest x y is f one = ⊎_elim (λ here. inl (f here)) inr (last_or_rest P all rest x is one)
+
+-- others take its place
+pub one_replaced : {A : Type 0} (P : A → Type 0) (all rest more : List A) (x : A) → all ≡ rest ++ x ∷ [] → (P x → OneOf P more) → OneOf P all → OneOf P (rest ++ more)
+one_replaced P all rest more x is f one = ⊎_elim (λ here. one_right P rest more (f here)) (one_left P rest more) (last_or_rest P all rest x is one)
+
+pub each_replaced : {A : Type 0} (P : A → Type 0) (all rest more : List A) (x : A) → all ≡ rest ++ x ∷ [] → (P x → Each P more) → Each P all → Each P (rest ++ more)
+each_replaced P all rest more x is f each = let (before, last) = rest_keeps P all rest x is each in each_append P rest more before (f last)

@@ -1,0 +1,5 @@
+pub mod Exploring
+pub mod Following
+pub mod Kept
+pub mod RunSteps
+pub mod Trails

@@ -1,0 +1,5 @@
+pub mod Exploring
+pub mod Laws
+pub mod Runs
+pub mod Trails
+pub mod View

@@ -1,0 +1,30 @@
+//! What holds of every path with a trail: laws of the definitions, which no code is needed for.
+ghost use Rattle.gil_syntax.specs.Pure.{PureParts};
+ghost use Rattle.sym_explore.specs.Laws.{EndsAreOfRuns, TrailsHoldAlong, TrailsKeep, TrailsMayEndBefore, TrailsReplay};
+
+use sym_model::SymMemory;
+
+/// What a path stands for as an end of a run is the end of that run.
+pub fn ends_are_of_runs()
+    ensures { EndsAreOfRuns }
+{}
+
+/// A run whose valuation meets the conditions of a path makes its steps and its choices.
+pub fn trails_replay<M: SymMemory>()
+    ensures { (p : PureParts) → TrailsReplay p M.Local.actions M.stands M.terms M.asked }
+{}
+
+/// A run that makes the choices of a path, and meets what it assumes, meets its conditions.
+pub fn trails_hold_along<M: SymMemory>()
+    ensures { (p : PureParts) → TrailsHoldAlong p M.Local.actions M.stands M.terms M.asked }
+{}
+
+/// A run beside a path is one beside the path before.
+pub fn trails_may_end_before<M: SymMemory>()
+    ensures { (p : PureParts) → TrailsMayEndBefore p M.Local.actions M.stands M.terms M.asked }
+{}
+
+/// Steps, tables, the sources of conditions, and that some valuation meets them, as a trail keeps them.
+pub fn trails_keep<M: SymMemory>()
+    ensures { (p : PureParts) → TrailsKeep p M.Local.actions M.stands M.terms M.asked }
+{}
