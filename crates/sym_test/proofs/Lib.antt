@@ -1,1 +1,4 @@
 pub mod Canonicals
+pub mod Failing
+pub mod Judging
+pub mod Trailing

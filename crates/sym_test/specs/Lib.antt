@@ -1,3 +1,4 @@
 pub mod Canonical
+pub mod Judged
 pub mod Undecided
 pub mod View

@@ -3,6 +3,7 @@
 
 mod canonical;
 mod evaluating;
+mod judging;
 mod testing;
 mod verdicts;
 

@@ -1,0 +1,191 @@
+-- What is said of an ended path is right: bugs replay, and what is left undecided is.
+use Rattle.std.proofs.Common.{◌≡◌, ◌⊎◌, ⊎_elim, inl, inr, ℕ, zero, suc, ◌+◌, ◌<◌, ◌≤◌, List, [], ◌∷◌, ◌++◌, length, Bool, true, false, Option, Some, None, is_some, IsSome, IsTrue, true≢false, refl, sym, ap, subst, ◌∙◌, arith, slice_get, codes}
+use Rattle.std.proofs.lemmas.List.{append-nil, append_assoc}
+use Rattle.gil_values.specs.declared.places.Place.{Place}
+use Rattle.gil_values.specs.Pure.{PureValue, text}
+use Rattle.gil_syntax.specs.Pure.{PureParts, PureNumberedCommand}
+use Rattle.gil_machine.specs.Choices.{choices, with_choice, miss_at}
+use Rattle.gil_machine.specs.Run.{reached, run, IsEntry, IsBug}
+use Rattle.gil_machine.specs.State.{State, Ending, End, IsOver, cut, returned, vanished, failed, IsFailed, Step, goes_on, ends}
+use Rattle.gil_machine.specs.State as machine
+use Rattle.gil_machine.specs.Step.{command_at, step}
+use Rattle.mem_model.specs.Actions.{Actions}
+use Rattle.mem_model.specs.Heaps.{Heap}
+use Rattle.mem_model.specs.declared.keys.Key.{Key}
+use Rattle.pure_terms.specs.declared.variables.Sort.{Sort}
+use Rattle.pure_terms.specs.Fragment.{InFragment}
+use Rattle.pure_terms.specs.Meaning.{value, all_true, Satisfies}
+use Rattle.pure_terms.specs.Pure.{PureTerm, PureAtom}
+use Rattle.sym_engine.specs.Lawful.{IsOwnAt}
+use Rattle.sym_explore.specs.Laws.{IsBeside, IsTraced}
+use Rattle.sym_explore.specs.Runs.{EndsAfter, StandsAfter, AccountsFor}
+use Rattle.sym_explore.specs.Trails.{IsNextPath, IsTrail}
+use Rattle.sym_explore.proofs.Kept.{trails_keep, ends_of_runs}
+use Rattle.sym_model.specs.Lists.{Each, OneOf, IsAmong}
+use Rattle.sym_model.specs.Meaning.{has_open, key_value}
+use Rattle.sym_model.specs.Pure.{PureKey}
+use Rattle.sym_model.specs.Terms.{StateTerms}
+use Rattle.sym_model.proofs.ListLaws.{same_some, not_none, each_to, one_with}
+use Rattle.sym_paths.specs.Meaning.{Stands, StandsForEnd, IsEnding}
+use Rattle.sym_paths.specs.Pure.{PureEnd, PurePath}
+use Rattle.sym_paths.specs.Pure as path_end
+use Rattle.sym_paths.specs.Steps.{IsUnknown, IsPlaceOf}
+use Rattle.sym_test.specs.Canonical.{HaveValuation, draws_among, IsCanonical}
+use Rattle.sym_test.specs.Judged.{Begins}
+use Rattle.sym_test.specs.Undecided.{first_state, ComesAlong, IsAlong, Describes, IsOnTheWay, IsOwnOnTheWay, IsTraced as IsAskedOnTheWay}
+use Rattle.sym_test.specs.View.{PureQuery}
+use Rattle.sym_test.proofs.Trailing.{new_sorts, inputs_counted, steps_counted, conds_over, is_met, has_canonical, beside, replayed, come_by, given_meets, leads_along}
+
+module _ {S : Type 0} (p : PureParts) (m : Actions) (stands : S → List PureValue → Heap → Type 0) (terms : S → StateTerms) (asked : List ℕ → List PureTerm → List PureTerm)
+    (f : List ℕ) (start : PurePath S) (begins : Begins p stands terms f start) where
+  abbrev IsTrailOf : List (PurePath S) → PurePath S → Type 0
+  IsTrailOf = IsTrail p m stands terms asked start
+
+  abbrev s0 : State
+  s0 = first_state p f
+
+  -- ---- bugs
+
+  -- the end to which a run with the own inputs of a canonical valuation comes
+  module _ (n : ℕ) (entry : IsEntry p f) (earlier : List (PurePath S)) (path : PurePath S) (trail : IsTrailOf earlier path) (within : path.steps ≤ n) (v : List PureValue) (canonical : IsCanonical path.vars path.conds v)
+      (how : PureEnd) (ending : path.ending ≡ Some how) (known : ¬ IsUnknown (Some how)) where
+    abbrev inputs : List PureValue
+    inputs = draws_among path.vars v
+
+    ended : (s : State) × ((e : End) × (EndsAfter p m inputs s0 (length earlier) s e × StandsForEnd p m stands path v s how e))
+    ended = subst (StandsAfter p m stands inputs s0 start path v (length earlier)) ending
+        (replayed p m stands terms asked f start begins inputs earlier path v trail canonical.own canonical.meets (λ unknown. known (subst IsUnknown ending unknown)))
+
+    is_the_run : (s : State) (e : End) → EndsAfter p m inputs s0 (length earlier) s e → IsOver e.ending → run p m inputs n s0 ≡ e
+    is_the_run s e after over =
+        let counted : path.steps ≡ length earlier = steps_counted p m stands terms asked f start begins earlier path trail in
+        (ends_of_runs p m inputs s0 s (length earlier) e after).1 n (omega (arith, counted, within)) over
+
+    is_bug : (s : State) (e : End) (w : PureValue) (place : Place) → EndsAfter p m inputs s0 (length earlier) s e → StandsForEnd p m stands path v s how e → e.ending ≡ failed w place → IsBug p m f n inputs w place
+    is_bug s e w place after stood is =
+        let same : run p m inputs n s0 ≡ e = is_the_run s e after (subst IsOver (sym is) tt) in
+        record {
+          entry = entry;
+          fails = ap (λ (r : End). r.ending) same ∙ is;
+          draws_each = ap (λ (r : End). r.draws) same ∙ stood.draws ∙ inputs_counted p m stands terms asked f start begins earlier path v trail canonical.own.proper.one_each;
+        }
+
+  pub failure_is_bug : (n : ℕ) → IsEntry p f → (earlier : List (PurePath S)) (path : PurePath S) → IsTrailOf earlier path → path.steps ≤ n → (v : List PureValue) → IsCanonical path.vars path.conds v
+      → (t : PureTerm) (place : Place) (w : PureValue) → path.ending ≡ Some (path_end.failed t place) → value v t ≡ Some w → IsBug p m f n (draws_among path.vars v) w place
+  failure_is_bug n entry earlier path trail within v canonical t place w ending has =
+      let (s, (e, (after, stood))) = ended n entry earlier path trail within v canonical (path_end.failed t place) ending (λ no. no) in
+      let (u, (val, is)) = stood.ending in
+      is_bug n entry earlier path trail within v canonical (path_end.failed t place) ending (λ no. no) s e w place after stood (is ∙ ap (λ x. failed x place) (same_some (sym val ∙ has)))
+
+  pub failure_has_value : (n : ℕ) → IsEntry p f → (earlier : List (PurePath S)) (path : PurePath S) → IsTrailOf earlier path → path.steps ≤ n → (v : List PureValue) → IsCanonical path.vars path.conds v
+      → (t : PureTerm) (place : Place) → path.ending ≡ Some (path_end.failed t place) → (w : PureValue) × (value v t ≡ Some w)
+  failure_has_value n entry earlier path trail within v canonical t place ending =
+      let (s, (e, (after, stood))) = ended n entry earlier path trail within v canonical (path_end.failed t place) ending (λ no. no) in
+      let (u, (val, is)) = stood.ending in
+      (u, val)
+
+  pub miss_is_bug : (n : ℕ) → IsEntry p f → (earlier : List (PurePath S)) (path : PurePath S) → IsTrailOf earlier path → path.steps ≤ n → (v : List PureValue) → IsCanonical path.vars path.conds v
+      → (key : PureKey) (place : Place) → path.ending ≡ Some (path_end.missed key place) → IsBug p m f n (draws_among path.vars v) (text (codes "missing")) place
+  miss_is_bug n entry earlier path trail within v canonical key place ending =
+      let (s, (e, (after, stood))) = ended n entry earlier path trail within v canonical (path_end.missed key place) ending (λ no. no) in
+      let (q, (is_key, misses, is)) = stood.ending in
+      is_bug n entry earlier path trail within v canonical (path_end.missed key place) ending (λ no. no) s e (text (codes "missing")) place after stood is
+
+  -- ---- paths on the way
+
+  -- a path of the trail, with its own trail, and what the later path has more
+  record IsPart (k : ℕ) (path part : PurePath S) : Type 0 where
+    earlier : List (PurePath S)
+    trail : IsTrailOf earlier part
+    going : part.ending ≡ None
+    short : part.steps ≤ k
+    more_vars : List Sort
+    vars : path.vars ≡ part.vars ++ more_vars
+    more_choices : List ℕ
+    choices_are : path.choices ≡ part.choices ++ more_choices
+    more_conds : List PureAtom
+    conds : path.conds ≡ part.conds ++ more_conds
+
+  abbrev Own : PureAtom → PurePath S → Type 0
+  Own a part = IsOwnAt stands terms asked m p part a
+
+  part_of : (k : ℕ) (earlier : List (PurePath S)) (path : PurePath S) → IsTrailOf earlier path → length earlier ≤ suc k → (a : PureAtom) → OneOf (Own a) earlier → (part : PurePath S) × (IsPart k path part × Own a part)
+  part_of k [] path trail short a own = absurd own
+  part_of k (before ∷ rest) path (next, trail) short a own =
+      ⊎_elim
+      (λ here.
+      let steps : before.steps ≡ length rest = steps_counted p m stands terms asked f start begins rest before trail in
+      (before, (record {
+        earlier = rest;
+        trail = trail;
+        going = next.going;
+        short = omega (arith, steps, short);
+        more_vars = next.growth.new_vars;
+        vars = next.growth.vars;
+        more_choices = with_choice next.growth.chosen [];
+        choices_are = next.growth.choices;
+        more_conds = next.growth.new_conds;
+        conds = next.growth.conds;
+      }, here)))
+      (λ later.
+      let (part, (is, has)) = part_of k rest before trail (omega (arith, short)) a later in
+      (part, (record {
+        earlier = is.earlier;
+        trail = is.trail;
+        going = is.going;
+        short = is.short;
+        more_vars = is.more_vars ++ next.growth.new_vars;
+        vars = next.growth.vars ∙ ap (λ xs. xs ++ next.growth.new_vars) is.vars ∙ append_assoc part.vars is.more_vars next.growth.new_vars;
+        more_choices = is.more_choices ++ with_choice next.growth.chosen [];
+        choices_are = next.growth.choices ∙ ap (λ xs. xs ++ with_choice next.growth.chosen []) is.choices_are ∙ append_assoc part.choices is.more_choices (with_choice next.growth.chosen []);
+        more_conds = is.more_conds ++ next.growth.new_conds;
+        conds = next.growth.conds ∙ ap (λ xs. xs ++ next.growth.new_conds) is.conds ∙ append_assoc part.conds is.more_conds next.growth.new_conds;
+      }, has)))
+      own
+
+  describes : (k : ℕ) (path part : PurePath S) → IsPart k path part → Describes p m stands terms asked f part
+  describes k path part is =
+      let known : ¬ IsUnknown part.ending = λ unknown. subst IsUnknown is.going unknown in
+      record {
+        met = is_met p m stands terms asked f start begins is.earlier part is.trail known;
+        comes = λ inputs v has meets.
+            let (s, at) = subst (StandsAfter p m stands inputs s0 start part v (length is.earlier)) is.going (replayed p m stands terms asked f start begins inputs is.earlier part v is.trail has meets known) in
+            (s, (subst (λ n. reached p m inputs n s0 ≡ Some s) (sym (steps_counted p m stands terms asked f start begins is.earlier part is.trail)) at.comes_to, at.stands_for));
+      }
+
+  -- the list of a query is that of the path, and maybe more
+  record IsQueryOf (path : PurePath S) (q : PureQuery) : Type 0 where
+    pub vars : q.vars ≡ path.vars
+    pub choices_are : q.path ≡ path.choices
+    pub more : List PureAtom
+    pub query : q.query ≡ path.conds ++ more
+
+  module _ (k : ℕ) (earlier : List (PurePath S)) (path : PurePath S) (trail : IsTrailOf earlier path) (short : length earlier ≤ suc k) (q : PureQuery) (of_path : IsQueryOf path q) where
+    on_the_way : (part : PurePath S) → IsPart k path part → IsOnTheWay p m stands terms asked f q k part
+    on_the_way part is = record {
+      within = is.short;
+      more_vars = is.more_vars;
+      vars = of_path.vars ∙ is.vars;
+      more_choices = is.more_choices;
+      choices = of_path.choices_are ∙ is.choices_are;
+      more_conds = is.more_conds ++ of_path.more;
+      conds = of_path.query ∙ ap (λ xs. xs ++ of_path.more) is.conds ∙ append_assoc part.conds is.more_conds of_path.more;
+    }
+
+    asked_there : (a : PureAtom) → IsTraced p m stands terms asked start earlier a → IsAskedOnTheWay p m stands terms asked f q k a
+    asked_there a (inl first) = absurd (subst (IsAmong a) begins.conds first)
+    asked_there a (inr (inl inside)) = inl inside
+    asked_there a (inr (inr own)) =
+        let (part, (is, has)) = part_of k earlier path trail short a own in
+        inr (inl (record { path = part; on_the_way = on_the_way part is; describes = describes k path part is; own = has }))
+
+    pub conds_traced : Each (IsAskedOnTheWay p m stands terms asked f q k) path.conds
+    conds_traced = each_to (IsTraced p m stands terms asked start earlier) (IsAskedOnTheWay p m stands terms asked f q k) path.conds asked_there ((trails_keep p m stands terms asked).traced start path earlier trail)
+
+    start_assumes : Each (λ a. IsAmong a start.conds) start.given
+    start_assumes = subst (Each (λ a. IsAmong a start.conds)) (sym begins.given) tt
+
+    pub given_traced : Each (IsAskedOnTheWay p m stands terms asked f q k) path.given
+    given_traced = each_to (λ a. IsAmong a path.conds) (IsAskedOnTheWay p m stands terms asked f q k) path.given
+        (λ a among. one_with (IsAskedOnTheWay p m stands terms asked f q k) (λ b. b ≡ a) path.conds conds_traced among (λ b is same. subst (IsAskedOnTheWay p m stands terms asked f q k) same is))
+        ((trails_keep p m stands terms asked).assumed start path earlier trail start_assumes)

@@ -1,0 +1,124 @@
+-- The start of a test, and what is said of one path that has ended.
+use Rattle.std.specs.Prelude.{◌≡◌, ◌⊎◌, ℕ, List, [], ◌∷◌, ◌++◌, length, Option, Some, None, IsTrue, codes}
+use Rattle.std.specs.List.{list_all}
+use Rattle.gil_values.specs.declared.places.Place.{Place}
+use Rattle.gil_values.specs.Pure.{PureValue, text}
+use Rattle.gil_values.specs.View.{value_view, values_view}
+use Rattle.gil_syntax.specs.Pure.{PureParts}
+use Rattle.gil_machine.specs.Run.{test_run, IsBug}
+use Rattle.gil_machine.specs.State.{IsFailed}
+use Rattle.mem_model.specs.Actions.{Actions}
+use Rattle.mem_model.specs.Heaps.{Heap}
+use Rattle.pure_terms.specs.Deciding.{has_moderate_numbers}
+use Rattle.pure_terms.specs.Fragment.{InFragment}
+use Rattle.pure_terms.specs.Meaning.{value, Satisfies}
+use Rattle.pure_terms.specs.Pure.{PureTerm, PureAtom, opening}
+use Rattle.pure_terms.specs.Wide.{has_wide_part}
+use Rattle.sym_explore.specs.Runs.{AccountsFor}
+use Rattle.sym_model.specs.Lists.{Each}
+use Rattle.sym_model.specs.Terms.{StateTerms}
+use Rattle.sym_paths.specs.Meaning.{Stands, IsOverTable}
+use Rattle.sym_paths.specs.Pure.{PureEnd, failed, missed, unknown, PurePath}
+use Rattle.sym_paths.specs.Steps.{IsNewSort, IsUnknown, place_of}
+use Rattle.sym_test.specs.declared.judging.Judgement.{Judgement}
+use Rattle.sym_test.specs.Canonical.{draws_among, IsCanonical}
+use Rattle.sym_test.specs.Undecided.{first_state, IsOutsideAt, IsUndecided}
+use Rattle.sym_test.specs.View.{PureQuery, query_view}
+
+-- the path on which the test of a procedure begins
+pub record Begins {S : Type 0} (p : PureParts) (stands : S → List PureValue → Heap → Type 0) (terms : S → StateTerms) (f : List ℕ)
+    (path : PurePath S) : Type 0 where
+  pub stands_for : Stands stands path [] (first_state p f)
+  pub over : IsOverTable terms path
+  pub steps : path.steps ≡ 0
+  pub going : path.ending ≡ None
+  pub choices : path.choices ≡ []
+  pub conds : path.conds ≡ []
+  pub given : path.given ≡ []
+
+-- ---- what is said of a path
+
+pub data PureJudgement : Type 0 where
+  harmless : PureJudgement
+  fails : Place → PureValue → List PureValue → PureJudgement
+  undecided : PureQuery → PureJudgement
+
+abbrev pub judgement_view : Judgement → PureJudgement
+judgement_view Judgement.Harmless = harmless
+judgement_view (Judgement.Bug place value inputs) = fails place (value_view value) (values_view inputs)
+judgement_view (Judgement.Undecided q) = undecided (query_view q)
+
+-- under the valuation the path fails with this value
+abbrev pub FailsWith : List PureValue → PureEnd → PureValue → Type 0
+FailsWith v (failed t place) w = value v t ≡ Some w
+FailsWith v (missed k place) w = w ≡ text (codes "missing")
+FailsWith v _ w = ⊥
+
+-- The path names only variables of its table, which are fresh ones and draws; unless it is unknown some valuation meets its conditions; and
+-- where it fails, it does so with a value.
+pub record MayBeJudged {S : Type 0} (terms : S → StateTerms) (path : PurePath S) : Type 0 where
+  pub over : IsOverTable terms path
+  pub sorts : Each IsNewSort path.vars
+  pub met : ¬ IsUnknown path.ending → (v : List PureValue) × Satisfies path.vars v path.conds
+  pub defined : (t : PureTerm) (place : Place) (v : List PureValue) → path.ending ≡ Some (failed t place) → IsCanonical path.vars path.conds v
+      → (w : PureValue) × (value v t ≡ Some w)
+
+-- the query is about the conditions of the path, at this place
+pub record IsAbout {S : Type 0} (path : PurePath S) (place : Place) (q : PureQuery) : Type 0 where
+  pub place_is : q.place ≡ place
+  pub choices : q.path ≡ path.choices
+  pub vars : q.vars ≡ path.vars
+  pub given : q.given ≡ path.given
+
+-- the query is whether the path goes on, which no decider must know
+pub record IsListOutside {S : Type 0} (path : PurePath S) (q : PureQuery) : Type 0 where
+  pub query : q.query ≡ path.conds
+  pub outside : IsOutsideAt path.conds q.outside
+
+-- a part of the failing value leaves 128 bits under a valuation that a decider gives
+pub record IsWide {S : Type 0} (path : PurePath S) (t : PureTerm) (q : PureQuery) : Type 0 where
+  pub query : q.query ≡ path.conds ++ opening t ∷ []
+  pub outside : q.outside ≡ length path.conds
+  pub inside : InFragment path.conds
+  pub valuation : List PureValue
+  pub canonical : IsCanonical path.vars path.conds valuation
+  pub moderate : IsTrue (list_all has_moderate_numbers valuation)
+  pub wide : IsTrue (has_wide_part valuation t)
+
+-- a bug with the inputs of a canonical valuation
+pub record IsFoundBug {S : Type 0} (path : PurePath S) (how : PureEnd) (w : PureValue) (inputs : List PureValue) : Type 0 where
+  pub valuation : List PureValue
+  pub canonical : IsCanonical path.vars path.conds valuation
+  pub draws : inputs ≡ draws_among path.vars valuation
+  pub value_is : FailsWith valuation how w
+
+-- what may be said of a failing path
+abbrev pub IsFailureJudged : {S : Type 0} → PurePath S → PureEnd → Place → (PureQuery → Type 0) → PureJudgement → Type 0
+IsFailureJudged path how place May harmless = ⊥
+IsFailureJudged path how place May (fails here w inputs) = (here ≡ place) × IsFoundBug path how w inputs
+IsFailureJudged path how place May (undecided q) = IsAbout path place q × (IsListOutside path q ⊎ May q)
+
+-- what may be said of an unknown path
+abbrev pub IsUnknownJudged : {S : Type 0} → PurePath S → Place → ℕ → PureJudgement → Type 0
+IsUnknownJudged path place i (undecided q) = IsAbout path place q × (q.query ≡ path.conds) × (q.outside ≡ i)
+IsUnknownJudged path place i _ = ⊥
+
+abbrev pub IsJudgedEnd : {S : Type 0} → PurePath S → Option PureEnd → PureJudgement → Type 0
+IsJudgedEnd path (Some (failed t place)) j = IsFailureJudged path (failed t place) place (IsWide path t) j
+IsJudgedEnd path (Some (missed k place)) j = IsFailureJudged path (missed k place) place (λ q. ⊥) j
+IsJudgedEnd path (Some (unknown place reason)) j = IsUnknownJudged path place (place_of reason) j
+IsJudgedEnd path _ j = j ≡ harmless
+
+-- ---- when it is right
+
+-- no run that fails within the bound is one for which the path accounts
+abbrev pub AccountsForNoFailure : {S : Type 0} → PureParts → Actions → (S → List PureValue → Heap → Type 0) → List ℕ → ℕ → PurePath S
+    → PurePath S → Type 0
+AccountsForNoFailure p m stands f n start path =
+    (inputs : List PureValue) → IsFailed (test_run p m f inputs n).ending → ¬ AccountsFor p m stands inputs (first_state p f) start [] path
+
+abbrev pub IsRightlyJudged : {S : Type 0} → PureParts → Actions → (S → List PureValue → Heap → Type 0) → (S → StateTerms)
+    → (List ℕ → List PureTerm → List PureTerm) → Type 0 → List ℕ → ℕ → PurePath S → PurePath S → PureJudgement → Type 0
+IsRightlyJudged p m stands terms asked keeps_plain f n start path harmless = AccountsForNoFailure p m stands f n start path
+IsRightlyJudged p m stands terms asked keeps_plain f n start path (fails place w inputs) = IsBug p m f n inputs w place
+IsRightlyJudged p m stands terms asked keeps_plain f n start path (undecided q) = IsUndecided p m stands terms asked keeps_plain f n q
