@@ -2,6 +2,7 @@ pub mod Binding
 pub mod Drawing
 pub mod Growing
 pub mod Moving
+pub mod Recording
 pub mod Settled
 pub mod Silent
 pub mod Starting

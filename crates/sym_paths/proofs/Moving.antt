@@ -1,5 +1,5 @@
 -- The commands that ask nothing lead to one path, without a new condition.
-use Rattle.std.proofs.Common.{◌≡◌, ⊎_elim, ℕ, zero, suc, ◌+◌, ◌<◌, List, [], ◌∷◌, ◌++◌, length, slice_get, Option, Some, None, refl, sym, ap, subst, ◌∙◌, arith}
+use Rattle.std.proofs.Common.{◌≡◌, ⊎_elim, ℕ, zero, suc, ◌+◌, ◌<◌, List, [], ◌∷◌, ◌++◌, length, slice_get, false, Option, Some, None, refl, sym, ap, subst, ◌∙◌, arith}
 use Rattle.std.specs.List.{Contains}
 use Rattle.std.proofs.lemmas.List.{append-nil, length_push}
 use Rattle.std.proofs.lemmas.List.Elements.{Contains-append_cases, Contains-push_cases}
@@ -31,10 +31,11 @@ use Rattle.sym_paths.specs.Laws.{with_more, IsBound}
 use Rattle.sym_paths.specs.Meaning.{AreFrames, Stands, StandsForEnd, StandsForStep, OfEachName, IsOverTable, command_of_path}
 use Rattle.sym_paths.specs.Moves.{NoOwn, IsLogic, running_store, advanced, draw_sort, vanishing, passing, next_variable, with_fresh, with_draw, AskNothing}
 use Rattle.sym_paths.specs.Pure.{PureFrame, PureEnd, vanished, PurePath}
-use Rattle.sym_paths.specs.Steps.{HasInput, IsUnknown, AreNext, IsNext, AreNextPaths}
+use Rattle.sym_paths.specs.Steps.{HasInput, IsUnknown, AreNext, IsNext, symbols_taken, makes_choice, AreNextPaths}
 use Rattle.sym_paths.proofs.Binding.{agree_bound, each_bound}
-use Rattle.sym_paths.proofs.Drawing.{drawn_is, new_sort, drawn_next, next_drawn, not_fresh, some_fits, fits_kind, kind_fits, no_symbols, no_symbol_below, draws_this, input_there}
+use Rattle.sym_paths.proofs.Drawing.{drawn_is, new_sort, none_fresh, drawn_next, next_drawn, not_fresh, some_fits, fits_kind, kind_fits, no_symbols, no_symbol_below, draws_this, input_there}
 use Rattle.sym_paths.proofs.Growing.{path_stands, path_over}
+use Rattle.sym_paths.proofs.Recording.{records_by, same_records, ended_records}
 use Rattle.sym_paths.proofs.Silent.{stands_at, step-is, choice-is, same_and_none, silent_step}
 use Rattle.sym_paths.proofs.Valuations.{below_higher, below_next, next_fresh, later_variables_are_proper}
 
@@ -134,6 +135,22 @@ logic_chooses_nothing p m (return e) s logic = absurd logic
 logic_chooses_nothing p m (fail e) s logic = absurd logic
 logic_chooses_nothing p m vanish s logic = absurd logic
 
+-- they take no symbol and make no choice
+logic_is_quiet : (m : Actions) (k : PureCommand) → IsLogic k → (symbols_taken m k ≡ 0) × (makes_choice k ≡ false)
+logic_is_quiet m (fold_use u) logic = (refl, refl)
+logic_is_quiet m (unfold_use u) logic = (refl, refl)
+logic_is_quiet m (assert_that items) logic = (refl, refl)
+logic_is_quiet m (loop_invariant xs ps items) logic = (refl, refl)
+logic_is_quiet m (assign x e) logic = absurd logic
+logic_is_quiet m (call x e es) logic = absurd logic
+logic_is_quiet m (act x a es) logic = absurd logic
+logic_is_quiet m (usym x) logic = absurd logic
+logic_is_quiet m (isym x k) logic = absurd logic
+logic_is_quiet m (ifgoto e i) logic = absurd logic
+logic_is_quiet m (return e) logic = absurd logic
+logic_is_quiet m (fail e) logic = absurd logic
+logic_is_quiet m vanish logic = absurd logic
+
 -- ---- paths
 
 pub open_is_known : (o : Option PureEnd) → o ≡ None → ¬ IsUnknown o
@@ -176,6 +193,7 @@ module _ {S : Type 0} (memory : MemoryName) (stands : S → List PureValue → H
         (record {
           leads = λ inputs v ws s is in_turn proper. vanished_leads command inputs v ws s is (none_next inputs s.counter s.draws ws in_turn);
           exists = λ inputs v s is has. ([], (tt, proper_as_it_is path.vars v is.proper));
+          records = ended_records p m path (vanishing path) vanished refl;
           chooses_nothing = λ v s is. choice-is p m [] s c vanish (standing v s is) command;
           may_follow = λ v proper. ([], proper_as_it_is path.vars v proper);
         })
@@ -222,6 +240,7 @@ module _ {S : Type 0} (memory : MemoryName) (stands : S → List PureValue → H
         (record {
           leads = λ inputs v ws s is in_turn proper. passed_leads logic inputs v ws s is (none_next inputs s.counter s.draws ws in_turn);
           exists = λ inputs v s is has. ([], (tt, proper_as_it_is path.vars v is.proper));
+          records = let (symbols, choice) = logic_is_quiet m c.command logic in same_records p m path (passing path) c at symbols choice refl refl;
           chooses_nothing = λ v s is. choice-is p m [] s c c.command (standing v s is) refl ∙ logic_chooses_nothing p m c.command s logic;
           may_follow = λ v proper. ([], proper_as_it_is path.vars v proper);
         })
@@ -292,6 +311,7 @@ module _ {S : Type 0} (memory : MemoryName) (stands : S → List PureValue → H
           (record {
             leads = symbol_leads command;
             exists = λ inputs v s is has. (symbol s.counter ∷ [], ((refl, tt), (next_fresh path.vars v s.counter is.proper is.symbols_below).0));
+            records = records_by p m path (with_fresh path bs) c at (Sort.Fresh ∷ []) None refl (sym (ap (symbols_taken m) command)) (same_and_none path.choices path.choices refl) (sym (ap makes_choice command));
             chooses_nothing = λ v s is. choice-is p m [] s c (usym x) (standing v s is) command;
             may_follow = λ v proper. let (n, below) = above (symbols_of_all v) in (symbol n ∷ [], (next_fresh path.vars v n proper below).0);
           })
@@ -374,6 +394,7 @@ module _ {S : Type 0} (memory : MemoryName) (stands : S → List PureValue → H
           (record {
             leads = draw_leads command;
             exists = draw_exists command;
+            records = records_by p m path (with_draw path sort bs) c at (sort ∷ []) None refl (none_fresh k sort drawable ∙ sym (ap (symbols_taken m) command)) (same_and_none path.choices path.choices refl) (sym (ap makes_choice command));
             chooses_nothing = λ v s is. choice-is p m [] s c (isym x k) (standing v s is) command;
             may_follow = λ v proper. let (w, fits) = some_fits k sort drawable in (w ∷ [], later_variables_are_proper.drawn path.vars v sort w proper (not_fresh k sort drawable) fits);
           })

@@ -1,5 +1,5 @@
 -- What becomes of candidates are the paths of the step.
-use Rattle.std.proofs.Common.{◌≡◌, ◌⊎◌, inl, inr, List, [], ◌∷◌, ◌++◌, false, IsTrue, sym, ap, subst, ◌∙◌, append_assoc, true≢false}
+use Rattle.std.proofs.Common.{◌≡◌, ◌⊎◌, inl, inr, List, [], ◌∷◌, ◌++◌, false, IsTrue, sym, ap, subst, ◌∙◌, refl, append_assoc, true≢false}
 use Rattle.gil_values.specs.declared.places.Place.{Place}
 use Rattle.gil_values.specs.Pure.{PureValue}
 use Rattle.gil_syntax.specs.Pure.{PureParts}
@@ -16,9 +16,10 @@ use Rattle.sym_model.specs.Meaning.{has_open}
 use Rattle.sym_model.specs.Terms.{StateTerms}
 use Rattle.sym_model.proofs.ListLaws.{each_append, each_to, one_with}
 use Rattle.sym_paths.specs.Meaning.{StandsForStep}
-use Rattle.sym_paths.specs.Pure.{PurePath}
+use Rattle.sym_paths.specs.Pure.{unknown, PurePath}
 use Rattle.sym_paths.specs.Settling.{Candidate, ended_unknown, IsLeftUnknown, Stays, AreSettled, AreCandidates}
-use Rattle.sym_paths.specs.Steps.{Extends, IsUnknown, IsRightlyUnknown, Grows, AddsOwn, IsExact, ChoosesAlike, HoldsAlong, StaysSatisfiable, AreNextPaths}
+use Rattle.sym_paths.specs.Steps.{Extends, IsUnknown, IsRightlyUnknown, Grows, IsRecorded, AddsOwn, IsExact, ChoosesAlike, HoldsAlong, StaysSatisfiable, AreNextPaths}
+use Rattle.sym_paths.proofs.Recording.{ended_records}
 use Rattle.sym_paths.proofs.Silent.{rightly}
 
 each_both : {A : Type 0} (P Q : A → Type 0) (xs : List A) → Each P xs → Each Q xs → Each (λ x. P x × Q x) xs
@@ -79,6 +80,10 @@ module _ {S : Type 0} (p : PureParts) (m : Actions) (stands : S → List PureVal
   grows_on c next g (inl kept) = subst (Grows terms path) (sym kept.is) g.0
   grows_on c next g (inr left) = subst (Grows terms path) (sym left.is) (unknown_grows c left.place left.reason g.0 g.1)
 
+  recorded_on : (c : Candidate S) (next : PurePath S) → IsRecorded p m path c.path → Stays p path c next → IsRecorded p m path next
+  recorded_on c next recorded (inl kept) = subst (IsRecorded p m path) (sym kept.is) recorded
+  recorded_on c next recorded (inr left) = subst (IsRecorded p m path) (sym left.is) (ended_records p m path (ended_unknown c left.place left.reason) (unknown left.place left.reason) refl)
+
   abbrev Covered : List PureValue → List PureValue → State → Candidate S → Type 0
   Covered inputs v s c =
       (w : List PureValue) × (Extends inputs s path c.path v w × Satisfies c.path.vars w c.path.conds
@@ -132,6 +137,7 @@ module _ {S : Type 0} (p : PureParts) (m : Actions) (stands : S → List PureVal
   pub settled_are_next : (cs : List (Candidate S)) (nexts : List (PurePath S)) → AreCandidates p m stands terms own path cs → AreSettled p path cs nexts → AreNextPaths p m stands terms own path nexts
   settled_are_next cs nexts laws settled = record {
     growth = each_settled p path (λ c. Grows terms path c.path × Each (λ a. IsAmong a c.path.conds) c.no_fault) (Grows terms path) grows_on cs nexts laws.growth settled;
+    recorded = each_settled p path (λ c. IsRecorded p m path c.path) (IsRecorded p m path) recorded_on cs nexts laws.recorded settled;
     cover = λ inputs v s is has. one_settled p path (Covered inputs v s) (CoveredNext inputs v s) (λ c covered unmet. unmet covered.0 covered.1.1) (covers_on inputs v s) cs nexts (laws.cover inputs v s is has) settled;
     exact = each_settled p path (λ c. has_open c.path.conds ≡ false → IsExact p m stands path c.path) (IsExact p m stands path) exact_on cs nexts laws.exact settled;
     choices = each_settled p path (λ c. (has_open c.path.conds ≡ false → IsExact p m stands path c.path) × ¬ IsUnknown c.path.ending) (ChoosesAlike p m stands path) choice_on cs nexts

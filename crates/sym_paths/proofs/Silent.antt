@@ -17,7 +17,7 @@ use Rattle.sym_model.specs.Terms.{StateTerms}
 use Rattle.sym_paths.specs.Meaning.{AreFrames, frames_of, Stands, StandsForStep, IsOverTable, command_of_frames}
 use Rattle.sym_paths.specs.Moves.{NoOwn}
 use Rattle.sym_paths.specs.Pure.{PureFrame, PureEnd, returned, failed, missed, vanished, cut, unknown, PurePath}
-use Rattle.sym_paths.specs.Steps.{AreNext, drawn_from, Extends, HasInput, IsUnknown, IsChosen, IsNewSort, IsRightlyUnknown, Grows, Covers, IsExact, ChoosesAlike, HoldsAlong, StaysSatisfiable, AreNextPaths}
+use Rattle.sym_paths.specs.Steps.{AreNext, drawn_from, Extends, HasInput, IsUnknown, IsChosen, IsNewSort, IsRightlyUnknown, Grows, IsRecorded, Covers, IsExact, ChoosesAlike, HoldsAlong, StaysSatisfiable, AreNextPaths}
 use Rattle.sym_paths.proofs.Growing.{all_true-more}
 
 -- ---- where a state stands
@@ -49,6 +49,7 @@ pub record IsSilent {S : Type 0} (p : PureParts) (m : Actions) (stands : S → L
       → StandsForStep p m stands next (v ++ ws) s next.ending (step p m inputs s)
   pub exists : (inputs v : List PureValue) (s : State) → Stands stands path v s → HasInput (step p m inputs s)
       → (ws : List PureValue) × (AreNext inputs s.counter s.draws sorts ws × IsProper (path.vars ++ sorts) (v ++ ws))
+  pub records : IsRecorded p m path next
   pub chooses_nothing : (v : List PureValue) (s : State) → Stands stands path v s → choice_at p m s ≡ None
   pub may_follow : (v : List PureValue) → IsProper path.vars v → (ws : List PureValue) × IsProper (path.vars ++ sorts) (v ++ ws)
 
@@ -129,6 +130,7 @@ module _ {S : Type 0} (p : PureParts) (m : Actions) (stands : S → List PureVal
   pub silent_step : AreNextPaths p m stands terms NoOwn path (next ∷ [])
   silent_step = record {
     growth = (grows, tt);
+    recorded = (silent.records, tt);
     cover = covers;
     exact = (exact, tt);
     choices = (chooses_alike, tt);

@@ -19,7 +19,8 @@ use Rattle.mem_model.specs.Heaps.{Heap}
 use Rattle.pure_terms.specs.declared.deciders.Reason.{Reason}
 use Rattle.pure_terms.specs.Fragment.{InFragment}
 use Rattle.pure_terms.specs.Meaning.{value, truth, all_true, IsProper, IsOver, Satisfies}
-use Rattle.pure_terms.specs.Pure.{PureTerm, PureAtom, term_of}
+use Rattle.pure_terms.specs.declared.literals.Literal.{Literal}
+use Rattle.pure_terms.specs.Pure.{PureTerm, literal, PureAtom, term_of}
 use Rattle.sym_evaluation.specs.Meaning.{IsTaken, IsClosed, IsGood, SayOutcome, HasValue}
 use Rattle.sym_evaluation.specs.Pure.{PureStore, term_at, PureFaultCase, PureGoodCase, PureCases}
 use Rattle.sym_evaluation.specs.Questions.{IsAsked, OnConditions, OnResult}
@@ -31,12 +32,13 @@ use Rattle.sym_paths.specs.Valued.{place_at, faulted, assigned, failing, Assigns
 use Rattle.sym_paths.specs.Laws.{IsBound}
 use Rattle.sym_paths.specs.Meaning.{AreFrames, Stands, StandsForStep, IsOverTable, command_of_path}
 use Rattle.sym_paths.specs.Moves.{running_store}
-use Rattle.sym_paths.specs.Pure.{PureFrame, PurePath}
+use Rattle.sym_paths.specs.Pure.{PureFrame, failed, PurePath}
 use Rattle.sym_paths.specs.Settling.{Candidate, ended_unknown, AreCandidates}
-use Rattle.sym_paths.specs.Steps.{Extends, IsUnknown, IsChosen, GoesOnAs, Grows, AddsOwn, IsExact, HoldsAlong}
+use Rattle.sym_paths.specs.Steps.{Extends, IsUnknown, IsChosen, GoesOnAs, Grows, IsRecorded, symbols_taken, makes_choice, AddsOwn, IsExact, HoldsAlong}
 use Rattle.sym_paths.proofs.Binding.{agree_bound, each_bound}
 use Rattle.sym_paths.proofs.Growing.{later_among}
 use Rattle.sym_paths.proofs.Moving.{nothing_more, none_next, advanced_frames, running_stands, running_each, advanced_each, open_is_known}
+use Rattle.sym_paths.proofs.Recording.{same_records, ended_records}
 use Rattle.sym_paths.proofs.Silent.{stands_at, step-is, choice-is, extended_by, same_and_none}
 
 -- ---- conditions in two parts
@@ -84,6 +86,7 @@ going_on_met v (Err f) cases g here s go_on says is goes = absurd goes
 -- what the candidate for a result must do
 record GoodLaws {S : Type 0} (stands : S → List PureValue → Heap → Type 0) (terms : S → StateTerms) (p : PureParts) (m : Actions) (own : PureAtom → Type 0) (path : PurePath S) (g : PureGoodCase PureTerm) (d : Candidate S) : Type 0 where
   growth : Grows terms path d.path × Each (λ a. IsAmong a d.path.conds) d.no_fault
+  recorded : IsRecorded p m path d.path
   known : ¬ IsUnknown d.path.ending
   vars : d.path.vars ≡ path.vars
   conds : d.path.conds ≡ path.conds ++ g.conds
@@ -214,7 +217,8 @@ module _ {S : Type 0} (stands : S → List PureValue → Heap → Type 0) (terms
 
   -- ---- the result
 
-  module _ (x : List ℕ) (goes_to : (here : Place) (s : State) (a : PureValue) → go_on here s a ≡ machine_step.assigned x a s) (g : PureGoodCase PureTerm) (bs : PureStore) (is_good : cases.good ≡ Some g) (bound : IsBound (running_store path.stack) x g.result bs) where
+  module _ (x : List ℕ) (goes_to : (here : Place) (s : State) (a : PureValue) → go_on here s a ≡ machine_step.assigned x a s) (g : PureGoodCase PureTerm) (bs : PureStore) (is_good : cases.good ≡ Some g) (bound : IsBound (running_store path.stack) x g.result bs)
+      (quiet : (symbols_taken m k ≡ 0) × (makes_choice k ≡ false)) where
     abbrev gp : PurePath S
     gp = (assigned path bs g).path
 
@@ -292,6 +296,7 @@ module _ {S : Type 0} (stands : S → List PureValue → Heap → Type 0) (terms
     assigned_keeps : GoodLaws stands terms p m (IsAsked (running_store path.stack) e) path g (assigned path bs g)
     assigned_keeps = record {
       growth = (good_grows, later_among path.conds g.conds);
+      recorded = same_records p m path gp c at (ap (symbols_taken m) command ∙ quiet.0) (ap makes_choice command ∙ quiet.1) refl refl;
       known = open_is_known path.ending no_end;
       vars = refl;
       conds = refl;
@@ -368,6 +373,7 @@ module _ {S : Type 0} (stands : S → List PureValue → Heap → Type 0) (terms
         },
         tt,
       );
+      recorded = ended_records p m path tp (failed g.result here) refl;
       known = λ unknown. unknown;
       vars = refl;
       conds = refl;
@@ -440,6 +446,7 @@ module _ {S : Type 0} (stands : S → List PureValue → Heap → Type 0) (terms
     are_candidates : (cs : List (Candidate S)) → AreForCases path here Makes cases cs → AreCandidates p m stands terms Own path cs
     are_candidates cs are = record {
       growth = each_candidate (λ d. Grows terms path d.path × Each (λ a. IsAmong a d.path.conds) d.no_fault) (λ i fc which. (fault_grows i fc which, tt)) (λ g d laws. laws.growth) cs are;
+      recorded = each_candidate (λ d. IsRecorded p m path d.path) (λ i fc which. ended_records p m path (fp i fc which) (failed (literal (Literal.Str (fault_text fc.fault))) here) refl) (λ g d laws. laws.recorded) cs are;
       known = each_candidate (λ d. ¬ IsUnknown d.path.ending) (λ i fc which unknown. unknown) (λ g d laws. laws.known) cs are;
       cover = λ inputs v s is has. subst (OneOf (Covered inputs v s is)) (sym are.1.0) (covers_by inputs v s is (evaluate e s.current.store) (says v s is) are.0 are.1.1);
       exact = each_candidate (λ d. has_open d.path.conds ≡ false → IsExact p m stands path d.path) (λ i fc which no_form. fault_exact i fc which) (λ g d laws no_form. laws.exact) cs are;
@@ -453,7 +460,7 @@ valued_candidates {S} stands terms = record {
   of_assignment = λ p m path c x e cases cs over no_end at command evaluated.
       are_candidates stands terms p m path c e cases over no_end at (assign x e) (λ here s a. machine_step.assigned x a s) command (λ inputs here s. refl) (λ s. refl) evaluated (Assigns path x)
       (λ g d is_good (made : Assigns path x g d). subst (GoodLaws stands terms p m (IsAsked (running_store path.stack) e) path g) (sym made.1.1)
-      (assigned_keeps stands terms p m path c e cases over no_end at (assign x e) (λ here s a. machine_step.assigned x a s) command (λ inputs here s. refl) (λ s. refl) evaluated x (λ here s a. refl) g made.0 is_good made.1.0)) cs;
+      (assigned_keeps stands terms p m path c e cases over no_end at (assign x e) (λ here s a. machine_step.assigned x a s) command (λ inputs here s. refl) (λ s. refl) evaluated x (λ here s a. refl) g made.0 is_good made.1.0 (refl, refl))) cs;
   of_failure = λ p m path c e cases cs over no_end at command evaluated.
       are_candidates stands terms p m path c e cases over no_end at (fail e) (λ here s a. fails_with a here s) command (λ inputs here s. refl) (λ s. refl) evaluated (Fails path (place_at path.stack c))
       (λ g d is_good (made : Fails path (place_at path.stack c) g d). subst (GoodLaws stands terms p m (IsAsked (running_store path.stack) e) path g) (sym made)

@@ -17,7 +17,7 @@ use Rattle.sym_model.specs.Meaning.{has_open}
 use Rattle.sym_model.specs.Terms.{StateTerms}
 use Rattle.sym_paths.specs.Meaning.{StandsForStep, Stands}
 use Rattle.sym_paths.specs.Pure.{unknown, PurePath}
-use Rattle.sym_paths.specs.Steps.{Extends, HasInput, IsUnknown, IsFirstOutside, IsPlaceOf, Grows, AddsOwn, IsExact, HoldsAlong, AreNextPaths}
+use Rattle.sym_paths.specs.Steps.{Extends, HasInput, IsUnknown, IsFirstOutside, IsPlaceOf, Grows, IsRecorded, AddsOwn, IsExact, HoldsAlong, AreNextPaths}
 
 -- a path that may come next, and what is assumed besides where it ends as unknown: that there is no fault at its command
 pub record Candidate (S : Type 0) : Type 0 where
@@ -69,6 +69,7 @@ module _ {S : Type 0} (p : PureParts) (m : Actions) (stands : S → List PureVal
 pub record AreCandidates {S : Type 0} (p : PureParts) (m : Actions) (stands : S → List PureValue → Heap → Type 0) (terms : S → StateTerms)
     (own : PureAtom → Type 0) (path : PurePath S) (cs : List (Candidate S)) : Type 0 where
   pub growth : Each (λ c. Grows terms path c.path × Each (λ a. IsAmong a c.path.conds) c.no_fault) cs
+  pub recorded : Each (λ c. IsRecorded p m path c.path) cs
   pub known : Each (λ c. ¬ IsUnknown c.path.ending) cs
   pub cover : CandidatesCover p m stands path cs
   pub exact : Each (λ c. has_open c.path.conds ≡ false → IsExact p m stands path c.path) cs

@@ -1,8 +1,9 @@
 -- What a step of a path must do: the laws of the paths that it answers, of which each extends the old one.
-use Rattle.std.specs.Prelude.{◌≡◌, ◌⊎◌, ℕ, suc, ◌+◌, ◌<◌, ◌^◌, ℤ, pos, neg_ℤ, ◌-ℤ◌, ◌+ℤ◌, ◌≤ℤ◌, List, [], ◌∷◌, ◌++◌, length, slice_get, false, Option, Some, None, IsTrue, ⊤}
+use Rattle.std.specs.Prelude.{◌≡◌, ◌⊎◌, ℕ, suc, ◌+◌, ◌<◌, ◌^◌, ℤ, pos, neg_ℤ, ◌-ℤ◌, ◌+ℤ◌, ◌≤ℤ◌, List, [], ◌∷◌, ◌++◌, length, slice_get, Bool, true, false, if◌then◌else◌, Option, Some, None, IsTrue, ⊤}
+use Rattle.std.specs.Option.{is_some}
 use Rattle.gil_values.specs.declared.places.Place.{Place}
 use Rattle.gil_values.specs.Pure.{PureValue, symbol}
-use Rattle.gil_syntax.specs.Pure.{PureParts, PureCommand, PureNumberedCommand}
+use Rattle.gil_syntax.specs.Pure.{PureParts, PureCommand, act, usym, ifgoto, PureNumberedCommand}
 use Rattle.gil_machine.specs.Choices.{choice_at, with_choice}
 use Rattle.gil_machine.specs.State.{State, Ending, no_input, bad_input, Step, goes_on, ends}
 use Rattle.gil_machine.specs.Step.{step}
@@ -104,6 +105,22 @@ GoesOnAs (Some how) r = ⊤
 abbrev pub IsChosen : {S : Type 0} → PurePath S → PurePath S → Option ℕ → Type 0
 IsChosen path next chosen = next.choices ≡ path.choices ++ with_choice chosen []
 
+-- how many of the variables are fresh
+abbrev pub fresh_count : List Sort → ℕ
+fresh_count vars = counter_past vars 0
+
+-- how many symbols a command takes
+abbrev pub symbols_taken : Actions → PureCommand → ℕ
+symbols_taken m (usym x) = 1
+symbols_taken m (act x a es) = if m.takes_symbol a then 1 else 0
+symbols_taken m _ = 0
+
+-- choices are made at guards and at actions
+abbrev pub makes_choice : PureCommand → Bool
+makes_choice (ifgoto e i) = true
+makes_choice (act x a es) = true
+makes_choice _ = false
+
 abbrev pub place_of : Reason → ℕ
 place_of (Reason.Atom i) = i
 place_of (Reason.Number i) = i
@@ -150,6 +167,14 @@ pub record Grows {S : Type 0} (terms : S → StateTerms) (path next : PurePath S
   pub choices : IsChosen path next chosen
   pub steps : next.steps ≡ path.steps + 1
   pub over : IsOverTable terms next
+
+-- Record: a path that goes on has a fresh variable more for each symbol that the command takes, and a choice more exactly where the
+-- command makes one.
+pub record IsRecorded {S : Type 0} (p : PureParts) (m : Actions) (path next : PurePath S) : Type 0 where
+  pub symbols : (c : PureNumberedCommand) → command_of_path p path ≡ Some c → next.ending ≡ None
+      → fresh_count next.vars ≡ fresh_count path.vars + symbols_taken m c.command
+  pub choice : (c : PureNumberedCommand) → command_of_path p path ≡ Some c → next.ending ≡ None
+      → (chosen : Option ℕ) × (IsChosen path next chosen × (is_some chosen ≡ makes_choice c.command))
 
 -- Own: each new condition is by itself in the fragment, or one that is the command's own.
 pub record AddsOwn {S : Type 0} (own : PureAtom → Type 0) (path next : PurePath S) : Type 0 where
@@ -202,6 +227,7 @@ StaysSatisfiable path next =
 pub record AreNextPaths {S : Type 0} (p : PureParts) (m : Actions) (stands : S → List PureValue → Heap → Type 0) (terms : S → StateTerms)
     (own : PureAtom → Type 0) (path : PurePath S) (nexts : List (PurePath S)) : Type 0 where
   pub growth : Each (Grows terms path) nexts
+  pub recorded : Each (IsRecorded p m path) nexts
   pub cover : Covers p m stands path nexts
   pub exact : Each (IsExact p m stands path) nexts
   pub choices : Each (ChoosesAlike p m stands path) nexts

@@ -1,5 +1,5 @@
 -- The candidates of an action keep the laws.
-use Rattle.std.proofs.Common.{◌≡◌, ◌⊎◌, ⊎_elim, inl, inr, ℕ, suc, ◌+◌, List, [], ◌∷◌, ◌++◌, length, Bool, true, false, slice_get, Option, Some, None, Ok, Err, IsTrue, codes, zero, refl, sym, ap, subst, ◌∙◌, arith}
+use Rattle.std.proofs.Common.{◌≡◌, ◌⊎◌, ⊎_elim, inl, inr, ℕ, suc, ◌+◌, List, [], ◌∷◌, ◌++◌, length, Bool, true, false, if◌then◌else◌, slice_get, Option, Some, None, Ok, Err, IsTrue, codes, zero, refl, sym, ap, subst, ◌∙◌, arith}
 use Rattle.std.specs.Option.{option_and_then, option_map}
 use Rattle.std.proofs.lemmas.List.{append-nil}
 use Rattle.std.proofs.lemmas.List.Elements.{Contains-push_cases}
@@ -40,10 +40,11 @@ use Rattle.sym_paths.specs.Moves.{running_store, advanced}
 use Rattle.sym_paths.specs.Pure.{PureFrame, PureEnd, PurePath}
 use Rattle.sym_paths.specs.Pure as path_end
 use Rattle.sym_paths.specs.Settling.{Candidate, AreCandidates}
-use Rattle.sym_paths.specs.Steps.{AreNext, drawn_from, IsNewSort, IsUnknown, IsChosen}
+use Rattle.sym_paths.specs.Steps.{AreNext, drawn_from, IsNewSort, fresh_count, symbols_taken, makes_choice, IsUnknown, IsChosen}
 use Rattle.sym_paths.proofs.Binding.{agree_bound, each_bound}
 use Rattle.sym_paths.proofs.Growing.{path_stands, path_over, later_among}
 use Rattle.sym_paths.proofs.Moving.{none_next, advanced_frames, running_stands, running_each, advanced_each}
+use Rattle.sym_paths.proofs.Recording.{records_by}
 use Rattle.sym_paths.proofs.Silent.{same_and_none}
 use Rattle.sym_paths.proofs.Valuations.{next_fresh, below_higher, below_next}
 use Rattle.sym_steps.specs.Acting.{taken, fresh_where, branched, ActsTo, ActsAsEach, Acts, IsAskedByAction, ActionsKeepTheLaws}
@@ -67,6 +68,10 @@ one_symbol : (inputs : List PureValue) (n d : ℕ) (ws : List PureValue) → Are
 one_symbol inputs n d [] next = absurd next
 one_symbol inputs n d (w ∷ []) next = ap (λ u. u ∷ []) next.0
 one_symbol inputs n d (w ∷ u ∷ ws) next = absurd next.1
+
+as_many_taken : (takes : Bool) → fresh_count (taken takes) ≡ (if takes then 1 else 0)
+as_many_taken true = refl
+as_many_taken false = refl
 
 no_draw : (takes : Bool) (k : ℕ) → drawn_from k (taken takes) ≡ []
 no_draw true k = refl
@@ -267,6 +272,7 @@ module _ {S : Type 0} (memory : MemoryName) (stands : S → List PureValue → H
             },
             tt,
           );
+          recorded = records_by p m path d.path c at (taken takes) (Some k) refl (as_many_taken takes ∙ sym (ap (symbols_taken m) command)) refl (sym (ap makes_choice command));
           known = known;
           vars = refl;
           conds = refl;

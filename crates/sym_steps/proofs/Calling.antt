@@ -33,9 +33,10 @@ use Rattle.sym_paths.specs.Meaning.{AreFrames, Stands, StandsForStep, OfEachName
 use Rattle.sym_paths.specs.Moves.{running_store}
 use Rattle.sym_paths.specs.Pure.{PureFrame, PurePath}
 use Rattle.sym_paths.specs.Settling.{Candidate, AreCandidates}
-use Rattle.sym_paths.specs.Steps.{GoesOnAs}
+use Rattle.sym_paths.specs.Steps.{symbols_taken, makes_choice, GoesOnAs}
 use Rattle.sym_paths.proofs.Growing.{later_among}
 use Rattle.sym_paths.proofs.Moving.{open_is_known}
+use Rattle.sym_paths.proofs.Recording.{same_records, ended_records}
 use Rattle.sym_paths.proofs.Silent.{same_and_none}
 use Rattle.sym_steps.specs.Cases.{AreOfCases, AreEvaluated}
 use Rattle.sym_steps.specs.Calls.{Called, call_cases, terms_bound, IsFirstStore, waiting, entering, fails_to_call, needs_callee, EntersFound, CallsOpen, CallsTerm, Calls, IsAskedByCall, CallsKeepTheLaws}
@@ -250,6 +251,7 @@ module _ {S : Type 0} (stands : S → List PureValue → Heap → Type 0) (terms
           },
           later_among path.conds g.conds,
         );
+        recorded = same_records p m path ep c at (ap (symbols_taken m) command) (ap makes_choice command) refl refl;
         known = open_is_known path.ending no_end;
         vars = refl;
         conds = ap (λ xs. path.conds ++ xs) (sym (append-nil g.conds));
@@ -296,6 +298,7 @@ module _ {S : Type 0} (stands : S → List PureValue → Heap → Type 0) (terms
           },
           each_left (λ a. IsAmong a (path.conds ++ (g.conds ++ asked))) g.conds asked (later_among path.conds (g.conds ++ asked)),
         );
+        recorded = same_records p m path (needs_callee path x here g).path c at (ap (symbols_taken m) command) (ap makes_choice command) refl refl;
         known = open_is_known path.ending no_end;
         vars = refl;
         conds = refl;

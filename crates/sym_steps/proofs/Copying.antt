@@ -17,7 +17,7 @@ use Rattle.sym_model.specs.Terms.{StateTerms, all_of, AreEachOver}
 use Rattle.sym_paths.specs.Meaning.{StandsForStep}
 use Rattle.sym_paths.specs.Pure.{PureEnd, PurePath}
 use Rattle.sym_paths.specs.Settling.{Candidate, ended_unknown, AreCandidates}
-use Rattle.sym_paths.specs.Steps.{Extends, IsUnknown, Grows, AddsOwn, IsExact, HoldsAlong}
+use Rattle.sym_paths.specs.Steps.{Extends, IsUnknown, Grows, IsRecorded, AddsOwn, IsExact, HoldsAlong}
 use Rattle.sym_steps.specs.Copies.{IsCopied, AreCopied}
 
 module _ {S : Type 0} (stands : S → List PureValue → Heap → Type 0) (terms : S → StateTerms) (depends : S → List ℕ → List PureTerm → List PureValue → Heap → PureTerm → Type 0) (plain : S → ℤ → ℤ → Type 0) where
@@ -133,6 +133,7 @@ module _ {S : Type 0} (stands : S → List PureValue → Heap → Type 0) (terms
     pub copies_keep_the_laws : (cs ds : List (Candidate S)) → AreCandidates p m stands terms own path cs → AreCopied stands terms depends plain cs ds → AreCandidates p m stands terms own path ds
     copies_keep_the_laws cs ds laws copies = record {
       growth = each_copied Grown Grown grows_copied cs ds laws.growth copies;
+      recorded = each_copied (λ c. IsRecorded p m path c.path) (λ c. IsRecorded p m path c.path) (λ c state copy recorded. record { symbols = recorded.symbols; choice = recorded.choice }) cs ds laws.recorded copies;
       known = each_copied (λ c. ¬ IsUnknown c.path.ending) (λ c. ¬ IsUnknown c.path.ending) (λ c state copy known. known) cs ds laws.known copies;
       cover = λ inputs v s is has. one_copied (Covered inputs v s) (Covered inputs v s) (covers_copied inputs v s) cs ds (laws.cover inputs v s is has) copies;
       exact = each_copied Exact Exact exact_copied cs ds laws.exact copies;

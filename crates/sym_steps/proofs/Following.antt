@@ -20,7 +20,8 @@ use Rattle.pure_terms.specs.declared.deciders.Reason.{Reason}
 use Rattle.pure_terms.specs.declared.variables.Sort.{Sort}
 use Rattle.pure_terms.specs.Fragment.{InFragment}
 use Rattle.pure_terms.specs.Meaning.{truth, all_true, IsProper, IsOver, Satisfies}
-use Rattle.pure_terms.specs.Pure.{PureAtom, term_of}
+use Rattle.pure_terms.specs.declared.literals.Literal.{Literal}
+use Rattle.pure_terms.specs.Pure.{literal, PureAtom, term_of}
 use Rattle.sym_evaluation.specs.Meaning.{Serves, IsTaken, IsClosed, IsGood, SayOutcome}
 use Rattle.sym_evaluation.specs.Pure.{PureStore, term_at, PureFaultCase, PureGoodCase, PureCases}
 use Rattle.sym_evaluation.specs.Questions.{OnConditions, EachCondition, NameNoOthers}
@@ -31,11 +32,12 @@ use Rattle.sym_model.proofs.ListLaws.{not_none, each_append, each_at, each_map, 
 use Rattle.sym_paths.specs.Valued.{place_at, faulted}
 use Rattle.sym_paths.specs.Meaning.{AreFrames, Stands, StandsForStep, IsOverTable, command_of_path}
 use Rattle.sym_paths.specs.Moves.{running_store}
-use Rattle.sym_paths.specs.Pure.{PureFrame, PurePath}
+use Rattle.sym_paths.specs.Pure.{PureFrame, failed, PurePath}
 use Rattle.sym_paths.specs.Settling.{Candidate, ended_unknown, AreCandidates}
-use Rattle.sym_paths.specs.Steps.{AreNext, Extends, IsUnknown, IsChosen, GoesOnAs, Grows, AddsOwn, IsExact, HoldsAlong}
+use Rattle.sym_paths.specs.Steps.{AreNext, Extends, IsUnknown, IsChosen, GoesOnAs, Grows, IsRecorded, AddsOwn, IsExact, HoldsAlong}
 use Rattle.sym_paths.proofs.Growing.{all_true-more, later_among}
 use Rattle.sym_paths.proofs.Moving.{nothing_more, none_next, running_stands, running_each}
+use Rattle.sym_paths.proofs.Recording.{ended_records}
 use Rattle.sym_paths.proofs.Silent.{stands_at, step-is, choice-is, extended_by, same_and_none}
 use Rattle.sym_steps.specs.Cases.{AreResults, AreOfCases, failing_with}
 
@@ -169,6 +171,7 @@ module _ {S : Type 0} (stands : S → List PureValue → Heap → Type 0) (terms
     -- what a candidate for the result of a good case must do, with these new variables and further conditions
     pub record MakesNext (sorts : List Sort) (g : PureGoodCase X) (more : List PureAtom) (d : Candidate S) : Type 0 where
       pub growth : Grows terms path d.path × Each (λ a. IsAmong a d.path.conds) d.no_fault
+      pub recorded : IsRecorded p m path d.path
       pub known : ¬ IsUnknown d.path.ending
       pub vars : d.path.vars ≡ path.vars ++ sorts
       pub conds : d.path.conds ≡ path.conds ++ (g.conds ++ more)
@@ -385,6 +388,7 @@ module _ {S : Type 0} (stands : S → List PureValue → Heap → Type 0) (terms
       pub are_candidates : (cs : List (Candidate S)) → AreOfCases path here Make cases cs → AreCandidates p m stands terms own path cs
       are_candidates cs are = record {
         growth = each_candidate (λ d. Grows terms path d.path × Each (λ a. IsAmong a d.path.conds) d.no_fault) (λ i fc which. (fault_grows i fc which, tt)) (λ g more d is makes. makes.growth) cs are;
+        recorded = each_candidate (λ d. IsRecorded p m path d.path) (λ i fc which. ended_records p m path (fp i fc which) (failed (literal (Literal.Str (fault_text fc.fault))) here) refl) (λ g more d is makes. makes.recorded) cs are;
         known = each_candidate (λ d. ¬ IsUnknown d.path.ending) (λ i fc which unknown. unknown) (λ g more d is makes. makes.known) cs are;
         cover = λ inputs v s is has. subst (OneOf (Covered inputs v s)) (sym are.1.0) (covers_by inputs v s is (outcome s.current.store) refl (says v s is) are.0 are.1.1);
         exact = each_candidate (λ d. has_open d.path.conds ≡ false → IsExact p m stands path d.path) (λ i fc which no_form. fault_exact i fc which) (λ g more d is makes. good_exact sorts g more d is makes) cs are;
@@ -428,6 +432,7 @@ module _ {S : Type 0} (stands : S → List PureValue → Heap → Type 0) (terms
     -- what a candidate must do that adds no variable
     pub record MakesSame (g : PureGoodCase X) (more : List PureAtom) (d : Candidate S) : Type 0 where
       pub growth : Grows terms path d.path × Each (λ a. IsAmong a d.path.conds) d.no_fault
+      pub recorded : IsRecorded p m path d.path
       pub known : ¬ IsUnknown d.path.ending
       pub vars : d.path.vars ≡ path.vars
       pub conds : d.path.conds ≡ path.conds ++ (g.conds ++ more)
@@ -440,6 +445,7 @@ module _ {S : Type 0} (stands : S → List PureValue → Heap → Type 0) (terms
     pub same_next : (g : PureGoodCase X) (more : List PureAtom) (d : Candidate S) → MakesSame g more d → MakesNext [] g more d
     same_next g more d makes = record {
       growth = makes.growth;
+      recorded = makes.recorded;
       known = makes.known;
       vars = same_and_none d.path.vars path.vars makes.vars;
       conds = makes.conds;
@@ -511,6 +517,7 @@ module _ {S : Type 0} (stands : S → List PureValue → Heap → Type 0) (terms
           },
           tt,
         );
+        recorded = ended_records p m path wp (failed (literal (Literal.Str why)) here) refl;
         known = λ unknown. unknown;
         vars = refl;
         conds = refl;

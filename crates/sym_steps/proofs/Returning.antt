@@ -21,12 +21,13 @@ use Rattle.sym_model.proofs.ListLaws.{each_append}
 use Rattle.sym_paths.specs.Valued.{place_at, IsEvaluated}
 use Rattle.sym_paths.specs.Meaning.{IsFrame, AreFrames, Stands, StandsForStep, OfEachName, IsOverTable, command_of_path}
 use Rattle.sym_paths.specs.Moves.{running_store}
-use Rattle.sym_paths.specs.Pure.{PureFrame, PurePath}
+use Rattle.sym_paths.specs.Pure.{PureFrame, returned, PurePath}
 use Rattle.sym_paths.specs.Settling.{Candidate, AreCandidates}
-use Rattle.sym_paths.specs.Steps.{GoesOnAs}
+use Rattle.sym_paths.specs.Steps.{symbols_taken, makes_choice, GoesOnAs}
 use Rattle.sym_paths.proofs.Growing.{later_among}
 use Rattle.sym_paths.proofs.Binding.{agree_bound, each_bound}
 use Rattle.sym_paths.proofs.Moving.{open_is_known}
+use Rattle.sym_paths.proofs.Recording.{same_records, ended_records}
 use Rattle.sym_paths.proofs.Silent.{same_and_none}
 use Rattle.sym_steps.specs.Cases.{AreOfCases}
 use Rattle.sym_steps.specs.Returns.{Resumes, ResumesAt, returning, resuming, Returns, ReturnsKeepTheLaws}
@@ -139,6 +140,7 @@ module _ {S : Type 0} (stands : S → List PureValue → Heap → Type 0) (terms
           },
           tt,
         );
+        recorded = ended_records p m path (returning path g).path (returned g.result) refl;
         known = λ unknown. unknown;
         vars = refl;
         conds = ap (λ xs. path.conds ++ xs) (sym (append-nil g.conds));
@@ -197,6 +199,7 @@ module _ {S : Type 0} (stands : S → List PureValue → Heap → Type 0) (terms
           },
           later_among path.conds g.conds,
         );
+        recorded = same_records p m path rp c at (ap (symbols_taken m) command) (ap makes_choice command) refl refl;
         known = open_is_known path.ending no_end;
         vars = refl;
         conds = ap (λ xs. path.conds ++ xs) (sym (append-nil g.conds));

@@ -22,9 +22,10 @@ use Rattle.sym_paths.specs.Meaning.{AreFrames, Stands, StandsForStep, OfEachName
 use Rattle.sym_paths.specs.Moves.{running_store, advanced}
 use Rattle.sym_paths.specs.Pure.{PureFrame, PurePath}
 use Rattle.sym_paths.specs.Settling.{Candidate, AreCandidates}
-use Rattle.sym_paths.specs.Steps.{IsChosen}
+use Rattle.sym_paths.specs.Steps.{symbols_taken, makes_choice, IsChosen}
 use Rattle.sym_paths.proofs.Growing.{all_true-more}
 use Rattle.sym_paths.proofs.Moving.{open_is_known, advanced_frames, running_stands, running_each, advanced_each}
+use Rattle.sym_paths.proofs.Recording.{records_by}
 use Rattle.sym_paths.proofs.Silent.{same_and_none}
 use Rattle.sym_steps.specs.Cases.{AreOfCases, failing_with}
 use Rattle.sym_steps.specs.Guards.{at_label, for_side, turning, turns, Turns, IsAskedByGuard, GuardsKeepTheLaws}
@@ -233,6 +234,7 @@ module _ {S : Type 0} (stands : S → List PureValue → Heap → Type 0) (terms
           },
           tt,
         );
+        recorded = records_by p m path tp c at [] (Some side) (same_and_none path.vars path.vars refl) (sym (ap (symbols_taken m) command)) refl (sym (ap makes_choice command));
         known = open_is_known path.ending no_end;
         vars = refl;
         conds = refl;
