@@ -50,8 +50,20 @@ enters p (symbol n) x args here s = fails (text (codes "proc")) here s
 enters p (kind k) x args here s = fails (text (codes "proc")) here s
 enters p (list vs) x args here s = fails (text (codes "proc")) here s
 
+not_returned : (v : PureValue) (here : Place) (w : PureValue) (place : Place) → returned v ≡ failed w place → place ≡ here
+not_returned v here w place is = cc
+
+not_drawn : (k : ℕ) (here : Place) (w : PureValue) (place : Place) → bad_input k ≡ failed w place → place ≡ here
+not_drawn k here w place is = cc
+
+not_there : (k : ℕ) (here : Place) (w : PureValue) (place : Place) → no_input k ≡ failed w place → place ≡ here
+not_there k here w place is = cc
+
+not_vanished : (here : Place) (w : PureValue) (place : Place) → vanished ≡ failed w place → place ≡ here
+not_vanished here w place is = cc
+
 leaves : (callers : List Frame) (v : PureValue) (here : Place) (s : State) → EndsHere here (leave callers v s)
-leaves [] v here s w place is = cc
+leaves [] v here s = not_returned v here
 leaves (caller ∷ callers) v here s = tt
 
 acts : (o : PureOutcome) (x : List ℕ) (here : Place) (s : State) → EndsHere here (after_action o x here s)
@@ -61,10 +73,10 @@ acts (miss k) x here s = fails (text (codes "missing")) here s
 
 if_fits : (b : Bool) (here : Place) (s t : State) (k : ℕ) → EndsHere here (if b then goes_on t else ends (end_at s (bad_input k)))
 if_fits true here s t k = tt
-if_fits false here s t k w place is = cc
+if_fits false here s t k = not_drawn k here
 
 draws : (o : Option PureValue) (x : List ℕ) (k : Kind) (here : Place) (s : State) → EndsHere here (draw o x k s)
-draws None x k here s w place is = cc
+draws None x k here s = not_there s.draws here
 draws (Some v) x k here s = if_fits (same_kind (kind_of v) k) here s _ s.draws
 
 labels : (i : ℤ) (here : Place) (s : State) → EndsHere here (to_label i s)
@@ -91,7 +103,7 @@ module _ (p : PureParts) (m : Actions) (inputs : List PureValue) where
   does (ifgoto e i) here s = of_value (evaluate e s.current.store) here s _ (λ v. branches v i here s)
   does (return e) here s = of_value (evaluate e s.current.store) here s _ (λ v. leaves s.callers v here s)
   does (fail e) here s = of_value (evaluate e s.current.store) here s _ (λ v. fails v here s)
-  does vanish here s w place is = cc
+  does vanish here s = not_vanished here
   does (fold_use u) here s = tt
   does (unfold_use u) here s = tt
   does (assert_that items) here s = tt

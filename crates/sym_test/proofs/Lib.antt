@@ -1,4 +1,4 @@
 pub mod Canonicals
 pub mod Failing
-pub mod Judging
+pub mod Replaying
 pub mod Trailing

@@ -19,18 +19,16 @@ use Rattle.pure_terms.specs.Fragment.{InFragment}
 use Rattle.pure_terms.specs.Meaning.{all_true, IsOver, AreOver, AreVariablesOf, IsProper, Satisfies}
 use Rattle.pure_terms.specs.Pure.{PureTerm, PureAtom, term_of, variables, variables_of_atoms}
 use Rattle.sym_engine.specs.Lawful.{IsOwnAt}
-use Rattle.sym_explore.specs.Laws.{IsBeside, IsTraced}
+use Rattle.sym_explore.specs.Laws.{EndsAreOfRuns, IsBeside, IsTraced, TrailsKeep, TrailsReplay, TrailsHoldAlong, TrailsMayEndBefore}
 use Rattle.sym_explore.specs.Runs.{ComesTo, MakesChoices, StandsAfter, draw_count}
 use Rattle.sym_explore.specs.Trails.{IsNextPath, IsTrail}
-use Rattle.sym_explore.proofs.Following.{draw_append, drawn_length}
-use Rattle.sym_explore.proofs.Kept.{trails_keep, trails_replay, trails_hold_along, trails_may_end_before}
 use Rattle.sym_model.specs.Lists.{Each, OneOf, IsAmong}
 use Rattle.sym_model.specs.Meaning.{has_open}
 use Rattle.sym_model.specs.Terms.{StateTerms}
 use Rattle.sym_model.proofs.ListLaws.{each_append}
 use Rattle.sym_paths.specs.Meaning.{Stands, IsOverTable}
-use Rattle.sym_paths.specs.Pure.{PureEnd, PurePath}
-use Rattle.sym_paths.specs.Steps.{AreNext, Extends, IsUnknown, IsNewSort, drawn_from}
+use Rattle.sym_paths.specs.Pure.{PureEnd, cut, PurePath}
+use Rattle.sym_paths.specs.Steps.{AreNext, Extends, IsUnknown, IsNewSort, drawn_from, drawn_and, draws_after, draws_past}
 use Rattle.sym_paths.proofs.Silent.{stands_at}
 use Rattle.sym_test.specs.Canonical.{HaveValuation, draws_among, IsCanonical}
 use Rattle.sym_test.specs.Judged.{Begins}
@@ -54,8 +52,61 @@ pub all_over : (vars : List Sort) (atoms : List PureAtom) → Each (λ a. IsOver
 all_over vars [] over x has = absurd (none_contained x has)
 all_over vars (a ∷ atoms) over x has = ⊎_elim (over.0 x) (all_over vars atoms over.1 x) (Contains-append_cases (variables (term_of a)) (variables_of_atoms atoms) x has)
 
+-- what is known of trails
+pub record TrailLaws {S : Type 0} (p : PureParts) (m : Actions) (stands : S → List PureValue → Heap → Type 0) (terms : S → StateTerms) (asked : List ℕ → List PureTerm → List PureTerm) : Type 0 where
+  pub keep : TrailsKeep p m stands terms asked
+  pub replay : TrailsReplay p m stands terms asked
+  pub hold_along : TrailsHoldAlong p m stands terms asked
+  pub end_before : TrailsMayEndBefore p m stands terms asked
+  pub ends : EndsAreOfRuns
+  pub never_cut : (inputs v0 v : List PureValue) (s0 : State) (start : PurePath S) (earlier : List (PurePath S)) (path : PurePath S) → IsBeside p m stands terms asked inputs v0 v s0 start earlier path → Satisfies path.vars v path.conds
+      → ¬ (path.ending ≡ Some cut)
+
+later_draws : (sort : Sort) (n : ℕ) → draws_after sort n ≡ draws_after sort 0 + n
+later_draws Sort.Fresh n = omega arith
+later_draws Sort.Int n = omega arith
+later_draws Sort.Bool n = omega arith
+later_draws Sort.Str n = omega arith
+later_draws Sort.Sym n = omega arith
+later_draws Sort.List n = omega arith
+later_draws Sort.Any n = omega arith
+
+draws_past_is : (sorts : List Sort) (n : ℕ) → draws_past sorts n ≡ draw_count sorts + n
+draws_past_is [] n = omega arith
+draws_past_is (sort ∷ sorts) n =
+    let one : draws_after sort n ≡ draws_after sort 0 + n = later_draws sort n in
+    let rest : draws_past sorts (draws_after sort n) ≡ draw_count sorts + draws_after sort n = draws_past_is sorts (draws_after sort n) in
+    let rest_0 : draws_past sorts (draws_after sort 0) ≡ draw_count sorts + draws_after sort 0 = draws_past_is sorts (draws_after sort 0) in
+    omega (arith, one, rest, rest_0)
+
+draw_append : (xs ys : List Sort) → draw_count (xs ++ ys) ≡ draw_count xs + draw_count ys
+draw_append [] ys = omega arith
+draw_append (sort ∷ xs) ys =
+    let whole : draws_past (xs ++ ys) (draws_after sort 0) ≡ draw_count (xs ++ ys) + draws_after sort 0 = draws_past_is (xs ++ ys) (draws_after sort 0) in
+    let first : draws_past xs (draws_after sort 0) ≡ draw_count xs + draws_after sort 0 = draws_past_is xs (draws_after sort 0) in
+    let rest : draw_count (xs ++ ys) ≡ draw_count xs + draw_count ys = draw_append xs ys in
+    omega (arith, whole, first, rest)
+
+drawn_more : (k : ℕ) (sort : Sort) (later : List PureTerm) → length (drawn_and k sort later) ≡ draws_after sort (length later)
+drawn_more k Sort.Fresh later = refl
+drawn_more k Sort.Int later = refl
+drawn_more k Sort.Bool later = refl
+drawn_more k Sort.Str later = refl
+drawn_more k Sort.Sym later = refl
+drawn_more k Sort.List later = refl
+drawn_more k Sort.Any later = refl
+
+drawn_length : (k : ℕ) (xs : List Sort) → length (drawn_from k xs) ≡ draw_count xs
+drawn_length k [] = refl
+drawn_length k (sort ∷ xs) =
+    let one : length (drawn_and k sort (drawn_from (suc k) xs)) ≡ draws_after sort (length (drawn_from (suc k) xs)) = drawn_more k sort (drawn_from (suc k) xs) in
+    let rest : length (drawn_from (suc k) xs) ≡ draw_count xs = drawn_length (suc k) xs in
+    let past : draws_past xs (draws_after sort 0) ≡ draw_count xs + draws_after sort 0 = draws_past_is xs (draws_after sort 0) in
+    let later : draws_after sort (length (drawn_from (suc k) xs)) ≡ draws_after sort 0 + length (drawn_from (suc k) xs) = later_draws sort (length (drawn_from (suc k) xs)) in
+    omega (arith, one, rest, past, later)
+
 module _ {S : Type 0} (p : PureParts) (m : Actions) (stands : S → List PureValue → Heap → Type 0) (terms : S → StateTerms) (asked : List ℕ → List PureTerm → List PureTerm)
-    (f : List ℕ) (start : PurePath S) (begins : Begins p stands terms f start) where
+    (laws : TrailLaws p m stands terms asked) (f : List ℕ) (start : PurePath S) (begins : Begins p stands terms f start) where
   abbrev IsTrailOf : List (PurePath S) → PurePath S → Type 0
   IsTrailOf = IsTrail p m stands terms asked start
 
@@ -87,12 +138,12 @@ module _ {S : Type 0} (p : PureParts) (m : Actions) (stands : S → List PureVal
   inputs_counted earlier path v trail same = draws_counted earlier path trail ∙ sym (drawn_length 0 path.vars) ∙ sym (as_many_draws 0 path.vars v same)
 
   pub steps_counted : (earlier : List (PurePath S)) (path : PurePath S) → IsTrailOf earlier path → path.steps ≡ length earlier
-  steps_counted earlier path trail = (trails_keep p m stands terms asked).steps start path earlier trail ∙ ap (λ n. n + length earlier) begins.steps ∙ zero-plus (length earlier) where
+  steps_counted earlier path trail = laws.keep.steps start path earlier trail ∙ ap (λ n. n + length earlier) begins.steps ∙ zero-plus (length earlier) where
       zero-plus : (n : ℕ) → 0 + n ≡ n
       zero-plus n = omega arith
 
   pub is_over : (earlier : List (PurePath S)) (path : PurePath S) → IsTrailOf earlier path → IsOverTable terms path
-  is_over earlier path trail = (trails_keep p m stands terms asked).over start path earlier trail begins.over
+  is_over earlier path trail = laws.keep.over start path earlier trail begins.over
 
   pub conds_over : (earlier : List (PurePath S)) (path : PurePath S) → IsTrailOf earlier path → AreOver path.vars path.conds
   conds_over earlier path trail = all_over path.vars path.conds (is_over earlier path trail).conds
@@ -101,7 +152,7 @@ module _ {S : Type 0} (p : PureParts) (m : Actions) (stands : S → List PureVal
   start_met = record { proper = begins.stands_for.proper; true_there = begins.stands_for.meets }
 
   pub is_met : (earlier : List (PurePath S)) (path : PurePath S) → IsTrailOf earlier path → ¬ IsUnknown path.ending → (v : List PureValue) × Satisfies path.vars v path.conds
-  is_met earlier path trail known = (trails_keep p m stands terms asked).satisfiable start path earlier [] trail start_met known
+  is_met earlier path trail known = laws.keep.satisfiable start path earlier [] trail start_met known
 
   pub has_canonical : (earlier : List (PurePath S)) (path : PurePath S) → IsTrailOf earlier path → ¬ IsUnknown path.ending → (v : List PureValue) × IsCanonical path.vars path.conds v
   has_canonical earlier path trail known =
@@ -129,7 +180,7 @@ module _ {S : Type 0} (p : PureParts) (m : Actions) (stands : S → List PureVal
   pub replayed : (inputs : List PureValue) (earlier : List (PurePath S)) (path : PurePath S) (v : List PureValue) → IsTrailOf earlier path → HaveValuation path.vars inputs v → IsTrue (all_true v path.conds) → ¬ IsUnknown path.ending
       → StandsAfter p m stands inputs (first_state p f) start path v (length earlier) path.ending
   replayed inputs earlier path v trail has meets known =
-      (trails_replay p m stands terms asked).stands_after inputs [] v (first_state p f) start earlier path (beside inputs earlier path v trail has) (record { proper = has.proper; true_there = meets }) known
+      laws.replay.stands_after inputs [] v (first_state p f) start earlier path (beside inputs earlier path v trail has) (record { proper = has.proper; true_there = meets }) known
 
   -- its choices are those that the run makes
   chosen_of : (inputs : List PureValue) (n : ℕ) (path : PurePath S) → MakesChoices p m inputs (first_state p f) start n path → path.choices ≡ choices p m inputs n (first_state p f)
@@ -147,8 +198,8 @@ module _ {S : Type 0} (p : PureParts) (m : Actions) (stands : S → List PureVal
         → ComesAlong p m f inputs k place path.choices
     come_by inputs v place along sat placed =
         let known : ¬ IsUnknown before.ending = λ unknown. subst IsUnknown next.going unknown in
-        let (s, at) = subst (StandsAfter p m stands inputs (first_state p f) start before v k) next.going ((trails_replay p m stands terms asked).stands_after inputs [] v (first_state p f) start rest before along sat known) in
-        let made = ((trails_replay p m stands terms asked).chooses inputs [] v (first_state p f) start rest before along sat (inl known)).0 in
+        let (s, at) = subst (StandsAfter p m stands inputs (first_state p f) start before v k) next.going (laws.replay.stands_after inputs [] v (first_state p f) start rest before along sat known) in
+        let made = (laws.replay.chooses inputs [] v (first_state p f) start rest before along sat (inl known)).0 in
         let (c, at_c) = next.at_command in
         let stands_there : command_at p s.current ≡ Some c = sym (stands_at p v before.stack s at.stands_for.frames) ∙ at_c in
         record {
@@ -165,12 +216,12 @@ module _ {S : Type 0} (p : PureParts) (m : Actions) (stands : S → List PureVal
 
     pub given_meets : (inputs v : List PureValue) → HaveValuation path.vars inputs v → IsAlong p m f inputs k path.choices → IsTrue (all_true v path.given) → IsTrue (all_true v path.conds)
     given_meets inputs v has along given =
-        trails_hold_along p m stands terms asked inputs [] v (first_state p f) start (before ∷ rest) path (beside inputs (before ∷ rest) path v (next, trail) has) (record { proper = has.proper; true_there = given })
+        laws.hold_along inputs [] v (first_state p f) start (before ∷ rest) path (beside inputs (before ∷ rest) path v (next, trail) has) (record { proper = has.proper; true_there = given })
         (sym along.chosen ∙ ap (λ xs. xs ++ choices p m inputs (suc k) (first_state p f)) (sym begins.choices)) (comes_to_last inputs along.state along.comes)
 
     pub leads_along : (inputs v : List PureValue) → HaveValuation path.vars inputs v → IsTrue (all_true v path.conds) → (¬ IsUnknown path.ending) ⊎ (has_open path.conds ≡ false) → IsAlong p m f inputs k path.choices
     leads_along inputs v has meets either =
-        let (made, comes) = (trails_replay p m stands terms asked).chooses inputs [] v (first_state p f) start (before ∷ rest) path (beside inputs (before ∷ rest) path v (next, trail) has) (record { proper = has.proper; true_there = meets }) either in
+        let (made, comes) = laws.replay.chooses inputs [] v (first_state p f) start (before ∷ rest) path (beside inputs (before ∷ rest) path v (next, trail) has) (record { proper = has.proper; true_there = meets }) either in
         let (j, (same, some)) = subst (ComesTo p m inputs (first_state p f) (suc k)) ending comes in
         let at_k : k ≡ j = omega (arith, same) in
         let (s, is) = some_state (reached p m inputs k (first_state p f)) (subst (λ n. IsSome (reached p m inputs n (first_state p f))) (sym at_k) some) in

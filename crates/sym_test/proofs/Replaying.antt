@@ -1,6 +1,7 @@
 -- What is said of an ended path is right: bugs replay, and what is left undecided is.
-use Rattle.std.proofs.Common.{◌≡◌, ◌⊎◌, ⊎_elim, inl, inr, ℕ, zero, suc, ◌+◌, ◌<◌, ◌≤◌, List, [], ◌∷◌, ◌++◌, length, Bool, true, false, Option, Some, None, is_some, IsSome, IsTrue, true≢false, refl, sym, ap, subst, ◌∙◌, arith, slice_get, codes}
+use Rattle.std.proofs.Common.{◌≡◌, ◌⊎◌, ⊎_elim, inl, inr, ℕ, zero, suc, ◌+◌, ◌<◌, ◌≤◌, List, [], ◌∷◌, ◌++◌, length, Bool, true, false, ◌||◌, Option, Some, None, is_some, IsSome, IsTrue, true≢false, refl, sym, ap, subst, ◌∙◌, arith, slice_get, codes}
 use Rattle.std.proofs.lemmas.List.{append-nil, append_assoc}
+use Rattle.std.proofs.lemmas.List.Folds.{list_any-append}
 use Rattle.gil_values.specs.declared.places.Place.{Place}
 use Rattle.gil_values.specs.Pure.{PureValue, text}
 use Rattle.gil_syntax.specs.Pure.{PureParts, PureNumberedCommand}
@@ -20,24 +21,49 @@ use Rattle.sym_engine.specs.Lawful.{IsOwnAt}
 use Rattle.sym_explore.specs.Laws.{IsBeside, IsTraced}
 use Rattle.sym_explore.specs.Runs.{EndsAfter, StandsAfter, AccountsFor}
 use Rattle.sym_explore.specs.Trails.{IsNextPath, IsTrail}
-use Rattle.sym_explore.proofs.Kept.{trails_keep, ends_of_runs}
 use Rattle.sym_model.specs.Lists.{Each, OneOf, IsAmong}
-use Rattle.sym_model.specs.Meaning.{has_open, key_value}
+use Rattle.sym_model.specs.Meaning.{is_open, has_open, key_value}
 use Rattle.sym_model.specs.Pure.{PureKey}
 use Rattle.sym_model.specs.Terms.{StateTerms}
-use Rattle.sym_model.proofs.ListLaws.{same_some, not_none, each_to, one_with}
-use Rattle.sym_paths.specs.Meaning.{Stands, StandsForEnd, IsEnding}
-use Rattle.sym_paths.specs.Pure.{PureEnd, PurePath}
+use Rattle.sym_model.proofs.ListLaws.{same_some, not_none, each_append, each_to, one_with}
+use Rattle.sym_paths.specs.Meaning.{AreFrames, frames_of, Stands, StandsForEnd, IsEnding}
+use Rattle.sym_paths.specs.Pure.{PureFrame, PureEnd, PurePath}
 use Rattle.sym_paths.specs.Pure as path_end
 use Rattle.sym_paths.specs.Steps.{IsUnknown, IsPlaceOf}
+use Rattle.sym_paths.proofs.Silent.{stands_at}
+use Rattle.sym_steps.proofs.Following.{both_true, first_true}
 use Rattle.sym_test.specs.Canonical.{HaveValuation, draws_among, IsCanonical}
 use Rattle.sym_test.specs.Judged.{Begins}
-use Rattle.sym_test.specs.Undecided.{first_state, ComesAlong, IsAlong, Describes, IsOnTheWay, IsOwnOnTheWay, IsTraced as IsAskedOnTheWay}
+use Rattle.sym_test.specs.Undecided.{first_state, ComesAlong, IsAlong, Describes, IsOnTheWay, IsOwnOnTheWay, IsTraced as IsAskedOnTheWay, IsOutsideAt, IsUndecided}
 use Rattle.sym_test.specs.View.{PureQuery}
-use Rattle.sym_test.proofs.Trailing.{new_sorts, inputs_counted, steps_counted, conds_over, is_met, has_canonical, beside, replayed, come_by, given_meets, leads_along}
+use Rattle.sym_test.proofs.Failing.{fails_here}
+use Rattle.sym_test.proofs.Trailing.{TrailLaws, new_sorts, inputs_counted, steps_counted, conds_over, is_met, has_canonical, beside, replayed, come_by, given_meets, leads_along}
+
+first_false : (a b : Bool) → (a || b) ≡ false → a ≡ false
+first_false true b none = none
+first_false false b none = refl
+
+-- the place of the command at which the frames stand is that of the state's command
+place_there : (p : PureParts) (v : List PureValue) (fs : List PureFrame) (s : State) (c : PureNumberedCommand) (place : Place) → AreFrames v fs (frames_of s) → command_at p s.current ≡ Some c → IsPlaceOf p fs place
+    → place ≡ record { proc = s.current.procedure; at = c.at }
+place_there p v [] s c place are at of_place = absurd of_place
+place_there p v (f ∷ fs) s c place are at (d, (at_d, is)) =
+    let same : d ≡ c = same_some (sym at_d ∙ stands_at p v (f ∷ fs) s are ∙ at) in
+    is ∙ (λ j. record { proc = are.0.procedure j; at = (same j).at })
+
+-- the last step of a run that fails does so at its command
+last_fails : (p : PureParts) (m : Actions) (inputs : List PureValue) (s0 : State) (k : ℕ) (s t : State) (c : PureNumberedCommand) (e : End) (w : PureValue) (place : Place) → reached p m inputs k s0 ≡ Some s → command_at p s.current ≡ Some c
+    → EndsAfter p m inputs s0 (suc k) t e → e.ending ≡ failed w place → place ≡ record { proc = s.current.procedure; at = c.at }
+last_fails p m inputs s0 k s t c e w place reach at (inl (j, (same, comes, leads))) is =
+    let at_k : k ≡ j = omega (arith, same) in
+    let there : t ≡ s = same_some (sym comes ∙ ap (λ i. reached p m inputs i s0) (sym at_k) ∙ reach) in
+    fails_here p m inputs s c e w place at (ap (step p m inputs) (sym there) ∙ leads) is
+last_fails p m inputs s0 k s t c e w place reach at (inr (comes, ends_cut)) is = not_cut w place (sym (ap (λ (r : End). r.ending) ends_cut) ∙ is) where
+    not_cut : (w : PureValue) (place : Place) → cut ≡ failed w place → place ≡ record { proc = s.current.procedure; at = c.at }
+    not_cut w place unlike = cc
 
 module _ {S : Type 0} (p : PureParts) (m : Actions) (stands : S → List PureValue → Heap → Type 0) (terms : S → StateTerms) (asked : List ℕ → List PureTerm → List PureTerm)
-    (f : List ℕ) (start : PurePath S) (begins : Begins p stands terms f start) where
+    (laws : TrailLaws p m stands terms asked) (f : List ℕ) (start : PurePath S) (begins : Begins p stands terms f start) where
   abbrev IsTrailOf : List (PurePath S) → PurePath S → Type 0
   IsTrailOf = IsTrail p m stands terms asked start
 
@@ -54,12 +80,12 @@ module _ {S : Type 0} (p : PureParts) (m : Actions) (stands : S → List PureVal
 
     ended : (s : State) × ((e : End) × (EndsAfter p m inputs s0 (length earlier) s e × StandsForEnd p m stands path v s how e))
     ended = subst (StandsAfter p m stands inputs s0 start path v (length earlier)) ending
-        (replayed p m stands terms asked f start begins inputs earlier path v trail canonical.own canonical.meets (λ unknown. known (subst IsUnknown ending unknown)))
+        (replayed p m stands terms asked laws f start begins inputs earlier path v trail canonical.own canonical.meets (λ unknown. known (subst IsUnknown ending unknown)))
 
     is_the_run : (s : State) (e : End) → EndsAfter p m inputs s0 (length earlier) s e → IsOver e.ending → run p m inputs n s0 ≡ e
     is_the_run s e after over =
-        let counted : path.steps ≡ length earlier = steps_counted p m stands terms asked f start begins earlier path trail in
-        (ends_of_runs p m inputs s0 s (length earlier) e after).1 n (omega (arith, counted, within)) over
+        let counted : path.steps ≡ length earlier = steps_counted p m stands terms asked laws f start begins earlier path trail in
+        (laws.ends p m inputs s0 s (length earlier) e after).1 n (omega (arith, counted, within)) over
 
     is_bug : (s : State) (e : End) (w : PureValue) (place : Place) → EndsAfter p m inputs s0 (length earlier) s e → StandsForEnd p m stands path v s how e → e.ending ≡ failed w place → IsBug p m f n inputs w place
     is_bug s e w place after stood is =
@@ -67,7 +93,7 @@ module _ {S : Type 0} (p : PureParts) (m : Actions) (stands : S → List PureVal
         record {
           entry = entry;
           fails = ap (λ (r : End). r.ending) same ∙ is;
-          draws_each = ap (λ (r : End). r.draws) same ∙ stood.draws ∙ inputs_counted p m stands terms asked f start begins earlier path v trail canonical.own.proper.one_each;
+          draws_each = ap (λ (r : End). r.draws) same ∙ stood.draws ∙ inputs_counted p m stands terms asked laws f start begins earlier path v trail canonical.own.proper.one_each;
         }
 
   pub failure_is_bug : (n : ℕ) → IsEntry p f → (earlier : List (PurePath S)) (path : PurePath S) → IsTrailOf earlier path → path.steps ≤ n → (v : List PureValue) → IsCanonical path.vars path.conds v
@@ -94,7 +120,7 @@ module _ {S : Type 0} (p : PureParts) (m : Actions) (stands : S → List PureVal
   -- ---- paths on the way
 
   -- a path of the trail, with its own trail, and what the later path has more
-  record IsPart (k : ℕ) (path part : PurePath S) : Type 0 where
+  pub record IsPart (k : ℕ) (path part : PurePath S) : Type 0 where
     earlier : List (PurePath S)
     trail : IsTrailOf earlier part
     going : part.ending ≡ None
@@ -114,7 +140,7 @@ module _ {S : Type 0} (p : PureParts) (m : Actions) (stands : S → List PureVal
   part_of k (before ∷ rest) path (next, trail) short a own =
       ⊎_elim
       (λ here.
-      let steps : before.steps ≡ length rest = steps_counted p m stands terms asked f start begins rest before trail in
+      let steps : before.steps ≡ length rest = steps_counted p m stands terms asked laws f start begins rest before trail in
       (before, (record {
         earlier = rest;
         trail = trail;
@@ -147,14 +173,14 @@ module _ {S : Type 0} (p : PureParts) (m : Actions) (stands : S → List PureVal
   describes k path part is =
       let known : ¬ IsUnknown part.ending = λ unknown. subst IsUnknown is.going unknown in
       record {
-        met = is_met p m stands terms asked f start begins is.earlier part is.trail known;
+        met = is_met p m stands terms asked laws f start begins is.earlier part is.trail known;
         comes = λ inputs v has meets.
-            let (s, at) = subst (StandsAfter p m stands inputs s0 start part v (length is.earlier)) is.going (replayed p m stands terms asked f start begins inputs is.earlier part v is.trail has meets known) in
-            (s, (subst (λ n. reached p m inputs n s0 ≡ Some s) (sym (steps_counted p m stands terms asked f start begins is.earlier part is.trail)) at.comes_to, at.stands_for));
+            let (s, at) = subst (StandsAfter p m stands inputs s0 start part v (length is.earlier)) is.going (replayed p m stands terms asked laws f start begins inputs is.earlier part v is.trail has meets known) in
+            (s, (subst (λ n. reached p m inputs n s0 ≡ Some s) (sym (steps_counted p m stands terms asked laws f start begins is.earlier part is.trail)) at.comes_to, at.stands_for));
       }
 
   -- the list of a query is that of the path, and maybe more
-  record IsQueryOf (path : PurePath S) (q : PureQuery) : Type 0 where
+  pub record IsQueryOf (path : PurePath S) (q : PureQuery) : Type 0 where
     pub vars : q.vars ≡ path.vars
     pub choices_are : q.path ≡ path.choices
     pub more : List PureAtom
@@ -180,7 +206,7 @@ module _ {S : Type 0} (p : PureParts) (m : Actions) (stands : S → List PureVal
         inr (inl (record { path = part; on_the_way = on_the_way part is; describes = describes k path part is; own = has }))
 
     pub conds_traced : Each (IsAskedOnTheWay p m stands terms asked f q k) path.conds
-    conds_traced = each_to (IsTraced p m stands terms asked start earlier) (IsAskedOnTheWay p m stands terms asked f q k) path.conds asked_there ((trails_keep p m stands terms asked).traced start path earlier trail)
+    conds_traced = each_to (IsTraced p m stands terms asked start earlier) (IsAskedOnTheWay p m stands terms asked f q k) path.conds asked_there (laws.keep.traced start path earlier trail)
 
     start_assumes : Each (λ a. IsAmong a start.conds) start.given
     start_assumes = subst (Each (λ a. IsAmong a start.conds)) (sym begins.given) tt
@@ -188,4 +214,76 @@ module _ {S : Type 0} (p : PureParts) (m : Actions) (stands : S → List PureVal
     pub given_traced : Each (IsAskedOnTheWay p m stands terms asked f q k) path.given
     given_traced = each_to (λ a. IsAmong a path.conds) (IsAskedOnTheWay p m stands terms asked f q k) path.given
         (λ a among. one_with (IsAskedOnTheWay p m stands terms asked f q k) (λ b. b ≡ a) path.conds conds_traced among (λ b is same. subst (IsAskedOnTheWay p m stands terms asked f q k) same is))
-        ((trails_keep p m stands terms asked).assumed start path earlier trail start_assumes)
+        (laws.keep.assumed start path earlier trail start_assumes)
+
+  -- ---- undecided
+
+  closed_first : (a b : List PureAtom) → has_open (a ++ b) ≡ false → has_open a ≡ false
+  closed_first a b none = first_false (has_open a) (has_open b) (sym (list_any-append is_open a b) ∙ none)
+
+  module _ (n : ℕ) (entry : IsEntry p f) (before : PurePath S) (rest : List (PurePath S)) (path : PurePath S) (next : IsNextPath p m stands terms asked before path) (trail : IsTrailOf rest before) (how : PureEnd) (ending : path.ending ≡ Some how)
+      (within : path.steps ≤ n) where
+    steps_are : path.steps ≡ suc (length rest)
+    steps_are = steps_counted p m stands terms asked laws f start begins (before ∷ rest) path (next, trail)
+
+    abbrev query_of : Place → List PureAtom → ℕ → PureQuery
+    query_of place atoms i = record { place = place; path = path.choices; vars = path.vars; given = path.given; query = atoms; outside = i }
+
+    module _ (place : Place) (more : List PureAtom) (i : ℕ) (inputs : List PureValue) (come : ComesAlong p m f inputs (length rest) place path.choices)
+        (more_holds : (us v : List PureValue) → HaveValuation path.vars us v → IsTrue (all_true v path.conds) → IsTrue (all_true v more))
+        (more_traced : Each (IsAskedOnTheWay p m stands terms asked f (query_of place (path.conds ++ more) i) (length rest)) more) (outside : IsOutsideAt (path.conds ++ more) i) where
+      abbrev q : PureQuery
+      q = query_of place (path.conds ++ more) i
+
+      of_path : IsQueryOf path q
+      of_path = record { vars = refl; choices_are = refl; more = more; query = refl }
+
+      short : length (before ∷ rest) ≤ suc (length rest)
+      short = omega arith
+
+      pub is_undecided : (keeps_plain : Type 0) → IsUndecided p m stands terms asked keeps_plain f n q
+      is_undecided keeps_plain = record {
+        entry = entry;
+        k = length rest;
+        within = (let counted : path.steps ≡ suc (length rest) = steps_are in omega (arith, counted, within));
+        inputs = inputs;
+        come = come;
+        given_suffices = λ us v has along given.
+            let meets : IsTrue (all_true v path.conds) = given_meets p m stands terms asked laws f start begins before rest path next trail how ending us v has along given in
+            both_true v path.conds more meets (more_holds us v has meets);
+        leads = λ closed us v has given whole.
+            leads_along p m stands terms asked laws f start begins before rest path next trail how ending us v has (first_true v path.conds more whole) (inr (closed_first path.conds more closed));
+        query_traced = each_append (IsAskedOnTheWay p m stands terms asked f q (length rest)) path.conds more (conds_traced (length rest) (before ∷ rest) path (next, trail) short q of_path) more_traced;
+        given_traced = given_traced (length rest) (before ∷ rest) path (next, trail) short q of_path;
+        outside = outside;
+      }
+
+    -- ---- how some run comes there
+
+    pub come_unknown : (place : Place) → IsPlaceOf p before.stack place → (us : List PureValue) × ComesAlong p m f us (length rest) place path.choices
+    come_unknown place at =
+        let known : ¬ IsUnknown before.ending = λ unknown. subst IsUnknown next.going unknown in
+        let (v, canonical) = has_canonical p m stands terms asked laws f start begins rest before trail known in
+        let us : List PureValue = draws_among before.vars v in (
+          us,
+          come_by p m stands terms asked laws f start begins before rest path next trail how ending us v place (beside p m stands terms asked laws f start begins us rest before v trail canonical.own)
+              (record { proper = canonical.own.proper; true_there = canonical.meets })
+              (λ s c stood reach at_c. place_there p v before.stack s c place stood.frames at_c at),
+        )
+
+    module _ (v : List PureValue) (canonical : IsCanonical path.vars path.conds v) (known : ¬ IsUnknown (Some how)) (place : Place)
+        (fails_there : (e : End) (s : State) → StandsForEnd p m stands path v s how e → (w : PureValue) × (e.ending ≡ failed w place)) where
+      abbrev us : List PureValue
+      us = draws_among path.vars v
+
+      placed : (s : State) (c : PureNumberedCommand) → reached p m us (length rest) s0 ≡ Some s → command_at p s.current ≡ Some c → place ≡ record { proc = s.current.procedure; at = c.at }
+      placed s c reach at =
+          let (t, (e, (after, stood))) = ended n entry (before ∷ rest) path (next, trail) within v canonical how ending known in
+          let (w, is) = fails_there e t stood in
+          last_fails p m us s0 (length rest) s t c e w place reach at after is
+
+      pub come_failing : ComesAlong p m f us (length rest) place path.choices
+      come_failing =
+          let sat : Satisfies path.vars v path.conds = record { proper = canonical.own.proper; true_there = canonical.meets } in
+          let (w, (along, sat_before)) = laws.end_before us [] v s0 start before path rest (beside p m stands terms asked laws f start begins us (before ∷ rest) path v (next, trail) canonical.own) sat in
+          come_by p m stands terms asked laws f start begins before rest path next trail how ending us w place along sat_before (λ s c stood reach at. placed s c reach at)
