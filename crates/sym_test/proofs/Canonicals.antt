@@ -379,7 +379,7 @@ made_meets vars atoms v w new over sat made =
 
 -- ---- its own draws
 
-at_length : {X : Type 0} (xs : List X) (y : X) (ys : List X) → slice_get (xs ++ y ∷ ys) (length xs) ≡ Some y
+pub at_length : {X : Type 0} (xs : List X) (y : X) (ys : List X) → slice_get (xs ++ y ∷ ys) (length xs) ≡ Some y
 at_length [] y ys = refl
 at_length (x ∷ xs) y ys = at_length xs y ys
 

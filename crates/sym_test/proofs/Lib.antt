@@ -1,4 +1,6 @@
 pub mod Canonicals
 pub mod Failing
+pub mod Holding
 pub mod Replaying
+pub mod Saying
 pub mod Trailing
