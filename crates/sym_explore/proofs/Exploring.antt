@@ -24,8 +24,7 @@ use Rattle.sym_model.specs.Terms.{StateTerms}
 use Rattle.sym_model.proofs.ListLaws.{each_append, each_left, each_right, each_to, one_left, one_right, one_parts, one_with}
 use Rattle.sym_paths.specs.Meaning.{Stands, StandsForEnd, StandsForStep, IsOverTable, command_of_path}
 use Rattle.sym_paths.specs.Pure.{PureEnd, cut, unknown, PurePath}
-use Rattle.sym_paths.specs.Steps.{Extends, HasInput, IsInputFault, IsUnknown, Grows, IsExact, HoldsAlong, AddsOwn, StaysSatisfiable, IsRightlyUnknown, AreNextPaths}
-use Rattle.sym_step.specs.Recording.{IsRecorded, ChoosesWhereMet}
+use Rattle.sym_paths.specs.Steps.{Extends, HasInput, IsInputFault, IsUnknown, Grows, IsRecorded, IsExact, ChoosesAlike, HoldsAlong, AddsOwn, StaysSatisfiable, IsRightlyUnknown, AreNextPaths}
 use Rattle.sym_step.specs.Stepping.{AreAtCommands, MayStep}
 
 -- an end that is for want of input is over
@@ -50,11 +49,11 @@ module _ {S : Type 0} (p : PureParts) (m : Actions) (stands : S → List PureVal
   -- the paths of a step are next paths
   pub are_next : (path : PurePath S) (nexts : List (PurePath S)) → path.ending ≡ None → (c : PureNumberedCommand) → command_of_path p path ≡ Some c → Each (Grows terms path) nexts → Each (IsExact p m stands path) nexts
       → Each (HoldsAlong p m stands path) nexts → Each (AddsOwn (IsOwnAt stands terms asked m p path) path) nexts → Each (StaysSatisfiable path) nexts
-      → Each (λ next. IsRightlyUnknown p path next next.ending) nexts → Each (IsRecorded p m path) nexts → Each (ChoosesWhereMet p m stands path) nexts → Each (IsNext path) nexts
-  are_next path [] open c at grows exact along own satisfiable rightly recorded steered = tt
-  are_next path (next ∷ nexts) open c at grows exact along own satisfiable rightly recorded steered = (
+      → Each (λ next. IsRightlyUnknown p path next next.ending) nexts → Each (IsRecorded p m path) nexts → Each (ChoosesAlike p m stands path) nexts → Each (IsNext path) nexts
+  are_next path [] still c at grows exact along own satisfiable rightly recorded chosen = tt
+  are_next path (next ∷ nexts) still c at grows exact along own satisfiable rightly recorded chosen = (
     record {
-      going = open;
+      going = still;
       at_command = (c, at);
       growth = grows.0;
       exact = exact.0;
@@ -63,9 +62,9 @@ module _ {S : Type 0} (p : PureParts) (m : Actions) (stands : S → List PureVal
       satisfiable = satisfiable.0;
       unknown_rightly = rightly.0;
       recorded = recorded.0;
-      steered = steered.0;
+      choices = chosen.0;
     },
-    are_next path nexts open c at grows.1 exact.1 along.1 own.1 satisfiable.1 rightly.1 recorded.1 steered.1,
+    are_next path nexts still c at grows.1 exact.1 along.1 own.1 satisfiable.1 rightly.1 recorded.1 chosen.1,
   )
 
   -- ---- accounts
@@ -93,8 +92,8 @@ module _ {S : Type 0} (p : PureParts) (m : Actions) (stands : S → List PureVal
 
     at_open : (start path : PurePath S) (inputs v : List PureValue) (s0 : State) → path.ending ≡ None
         → StandsAfter p m stands inputs s0 start path v path.steps path.ending ⊎ (IsUnknown path.ending × Satisfies path.vars v path.conds) → (s : State) × StandsAt p m stands inputs s0 start path v path.steps s
-    at_open start path inputs v s0 open (inl after) = subst (StandsAfter p m stands inputs s0 start path v path.steps) open after
-    at_open start path inputs v s0 open (inr other) = absurd (subst IsUnknown open other.0)
+    at_open start path inputs v s0 still (inl after) = subst (StandsAfter p m stands inputs s0 start path v path.steps) still after
+    at_open start path inputs v s0 still (inr other) = absurd (subst IsUnknown still other.0)
 
     abbrev Covered : List PureValue → List PureValue → State → PurePath S → PurePath S → Type 0
     Covered inputs v s path next =
@@ -103,16 +102,16 @@ module _ {S : Type 0} (p : PureParts) (m : Actions) (stands : S → List PureVal
 
     pub accounts_next : (path : PurePath S) (nexts : List (PurePath S)) (own : PureAtom → Type 0) → path.ending ≡ None → path.steps < bound → Each (IsNext path) nexts → AreNextPaths p m stands terms own path nexts
         → (start : PurePath S) (inputs v0 : List PureValue) (s0 : State) → ¬ IsInputFault (run p m inputs bound s0).ending → Accounts start inputs v0 s0 path → OneOf (Accounts start inputs v0 s0) nexts
-    accounts_next path nexts own open below each laws start inputs v0 s0 fine (v, (first, after)) =
-        let (s, at) = at_open start path inputs v s0 open after in
+    accounts_next path nexts own still below each laws start inputs v0 s0 fine (v, (first, after)) =
+        let (s, at) = at_open start path inputs v s0 still after in
         let covered = laws.cover inputs v s at.stands_for (has_input inputs s0 s path.steps (step p m inputs s) at.comes_to below fine refl) in
         one_zip (IsNext path) (Covered inputs v s path) (Accounts start inputs v0 s0) nexts
         (λ next nx (w, (ext, what)). account_next start path next inputs v0 v s0 s first at w nx ext what) each covered
 
     -- a path without an end that did as many steps as the bound is cut, and accounts for what it accounted for
     pub accounts_cut : (path : PurePath S) → path.ending ≡ None → (start : PurePath S) (inputs v0 : List PureValue) (s0 : State) → Accounts start inputs v0 s0 path → Accounts start inputs v0 s0 (cut_off path)
-    accounts_cut path open start inputs v0 s0 (v, (first, after)) =
-        let (s, at) = at_open start path inputs v s0 open after in
+    accounts_cut path still start inputs v0 s0 (v, (first, after)) =
+        let (s, at) = at_open start path inputs v s0 still after in
         (
           v,
           (record { new_vars = first.new_vars; new_values = first.new_values; vars = first.vars; values = first.values; in_turn = first.in_turn },
@@ -131,11 +130,11 @@ module _ {S : Type 0} (p : PureParts) (m : Actions) (stands : S → List PureVal
         )
 
     pub accounts_first : (start : PurePath S) (inputs v0 : List PureValue) (s0 : State) → start.ending ≡ None → start.steps ≡ 0 → Stands stands start v0 s0 → Accounts start inputs v0 s0 start
-    accounts_first start inputs v0 s0 open first is = (
+    accounts_first start inputs v0 s0 still first is = (
       v0,
       (record { new_vars = []; new_values = []; vars = sym (append-nil start.vars); values = sym (append-nil v0); in_turn = tt },
       inl
-      (subst (StandsAfter p m stands inputs s0 start start v0 start.steps) (sym open)
+      (subst (StandsAfter p m stands inputs s0 start start v0 start.steps) (sym still)
       (s0, record { comes_to = ap (λ n. reached p m inputs n s0) first; stands_for = is; symbols = refl; draws = refl }))),
     )
 
@@ -155,14 +154,14 @@ module _ {S : Type 0} (p : PureParts) (m : Actions) (stands : S → List PureVal
     nexts_from path nexts below each start from = each_to (IsNext path) (From start) nexts (next_from start path from below) each
 
     pub cut_from : (start path : PurePath S) → path.ending ≡ None → bound ≤ path.steps → From start path → IsEndedFrom p m stands terms asked bound start (cut_off path)
-    cut_from start path open past from = let within : path.steps ≤ bound = from.within in inr (path, (from, open, omega (arith, within, past), refl))
+    cut_from start path still past from = let within : path.steps ≤ bound = from.within in inr (path, (from, still, omega (arith, within, past), refl))
 
   -- ---- steps that may be done
 
   pub nexts_go_on : (path : PurePath S) (nexts : List (PurePath S)) → Each (IsNext path) nexts → Each (λ next. next.ending ≡ None → AreAtCommands p next.stack) nexts → Each (MayGoOn p terms) nexts
   nexts_go_on path [] each placed = tt
   nexts_go_on path (next ∷ nexts) each placed =
-      ((λ open early. record { going = open; early = early; placed = placed.0 open; over = each.0.growth.over }), nexts_go_on path nexts each.1 placed.1)
+      ((λ still early. record { no_end = still; steps = early; placed = placed.0 still; over = each.0.growth.over }), nexts_go_on path nexts each.1 placed.1)
 
 -- ---- lists of paths that are left
 

@@ -12,10 +12,9 @@ use Rattle.pure_terms.proofs.VariableLaws.{slice_get-append}
 use Rattle.sym_explore.specs.Runs.{draw_count}
 use Rattle.sym_model.specs.Lists.{Each}
 use Rattle.sym_paths.specs.Pure.{PurePath}
-use Rattle.sym_paths.specs.Steps.{IsNext, AreNext, Extends, counter_after, draws_after, counter_past, draws_past, drawn_from}
+use Rattle.sym_paths.specs.Steps.{IsNext, AreNext, Extends, counter_after, draws_after, counter_past, draws_past, drawn_from, fresh_count}
 use Rattle.sym_paths.proofs.Growing.{all_true-more}
 use Rattle.sym_paths.proofs.Valuations.{variables_follow_in_turn}
-use Rattle.sym_step.specs.Recording.{fresh_count}
 
 -- ---- counters
 

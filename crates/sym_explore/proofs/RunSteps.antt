@@ -13,14 +13,14 @@ use Rattle.gil_machine.specs.Choices.{choices, choice_at, choice_of, with_choice
 use Rattle.gil_machine.specs.Laws.{IsCutAtItsBound}
 use Rattle.gil_machine.specs.Run.{run, after, reached, and_then}
 use Rattle.gil_machine.specs.State.{Frame, State, End, Step, goes_on, ends, end_at, cut, IsOver}
-use Rattle.gil_machine.specs.Step.{step, step_at, do_command, command_at, with_value, with_values, assigned, branch, draw, do_action, acted, after_action, action_result, counted, enter_found, enter_value, leave}
+use Rattle.gil_machine.specs.Step.{step, step_at, do_command, command_at, to_next, with_value, with_values, assigned, branch, draw, do_action, acted, after_action, action_result, counted, enter_found, enter_value, leave}
 use Rattle.gil_machine.proofs.Runs.{stays_over}
 use Rattle.mem_model.specs.Actions.{Actions, ActionResult}
 use Rattle.mem_model.specs.Pure.{PureOutcome, done, failed as action_failed, miss}
 use Rattle.sym_explore.specs.Runs.{EndsAfter}
 use Rattle.sym_model.proofs.ListLaws.{same_some, not_none}
 use Rattle.sym_paths.proofs.Silent.{step-is, choice-is}
-use Rattle.sym_step.specs.Recording.{symbols_taken, makes_choice}
+use Rattle.sym_paths.specs.Steps.{symbols_taken, makes_choice}
 
 -- ---- one more step
 
@@ -191,6 +191,9 @@ of_actions (Err f) m x a here s = tt
 none_taken : (n : ℕ) (b : Bool) (o : Option ℕ) (r : Step) → Does n b o r → Does (n + 0) b o r
 none_taken n b o r does = let same : n ≡ n + 0 = omega arith in subst (λ k. Does k b o r) same does
 
+abbrev next_state : State → State
+next_state s = record s { current = record s.current { next = s.current.next + 1 } }
+
 module _ (p : PureParts) (m : Actions) (inputs : List PureValue) where
   does_command : (k : PureCommand) (here : Place) (s : State) → Does (s.counter + symbols_taken m k) (makes_choice k) (choice_of p m k s) (do_command p m inputs k here s)
   does_command (assign x e) here s = none_taken s.counter false None _ (of_with_value s.counter false None (evaluate e s.current.store) here s _ (λ v. of_assigned s.counter x v s refl))
@@ -204,10 +207,10 @@ module _ (p : PureParts) (m : Actions) (inputs : List PureValue) where
   does_command (return e) here s = none_taken s.counter false None _ (of_with_value s.counter false None (evaluate e s.current.store) here s _ (λ v. of_leave s.callers v s))
   does_command (fail e) here s = none_taken s.counter false None _ (of_with_value s.counter false None (evaluate e s.current.store) here s _ (λ v. tt))
   does_command vanish here s = tt
-  does_command (fold_use u) here s = none_taken s.counter false None _ (goes s.counter false None _ refl refl)
-  does_command (unfold_use u) here s = none_taken s.counter false None _ (goes s.counter false None _ refl refl)
-  does_command (assert_that items) here s = none_taken s.counter false None _ (goes s.counter false None _ refl refl)
-  does_command (loop_invariant xs ps items) here s = none_taken s.counter false None _ (goes s.counter false None _ refl refl)
+  does_command (fold_use u) here s = none_taken s.counter false None (to_next s) (goes s.counter false None (next_state s) refl refl)
+  does_command (unfold_use u) here s = none_taken s.counter false None (to_next s) (goes s.counter false None (next_state s) refl refl)
+  does_command (assert_that items) here s = none_taken s.counter false None (to_next s) (goes s.counter false None (next_state s) refl refl)
+  does_command (loop_invariant xs ps items) here s = none_taken s.counter false None (to_next s) (goes s.counter false None (next_state s) refl refl)
 
   pub step_does : (s t : State) (c : PureNumberedCommand) → command_at p s.current ≡ Some c → step p m inputs s ≡ goes_on t
       → DoesOf (s.counter + symbols_taken m c.command) (makes_choice c.command) (choice_at p m s) t

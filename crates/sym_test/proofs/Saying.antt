@@ -32,7 +32,7 @@ use Rattle.sym_paths.specs.Meaning.{Stands, StandsForEnd, IsEnding, end_terms}
 use Rattle.sym_paths.specs.Pure.{PureEnd, returned, failed, missed, vanished, cut, unknown, PurePath}
 use Rattle.sym_paths.specs.Steps.{IsUnknown, IsRightlyUnknown, IsPlaceOf, IsFirstOutside, place_of}
 use Rattle.sym_test.specs.Canonical.{HaveValuation, draws_among, IsCanonical}
-use Rattle.sym_test.specs.Judged.{Begins, PureJudgement, harmless, fails, undecided, FailsWith, IsAbout, IsListOutside, IsWide, IsFoundBug, IsFailureJudged, IsUnknownJudged, IsJudgedEnd, AccountsForNoFailure, IsRightlyJudged}
+use Rattle.sym_test.specs.Judged.{Begins, PureJudgement, harmless, fails, undecided, FailsWith, IsAbout, IsListOutside, IsWide, IsFoundBug, lists_of, IsFailureJudged, IsUnknownJudged, IsJudgedEnd, AccountsForNoFailure, IsRightlyJudged}
 use Rattle.sym_test.specs.Undecided.{first_state, ComesAlong, is_narrow_term, IsOutsideAt, IsWideFailure, IsTraced as IsAskedOnTheWay, IsUndecided}
 use Rattle.sym_test.specs.View.{PureQuery}
 use Rattle.sym_test.proofs.Canonicals.{at_length}
@@ -145,14 +145,14 @@ module _ {S : Type 0} (p : PureParts) (m : Actions) (stands : S → List PureVal
 
   -- ---- bugs
 
-  found_failure : (path : PurePath S) (t : PureTerm) (place here : Place) (w : PureValue) (inputs : List PureValue) → Ended path → path.ending ≡ Some (failed t place) → here ≡ place → IsFoundBug path (failed t place) w inputs
+  found_failure : (path : PurePath S) (t : PureTerm) (place here : Place) (w : PureValue) (inputs : List PureValue) → Ended path → path.ending ≡ Some (failed t place) → here ≡ place → IsFoundBug (lists_of path) (failed t place) w inputs
       → IsBug p m f n inputs w here
   found_failure path t place here w inputs ended ending same bug =
       let from = from_of path (failed t place) ended ending refl in
       subst (λ us. IsBug p m f n us w here) (sym bug.draws) (subst (IsBug p m f n (draws_among path.vars bug.valuation) w) (sym same)
       (failure_is_bug p m stands terms asked laws f start begins n entry from.earlier path from.trail from.within bug.valuation bug.canonical t place w ending bug.value_is))
 
-  found_miss : (path : PurePath S) (key : _) (place here : Place) (w : PureValue) (inputs : List PureValue) → Ended path → path.ending ≡ Some (missed key place) → here ≡ place → IsFoundBug path (missed key place) w inputs → IsBug p m f n inputs w here
+  found_miss : (path : PurePath S) (key : _) (place here : Place) (w : PureValue) (inputs : List PureValue) → Ended path → path.ending ≡ Some (missed key place) → here ≡ place → IsFoundBug (lists_of path) (missed key place) w inputs → IsBug p m f n inputs w here
   found_miss path key place here w inputs ended ending same bug =
       let from = from_of path (missed key place) ended ending refl in
       subst (λ us. IsBug p m f n us w here) (sym bug.draws) (subst (IsBug p m f n (draws_among path.vars bug.valuation) w) (sym same)
@@ -167,7 +167,7 @@ module _ {S : Type 0} (p : PureParts) (m : Actions) (stands : S → List PureVal
   abbrev about : PurePath S → Place → List PureAtom → ℕ → PureQuery
   about path place atoms i = record { place = place; path = path.choices; vars = path.vars; given = path.given; query = atoms; outside = i }
 
-  is_about : (path : PurePath S) (place : Place) (q : PureQuery) (atoms : List PureAtom) (i : ℕ) → IsAbout path place q → q.query ≡ atoms → q.outside ≡ i → Undecided (about path place atoms i) → Undecided q
+  is_about : (path : PurePath S) (place : Place) (q : PureQuery) (atoms : List PureAtom) (i : ℕ) → IsAbout (lists_of path) place q → q.query ≡ atoms → q.outside ≡ i → Undecided (about path place atoms i) → Undecided q
   is_about path place q atoms i is query outside so =
       subst Undecided (sym (λ j. record { place = is.place_is j; path = is.choices j; vars = is.vars j; given = is.given j; query = query j; outside = outside j })) so
 
@@ -190,7 +190,7 @@ module _ {S : Type 0} (p : PureParts) (m : Actions) (stands : S → List PureVal
       (is_undecided p m stands terms asked laws f start begins n entry last.before last.rest path last.next last.trail how ending from.within place [] i us come (λ vs v has meets. refl) tt
       (subst (λ atoms. IsOutsideAt atoms i) (sym (append-nil path.conds)) outside) keeps_plain)
 
-  unknown_is_undecided : (path : PurePath S) (place : Place) (reason : Reason) (q : PureQuery) → Ended path → path.ending ≡ Some (unknown place reason) → IsAbout path place q → q.query ≡ path.conds → q.outside ≡ place_of reason → Undecided q
+  unknown_is_undecided : (path : PurePath S) (place : Place) (reason : Reason) (q : PureQuery) → Ended path → path.ending ≡ Some (unknown place reason) → IsAbout (lists_of path) place q → q.query ≡ path.conds → q.outside ≡ place_of reason → Undecided q
   unknown_is_undecided path place reason q ended ending is query outside =
       let from = from_of path (unknown place reason) ended ending refl in
       let last = last_step path (unknown place reason) from.earlier from.trail ending in
@@ -208,7 +208,7 @@ module _ {S : Type 0} (p : PureParts) (m : Actions) (stands : S → List PureVal
         let (v, canonical) = has_canonical p m stands terms asked laws f start begins (last.before ∷ last.rest) path (last.next, last.trail) (λ holds. known (subst IsUnknown ending holds)) in
         (draws_among path.vars v, come_failing p m stands terms asked laws f start begins n entry last.before last.rest path last.next last.trail how ending from.within v canonical known place (fails_there v))
 
-    outside_is_undecided : (q : PureQuery) → IsAbout path place q → IsListOutside path q → Undecided q
+    outside_is_undecided : (q : PureQuery) → IsAbout (lists_of path) place q → IsListOutside (lists_of path) q → Undecided q
     outside_is_undecided q is list = is_about path place q path.conds q.outside is list.query refl (own_list path how from ending last place q.outside comes_failing list.outside)
 
   failing_end : (path : PurePath S) (t : PureTerm) (place : Place) (v : List PureValue) (e : End) (s : State) → StandsForEnd p m stands path v s (failed t place) e → (w : PureValue) × (e.ending ≡ machine.failed w place)
@@ -251,14 +251,14 @@ module _ {S : Type 0} (p : PureParts) (m : Actions) (stands : S → List PureVal
     term_over : IsOverVars path.vars t
     term_over = (subst (λ o. AreEachOver path.vars (end_terms o)) ending (is_over p m stands terms asked laws f start begins (last.before ∷ last.rest) path trail).ending).0
 
-    wide_is_undecided : (q : PureQuery) → IsAbout path place q → IsWide path t q → Undecided q
+    wide_is_undecided : (q : PureQuery) → IsAbout (lists_of path) place q → IsWide (lists_of path) t q → Undecided q
     wide_is_undecided q is wide =
         let atoms : List PureAtom = path.conds ++ opening t ∷ [] in
-        let met : Satisfies path.vars wide.valuation atoms = record {
-          proper = wide.canonical.own.proper;
-          true_there = list_all-append (truth wide.valuation) path.conds (opening t ∷ [])
-              ∙ and_from (all_true wide.valuation path.conds) (all_true wide.valuation (opening t ∷ [])) wide.canonical.meets
-              (has_value (draws_among path.vars wide.valuation) wide.valuation wide.canonical.own wide.canonical.meets);
+        let met : Satisfies path.vars wide.leaves.valuation atoms = record {
+          proper = wide.leaves.canonical.own.proper;
+          true_there = list_all-append (truth wide.leaves.valuation) path.conds (opening t ∷ [])
+              ∙ and_from (all_true wide.leaves.valuation path.conds) (all_true wide.leaves.valuation (opening t ∷ [])) wide.leaves.canonical.meets
+              (has_value (draws_among path.vars wide.leaves.valuation) wide.leaves.valuation wide.leaves.canonical.own wide.leaves.canonical.meets);
         } in
         is_about path place q atoms (length path.conds) is wide.query wide.outside
         (is_undecided p m stands terms asked laws f start begins n entry last.before last.rest path last.next last.trail (failed t place) ending from.within place (opening t ∷ []) (length path.conds)
@@ -272,20 +272,20 @@ module _ {S : Type 0} (p : PureParts) (m : Actions) (stands : S → List PureVal
               let meets : IsTrue (all_true v path.conds) = (and_parts (all_true v path.conds) (all_true v (opening t ∷ [])) (sym (list_all-append (truth v) path.conds (opening t ∷ [])) ∙ whole)).0 in
               let (r, (e, (w, (after, val, fails_so)))) = fails_with us v has meets in
               (w, (e, (val, at_last us s r e w reach after fails_so, fails_so)));
-          not_narrow = not_narrow_by (is_narrow_term t) refl wide.wide;
-          met = wide.valuation;
+          not_narrow = not_narrow_by (is_narrow_term t) refl wide.leaves.wide;
+          met = wide.leaves.valuation;
           meets = met;
-          wide = wide.wide;
+          wide = wide.leaves.wide;
         })), tt)
         (open_is_outside path.conds t wide.inside) keeps_plain) where
-          not_narrow_by : (b : Bool) → is_narrow_term t ≡ b → IsTrue (has_wide_part wide.valuation t) → is_narrow_term t ≡ false
+          not_narrow_by : (b : Bool) → is_narrow_term t ≡ b → IsTrue (has_wide_part wide.leaves.valuation t) → is_narrow_term t ≡ false
           not_narrow_by false holds there = holds
           not_narrow_by true narrow there =
-              absurd (true≢false (sym there ∙ narrow_is_held path.vars wide.valuation t wide.canonical.own.proper term_over wide.moderate narrow))
+              absurd (true≢false (sym there ∙ narrow_is_held path.vars wide.leaves.valuation t wide.leaves.canonical.own.proper term_over (wide.leaves.moderate wide.inside) narrow))
 
   -- ---- all of it
 
-  failure_right : (path : PurePath S) (t : PureTerm) (place : Place) (j : PureJudgement) → Ended path → path.ending ≡ Some (failed t place) → IsFailureJudged path (failed t place) place (IsWide path t) j
+  failure_right : (path : PurePath S) (t : PureTerm) (place : Place) (j : PureJudgement) → Ended path → path.ending ≡ Some (failed t place) → IsFailureJudged (lists_of path) (failed t place) place (IsWide (lists_of path) t) j
       → IsRightlyJudged p m stands terms asked keeps_plain f n start path j
   failure_right path t place harmless ended ending judged = absurd judged
   failure_right path t place (fails here w inputs) ended ending judged = found_failure path t place here w inputs ended ending judged.0 judged.1
@@ -297,7 +297,7 @@ module _ {S : Type 0} (p : PureParts) (m : Actions) (stands : S → List PureVal
       (λ wide. wide_is_undecided path t place from ending last q is wide)
       either
 
-  miss_right : (path : PurePath S) (key : _) (place : Place) (j : PureJudgement) → Ended path → path.ending ≡ Some (missed key place) → IsFailureJudged path (missed key place) place (λ q. ⊥) j
+  miss_right : (path : PurePath S) (key : _) (place : Place) (j : PureJudgement) → Ended path → path.ending ≡ Some (missed key place) → IsFailureJudged (lists_of path) (missed key place) place (λ q. ⊥) j
       → IsRightlyJudged p m stands terms asked keeps_plain f n start path j
   miss_right path key place harmless ended ending judged = absurd judged
   miss_right path key place (fails here w inputs) ended ending judged = found_miss path key place here w inputs ended ending judged.0 judged.1
@@ -309,7 +309,7 @@ module _ {S : Type 0} (p : PureParts) (m : Actions) (stands : S → List PureVal
       (λ none. absurd none)
       either
 
-  unknown_right : (path : PurePath S) (place : Place) (reason : Reason) (j : PureJudgement) → Ended path → path.ending ≡ Some (unknown place reason) → IsUnknownJudged path place (place_of reason) j
+  unknown_right : (path : PurePath S) (place : Place) (reason : Reason) (j : PureJudgement) → Ended path → path.ending ≡ Some (unknown place reason) → IsUnknownJudged (lists_of path) place (place_of reason) j
       → IsRightlyJudged p m stands terms asked keeps_plain f n start path j
   unknown_right path place reason harmless ended ending judged = absurd judged
   unknown_right path place reason (fails here w inputs) ended ending judged = absurd judged

@@ -11,7 +11,8 @@ use Rattle.mem_model.specs.Actions.{Actions}
 use Rattle.mem_model.specs.Heaps.{Heap}
 use Rattle.pure_terms.specs.Deciding.{has_moderate_numbers}
 use Rattle.pure_terms.specs.Fragment.{InFragment}
-use Rattle.pure_terms.specs.Meaning.{value, Satisfies}
+use Rattle.pure_terms.specs.declared.variables.Sort.{Sort}
+use Rattle.pure_terms.specs.Meaning.{value, AreOver, Satisfies}
 use Rattle.pure_terms.specs.Pure.{PureTerm, PureAtom, opening}
 use Rattle.pure_terms.specs.Wide.{has_wide_part}
 use Rattle.sym_explore.specs.Runs.{AccountsFor}
@@ -20,7 +21,9 @@ use Rattle.sym_model.specs.Terms.{StateTerms}
 use Rattle.sym_paths.specs.Meaning.{Stands, IsOverTable}
 use Rattle.sym_paths.specs.Pure.{PureEnd, failed, missed, unknown, PurePath}
 use Rattle.sym_paths.specs.Steps.{IsNewSort, IsUnknown, place_of}
+use Rattle.pure_terms.specs.View.{atoms_view}
 use Rattle.sym_test.specs.declared.judging.Judgement.{Judgement}
+use Rattle.sym_test.specs.declared.judging.Lists.{Lists}
 use Rattle.sym_test.specs.Canonical.{draws_among, IsCanonical}
 use Rattle.sym_test.specs.Undecided.{first_state, IsOutsideAt, IsUndecided}
 use Rattle.sym_test.specs.View.{PureQuery, query_view}
@@ -63,50 +66,78 @@ pub record MayBeJudged {S : Type 0} (terms : S → StateTerms) (path : PurePath 
   pub defined : (t : PureTerm) (place : Place) (v : List PureValue) → path.ending ≡ Some (failed t place) → IsCanonical path.vars path.conds v
       → (w : PureValue) × (value v t ≡ Some w)
 
--- the query is about the conditions of the path, at this place
-pub record IsAbout {S : Type 0} (path : PurePath S) (place : Place) (q : PureQuery) : Type 0 where
+-- what a query is made of: the variables of a path, its choices, what is assumed, and its conditions
+pub record PureLists : Type 0 where
+  pub vars : List Sort
+  pub choices : List ℕ
+  pub given : List PureAtom
+  pub conds : List PureAtom
+
+abbrev pub lists_of : {S : Type 0} → PurePath S → PureLists
+lists_of path = record { vars = path.vars; choices = path.choices; given = path.given; conds = path.conds }
+
+abbrev pub lists_view : Lists → PureLists
+lists_view l = record { vars = l.vars; choices = l.choices; given = atoms_view l.given; conds = atoms_view l.conds }
+
+-- Some valuation meets the conditions, which name only variables of the table, and these are fresh ones and draws.
+pub record AreMet (l : PureLists) : Type 0 where
+  pub sorts : Each IsNewSort l.vars
+  pub over : AreOver l.vars l.conds
+  pub met : (v : List PureValue) × Satisfies l.vars v l.conds
+
+-- the query is about a path, at this place
+pub record IsAbout (l : PureLists) (place : Place) (q : PureQuery) : Type 0 where
   pub place_is : q.place ≡ place
-  pub choices : q.path ≡ path.choices
-  pub vars : q.vars ≡ path.vars
-  pub given : q.given ≡ path.given
+  pub choices : q.path ≡ l.choices
+  pub vars : q.vars ≡ l.vars
+  pub given : q.given ≡ l.given
 
 -- the query is whether the path goes on, which no decider must know
-pub record IsListOutside {S : Type 0} (path : PurePath S) (q : PureQuery) : Type 0 where
-  pub query : q.query ≡ path.conds
-  pub outside : IsOutsideAt path.conds q.outside
+pub record IsListOutside (l : PureLists) (q : PureQuery) : Type 0 where
+  pub query : q.query ≡ l.conds
+  pub outside : IsOutsideAt l.conds q.outside
 
--- a part of the failing value leaves 128 bits under a valuation that a decider gives
-pub record IsWide {S : Type 0} (path : PurePath S) (t : PureTerm) (q : PureQuery) : Type 0 where
-  pub query : q.query ≡ path.conds ++ opening t ∷ []
-  pub outside : q.outside ≡ length path.conds
-  pub inside : InFragment path.conds
+-- under a valuation that a decider gives, if the conditions are in the fragment, a part of the term leaves 128 bits
+pub record LeavesHeld (l : PureLists) (t : PureTerm) : Type 0 where
   pub valuation : List PureValue
-  pub canonical : IsCanonical path.vars path.conds valuation
-  pub moderate : IsTrue (list_all has_moderate_numbers valuation)
+  pub canonical : IsCanonical l.vars l.conds valuation
+  pub moderate : InFragment l.conds → IsTrue (list_all has_moderate_numbers valuation)
   pub wide : IsTrue (has_wide_part valuation t)
 
+-- the query is whether a failing value has a form, where the conditions are in the fragment
+pub record IsWide (l : PureLists) (t : PureTerm) (q : PureQuery) : Type 0 where
+  pub query : q.query ≡ l.conds ++ opening t ∷ []
+  pub outside : q.outside ≡ length l.conds
+  pub inside : InFragment l.conds
+  pub leaves : LeavesHeld l t
+
 -- a bug with the inputs of a canonical valuation
-pub record IsFoundBug {S : Type 0} (path : PurePath S) (how : PureEnd) (w : PureValue) (inputs : List PureValue) : Type 0 where
+pub record IsFoundBug (l : PureLists) (how : PureEnd) (w : PureValue) (inputs : List PureValue) : Type 0 where
   pub valuation : List PureValue
-  pub canonical : IsCanonical path.vars path.conds valuation
-  pub draws : inputs ≡ draws_among path.vars valuation
+  pub canonical : IsCanonical l.vars l.conds valuation
+  pub draws : inputs ≡ draws_among l.vars valuation
   pub value_is : FailsWith valuation how w
 
+-- a question about a path
+abbrev pub IsQuestion : PureLists → Place → (PureQuery → Type 0) → PureJudgement → Type 0
+IsQuestion l place Is (undecided q) = IsAbout l place q × Is q
+IsQuestion l place Is _ = ⊥
+
 -- what may be said of a failing path
-abbrev pub IsFailureJudged : {S : Type 0} → PurePath S → PureEnd → Place → (PureQuery → Type 0) → PureJudgement → Type 0
-IsFailureJudged path how place May harmless = ⊥
-IsFailureJudged path how place May (fails here w inputs) = (here ≡ place) × IsFoundBug path how w inputs
-IsFailureJudged path how place May (undecided q) = IsAbout path place q × (IsListOutside path q ⊎ May q)
+abbrev pub IsFailureJudged : PureLists → PureEnd → Place → (PureQuery → Type 0) → PureJudgement → Type 0
+IsFailureJudged l how place May harmless = ⊥
+IsFailureJudged l how place May (fails here w inputs) = (here ≡ place) × IsFoundBug l how w inputs
+IsFailureJudged l how place May (undecided q) = IsAbout l place q × (IsListOutside l q ⊎ May q)
 
 -- what may be said of an unknown path
-abbrev pub IsUnknownJudged : {S : Type 0} → PurePath S → Place → ℕ → PureJudgement → Type 0
-IsUnknownJudged path place i (undecided q) = IsAbout path place q × (q.query ≡ path.conds) × (q.outside ≡ i)
-IsUnknownJudged path place i _ = ⊥
+abbrev pub IsUnknownJudged : PureLists → Place → ℕ → PureJudgement → Type 0
+IsUnknownJudged l place i (undecided q) = IsAbout l place q × (q.query ≡ l.conds) × (q.outside ≡ i)
+IsUnknownJudged l place i _ = ⊥
 
 abbrev pub IsJudgedEnd : {S : Type 0} → PurePath S → Option PureEnd → PureJudgement → Type 0
-IsJudgedEnd path (Some (failed t place)) j = IsFailureJudged path (failed t place) place (IsWide path t) j
-IsJudgedEnd path (Some (missed k place)) j = IsFailureJudged path (missed k place) place (λ q. ⊥) j
-IsJudgedEnd path (Some (unknown place reason)) j = IsUnknownJudged path place (place_of reason) j
+IsJudgedEnd path (Some (failed t place)) j = IsFailureJudged (lists_of path) (failed t place) place (IsWide (lists_of path) t) j
+IsJudgedEnd path (Some (missed k place)) j = IsFailureJudged (lists_of path) (missed k place) place (λ q. ⊥) j
+IsJudgedEnd path (Some (unknown place reason)) j = IsUnknownJudged (lists_of path) place (place_of reason) j
 IsJudgedEnd path _ j = j ≡ harmless
 
 -- ---- when it is right
