@@ -1,7 +1,7 @@
 -- A valuation that meets atoms, with other symbols for its fresh variables and other values for the draws that unlike atom names, still meets them.
 use Rattle.std.proofs.Common.{◌≡◌, take, add-one, ◌⊎◌, ⊎_elim, inl, inr, ℕ, zero, suc, ◌+◌, ◌<◌, ◌≤◌, List, [], ◌∷◌, ◌++◌, map, length, slice_get, Bool, true, false, ◌||◌, ◌&&◌, if◌then◌else◌, eqb, Option, Some, None, IsTrue, refl, sym, ap, subst, ◌∙◌, arith, true≢false, add-zero, zero-add}
-use Rattle.std.specs.List.{Contains, list_any}
-use Rattle.std.proofs.lemmas.Bool.{cases_eq, eq-eqb, ne_eqb}
+use Rattle.std.specs.List.{Contains, list_all, list_any}
+use Rattle.std.proofs.lemmas.Bool.{cases_eq, eq-eqb, ne_eqb, and_parts, and_from}
 use Rattle.std.proofs.lemmas.List.{append_assoc, length_push, length-take-le, take_all}
 use Rattle.std.proofs.lemmas.Option.{slice_get_within}
 use Rattle.std.proofs.lemmas.List.Elements.{Contains-append_left, Contains-append_right, Contains-append_cases, Contains-push}
@@ -11,6 +11,7 @@ use Rattle.gil_values.specs.Symbols.{symbols, symbols_of_all, OccursIn, OccursAm
 use Rattle.gil_values.proofs.OperatorSymbols.{none_contained}
 use Rattle.pure_terms.specs.declared.variables.Sort.{Sort}
 use Rattle.pure_terms.specs.declared.variables.Var.{Var}
+use Rattle.pure_terms.specs.Deciding.{has_moderate_numbers}
 use Rattle.pure_terms.specs.Kinds.{has_sort}
 use Rattle.pure_terms.specs.Laws.{AgreeOn}
 use Rattle.pure_terms.specs.Meaning.{truth, all_true, IsProper, AreOver, Satisfies}
@@ -502,3 +503,31 @@ draws_next sorts ws inputs i sort w same so_far in_table at =
 
 pub draws_whole : (sorts : List Sort) (ws inputs : List PureValue) (i : ℕ) → length ws ≡ length sorts → inputs ≡ draws_among (take i sorts) (take i ws) → length sorts ≤ i → inputs ≡ draws_among sorts ws
 draws_whole sorts ws inputs i same so_far past = so_far ∙ (λ j. draws_among (take_all i sorts past j) (take_all i ws (omega (arith, same, past)) j))
+
+-- ---- its numbers are those of the other one, or 0
+
+value_moderate : (named : Bool) (n : ℕ) (sort : Sort) (u w : PureValue) → has_moderate_numbers u ≡ true → IsAt named n sort u w → has_moderate_numbers w ≡ true
+value_moderate named n Sort.Fresh u w moderate is = ap has_moderate_numbers is
+value_moderate true n Sort.Int u w moderate is = ap has_moderate_numbers is ∙ moderate
+value_moderate false n Sort.Int u w moderate is = ap has_moderate_numbers is
+value_moderate true n Sort.Bool u w moderate is = ap has_moderate_numbers is ∙ moderate
+value_moderate false n Sort.Bool u w moderate is = ap has_moderate_numbers is
+value_moderate true n Sort.Str u w moderate is = ap has_moderate_numbers is ∙ moderate
+value_moderate false n Sort.Str u w moderate is = ap has_moderate_numbers is
+value_moderate true n Sort.Sym u w moderate is = ap has_moderate_numbers is ∙ moderate
+value_moderate false n Sort.Sym u w moderate is = ap has_moderate_numbers is
+value_moderate true n Sort.List u w moderate is = ap has_moderate_numbers is ∙ moderate
+value_moderate false n Sort.List u w moderate is = ap has_moderate_numbers is
+value_moderate true n Sort.Any u w moderate is = ap has_moderate_numbers is ∙ moderate
+value_moderate false n Sort.Any u w moderate is = ap has_moderate_numbers is
+
+pub made_moderate : (named : ℕ → Bool) (n : ℕ) (sorts : List Sort) (us ws : List PureValue) → IsMade named n sorts us ws → IsTrue (list_all has_moderate_numbers us) → IsTrue (list_all has_moderate_numbers ws)
+made_moderate named n [] [] [] made all = refl
+made_moderate named n [] [] (w ∷ ws) made all = absurd made
+made_moderate named n [] (u ∷ us) ws made all = absurd made
+made_moderate named n (sort ∷ sorts) [] ws made all = absurd made
+made_moderate named n (sort ∷ sorts) (u ∷ us) [] made all = absurd made
+made_moderate named n (sort ∷ sorts) (u ∷ us) (w ∷ ws) made all =
+    let parts = and_parts (has_moderate_numbers u) (list_all has_moderate_numbers us) all in
+    and_from (has_moderate_numbers w) (list_all has_moderate_numbers ws) (value_moderate (named 0) n sort u w parts.0 made.0)
+    (made_moderate (λ i. named (suc i)) (counter_after sort n) sorts us ws made.1 parts.1)

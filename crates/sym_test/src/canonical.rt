@@ -1,12 +1,13 @@
 //! Canonical valuations, and the inputs that they stand for.
-ghost use Rattle.std.specs.Prelude.{◌≡◌, ◌<◌, ◌^◌, ◌-◌, List, ◌∷◌, if◌then◌else◌, length, slice_get, Some, IfOk};
+ghost use Rattle.std.specs.Prelude.{◌≡◌, ◌<◌, ◌^◌, ◌-◌, List, ◌∷◌, if◌then◌else◌, length, slice_get, Some, IfOk, IsTrue};
 ghost use Rattle.gil_values.specs.Pure.{PureValue};
 ghost use Rattle.gil_values.specs.View.{value_view, values_view};
+ghost use Rattle.pure_terms.specs.Deciding.{has_moderate_numbers};
 ghost use Rattle.pure_terms.specs.Meaning.{AreOver, Satisfies};
 ghost use Rattle.pure_terms.specs.Naming.{names_number};
 ghost use Rattle.pure_terms.specs.Pure.{term_of};
 ghost use Rattle.pure_terms.specs.View.{atom_view, atoms_view};
-ghost use Rattle.std.specs.List.{list_any};
+ghost use Rattle.std.specs.List.{list_all, list_any};
 ghost use Rattle.sym_model.specs.Lists.{Each};
 ghost use Rattle.sym_paths.specs.Steps.{IsNewSort, counter_after};
 ghost use Rattle.sym_test.specs.Canonical.{blank, draw_and, draws_among, IsAt, IsCanonical};
@@ -98,7 +99,9 @@ pub(crate) fn canonical_valuation(
     requires sorts { Each IsNewSort vars.now }
     requires over { AreOver vars.now (atoms_view atoms.now) }
     requires meets { Satisfies vars.now (values_view found.now) (atoms_view atoms.now) }
-    ensures { IfOk result (λ w. IsCanonical vars.now (atoms_view atoms.now) (values_view w)) }
+    ensures canonical { IfOk result (λ w. IsCanonical vars.now (atoms_view atoms.now) (values_view w)) }
+    ensures moderate { IfOk result (λ w. IsTrue (list_all has_moderate_numbers (values_view found.now))
+        → IsTrue (list_all has_moderate_numbers (values_view w))) }
 {
     let sorts = vars.as_slice();
     let values = found.as_slice();

@@ -11,7 +11,7 @@ use Rattle.pure_terms.specs.Pure.{term_of}
 use Rattle.pure_terms.specs.View.{atom_view, atoms_view}
 use Rattle.pure_terms.proofs.NamingLaws.{list_any-map}
 use Rattle.sym_test.specs.Canonical.{is_named, IsAt, IsCanonical}
-use Rattle.sym_test.proofs.Canonicals.{IsMade, IsMadeTo, made_next, made_whole, made_is_canonical}
+use Rattle.sym_test.proofs.Canonicals.{IsMade, IsMadeTo, made_next, made_whole, made_is_canonical, made_moderate}
 use Rattle.sym_test.proofs.canonical.canonical_valuation.Goals as goal
 
 pub loop-number-preserved : goal.loop-number-preserved
@@ -40,7 +40,11 @@ returns c =
     let atoms = atoms_view c.args.atoms.now in
     let one_each : length (values_view c.args.found.now) ≡ length c.args.vars.now = c.requires.meets.proper.one_each in
     let as_many : length values ≡ length sorts = ap length c.as_slice-values.ensures ∙ one_each ∙ sym (ap length c.as_slice-sorts.ensures) in
-    let made : IsMade (is_named atoms) 0 sorts values (values_view c.loop-number.chosen) = made_whole (is_named atoms) sorts values (values_view c.loop-number.chosen) c.loop-number.number c.loop-number.next c.loop-number.invariant as_many c.loop-number-test.false in
-    made_is_canonical c.args.vars.now atoms (values_view c.args.found.now) (values_view c.loop-number.chosen) c.requires.sorts c.requires.over c.requires.meets
-    (subst (λ ss. IsMade (is_named atoms) 0 ss (values_view c.args.found.now) (values_view c.loop-number.chosen)) c.as_slice-sorts.ensures
-    (subst (λ vs. IsMade (is_named atoms) 0 sorts vs (values_view c.loop-number.chosen)) c.as_slice-values.ensures made))
+    let first : IsMade (is_named atoms) 0 sorts values (values_view c.loop-number.chosen) = made_whole (is_named atoms) sorts values (values_view c.loop-number.chosen) c.loop-number.number c.loop-number.next c.loop-number.invariant as_many c.loop-number-test.false in
+    let made : IsMade (is_named atoms) 0 c.args.vars.now (values_view c.args.found.now) (values_view c.loop-number.chosen) =
+    subst (λ ss. IsMade (is_named atoms) 0 ss (values_view c.args.found.now) (values_view c.loop-number.chosen)) c.as_slice-sorts.ensures
+    (subst (λ vs. IsMade (is_named atoms) 0 sorts vs (values_view c.loop-number.chosen)) c.as_slice-values.ensures first) in
+    record {
+      canonical = made_is_canonical c.args.vars.now atoms (values_view c.args.found.now) (values_view c.loop-number.chosen) c.requires.sorts c.requires.over c.requires.meets made;
+      moderate = made_moderate (is_named atoms) 0 c.args.vars.now (values_view c.args.found.now) (values_view c.loop-number.chosen) made;
+    }
