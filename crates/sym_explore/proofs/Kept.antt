@@ -1,21 +1,20 @@
 -- What trails keep, and what they say in the words of the laws.
-use Rattle.std.proofs.Common.{◌≡◌, ◌⊎◌, ⊎_elim, inl, inr, ℕ, suc, ◌+◌, List, [], ◌∷◌, ◌++◌, length, None, refl, sym, subst, ◌∙◌, arith}
+use Rattle.std.proofs.Common.{◌≡◌, ◌⊎◌, ⊎_elim, inl, inr, ℕ, ◌+◌, List, [], ◌∷◌, length, sym, subst, arith}
 use Rattle.gil_values.specs.Pure.{PureValue}
 use Rattle.gil_syntax.specs.Pure.{PureParts}
-use Rattle.gil_machine.specs.State.{State}
 use Rattle.mem_model.specs.Actions.{Actions}
 use Rattle.mem_model.specs.Heaps.{Heap}
 use Rattle.pure_terms.specs.Fragment.{InFragment}
 use Rattle.pure_terms.specs.Meaning.{Satisfies}
 use Rattle.pure_terms.specs.Pure.{PureTerm, PureAtom}
 use Rattle.sym_engine.specs.Lawful.{IsOwnAt}
-use Rattle.sym_explore.specs.Laws.{EndsAreOfRuns, IsBeside, IsTraced, TrailsReplay, TrailsHoldAlong, TrailsMayEndBefore, TrailsKeep}
-use Rattle.sym_explore.specs.Trails.{IsTrail}
+use Rattle.sym_explore.specs.Laws.{EndsAreOfRuns, IsTraced, TrailsReplay, TrailsHoldAlong, TrailsMayEndBefore, TrailsKeep}
+use Rattle.sym_explore.specs.Trails.{IsNextPath, IsTrail}
 use Rattle.sym_explore.proofs.RunSteps.{ends_are_of_runs, ends_stay}
 use Rattle.sym_explore.proofs.Trails.{trail_over, replay, replay_choices, along, back}
-use Rattle.sym_model.specs.Lists.{Each, OneOf, IsAmong}
+use Rattle.sym_model.specs.Lists.{Each, IsAmong}
 use Rattle.sym_model.specs.Terms.{StateTerms}
-use Rattle.sym_model.proofs.ListLaws.{each_append, each_to, each_is_among}
+use Rattle.sym_model.proofs.ListLaws.{each_append, each_to, each_is_among, one_left}
 use Rattle.sym_paths.specs.Pure.{PurePath}
 use Rattle.sym_paths.specs.Steps.{IsUnknown}
 
@@ -56,9 +55,15 @@ module _ {S : Type 0} (p : PureParts) (m : Actions) (stands : S → List PureVal
   abbrev Assumes : PurePath S → Type 0
   Assumes path = Each (λ a. IsAmong a path.conds) path.given
 
+  among_more : (before path : PurePath S) → IsNextPath p m stands terms asked before path → (a : PureAtom) → IsAmong a before.conds → IsAmong a path.conds
+  among_more before path next a is = subst (IsAmong a) (sym next.growth.conds) (one_left (λ b. b ≡ a) before.conds next.growth.new_conds is)
+
   all_assumed : (start path : PurePath S) (earlier : List (PurePath S)) → IsTrailOf start earlier path → Assumes start → Assumes path
   all_assumed start path [] trail had = subst Assumes (sym trail) had
-  all_assumed start path (before ∷ earlier) (next, trail) had = next.recorded.assumed (all_assumed start before earlier trail had)
+  all_assumed start path (before ∷ earlier) (next, trail) had =
+      subst (Each (λ a. IsAmong a path.conds)) (sym next.growth.given)
+      (each_append (λ a. IsAmong a path.conds) before.given next.growth.new_given
+      (each_to (λ a. IsAmong a before.conds) (λ a. IsAmong a path.conds) before.given (among_more before path next) (all_assumed start before earlier trail had)) next.growth.assumed)
 
   abbrev IsMet : PurePath S → Type 0
   IsMet path = (w : List PureValue) × Satisfies path.vars w path.conds

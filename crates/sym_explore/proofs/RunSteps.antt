@@ -1,5 +1,5 @@
 -- One more step of a run, and what it does to choices, symbols and draws.
-use Rattle.std.proofs.Common.{◌≡◌, ◌⊎◌, inl, inr, ℕ, zero, suc, ◌+◌, ◌≤◌, ◌<◌, ℤ, pos, negsuc, List, [], ◌∷◌, ◌++◌, Bool, true, false, ◌==◌, if◌then◌else◌, length, slice_get, Option, Some, None, is_some, IsSome, Ok, Err, refl, sym, ap, subst, ◌∙◌, arith}
+use Rattle.std.proofs.Common.{◌≡◌, inl, inr, ℕ, zero, suc, ◌+◌, ◌≤◌, ℤ, pos, negsuc, List, [], ◌∷◌, ◌++◌, Bool, true, false, ◌==◌, if◌then◌else◌, length, slice_get, Option, Some, None, is_some, Ok, Err, refl, sym, ap, subst, ◌∙◌, arith}
 use Rattle.std.specs.Option.{option_map}
 use Rattle.gil_values.specs.declared.kinds.Kind.{Kind}
 use Rattle.gil_values.specs.declared.places.Place.{Place}
@@ -10,17 +10,16 @@ use Rattle.gil_syntax.specs.Evaluation.{Outcomes, evaluate, evaluate_all}
 use Rattle.gil_syntax.specs.Programs.{find_proc}
 use Rattle.gil_syntax.specs.Pure.{PureCommand, assign, call, act, usym, isym, ifgoto, return, fail, vanish, fold_use, unfold_use, assert_that, loop_invariant, PureNumberedCommand, PureProc, PureParts}
 use Rattle.gil_machine.specs.Choices.{choices, choice_at, choice_of, with_choice, later_choices, of_value, of_values, guard_choice, outcome_choice}
-use Rattle.gil_machine.specs.Laws.{IsCutAtItsBound}
 use Rattle.gil_machine.specs.Run.{run, after, reached, and_then}
 use Rattle.gil_machine.specs.State.{Frame, State, End, Step, goes_on, ends, end_at, cut, IsOver}
-use Rattle.gil_machine.specs.Step.{step, step_at, do_command, command_at, with_value, with_values, assigned, branch, draw, do_action, acted, after_action, action_result, counted, enter_found, enter_value, leave}
+use Rattle.gil_machine.specs.Step.{step, do_command, command_at, to_next, with_value, with_values, assigned, branch, draw, do_action, after_action, action_result, enter_found, enter_value, leave}
 use Rattle.gil_machine.proofs.Runs.{stays_over}
 use Rattle.mem_model.specs.Actions.{Actions, ActionResult}
 use Rattle.mem_model.specs.Pure.{PureOutcome, done, failed as action_failed, miss}
 use Rattle.sym_explore.specs.Runs.{EndsAfter}
 use Rattle.sym_model.proofs.ListLaws.{same_some, not_none}
 use Rattle.sym_paths.proofs.Silent.{step-is, choice-is}
-use Rattle.sym_step.specs.Recording.{symbols_taken, makes_choice}
+use Rattle.sym_paths.specs.Steps.{symbols_taken, makes_choice}
 
 -- ---- one more step
 
@@ -184,12 +183,15 @@ of_action false m x a args here s = of_outcome (s.counter + 0) (action_result fa
 
 of_actions : (r : Outcomes) (m : Actions) (x a : List ℕ) (here : Place) (s : State)
     → Does (s.counter + (if m.takes_symbol a then 1 else 0)) true (option_map (λ (w : ActionResult). outcome_choice w.outcome) (of_values (λ args. Some (action_result (m.takes_symbol a) m a args s)) r))
-        (with_values r here s (λ args. do_action (m.takes_symbol a) m x a args here s))
+    (with_values r here s (λ args. do_action (m.takes_symbol a) m x a args here s))
 of_actions (Ok args) m x a here s = of_action (m.takes_symbol a) m x a args here s
 of_actions (Err f) m x a here s = tt
 
 none_taken : (n : ℕ) (b : Bool) (o : Option ℕ) (r : Step) → Does n b o r → Does (n + 0) b o r
 none_taken n b o r does = let same : n ≡ n + 0 = omega arith in subst (λ k. Does k b o r) same does
+
+abbrev next_state : State → State
+next_state s = record s { current = record s.current { next = s.current.next + 1 } }
 
 module _ (p : PureParts) (m : Actions) (inputs : List PureValue) where
   does_command : (k : PureCommand) (here : Place) (s : State) → Does (s.counter + symbols_taken m k) (makes_choice k) (choice_of p m k s) (do_command p m inputs k here s)
@@ -204,10 +206,10 @@ module _ (p : PureParts) (m : Actions) (inputs : List PureValue) where
   does_command (return e) here s = none_taken s.counter false None _ (of_with_value s.counter false None (evaluate e s.current.store) here s _ (λ v. of_leave s.callers v s))
   does_command (fail e) here s = none_taken s.counter false None _ (of_with_value s.counter false None (evaluate e s.current.store) here s _ (λ v. tt))
   does_command vanish here s = tt
-  does_command (fold_use u) here s = none_taken s.counter false None _ (goes s.counter false None _ refl refl)
-  does_command (unfold_use u) here s = none_taken s.counter false None _ (goes s.counter false None _ refl refl)
-  does_command (assert_that items) here s = none_taken s.counter false None _ (goes s.counter false None _ refl refl)
-  does_command (loop_invariant xs ps items) here s = none_taken s.counter false None _ (goes s.counter false None _ refl refl)
+  does_command (fold_use u) here s = none_taken s.counter false None (to_next s) (goes s.counter false None (next_state s) refl refl)
+  does_command (unfold_use u) here s = none_taken s.counter false None (to_next s) (goes s.counter false None (next_state s) refl refl)
+  does_command (assert_that items) here s = none_taken s.counter false None (to_next s) (goes s.counter false None (next_state s) refl refl)
+  does_command (loop_invariant xs ps items) here s = none_taken s.counter false None (to_next s) (goes s.counter false None (next_state s) refl refl)
 
   pub step_does : (s t : State) (c : PureNumberedCommand) → command_at p s.current ≡ Some c → step p m inputs s ≡ goes_on t
       → DoesOf (s.counter + symbols_taken m c.command) (makes_choice c.command) (choice_at p m s) t

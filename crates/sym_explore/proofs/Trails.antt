@@ -1,8 +1,8 @@
 -- A run beside a trail, from step to step.
-use Rattle.std.proofs.Common.{◌≡◌, ◌⊎◌, ⊎_elim, inl, inr, ℕ, zero, suc, ◌+◌, List, [], ◌∷◌, ◌++◌, Bool, true, false, length, Option, Some, None, is_some, IsSome, IsTrue, get_or, refl, sym, ap, subst, ◌∙◌, arith, true≢false}
+use Rattle.std.proofs.Common.{◌≡◌, ◌⊎◌, ⊎_elim, inl, ℕ, zero, suc, ◌+◌, List, [], ◌∷◌, ◌++◌, false, length, Option, Some, None, is_some, IsSome, IsTrue, get_or, refl, sym, ap, subst, ◌∙◌, arith, true≢false}
 use Rattle.std.proofs.lemmas.List.{append-nil, append_cancel_left, append_assoc, length-append}
 use Rattle.gil_values.specs.Pure.{PureValue}
-use Rattle.gil_syntax.specs.Pure.{PureParts, PureNumberedCommand}
+use Rattle.gil_syntax.specs.Pure.{PureParts}
 use Rattle.gil_machine.specs.Choices.{choices, choice_at, with_choice}
 use Rattle.gil_machine.specs.Run.{reached}
 use Rattle.gil_machine.specs.State.{State, Step, goes_on, ends}
@@ -12,20 +12,18 @@ use Rattle.mem_model.specs.Heaps.{Heap}
 use Rattle.pure_terms.specs.declared.variables.Sort.{Sort}
 use Rattle.pure_terms.specs.Meaning.{all_true, IsOver, Satisfies}
 use Rattle.pure_terms.specs.Pure.{PureTerm, PureAtom, term_of}
-use Rattle.sym_explore.specs.Laws.{IsBeside}
-use Rattle.sym_explore.specs.Runs.{draw_count, EndsAfter, ComesTo, MakesChoices, StandsAt, StandsAfter}
+use Rattle.sym_explore.specs.Runs.{draw_count, ComesTo, MakesChoices, StandsAt, StandsAfter}
 use Rattle.sym_explore.specs.Trails.{IsNextPath, IsTrail}
-use Rattle.sym_explore.proofs.Following.{counter_at, draws_at, draw_append, drawn_length, meets_part, Shorter, shorter, same_valuation}
-use Rattle.sym_explore.proofs.RunSteps.{DoesOf, step_does, reached_next, before_last, choices_next}
+use Rattle.sym_explore.proofs.Following.{counter_at, draws_at, draw_append, drawn_length, meets_part, shorter, same_valuation}
+use Rattle.sym_explore.proofs.RunSteps.{step_does, reached_next, before_last, choices_next}
 use Rattle.sym_model.specs.Lists.{Each}
 use Rattle.sym_model.specs.Meaning.{has_open}
 use Rattle.sym_model.specs.Terms.{StateTerms}
-use Rattle.sym_model.proofs.ListLaws.{same_some, not_none}
+use Rattle.sym_model.proofs.ListLaws.{same_some}
 use Rattle.sym_paths.specs.Meaning.{Stands, StandsForStep, IsOverTable}
 use Rattle.sym_paths.specs.Pure.{PureEnd, PurePath}
-use Rattle.sym_paths.specs.Steps.{AreNext, Extends, IsUnknown, IsChosen, GoesOnAs, drawn_from, draws_past}
+use Rattle.sym_paths.specs.Steps.{AreNext, Extends, IsUnknown, IsChosen, GoesOnAs, drawn_from, draws_past, fresh_count, symbols_taken}
 use Rattle.sym_paths.proofs.Silent.{stands_at}
-use Rattle.sym_step.specs.Recording.{fresh_count, symbols_taken}
 
 module _ {S : Type 0} (p : PureParts) (m : Actions) (stands : S → List PureValue → Heap → Type 0) (terms : S → StateTerms)
     (asked : List ℕ → List PureTerm → List PureTerm) where
@@ -54,10 +52,10 @@ module _ {S : Type 0} (p : PureParts) (m : Actions) (stands : S → List PureVal
 
     goes_there : (before path : PurePath S) (v w : List PureValue) (n : ℕ) (s t : State) → IsNextPath p m stands terms asked before path → At before v n s → path.ending ≡ None
         → step p m inputs s ≡ goes_on t → Stands stands path w t → At path w (suc n) t
-    goes_there before path v w n s t next at open goes is =
+    goes_there before path v w n s t next at still goes is =
         let does = step_does p m inputs s t next.at_command.0 (command_there before path v s next at.stands_for) goes in
         let taken : t.counter ≡ s.counter + symbols_taken m next.at_command.0.command = does.counter_is in
-        let recorded : fresh_count path.vars ≡ fresh_count before.vars + symbols_taken m next.at_command.0.command = next.recorded.symbols next.at_command.0 next.at_command.1 open in
+        let recorded : fresh_count path.vars ≡ fresh_count before.vars + symbols_taken m next.at_command.0.command = next.recorded.symbols next.at_command.0 next.at_command.1 still in
         let counted : s.counter + fresh_count start.vars ≡ s0.counter + fresh_count before.vars = at.symbols in
         let drawn : length path.drawn ≡ length before.drawn + length (drawn_from (length before.vars) next.growth.new_vars) = ap length next.growth.drawn ∙ length-append before.drawn (drawn_from (length before.vars) next.growth.new_vars) in
         let new_draws : length (drawn_from (length before.vars) next.growth.new_vars) ≡ draw_count next.growth.new_vars = drawn_length (length before.vars) next.growth.new_vars in
@@ -123,10 +121,10 @@ module _ {S : Type 0} (p : PureParts) (m : Actions) (stands : S → List PureVal
     -- ---- replay
 
     at_open : (path : PurePath S) (v : List PureValue) (n : ℕ) → path.ending ≡ None → StandsAfter p m stands inputs s0 start path v n path.ending → (s : State) × At inputs s0 start path v n s
-    at_open path v n open after = subst (StandsAfter p m stands inputs s0 start path v n) open after
+    at_open path v n still after = subst (StandsAfter p m stands inputs s0 start path v n) still after
 
     known_open : (path : PurePath S) → path.ending ≡ None → ¬ IsUnknown path.ending
-    known_open path open unknown = subst IsUnknown open unknown
+    known_open path still unknown = subst IsUnknown still unknown
 
     pub at_start : start.ending ≡ None → Stands stands start v0 s0 → StandsAfter p m stands inputs s0 start start v0 zero start.ending
     at_start going is = subst (StandsAfter p m stands inputs s0 start start v0 zero) (sym going) (s0, record { comes_to = refl; stands_for = is; symbols = refl; draws = refl })
@@ -139,7 +137,7 @@ module _ {S : Type 0} (p : PureParts) (m : Actions) (stands : S → List PureVal
     replay [] path going over is trail =
         subst (Replayed zero) (sym trail)
         (λ v ext meets known. subst (λ u. StandsAfter p m stands inputs s0 start start u zero start.ending) (sym (same_valuation inputs s0 start v0 v ext)) (at_start going is))
-    replay (before ∷ earlier) path going over is (next, trail) v ext meets known =
+    replay (before ∷ earlier) path going over is (next, trail) = λ v ext meets known.
         let b = back earlier before path v over next trail ext in
         let (s, at) = at_open before b.valuation (length earlier) next.going (replay earlier before going over is trail b.valuation b.extends (b.conds meets) (known_open before next.going)) in
         stands_next inputs s0 start before path b.valuation v (length earlier) s next at (next.exact inputs b.valuation v s at.stands_for (b.step (length earlier) s at) known meets).1
@@ -173,12 +171,13 @@ module _ {S : Type 0} (p : PureParts) (m : Actions) (stands : S → List PureVal
         let (s, at) = at_open before b.valuation n next.going (replay earlier before going over is trail b.valuation b.extends (b.conds meets) (known_open before next.going)) in
         let made = replay_choices earlier before b.valuation going over is trail b.extends (b.conds meets) (inl (known_open before next.going)) in
         let chosen : IsChosen before path (choice_at p m s) =
-            ⊎_elim
-            (λ (clear : ¬ IsUnknown path.ending). (next.exact inputs b.valuation v s at.stands_for (b.step n s at) clear meets).0)
-            (λ (no_form : has_open path.conds ≡ false). next.steered inputs b.valuation v s at.stands_for (b.step n s at) no_form meets) known in
-        (choices_join before path n s at.comes_to made.0 chosen,
-        comes_so_far path v n s path.ending at.comes_to
-        (λ open. subst (StandsAfter p m stands inputs s0 start path v (suc n)) open (replay (before ∷ earlier) path going over is (next, trail) v ext meets (known_open path open))))
+        ⊎_elim
+        (λ (clear : ¬ IsUnknown path.ending). (next.exact inputs b.valuation v s at.stands_for (b.step n s at) clear meets).0)
+        (λ (no_form : has_open path.conds ≡ false). next.choices inputs b.valuation v s at.stands_for (b.step n s at) no_form meets) known in (
+          choices_join before path n s at.comes_to made.0 chosen,
+          comes_so_far path v n s path.ending at.comes_to
+              (λ still. subst (StandsAfter p m stands inputs s0 start path v (suc n)) still (replay (before ∷ earlier) path going over is (next, trail) v ext meets (known_open path still))),
+        )
 
     -- ---- along
 
@@ -221,23 +220,23 @@ module _ {S : Type 0} (p : PureParts) (m : Actions) (stands : S → List PureVal
     pub keeps_pace : (earlier : List (PurePath S)) (path : PurePath S) → IsOverTable terms start → Stands stands start v0 s0 → IsTrail p m stands terms asked start earlier path → KeepsPace (length earlier) path
     keeps_pace [] path over is trail =
         subst (KeepsPace zero) (sym trail)
-        (λ v s more rest ext given at same open. (sym (append-nil start.choices), start_stands v s is (same_valuation inputs s0 start v0 v ext) at))
-    keeps_pace (before ∷ earlier) path over is (next, trail) v t more rest ext given at_t same open =
+        (λ v s more rest ext given at same still. (sym (append-nil start.choices), start_stands v s is (same_valuation inputs s0 start v0 v ext) at))
+    keeps_pace (before ∷ earlier) path over is (next, trail) = λ v t more rest ext given at_t same still.
         let n = length earlier in
         let b = back earlier before path v over next trail ext in
         let (s, (at, goes)) = before_last p m inputs n s0 t at_t in
-        let (chosen, (recorded, fits)) = next.recorded.choice next.at_command.0 next.at_command.1 open in
+        let (chosen, (recorded, fits)) = next.recorded.choice next.at_command.0 next.at_command.1 still in
         let earlier_same = choices_left before path n s chosen more rest at recorded same in
         let (made, stood) = keeps_pace earlier before over is trail b.valuation s (with_choice chosen [] ++ more) (with_choice (choice_at p m s) [] ++ rest) b.extends (b.given given) at earlier_same next.going in
         let does = step_does p m inputs s t next.at_command.0 (command_there inputs s0 start before path b.valuation s next stood.stands_for) goes in
         let is_choice : chosen ≡ choice_at p m s = same_first chosen (choice_at p m s) more rest (fits ∙ sym does.chosen_is) (left_over before n _ _ made earlier_same) in
         let by_step : IsChosen before path (choice_at p m s) = subst (IsChosen before path) is_choice recorded in
         let ext_step = b.step n s stood in
-        let goes_on_too : GoesOnAs path.ending (step p m inputs s) = subst (λ o. GoesOnAs o (step p m inputs s)) (sym open) (subst (GoesOnAs None) (sym goes) tt) in
+        let goes_on_too : GoesOnAs path.ending (step p m inputs s) = subst (λ o. GoesOnAs o (step p m inputs s)) (sym still) (subst (GoesOnAs None) (sym goes) tt) in
         let meets = met_with path v given (next.along inputs b.valuation v s stood.stands_for ext_step given by_step goes_on_too) in
-        let stood_step = (next.exact inputs b.valuation v s stood.stands_for ext_step (known_open path open) meets).1 in
-        let stands_t : Stands stands path v t = subst (λ r. StandsForStep p m stands path v s None r) goes (subst (λ o. StandsForStep p m stands path v s o (step p m inputs s)) open stood_step) in
-        (choices_join before path n s at made by_step, goes_there inputs s0 start before path b.valuation v n s t next stood open goes stands_t)
+        let stood_step = (next.exact inputs b.valuation v s stood.stands_for ext_step (known_open path still) meets).1 in
+        let stands_t : Stands stands path v t = subst (λ r. StandsForStep p m stands path v s None r) goes (subst (λ o. StandsForStep p m stands path v s o (step p m inputs s)) still stood_step) in
+        (choices_join before path n s at made by_step, goes_there inputs s0 start before path b.valuation v n s t next stood still goes stands_t)
 
     some_of : {X : Type 0} (o : Option X) → IsSome o → (x : X) × (o ≡ Some x)
     some_of None is = absurd (true≢false (sym is))
@@ -272,9 +271,9 @@ module _ {S : Type 0} (p : PureParts) (m : Actions) (stands : S → List PureVal
         let chosen = next.growth.chosen in
         let (s, at) = state_before n path.ending comes in
         let all_same : path.choices ++ [] ≡ start.choices ++ (choices p m inputs (suc n) s0 ++ []) =
-            append-nil path.choices ∙ made ∙ ap (λ xs. start.choices ++ xs) (sym (append-nil (choices p m inputs (suc n) s0))) in
+        append-nil path.choices ∙ made ∙ ap (λ xs. start.choices ++ xs) (sym (append-nil (choices p m inputs (suc n) s0))) in
         let earlier_same = choices_left before path n s chosen [] [] at next.growth.choices all_same in
         let (made_before, stood) = keeps_pace earlier before over is trail b.valuation s (with_choice chosen [] ++ []) (with_choice (choice_at p m s) [] ++ []) b.extends (b.given given) at earlier_same next.going in
         let last : with_choice chosen [] ≡ with_choice (choice_at p m s) [] =
-            sym (append-nil (with_choice chosen [])) ∙ left_over before n _ _ made_before earlier_same ∙ append-nil (with_choice (choice_at p m s) []) in
+        sym (append-nil (with_choice chosen [])) ∙ left_over before n _ _ made_before earlier_same ∙ append-nil (with_choice (choice_at p m s) []) in
         next.along inputs b.valuation v s stood.stands_for (b.step n s stood) given (next.growth.choices ∙ ap (λ xs. before.choices ++ xs) last) (goes_as n s path.ending at comes)

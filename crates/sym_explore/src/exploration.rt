@@ -2,7 +2,7 @@
 ghost use Rattle.std.specs.Prelude.{◌≡◌, ◌≤◌, [], ◌∷◌, ◌++◌, IfOk, IfNone, None};
 ghost use Rattle.std.specs.Option.{option_map};
 ghost use Rattle.gil_program.specs.Program.{prog_view};
-ghost use Rattle.sym_explore.specs.Exploring.{CoverRuns, IsEndedFrom, KeepAccounts, KeepTrails, MayGoOn, or_none};
+ghost use Rattle.sym_explore.specs.Exploring.{CoverRuns, cut_off as pure_cut_off, IsEndedFrom, KeepAccounts, KeepTrails, MayGoOn, or_none};
 ghost use Rattle.sym_explore.specs.View.{paths_left};
 ghost use Rattle.sym_model.specs.Lists.{Each};
 ghost use Rattle.sym_paths.specs.View.{path_view, paths_view};
@@ -10,9 +10,11 @@ ghost use Rattle.sym_paths.specs.View.{path_view, paths_view};
 use gil_program::Prog;
 use pure_terms::Decider;
 use rewrite_book::RuleBook;
+use sequence::Sequence;
 use std::alloc::{AllocError, Global};
 use sym_model::SymMemory;
-use sym_paths::{Path, Paths};
+use sym_paths::{Path, PathEnd, Paths};
+use sym_step::step;
 
 /// Paths that are left to be explored, the next one last. Contracts see them by `paths_left`. After want of memory some are lost.
 #[derive(Drop)]
@@ -25,7 +27,9 @@ impl<M: SymMemory> Exploration<M> {
     pub fn new(alloc: Global, start: Path<M>) -> Result<Exploration<M>, AllocError>
         ensures { IfOk result (λ e. paths_left e ≡ path_view start ∷ []) }
     {
-        Err(AllocError)
+        let mut left = Vec::new(alloc);
+        left.push(start)?;
+        Ok(Exploration { left })
     }
 
     /// Does steps until a path has an end, and hands that one out: a path that has done as many steps as the bound is cut. No path
@@ -47,8 +51,30 @@ impl<M: SymMemory> Exploration<M> {
             (or_none (option_map path_view ended) ++ paths_left self.new)) }
         ensures last { IfOk result (λ ended. IfNone ended (paths_left self.new ≡ [])) }
     {
+        for _turn in 0..u64::MAX {
+            let Some(path) = self.left.pop() else {
+                return Ok(None);
+            };
+            if path.end.is_some() {
+                return Ok(Some(path));
+            }
+            if path.steps >= bound {
+                return Ok(Some(cut_off(path)));
+            }
+            let next = step(alloc, prog, path, rules, decider)?;
+            self.left.append(&mut next.into_vec())?;
+        }
         Err(AllocError)
     }
+}
+
+/// The path ends where it is.
+fn cut_off<M: Drop>(path: Path<M>) -> Path<M>
+    ensures { path_view result ≡ pure_cut_off (path_view path) }
+{
+    let mut path = path;
+    path.end = Some(PathEnd::Cut);
+    path
 }
 
 /// Does steps until every path has an end, a path that has done as many as the bound being cut.
@@ -68,5 +94,13 @@ pub fn explore<M: SymMemory, D: Decider>(
     ensures trails { IfOk result (λ ps. Each (IsEndedFrom (prog_view prog.now) M.Local.actions M.stands M.terms M.asked bound
         (path_view start)) (paths_view ps)) }
 {
+    let mut exploration = Exploration::new(alloc, start)?;
+    let mut ended = Sequence::new(alloc);
+    for _turn in 0..u64::MAX {
+        match exploration.next_ended(alloc, prog, bound, rules, decider)? {
+            Some(path) => ended.push(path)?,
+            None => return Ok(ended),
+        }
+    }
     Err(AllocError)
 }
