@@ -5,8 +5,9 @@ use Rattle.gil_values.specs.Pure.{PureValue}
 use Rattle.gil_syntax.specs.Pure.{PureParts}
 use Rattle.gil_machine.specs.Choices.{choices, choice_at, with_choice}
 use Rattle.gil_machine.specs.Run.{reached}
-use Rattle.gil_machine.specs.State.{State, Step, goes_on, ends}
+use Rattle.gil_machine.specs.State.{State, Step, goes_on, ends, IsOver as IsOverWith}
 use Rattle.gil_machine.specs.Step.{step, command_at}
+use Rattle.gil_machine.proofs.Steps.{Keeps, step-keeps}
 use Rattle.mem_model.specs.Actions.{Actions}
 use Rattle.mem_model.specs.Heaps.{Heap}
 use Rattle.pure_terms.specs.declared.variables.Sort.{Sort}
@@ -19,9 +20,9 @@ use Rattle.sym_explore.proofs.RunSteps.{step_does, reached_next, before_last, ch
 use Rattle.sym_model.specs.Lists.{Each}
 use Rattle.sym_model.specs.Meaning.{has_open}
 use Rattle.sym_model.specs.Terms.{StateTerms}
-use Rattle.sym_model.proofs.ListLaws.{same_some}
+use Rattle.sym_model.proofs.ListLaws.{same_some, not_none}
 use Rattle.sym_paths.specs.Meaning.{Stands, StandsForStep, IsOverTable}
-use Rattle.sym_paths.specs.Pure.{PureEnd, PurePath}
+use Rattle.sym_paths.specs.Pure.{PureEnd, cut, PurePath}
 use Rattle.sym_paths.specs.Steps.{AreNext, Extends, IsUnknown, IsChosen, GoesOnAs, drawn_from, draws_past, fresh_count, symbols_taken}
 use Rattle.sym_paths.proofs.Silent.{stands_at}
 
@@ -141,6 +142,23 @@ module _ {S : Type 0} (p : PureParts) (m : Actions) (stands : S → List PureVal
         let b = back earlier before path v over next trail ext in
         let (s, at) = at_open before b.valuation (length earlier) next.going (replay earlier before going over is trail b.valuation b.extends (b.conds meets) (known_open before next.going)) in
         stands_next inputs s0 start before path b.valuation v (length earlier) s next at (next.exact inputs b.valuation v s at.stands_for (b.step (length earlier) s at) known meets).1
+
+    -- a step doesn't end by a cut
+    no_cut : (path : PurePath S) (v : List PureValue) (s : State) (r : Step) → Keeps 0 r → ¬ StandsForStep p m stands path v s (Some cut) r
+    no_cut path v s (goes_on t) keeps stood = stood
+    no_cut path v s (ends e) keeps stood = subst IsOverWith stood.ending keeps.1
+
+    known_cut : ¬ IsUnknown (Some cut)
+    known_cut unknown = unknown
+
+    pub never_cut : (earlier : List (PurePath S)) (path : PurePath S) (v : List PureValue) → start.ending ≡ None → IsOverTable terms start → Stands stands start v0 s0
+        → IsTrail p m stands terms asked start earlier path → Extends inputs s0 start path v0 v → Satisfies path.vars v path.conds → ¬ (path.ending ≡ Some cut)
+    never_cut [] path v going over is trail ext meets ended = not_none (sym going ∙ ap (λ (q : PurePath S). q.ending) (sym trail) ∙ ended)
+    never_cut (before ∷ earlier) path v going over is (next, trail) ext meets ended =
+        let b = back earlier before path v over next trail ext in
+        let (s, at) = at_open before b.valuation (length earlier) next.going (replay earlier before going over is trail b.valuation b.extends (b.conds meets) (known_open before next.going)) in
+        let stood = (next.exact inputs b.valuation v s at.stands_for (b.step (length earlier) s at) (subst (λ o. ¬ IsUnknown o) (sym ended) known_cut) meets).1 in
+        no_cut path v s (step p m inputs s) (step-keeps p m inputs 0 s (omega arith)) (subst (λ o. StandsForStep p m stands path v s o (step p m inputs s)) ended stood)
 
     abbrev Chooses : ℕ → PurePath S → Type 0
     Chooses n path = MakesChoices p m inputs s0 start n path × ComesTo p m inputs s0 n path.ending
