@@ -1,31 +1,32 @@
 -- A step of exploration keeps trails and accounts.
-use Rattle.std.proofs.Common.{◌≡◌, ◌⊎◌, ⊎_elim, inl, inr, ℕ, zero, suc, ◌+◌, ◌<◌, ◌≤◌, List, [], ◌∷◌, ◌++◌, map, Option, Some, None, is_some, IsSome, false, true, IsTrue, refl, sym, ap, subst, ◌∙◌, arith, true≢false}
+use Rattle.std.proofs.Common.{◌≡◌, ◌⊎◌, ⊎_elim, inl, inr, ℕ, suc, ◌+◌, ◌<◌, ◌≤◌, List, [], ◌∷◌, ◌++◌, Option, Some, None, is_some, IsSome, false, true, refl, sym, ap, subst, arith, true≢false}
 use Rattle.std.specs.Option.{option_map}
-use Rattle.std.proofs.lemmas.List.{append-nil}
+use Rattle.std.proofs.lemmas.List.{append-nil, append_assoc}
 use Rattle.gil_values.specs.Pure.{PureValue}
+use Rattle.gil_syntax.specs.Programs.{find_proc}
 use Rattle.gil_syntax.specs.Pure.{PureParts, PureNumberedCommand}
 use Rattle.gil_machine.specs.Run.{run, reached}
 use Rattle.gil_machine.specs.State.{State, End, Step, goes_on, ends, end_at, IsOver}
 use Rattle.gil_machine.specs.State as machine
-use Rattle.gil_machine.specs.Step.{step}
+use Rattle.gil_machine.specs.Step.{command_of, step}
 use Rattle.mem_model.specs.Actions.{Actions}
 use Rattle.mem_model.specs.Heaps.{Heap}
 use Rattle.pure_terms.specs.Meaning.{Satisfies}
 use Rattle.pure_terms.specs.Pure.{PureTerm, PureAtom}
 use Rattle.sym_engine.specs.Lawful.{IsOwnAt}
-use Rattle.sym_explore.specs.Exploring.{MayGoOn, cut_off, IsFrom, IsEndedFrom, KeepAccounts}
-use Rattle.sym_explore.specs.Runs.{EndsAfter, StandsAt, StandsAfter, AccountsFor}
-use Rattle.sym_explore.specs.Trails.{IsNextPath, IsTrail}
+use Rattle.sym_explore.specs.Exploring.{MayGoOn, cut_off, IsFrom, IsEndedFrom, KeepTrails, KeepAccounts, CoverRuns}
+use Rattle.sym_explore.specs.Runs.{StandsAt, StandsAfter, AccountsFor}
+use Rattle.sym_explore.specs.Trails.{IsNextPath}
 use Rattle.sym_explore.proofs.Following.{counter_at, draws_at, both_extend}
 use Rattle.sym_explore.proofs.RunSteps.{ends_stay}
-use Rattle.sym_explore.proofs.Trails.{stands_next, At}
+use Rattle.sym_explore.proofs.Trails.{stands_next}
 use Rattle.sym_model.specs.Lists.{Each, OneOf}
 use Rattle.sym_model.specs.Terms.{StateTerms}
-use Rattle.sym_model.proofs.ListLaws.{each_append, each_left, each_right, each_to, one_left, one_right, one_parts, one_with}
-use Rattle.sym_paths.specs.Meaning.{Stands, StandsForEnd, StandsForStep, IsOverTable, command_of_path}
-use Rattle.sym_paths.specs.Pure.{PureEnd, cut, unknown, PurePath}
+use Rattle.sym_model.proofs.ListLaws.{each_append, each_left, each_right, each_to, one_left, one_right, one_parts}
+use Rattle.sym_paths.specs.Meaning.{Stands, StandsForStep, command_of_frames, command_of_path}
+use Rattle.sym_paths.specs.Pure.{PureFrame, PurePath}
 use Rattle.sym_paths.specs.Steps.{Extends, HasInput, IsInputFault, IsUnknown, Grows, IsRecorded, IsExact, ChoosesAlike, HoldsAlong, AddsOwn, StaysSatisfiable, IsRightlyUnknown, AreNextPaths}
-use Rattle.sym_step.specs.Stepping.{AreAtCommands, MayStep}
+use Rattle.sym_step.specs.Stepping.{AreAtCommands}
 
 -- an end that is for want of input is over
 fault_is_over : (e : machine.Ending) → IsInputFault e → IsOver e
@@ -83,11 +84,13 @@ module _ {S : Type 0} (p : PureParts) (m : Actions) (stands : S → List PureVal
         → StandsForStep p m stands next w s next.ending (step p m inputs s) ⊎ (IsUnknown next.ending × Satisfies next.vars w next.conds) → Accounts start inputs v0 s0 next
     account_next start path next inputs v0 v s0 s first at w nx ext what = (
       w,
-      (both_extend inputs s0 start path next v0 v w s first ext (counter_at s0.counter s.counter start.vars path.vars first.new_vars first.vars at.symbols) (draws_at s0.draws s.draws start.vars path.vars first.new_vars first.vars at.draws),
-      ⊎_elim
-      (λ stood. let counted : suc path.steps ≡ next.steps = let more : next.steps ≡ path.steps + 1 = nx.growth.steps in omega (arith, more) in
-          inl (subst (λ n. StandsAfter p m stands inputs s0 start next w n next.ending) counted (stands_next p m stands terms asked inputs s0 start path next v w path.steps s nx at stood)))
-      inr what),
+      (
+        both_extend inputs s0 start path next v0 v w s first ext (counter_at s0.counter s.counter start.vars path.vars first.new_vars first.vars at.symbols) (draws_at s0.draws s.draws start.vars path.vars first.new_vars first.vars at.draws),
+        ⊎_elim
+            (λ stood. let counted : suc path.steps ≡ next.steps = let more : next.steps ≡ path.steps + 1 = nx.growth.steps in omega (arith, more) in
+            inl (subst (λ n. StandsAfter p m stands inputs s0 start next w n next.ending) counted (stands_next p m stands terms asked inputs s0 start path next v w path.steps s nx at stood)))
+            inr what,
+      ),
     )
 
     at_open : (start path : PurePath S) (inputs v : List PureValue) (s0 : State) → path.ending ≡ None
@@ -111,31 +114,39 @@ module _ {S : Type 0} (p : PureParts) (m : Actions) (stands : S → List PureVal
     -- a path without an end that did as many steps as the bound is cut, and accounts for what it accounted for
     pub accounts_cut : (path : PurePath S) → path.ending ≡ None → (start : PurePath S) (inputs v0 : List PureValue) (s0 : State) → Accounts start inputs v0 s0 path → Accounts start inputs v0 s0 (cut_off path)
     accounts_cut path still start inputs v0 s0 (v, (first, after)) =
-        let (s, at) = at_open start path inputs v s0 still after in
-        (
+        let (s, at) = at_open start path inputs v s0 still after in (
           v,
-          (record { new_vars = first.new_vars; new_values = first.new_values; vars = first.vars; values = first.values; in_turn = first.in_turn },
-          inl
-          (s,
-          (end_at s machine.cut,
-          (inr (at.comes_to, refl),
-          record {
-            proper = at.stands_for.proper;
-            meets = at.stands_for.meets;
-            ending = refl;
-            memory = at.stands_for.memory;
-            symbols_below = at.stands_for.symbols_below;
-            draws = at.stands_for.draws;
-          })))),
+          (
+            record { new_vars = first.new_vars; new_values = first.new_values; vars = first.vars; values = first.values; in_turn = first.in_turn },
+            inl (
+              s,
+              (
+                end_at s machine.cut,
+                (
+                  inr (at.comes_to, refl),
+                  record {
+                    proper = at.stands_for.proper;
+                    meets = at.stands_for.meets;
+                    ending = refl;
+                    memory = at.stands_for.memory;
+                    symbols_below = at.stands_for.symbols_below;
+                    draws = at.stands_for.draws;
+                  },
+                ),
+              ),
+            ),
+          ),
         )
 
     pub accounts_first : (start : PurePath S) (inputs v0 : List PureValue) (s0 : State) → start.ending ≡ None → start.steps ≡ 0 → Stands stands start v0 s0 → Accounts start inputs v0 s0 start
     accounts_first start inputs v0 s0 still first is = (
       v0,
-      (record { new_vars = []; new_values = []; vars = sym (append-nil start.vars); values = sym (append-nil v0); in_turn = tt },
-      inl
-      (subst (StandsAfter p m stands inputs s0 start start v0 start.steps) (sym still)
-      (s0, record { comes_to = ap (λ n. reached p m inputs n s0) first; stands_for = is; symbols = refl; draws = refl }))),
+      (
+        record { new_vars = []; new_values = []; vars = sym (append-nil start.vars); values = sym (append-nil v0); in_turn = tt },
+        inl
+            (subst (StandsAfter p m stands inputs s0 start start v0 start.steps) (sym still)
+            (s0, record { comes_to = ap (λ n. reached p m inputs n s0) first; stands_for = is; symbols = refl; draws = refl })),
+      ),
     )
 
     -- ---- trails
@@ -163,6 +174,15 @@ module _ {S : Type 0} (p : PureParts) (m : Actions) (stands : S → List PureVal
   nexts_go_on path (next ∷ nexts) each placed =
       ((λ still early. record { no_end = still; steps = early; placed = placed.0 still; over = each.0.growth.over }), nexts_go_on path nexts each.1 placed.1)
 
+some_command : (o : Option PureNumberedCommand) → IsSome o → (c : PureNumberedCommand) × (o ≡ Some c)
+some_command (Some c) is = (c, refl)
+some_command None is = absurd (true≢false (sym is))
+
+-- a frame that runs stands at a command
+pub at_a_command : (p : PureParts) (fs : List PureFrame) → AreAtCommands p fs → (c : PureNumberedCommand) × (command_of_frames p fs ≡ Some c)
+at_a_command p [] placed = absurd placed
+at_a_command p (f ∷ fs) placed = some_command (command_of (find_proc p.procs f.procedure) f.next) placed.0
+
 -- ---- lists of paths that are left
 
 -- the last path is taken out
@@ -182,3 +202,79 @@ one_replaced P all rest more x is f one = ⊎_elim (λ here. one_right P rest mo
 
 pub each_replaced : {A : Type 0} (P : A → Type 0) (all rest more : List A) (x : A) → all ≡ rest ++ x ∷ [] → (P x → Each P more) → Each P all → Each P (rest ++ more)
 each_replaced P all rest more x is f each = let (before, last) = rest_keeps P all rest x is each in each_append P rest more before (f last)
+
+module _ {S : Type 0} (p : PureParts) (m : Actions) (stands : S → List PureValue → Heap → Type 0) (terms : S → StateTerms)
+    (asked : List ℕ → List PureTerm → List PureTerm) (bound : ℕ) (old all rest : List (PurePath S)) (path : PurePath S) (is : all ≡ rest ++ path ∷ []) where
+  abbrev Comes : PurePath S → PurePath S → Type 0
+  Comes = IsFrom p m stands terms asked bound
+
+  abbrev Ended : PurePath S → PurePath S → Type 0
+  Ended = IsEndedFrom p m stands terms asked bound
+
+  abbrev For : PurePath S → List PureValue → List PureValue → State → PurePath S → Type 0
+  For start inputs v0 s0 = AccountsFor p m stands inputs s0 start v0
+
+  pub placed_rest : Each (MayGoOn p terms) all → Each (MayGoOn p terms) rest
+  placed_rest placed = (rest_keeps (MayGoOn p terms) all rest path is placed).0
+
+  pub placed_last : Each (MayGoOn p terms) all → MayGoOn p terms path
+  placed_last placed = (rest_keeps (MayGoOn p terms) all rest path is placed).1
+
+  pub placed_more : (nexts : List (PurePath S)) → Each (MayGoOn p terms) nexts → Each (MayGoOn p terms) all → Each (MayGoOn p terms) (rest ++ nexts)
+  placed_more nexts new placed = each_replaced (MayGoOn p terms) all rest nexts path is (λ before. new) placed
+
+  pub trails_handed : (ended : PurePath S) → ((start : PurePath S) → Comes start path → Ended start ended) → KeepTrails p m stands terms asked bound old [] all → KeepTrails p m stands terms asked bound old (ended ∷ []) rest
+  trails_handed ended become trails start from =
+      let (before, last) = rest_keeps (Comes start) all rest path is (trails start from).1 in
+      ((become start last, tt), before)
+
+  pub trails_more : (nexts : List (PurePath S)) → ((start : PurePath S) → Comes start path → Each (Comes start) nexts) → KeepTrails p m stands terms asked bound old [] all → KeepTrails p m stands terms asked bound old [] (rest ++ nexts)
+  trails_more nexts go trails start from = (tt, each_replaced (Comes start) all rest nexts path is (go start) (trails start from).1)
+
+  pub cover_handed : (ended : PurePath S) → ((start : PurePath S) (inputs v0 : List PureValue) (s0 : State) → For start inputs v0 s0 path → For start inputs v0 s0 ended) → KeepAccounts p m stands bound old all
+      → KeepAccounts p m stands bound old (ended ∷ [] ++ rest)
+  cover_handed ended keeps cover start inputs v0 s0 fine one = one_handed (For start inputs v0 s0) all rest path ended is (keeps start inputs v0 s0) (cover start inputs v0 s0 fine one)
+
+  pub cover_more : (nexts : List (PurePath S)) → ((start : PurePath S) (inputs v0 : List PureValue) (s0 : State) → ¬ IsInputFault (run p m inputs bound s0).ending → For start inputs v0 s0 path → OneOf (For start inputs v0 s0) nexts)
+      → KeepAccounts p m stands bound old all → KeepAccounts p m stands bound old (rest ++ nexts)
+  cover_more nexts go cover start inputs v0 s0 fine one = one_replaced (For start inputs v0 s0) all rest nexts path is (go start inputs v0 s0 fine) (cover start inputs v0 s0 fine one)
+
+  -- a step of the path
+  pub stepped : (nexts left : List (PurePath S)) → left ≡ rest ++ nexts → path.ending ≡ None → path.steps < bound → path.steps < 10000
+      → AreNextPaths p m stands terms (IsOwnAt stands terms asked m p path) path nexts → Each (λ next. next.ending ≡ None → AreAtCommands p next.stack) nexts → Each (MayGoOn p terms) all
+      → KeepTrails p m stands terms asked bound old [] all → KeepAccounts p m stands bound old all
+      → Each (MayGoOn p terms) left × KeepTrails p m stands terms asked bound old [] left × KeepAccounts p m stands bound old left
+  stepped nexts left same going below early laws placed may trails cover =
+      let (command, at) = at_a_command p path.stack (placed_last may going early).placed in
+      let each = are_next p m stands terms asked path nexts going command at laws.growth laws.exact laws.along laws.own_conditions laws.satisfiable laws.unknown_rightly laws.recorded laws.choices in (
+        subst (Each (MayGoOn p terms)) (sym same) (placed_more nexts (nexts_go_on p m stands terms asked path nexts each placed) may),
+        subst (KeepTrails p m stands terms asked bound old []) (sym same) (trails_more nexts (nexts_from p m stands terms asked bound path nexts below each) trails),
+        subst (KeepAccounts p m stands bound old) (sym same) (cover_more nexts (accounts_next p m stands terms asked bound path nexts (IsOwnAt stands terms asked m p path) going below each laws) cover),
+      )
+
+-- ---- ends as the code sees them
+
+pub has_end : {A B : Type 0} (f : A → B) (o : Option A) → is_some o ≡ true → IsSome (option_map f o)
+has_end f (Some x) is = refl
+has_end f None is = absurd (true≢false (sym is))
+
+pub has_no_end : {A B : Type 0} (f : A → B) (o : Option A) → is_some o ≡ false → option_map f o ≡ None
+has_no_end f None is = refl
+has_no_end f (Some x) is = absurd (true≢false is)
+
+-- ---- all ended paths
+
+-- whatever one of the paths that are left accounts for, one that was handed out or one that is left now does
+pub cover_pushed : {S : Type 0} (p : PureParts) (m : Actions) (stands : S → List PureValue → Heap → Type 0) (bound : ℕ) (start : PurePath S) (ended left handed now : List (PurePath S))
+    → CoverRuns p m stands bound start (ended ++ left) → KeepAccounts p m stands bound left (handed ++ now) → CoverRuns p m stands bound start ((ended ++ handed) ++ now)
+cover_pushed p m stands bound start ended left handed now cover keep inputs v0 s0 is fine =
+    let For = AccountsFor p m stands inputs s0 start v0 in
+    subst (OneOf For) (sym (append_assoc ended handed now))
+    (⊎_elim (λ old. one_left For ended (handed ++ now) old) (λ other. one_right For ended (handed ++ now) (keep start inputs v0 s0 fine other)) (one_parts For ended left (cover inputs v0 s0 is fine)))
+
+-- no path is left
+pub cover_finished : {S : Type 0} (p : PureParts) (m : Actions) (stands : S → List PureValue → Heap → Type 0) (bound : ℕ) (start : PurePath S) (ended left now : List (PurePath S))
+    → CoverRuns p m stands bound start (ended ++ left) → KeepAccounts p m stands bound left now → now ≡ [] → CoverRuns p m stands bound start ended
+cover_finished p m stands bound start ended left now cover keep none inputs v0 s0 is fine =
+    let For = AccountsFor p m stands inputs s0 start v0 in
+    ⊎_elim (λ old. old) (λ other. absurd (subst (OneOf For) none (keep start inputs v0 s0 fine other))) (one_parts For ended left (cover inputs v0 s0 is fine))

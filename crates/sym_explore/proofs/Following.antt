@@ -1,6 +1,5 @@
 -- Valuations that follow a run: those of longer paths are those of shorter ones with the values of the new variables.
-use Rattle.std.proofs.Common.{◌≡◌, ℕ, zero, suc, ◌+◌, ◌<◌, ◌≤◌, List, [], ◌∷◌, ◌++◌, ◌&&◌, length, slice_get, Bool, true, false, Some, IsTrue, refl, sym, ap, subst, ◌∙◌, arith}
-use Rattle.std.specs.List.{list_all}
+use Rattle.std.proofs.Common.{◌≡◌, ℕ, suc, ◌+◌, List, [], ◌∷◌, ◌++◌, ◌&&◌, length, Bool, true, false, IsTrue, refl, sym, ap, subst, ◌∙◌, arith}
 use Rattle.std.proofs.lemmas.List.{append-nil, append_cancel_left, append_assoc, length-append}
 use Rattle.std.proofs.lemmas.Option.{slice_get_within}
 use Rattle.gil_values.specs.Pure.{PureValue, symbol}
@@ -12,44 +11,27 @@ use Rattle.pure_terms.proofs.VariableLaws.{slice_get-append}
 use Rattle.sym_explore.specs.Runs.{draw_count}
 use Rattle.sym_model.specs.Lists.{Each}
 use Rattle.sym_paths.specs.Pure.{PurePath}
-use Rattle.sym_paths.specs.Steps.{IsNext, AreNext, Extends, counter_after, draws_after, counter_past, draws_past, drawn_from, fresh_count}
+use Rattle.sym_paths.specs.Steps.{AreNext, Extends, counter_after, draws_after, counter_past, draws_past, drawn_from, fresh_count}
 use Rattle.sym_paths.proofs.Growing.{all_true-more}
+use Rattle.sym_paths.proofs.Recording.{past_is, fresh_append}
 use Rattle.sym_paths.proofs.Valuations.{variables_follow_in_turn}
 
 -- ---- counters
-
-past_append : (xs ys : List Sort) (n : ℕ) → counter_past (xs ++ ys) n ≡ counter_past ys (counter_past xs n)
-past_append [] ys n = refl
-past_append (x ∷ xs) ys n = past_append xs ys (counter_after x n)
 
 draws_append : (xs ys : List Sort) (n : ℕ) → draws_past (xs ++ ys) n ≡ draws_past ys (draws_past xs n)
 draws_append [] ys n = refl
 draws_append (x ∷ xs) ys n = draws_append xs ys (draws_after x n)
 
-after_more : (x : Sort) (n k : ℕ) → counter_after x (n + k) ≡ n + counter_after x k
-after_more Sort.Fresh n k = omega arith
-after_more x n k = refl
-
 draws_more : (x : Sort) (n k : ℕ) → draws_after x (n + k) ≡ n + draws_after x k
 draws_more Sort.Fresh n k = refl
 draws_more x n k = omega arith
-
-past_more : (xs : List Sort) (n k : ℕ) → counter_past xs (n + k) ≡ n + counter_past xs k
-past_more [] n k = refl
-past_more (x ∷ xs) n k = ap (counter_past xs) (after_more x n k) ∙ past_more xs n (counter_after x k)
 
 draws_past_more : (xs : List Sort) (n k : ℕ) → draws_past xs (n + k) ≡ n + draws_past xs k
 draws_past_more [] n k = refl
 draws_past_more (x ∷ xs) n k = ap (draws_past xs) (draws_more x n k) ∙ draws_past_more xs n (draws_after x k)
 
-pub past_is : (xs : List Sort) (n : ℕ) → counter_past xs n ≡ n + fresh_count xs
-past_is xs n = let same : n ≡ n + 0 = omega arith in ap (counter_past xs) same ∙ past_more xs n 0
-
 pub draws_past_is : (xs : List Sort) (n : ℕ) → draws_past xs n ≡ n + draw_count xs
 draws_past_is xs n = let same : n ≡ n + 0 = omega arith in ap (draws_past xs) same ∙ draws_past_more xs n 0
-
-pub fresh_append : (xs ys : List Sort) → fresh_count (xs ++ ys) ≡ fresh_count xs + fresh_count ys
-fresh_append xs ys = past_append xs ys 0 ∙ past_is ys (fresh_count xs)
 
 pub draw_append : (xs ys : List Sort) → draw_count (xs ++ ys) ≡ draw_count xs + draw_count ys
 draw_append xs ys = draws_append xs ys 0 ∙ draws_past_is ys (draw_count xs)
@@ -170,7 +152,7 @@ module _ {S : Type 0} (inputs : List PureValue) (s0 : State) (start path next : 
       → Extends inputs s0 start next v0 v → Shorter sorts v
   shorter first sorts v at_start earlier later ext =
       let two = in_two inputs s0.counter s0.draws first sorts ext.new_values
-          (subst (λ xs. AreNext inputs s0.counter s0.draws xs ext.new_values) (new_vars_are first sorts v earlier later ext) ext.in_turn) in
+      (subst (λ xs. AreNext inputs s0.counter s0.draws xs ext.new_values) (new_vars_are first sorts v earlier later ext) ext.in_turn) in
       record {
         valuation = v0 ++ two.first;
         extends = record { new_vars = first; new_values = two.first; vars = earlier; values = refl; in_turn = two.first_next };

@@ -1,19 +1,18 @@
 -- What trails keep, and what they say in the words of the laws.
-use Rattle.std.proofs.Common.{◌≡◌, ◌⊎◌, ⊎_elim, inl, inr, ℕ, suc, ◌+◌, List, [], ◌∷◌, ◌++◌, length, None, refl, sym, subst, ◌∙◌, arith}
+use Rattle.std.proofs.Common.{◌≡◌, ◌⊎◌, ⊎_elim, inl, inr, ℕ, ◌+◌, List, [], ◌∷◌, length, sym, subst, arith}
 use Rattle.gil_values.specs.Pure.{PureValue}
 use Rattle.gil_syntax.specs.Pure.{PureParts}
-use Rattle.gil_machine.specs.State.{State}
 use Rattle.mem_model.specs.Actions.{Actions}
 use Rattle.mem_model.specs.Heaps.{Heap}
 use Rattle.pure_terms.specs.Fragment.{InFragment}
 use Rattle.pure_terms.specs.Meaning.{Satisfies}
 use Rattle.pure_terms.specs.Pure.{PureTerm, PureAtom}
 use Rattle.sym_engine.specs.Lawful.{IsOwnAt}
-use Rattle.sym_explore.specs.Laws.{EndsAreOfRuns, IsBeside, IsTraced, TrailsReplay, TrailsHoldAlong, TrailsMayEndBefore, TrailsKeep}
+use Rattle.sym_explore.specs.Laws.{EndsAreOfRuns, IsTraced, TrailsReplay, TrailsHoldAlong, TrailsMayEndBefore, TrailsKeep}
 use Rattle.sym_explore.specs.Trails.{IsNextPath, IsTrail}
 use Rattle.sym_explore.proofs.RunSteps.{ends_are_of_runs, ends_stay}
-use Rattle.sym_explore.proofs.Trails.{trail_over, replay, replay_choices, along, back}
-use Rattle.sym_model.specs.Lists.{Each, OneOf, IsAmong}
+use Rattle.sym_explore.proofs.Trails.{trail_over, replay, replay_choices, never_cut, along, back}
+use Rattle.sym_model.specs.Lists.{Each, IsAmong}
 use Rattle.sym_model.specs.Terms.{StateTerms}
 use Rattle.sym_model.proofs.ListLaws.{each_append, each_to, each_is_among, one_left}
 use Rattle.sym_paths.specs.Pure.{PurePath}
@@ -90,6 +89,8 @@ module _ {S : Type 0} (p : PureParts) (m : Actions) (stands : S → List PureVal
         replay p m stands terms asked inputs v0 s0 start beside.stands_for.proper.one_each earlier path beside.going beside.over beside.stands_for beside.trail v beside.follows meets known;
     chooses = λ inputs v0 v s0 start earlier path beside meets known.
         replay_choices p m stands terms asked inputs v0 s0 start beside.stands_for.proper.one_each earlier path v beside.going beside.over beside.stands_for beside.trail beside.follows meets known;
+    never_cut = λ inputs v0 v s0 start earlier path beside meets.
+        never_cut p m stands terms asked inputs v0 s0 start beside.stands_for.proper.one_each earlier path v beside.going beside.over beside.stands_for beside.trail beside.follows meets;
   }
 
   pub trails_hold_along : TrailsHoldAlong p m stands terms asked

@@ -1,5 +1,6 @@
 pub mod Exploring
 pub mod Following
 pub mod Kept
+pub mod Plain
 pub mod RunSteps
 pub mod Trails

@@ -1,5 +1,5 @@
 -- One more step of a run, and what it does to choices, symbols and draws.
-use Rattle.std.proofs.Common.{◌≡◌, ◌⊎◌, inl, inr, ℕ, zero, suc, ◌+◌, ◌≤◌, ◌<◌, ℤ, pos, negsuc, List, [], ◌∷◌, ◌++◌, Bool, true, false, ◌==◌, if◌then◌else◌, length, slice_get, Option, Some, None, is_some, IsSome, Ok, Err, refl, sym, ap, subst, ◌∙◌, arith}
+use Rattle.std.proofs.Common.{◌≡◌, inl, inr, ℕ, zero, suc, ◌+◌, ◌≤◌, ℤ, pos, negsuc, List, [], ◌∷◌, ◌++◌, Bool, true, false, ◌==◌, if◌then◌else◌, length, slice_get, Option, Some, None, is_some, Ok, Err, refl, sym, ap, subst, ◌∙◌, arith}
 use Rattle.std.specs.Option.{option_map}
 use Rattle.gil_values.specs.declared.kinds.Kind.{Kind}
 use Rattle.gil_values.specs.declared.places.Place.{Place}
@@ -10,10 +10,9 @@ use Rattle.gil_syntax.specs.Evaluation.{Outcomes, evaluate, evaluate_all}
 use Rattle.gil_syntax.specs.Programs.{find_proc}
 use Rattle.gil_syntax.specs.Pure.{PureCommand, assign, call, act, usym, isym, ifgoto, return, fail, vanish, fold_use, unfold_use, assert_that, loop_invariant, PureNumberedCommand, PureProc, PureParts}
 use Rattle.gil_machine.specs.Choices.{choices, choice_at, choice_of, with_choice, later_choices, of_value, of_values, guard_choice, outcome_choice}
-use Rattle.gil_machine.specs.Laws.{IsCutAtItsBound}
 use Rattle.gil_machine.specs.Run.{run, after, reached, and_then}
 use Rattle.gil_machine.specs.State.{Frame, State, End, Step, goes_on, ends, end_at, cut, IsOver}
-use Rattle.gil_machine.specs.Step.{step, step_at, do_command, command_at, to_next, with_value, with_values, assigned, branch, draw, do_action, acted, after_action, action_result, counted, enter_found, enter_value, leave}
+use Rattle.gil_machine.specs.Step.{step, do_command, command_at, to_next, with_value, with_values, assigned, branch, draw, do_action, after_action, action_result, enter_found, enter_value, leave}
 use Rattle.gil_machine.proofs.Runs.{stays_over}
 use Rattle.mem_model.specs.Actions.{Actions, ActionResult}
 use Rattle.mem_model.specs.Pure.{PureOutcome, done, failed as action_failed, miss}
@@ -184,7 +183,7 @@ of_action false m x a args here s = of_outcome (s.counter + 0) (action_result fa
 
 of_actions : (r : Outcomes) (m : Actions) (x a : List ℕ) (here : Place) (s : State)
     → Does (s.counter + (if m.takes_symbol a then 1 else 0)) true (option_map (λ (w : ActionResult). outcome_choice w.outcome) (of_values (λ args. Some (action_result (m.takes_symbol a) m a args s)) r))
-        (with_values r here s (λ args. do_action (m.takes_symbol a) m x a args here s))
+    (with_values r here s (λ args. do_action (m.takes_symbol a) m x a args here s))
 of_actions (Ok args) m x a here s = of_action (m.takes_symbol a) m x a args here s
 of_actions (Err f) m x a here s = tt
 

@@ -1,28 +1,28 @@
 -- A run beside a trail, from step to step.
-use Rattle.std.proofs.Common.{◌≡◌, ◌⊎◌, ⊎_elim, inl, inr, ℕ, zero, suc, ◌+◌, List, [], ◌∷◌, ◌++◌, Bool, true, false, length, Option, Some, None, is_some, IsSome, IsTrue, get_or, refl, sym, ap, subst, ◌∙◌, arith, true≢false}
+use Rattle.std.proofs.Common.{◌≡◌, ◌⊎◌, ⊎_elim, inl, ℕ, zero, suc, ◌+◌, List, [], ◌∷◌, ◌++◌, false, length, Option, Some, None, is_some, IsSome, IsTrue, get_or, refl, sym, ap, subst, ◌∙◌, arith, true≢false}
 use Rattle.std.proofs.lemmas.List.{append-nil, append_cancel_left, append_assoc, length-append}
 use Rattle.gil_values.specs.Pure.{PureValue}
-use Rattle.gil_syntax.specs.Pure.{PureParts, PureNumberedCommand}
+use Rattle.gil_syntax.specs.Pure.{PureParts}
 use Rattle.gil_machine.specs.Choices.{choices, choice_at, with_choice}
 use Rattle.gil_machine.specs.Run.{reached}
-use Rattle.gil_machine.specs.State.{State, Step, goes_on, ends}
+use Rattle.gil_machine.specs.State.{State, Step, goes_on, ends, IsOver as IsOverWith}
 use Rattle.gil_machine.specs.Step.{step, command_at}
+use Rattle.gil_machine.proofs.Steps.{Keeps, step-keeps}
 use Rattle.mem_model.specs.Actions.{Actions}
 use Rattle.mem_model.specs.Heaps.{Heap}
 use Rattle.pure_terms.specs.declared.variables.Sort.{Sort}
 use Rattle.pure_terms.specs.Meaning.{all_true, IsOver, Satisfies}
 use Rattle.pure_terms.specs.Pure.{PureTerm, PureAtom, term_of}
-use Rattle.sym_explore.specs.Laws.{IsBeside}
-use Rattle.sym_explore.specs.Runs.{draw_count, EndsAfter, ComesTo, MakesChoices, StandsAt, StandsAfter}
+use Rattle.sym_explore.specs.Runs.{draw_count, ComesTo, MakesChoices, StandsAt, StandsAfter}
 use Rattle.sym_explore.specs.Trails.{IsNextPath, IsTrail}
-use Rattle.sym_explore.proofs.Following.{counter_at, draws_at, draw_append, drawn_length, meets_part, Shorter, shorter, same_valuation}
-use Rattle.sym_explore.proofs.RunSteps.{DoesOf, step_does, reached_next, before_last, choices_next}
+use Rattle.sym_explore.proofs.Following.{counter_at, draws_at, draw_append, drawn_length, meets_part, shorter, same_valuation}
+use Rattle.sym_explore.proofs.RunSteps.{step_does, reached_next, before_last, choices_next}
 use Rattle.sym_model.specs.Lists.{Each}
 use Rattle.sym_model.specs.Meaning.{has_open}
 use Rattle.sym_model.specs.Terms.{StateTerms}
 use Rattle.sym_model.proofs.ListLaws.{same_some, not_none}
 use Rattle.sym_paths.specs.Meaning.{Stands, StandsForStep, IsOverTable}
-use Rattle.sym_paths.specs.Pure.{PureEnd, PurePath}
+use Rattle.sym_paths.specs.Pure.{PureEnd, cut, PurePath}
 use Rattle.sym_paths.specs.Steps.{AreNext, Extends, IsUnknown, IsChosen, GoesOnAs, drawn_from, draws_past, fresh_count, symbols_taken}
 use Rattle.sym_paths.proofs.Silent.{stands_at}
 
@@ -143,6 +143,23 @@ module _ {S : Type 0} (p : PureParts) (m : Actions) (stands : S → List PureVal
         let (s, at) = at_open before b.valuation (length earlier) next.going (replay earlier before going over is trail b.valuation b.extends (b.conds meets) (known_open before next.going)) in
         stands_next inputs s0 start before path b.valuation v (length earlier) s next at (next.exact inputs b.valuation v s at.stands_for (b.step (length earlier) s at) known meets).1
 
+    -- a step doesn't end by a cut
+    no_cut : (path : PurePath S) (v : List PureValue) (s : State) (r : Step) → Keeps 0 r → ¬ StandsForStep p m stands path v s (Some cut) r
+    no_cut path v s (goes_on t) keeps stood = stood
+    no_cut path v s (ends e) keeps stood = subst IsOverWith stood.ending keeps.1
+
+    known_cut : ¬ IsUnknown (Some cut)
+    known_cut unknown = unknown
+
+    pub never_cut : (earlier : List (PurePath S)) (path : PurePath S) (v : List PureValue) → start.ending ≡ None → IsOverTable terms start → Stands stands start v0 s0
+        → IsTrail p m stands terms asked start earlier path → Extends inputs s0 start path v0 v → Satisfies path.vars v path.conds → ¬ (path.ending ≡ Some cut)
+    never_cut [] path v going over is trail ext meets ended = not_none (sym going ∙ ap (λ (q : PurePath S). q.ending) (sym trail) ∙ ended)
+    never_cut (before ∷ earlier) path v going over is (next, trail) ext meets ended =
+        let b = back earlier before path v over next trail ext in
+        let (s, at) = at_open before b.valuation (length earlier) next.going (replay earlier before going over is trail b.valuation b.extends (b.conds meets) (known_open before next.going)) in
+        let stood = (next.exact inputs b.valuation v s at.stands_for (b.step (length earlier) s at) (subst (λ o. ¬ IsUnknown o) (sym ended) known_cut) meets).1 in
+        no_cut path v s (step p m inputs s) (step-keeps p m inputs 0 s (omega arith)) (subst (λ o. StandsForStep p m stands path v s o (step p m inputs s)) ended stood)
+
     abbrev Chooses : ℕ → PurePath S → Type 0
     Chooses n path = MakesChoices p m inputs s0 start n path × ComesTo p m inputs s0 n path.ending
 
@@ -172,12 +189,13 @@ module _ {S : Type 0} (p : PureParts) (m : Actions) (stands : S → List PureVal
         let (s, at) = at_open before b.valuation n next.going (replay earlier before going over is trail b.valuation b.extends (b.conds meets) (known_open before next.going)) in
         let made = replay_choices earlier before b.valuation going over is trail b.extends (b.conds meets) (inl (known_open before next.going)) in
         let chosen : IsChosen before path (choice_at p m s) =
-            ⊎_elim
-            (λ (clear : ¬ IsUnknown path.ending). (next.exact inputs b.valuation v s at.stands_for (b.step n s at) clear meets).0)
-            (λ (no_form : has_open path.conds ≡ false). next.choices inputs b.valuation v s at.stands_for (b.step n s at) no_form meets) known in
-        (choices_join before path n s at.comes_to made.0 chosen,
-        comes_so_far path v n s path.ending at.comes_to
-        (λ still. subst (StandsAfter p m stands inputs s0 start path v (suc n)) still (replay (before ∷ earlier) path going over is (next, trail) v ext meets (known_open path still))))
+        ⊎_elim
+        (λ (clear : ¬ IsUnknown path.ending). (next.exact inputs b.valuation v s at.stands_for (b.step n s at) clear meets).0)
+        (λ (no_form : has_open path.conds ≡ false). next.choices inputs b.valuation v s at.stands_for (b.step n s at) no_form meets) known in (
+          choices_join before path n s at.comes_to made.0 chosen,
+          comes_so_far path v n s path.ending at.comes_to
+              (λ still. subst (StandsAfter p m stands inputs s0 start path v (suc n)) still (replay (before ∷ earlier) path going over is (next, trail) v ext meets (known_open path still))),
+        )
 
     -- ---- along
 
@@ -271,9 +289,9 @@ module _ {S : Type 0} (p : PureParts) (m : Actions) (stands : S → List PureVal
         let chosen = next.growth.chosen in
         let (s, at) = state_before n path.ending comes in
         let all_same : path.choices ++ [] ≡ start.choices ++ (choices p m inputs (suc n) s0 ++ []) =
-            append-nil path.choices ∙ made ∙ ap (λ xs. start.choices ++ xs) (sym (append-nil (choices p m inputs (suc n) s0))) in
+        append-nil path.choices ∙ made ∙ ap (λ xs. start.choices ++ xs) (sym (append-nil (choices p m inputs (suc n) s0))) in
         let earlier_same = choices_left before path n s chosen [] [] at next.growth.choices all_same in
         let (made_before, stood) = keeps_pace earlier before over is trail b.valuation s (with_choice chosen [] ++ []) (with_choice (choice_at p m s) [] ++ []) b.extends (b.given given) at earlier_same next.going in
         let last : with_choice chosen [] ≡ with_choice (choice_at p m s) [] =
-            sym (append-nil (with_choice chosen [])) ∙ left_over before n _ _ made_before earlier_same ∙ append-nil (with_choice (choice_at p m s) []) in
+        sym (append-nil (with_choice chosen [])) ∙ left_over before n _ _ made_before earlier_same ∙ append-nil (with_choice (choice_at p m s) []) in
         next.along inputs b.valuation v s stood.stands_for (b.step n s stood) given (next.growth.choices ∙ ap (λ xs. before.choices ++ xs) last) (goes_as n s path.ending at comes)

@@ -1,5 +1,5 @@
 -- What holds of every path with a trail.
-use Rattle.std.specs.Prelude.{◌≡◌, ◌⊎◌, ℕ, suc, ◌+◌, ◌≤◌, List, [], ◌∷◌, ◌++◌, length, false, Some, None, IsTrue}
+use Rattle.std.specs.Prelude.{◌≡◌, ◌⊎◌, ℕ, ◌+◌, ◌≤◌, List, [], ◌∷◌, length, false, Some, None, IsTrue}
 use Rattle.gil_values.specs.Pure.{PureValue}
 use Rattle.gil_syntax.specs.Pure.{PureParts}
 use Rattle.gil_machine.specs.Run.{run}
@@ -16,7 +16,7 @@ use Rattle.sym_model.specs.Lists.{Each, OneOf, IsAmong}
 use Rattle.sym_model.specs.Meaning.{has_open}
 use Rattle.sym_model.specs.Terms.{StateTerms}
 use Rattle.sym_paths.specs.Meaning.{Stands, IsOverTable}
-use Rattle.sym_paths.specs.Pure.{PurePath}
+use Rattle.sym_paths.specs.Pure.{cut, PurePath}
 use Rattle.sym_paths.specs.Steps.{Extends, IsUnknown}
 
 -- What a run within n steps came to is its end, with every larger bound too if it isn't cut.
@@ -47,6 +47,9 @@ module _ {S : Type 0} (p : PureParts) (m : Actions) (stands : S → List PureVal
         → IsBeside inputs v0 v s0 start earlier path → Satisfies path.vars v path.conds
         → (¬ IsUnknown path.ending) ⊎ (has_open path.conds ≡ false)
         → MakesChoices p m inputs s0 start (length earlier) path × ComesTo p m inputs s0 (length earlier) path.ending
+    -- no step ends a run by a cut, so no path whose conditions are met ends so by its steps
+    pub never_cut : (inputs v0 v : List PureValue) (s0 : State) (start : PurePath S) (earlier : List (PurePath S)) (path : PurePath S)
+        → IsBeside inputs v0 v s0 start earlier path → Satisfies path.vars v path.conds → ¬ (path.ending ≡ Some cut)
 
   -- Along: where the valuation meets what is assumed, and the run comes so far with the choices of the path, it meets the conditions.
   abbrev pub TrailsHoldAlong : Type 0

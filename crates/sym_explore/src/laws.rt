@@ -1,6 +1,7 @@
 //! What holds of every path with a trail: laws of the definitions, which no code is needed for.
 ghost use Rattle.gil_syntax.specs.Pure.{PureParts};
 ghost use Rattle.sym_explore.specs.Laws.{EndsAreOfRuns, TrailsHoldAlong, TrailsKeep, TrailsMayEndBefore, TrailsReplay};
+ghost use Rattle.sym_explore.specs.Plain.{TrailsStayPlain};
 
 use sym_model::SymMemory;
 
@@ -27,4 +28,9 @@ pub fn trails_may_end_before<M: SymMemory>()
 /// Steps, tables, the sources of conditions, and that some valuation meets them, as a trail keeps them.
 pub fn trails_keep<M: SymMemory>()
     ensures { (p : PureParts) → TrailsKeep p M.Local.actions M.stands M.terms M.asked }
+{}
+
+/// A path that began plain stays plain where the commands on its way have simple forms, and isn't unknown within 10,000 steps.
+pub fn trails_stay_plain<M: SymMemory>()
+    ensures { (p : PureParts) → TrailsStayPlain p M.Local.actions M.stands M.terms M.asked M.plain }
 {}

@@ -1,20 +1,88 @@
-use Rattle.std.proofs.Common.{◌≡◌, ◌≤◌, [], ◌∷◌, ◌++◌, Option, Some, None, is_some, true, false, refl, sym, ap, subst, ◌∙◌, arith, rules}
+use Rattle.std.proofs.Common.{arith, ◌≡◌, inl, [], ◌∷◌, ◌++◌, true, false, sym, ap, subst, ◌∙◌, rules, is_some}
+use Rattle.std.proofs.lemmas.List.{append-nil, map-append}
+use Rattle.gil_program.specs.Program.{prog_view}
+use Rattle.sym_explore.proofs.Exploring.{accounts_cut, cut_from, placed_rest, placed_last, trails_handed, cover_handed, stepped, has_end, has_no_end}
 use Rattle.sym_explore.proofs.exploration.Exploration.next_ended.Goals as goal
+use Rattle.sym_explore.specs.Exploring.{IsEndedFrom}
+use Rattle.sym_explore.specs.Runs.{AccountsFor}
+use Rattle.sym_explore.specs.View.{paths_left}
+use Rattle.sym_model.specs.Lists.{OneOf}
+use Rattle.sym_paths.specs.View.{end_view, path_view, paths_view}
 
 pub loop-turn-init : goal.loop-turn-init
-loop-turn-init g c = ?
+loop-turn-init g c = record {
+  placed = c.requires.placed;
+  trails = λ start from. (tt, from);
+  cover = λ start inputs v0 s0 fine one. one;
+}
 
 pub returns-in_default-clause-cover : goal.returns-in_default-clause-cover
-returns-in_default-clause-cover g c = ?
+returns-in_default-clause-cover g c = λ start inputs v0 s0 fine one.
+    subst (λ ps. OneOf (AccountsFor (prog_view c.args.prog.now) g.M.Local.LocalMemory.actions g.M.SymMemory.stands inputs s0 start v0) (paths_view ps))
+    (c.in_default.ensures.items ∙ append-nil c.pop.new.self.items) (c.loop-turn.invariant.cover start inputs v0 s0 fine one)
 
 pub returns-then-is_some : goal.returns-then-is_some
-returns-then-is_some g c = ?
+returns-then-is_some g c =
+    let M = g.M.SymMemory in
+    let m = g.M.Local.LocalMemory.actions in
+    let p = prog_view c.args.prog.now in
+    let path = c.in-Some.path in
+    let all = paths_left c.loop-turn.self in
+    let rest = paths_view c.pop.new.self.items in
+    let old = paths_left c.args.self.now in
+    let is : all ≡ rest ++ path_view path ∷ [] = ap paths_view c.in-Some.ensures.items ∙ map-append path_view c.pop.new.self.items (path ∷ []) in
+    let some : is_some path.end ≡ true = search (rules, c.if-is_some.true) in
+    record {
+      placed = placed_rest p m M.stands M.terms M.asked c.args.bound old all rest (path_view path) is c.loop-turn.invariant.placed;
+      trails = trails_handed p m M.stands M.terms M.asked c.args.bound old all rest (path_view path) is (path_view path) (λ start from. inl (from, has_end end_view path.end some)) c.loop-turn.invariant.trails;
+      cover = cover_handed p m M.stands M.terms M.asked c.args.bound old all rest (path_view path) is (path_view path) (λ start inputs v0 s0 accounts. accounts) c.loop-turn.invariant.cover;
+      last = tt;
+    }
 
 pub returns-then-path-bound : goal.returns-then-path-bound
-returns-then-path-bound g c = ?
+returns-then-path-bound g c =
+    let M = g.M.SymMemory in
+    let m = g.M.Local.LocalMemory.actions in
+    let p = prog_view c.args.prog.now in
+    let path = c.in-Some.path in
+    let all = paths_left c.loop-turn.self in
+    let rest = paths_view c.pop.new.self.items in
+    let old = paths_left c.args.self.now in
+    let is : all ≡ rest ++ path_view path ∷ [] = ap paths_view c.in-Some.ensures.items ∙ map-append path_view c.pop.new.self.items (path ∷ []) in
+    let none : is_some path.end ≡ false = search (rules, c.if-is_some.false) in
+    let going = has_no_end end_view path.end none in
+    record {
+      placed = placed_rest p m M.stands M.terms M.asked c.args.bound old all rest (path_view path) is c.loop-turn.invariant.placed;
+      trails = trails_handed p m M.stands M.terms M.asked c.args.bound old all rest (path_view path) is (path_view c.cut_off.result)
+          (λ start from. subst (IsEndedFrom p m M.stands M.terms M.asked c.args.bound start) (sym c.cut_off.ensures) (cut_from p m M.stands M.terms M.asked c.args.bound start (path_view path) going c.if-path-bound.true from))
+          c.loop-turn.invariant.trails;
+      cover = cover_handed p m M.stands M.terms M.asked c.args.bound old all rest (path_view path) is (path_view c.cut_off.result)
+          (λ start inputs v0 s0 accounts. subst (AccountsFor p m M.stands inputs s0 start v0) (sym c.cut_off.ensures)
+          (accounts_cut p m M.stands M.terms M.asked c.args.bound (path_view path) going start inputs v0 s0 accounts))
+          c.loop-turn.invariant.cover;
+      last = tt;
+    }
 
 pub step-requires : goal.step-requires
-step-requires g c = ?
+step-requires g c =
+    let M = g.M.SymMemory in
+    let path = c.in-Some.path in
+    let rest = paths_view c.pop.new.self.items in
+    let is : paths_left c.loop-turn.self ≡ rest ++ path_view path ∷ [] = ap paths_view c.in-Some.ensures.items ∙ map-append path_view c.pop.new.self.items (path ∷ []) in
+    let none : is_some path.end ≡ false = search (rules, c.if-is_some.false) in
+    placed_last (prog_view c.args.prog.now) g.M.Local.LocalMemory.actions M.stands M.terms M.asked c.args.bound (paths_left c.args.self.now) (paths_left c.loop-turn.self) rest (path_view path) is c.loop-turn.invariant.placed
+    (has_no_end end_view path.end none) (omega (arith, c.if-path-bound.false, c.requires.bounded))
 
 pub loop-turn-preserved : goal.loop-turn-preserved
-loop-turn-preserved g c = ?
+loop-turn-preserved g c =
+    let M = g.M.SymMemory in
+    let path = c.in-Some.path in
+    let rest = paths_view c.pop.new.self.items in
+    let is : paths_left c.loop-turn.self ≡ rest ++ path_view path ∷ [] = ap paths_view c.in-Some.ensures.items ∙ map-append path_view c.pop.new.self.items (path ∷ []) in
+    let none : is_some path.end ≡ false = search (rules, c.if-is_some.false) in
+    let same : c.append.new.self.items ≡ c.pop.new.self.items ++ c.in_ok-next.next = c.in_ok-append.ensures.items ∙ ap (λ xs. c.pop.new.self.items ++ xs) c.into_vec.ensures in
+    let left : paths_view c.append.new.self.items ≡ rest ++ paths_view c.in_ok-next.next = ap paths_view same ∙ map-append path_view c.pop.new.self.items c.in_ok-next.next in
+    let kept = stepped (prog_view c.args.prog.now) g.M.Local.LocalMemory.actions M.stands M.terms M.asked c.args.bound (paths_left c.args.self.now) (paths_left c.loop-turn.self) rest (path_view path) is
+    (paths_view c.in_ok-next.next) (paths_view c.append.new.self.items) left (has_no_end end_view path.end none) c.if-path-bound.false (omega (arith, c.if-path-bound.false, c.requires.bounded))
+    c.in_ok-next.ensures.next c.in_ok-next.ensures.placed c.loop-turn.invariant.placed c.loop-turn.invariant.trails c.loop-turn.invariant.cover in
+    record { placed = kept.0; trails = kept.1; cover = kept.2 }

@@ -1,0 +1,15 @@
+use Rattle.std.proofs.Common.{◌++◌}
+use Rattle.gil_program.specs.Program.{prog_view}
+use Rattle.sym_explore.specs.Exploring.{CoverRuns, IsEndedFrom, IsFrom, MayGoOn}
+use Rattle.sym_explore.specs.View.{paths_left}
+use Rattle.sym_model.specs.Lists.{Each}
+use Rattle.sym_paths.specs.View.{path_view, paths_view}
+use Rattle.sym_explore.proofs.exploration.explore.Given as goal
+
+abbrev pub invariant-loop-turn : goal.invariant-loop-turn
+invariant-loop-turn g l = record {
+  placed : Each (MayGoOn (prog_view l.prog) g.M.SymMemory.terms) (paths_left l.exploration);
+  left : Each (IsFrom (prog_view l.prog) g.M.Local.LocalMemory.actions g.M.SymMemory.stands g.M.SymMemory.terms g.M.SymMemory.asked l.bound (path_view l.fn.start)) (paths_left l.exploration);
+  ended : Each (IsEndedFrom (prog_view l.prog) g.M.Local.LocalMemory.actions g.M.SymMemory.stands g.M.SymMemory.terms g.M.SymMemory.asked l.bound (path_view l.fn.start)) (paths_view l.ended);
+  cover : CoverRuns (prog_view l.prog) g.M.Local.LocalMemory.actions g.M.SymMemory.stands l.bound (path_view l.fn.start) (paths_view l.ended ++ paths_left l.exploration);
+}
