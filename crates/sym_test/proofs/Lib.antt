@@ -1,7 +1,9 @@
 pub mod Canonicals
 pub mod Failing
 pub mod Holding
+pub mod Laws
 pub mod Outsides
 pub mod Replaying
 pub mod Saying
 pub mod Trailing
+pub mod UnderWay

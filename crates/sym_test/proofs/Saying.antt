@@ -107,7 +107,7 @@ module _ {S : Type 0} (p : PureParts) (m : Actions) (stands : S → List PureVal
         no_cut_there (inr (holds, sat)) = subst IsUnknown ending holds
         no_cut_there (inl stands_after) =
             let (t, (d, (ends_there, stood_there))) = subst (StandsAfter p m stands inputs s0 start path u path.steps) ending stands_after in
-            laws.never_cut inputs [] u s0 start from.earlier path
+            laws.replay.never_cut inputs [] u s0 start from.earlier path
             (record { trail = from.trail; going = begins.going; over = begins.over; stands_for = begins.stands_for; follows = ext })
             (record { proper = stood_there.proper; true_there = stood_there.meets }) ending
   cut_is_no_failure path (inr (last, (from, going, steps, same))) ending inputs v s e accounts after is stood fails_there =

@@ -27,7 +27,7 @@ use Rattle.sym_model.specs.Meaning.{has_open}
 use Rattle.sym_model.specs.Terms.{StateTerms}
 use Rattle.sym_model.proofs.ListLaws.{each_append}
 use Rattle.sym_paths.specs.Meaning.{Stands, IsOverTable}
-use Rattle.sym_paths.specs.Pure.{PureEnd, cut, PurePath}
+use Rattle.sym_paths.specs.Pure.{PureEnd, PurePath}
 use Rattle.sym_paths.specs.Steps.{AreNext, Extends, IsUnknown, IsNewSort, drawn_from, drawn_and, draws_after, draws_past}
 use Rattle.sym_paths.proofs.Silent.{stands_at}
 use Rattle.sym_test.specs.Canonical.{HaveValuation, draws_among, IsCanonical}
@@ -59,8 +59,6 @@ pub record TrailLaws {S : Type 0} (p : PureParts) (m : Actions) (stands : S → 
   pub hold_along : TrailsHoldAlong p m stands terms asked
   pub end_before : TrailsMayEndBefore p m stands terms asked
   pub ends : EndsAreOfRuns
-  pub never_cut : (inputs v0 v : List PureValue) (s0 : State) (start : PurePath S) (earlier : List (PurePath S)) (path : PurePath S) → IsBeside p m stands terms asked inputs v0 v s0 start earlier path → Satisfies path.vars v path.conds
-      → ¬ (path.ending ≡ Some cut)
 
 later_draws : (sort : Sort) (n : ℕ) → draws_after sort n ≡ draws_after sort 0 + n
 later_draws Sort.Fresh n = omega arith

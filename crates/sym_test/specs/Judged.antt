@@ -26,7 +26,8 @@ use Rattle.sym_test.specs.declared.judging.Judgement.{Judgement}
 use Rattle.sym_test.specs.declared.judging.Lists.{Lists}
 use Rattle.sym_test.specs.Canonical.{draws_among, IsCanonical}
 use Rattle.sym_test.specs.Undecided.{first_state, IsOutsideAt, IsUndecided}
-use Rattle.sym_test.specs.View.{PureQuery, query_view}
+use Rattle.sym_test.specs.View.{PureQuery, query_view, PureVerdict, clean}
+use Rattle.sym_test.specs.View as verdict
 
 -- the path on which the test of a procedure begins
 pub record Begins {S : Type 0} (p : PureParts) (stands : S → List PureValue → Heap → Type 0) (terms : S → StateTerms) (f : List ℕ)
@@ -153,3 +154,15 @@ abbrev pub IsRightlyJudged : {S : Type 0} → PureParts → Actions → (S → L
 IsRightlyJudged p m stands terms asked keeps_plain f n start path harmless = AccountsForNoFailure p m stands f n start path
 IsRightlyJudged p m stands terms asked keeps_plain f n start path (fails place w inputs) = IsBug p m f n inputs w place
 IsRightlyJudged p m stands terms asked keeps_plain f n start path (undecided q) = IsUndecided p m stands terms asked keeps_plain f n q
+
+-- ---- queries
+
+-- the query that is kept, or else this one
+abbrev pub first_query : Option PureQuery → PureQuery → Option PureQuery
+first_query None q = Some q
+first_query (Some kept) q = Some kept
+
+-- what is answered where no path is left
+abbrev pub verdict_of : Option PureQuery → PureVerdict
+verdict_of None = clean
+verdict_of (Some q) = verdict.unknown q

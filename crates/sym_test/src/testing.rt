@@ -1,19 +1,46 @@
 //! The test of a procedure.
-ghost use Rattle.std.specs.Prelude.{◌≤◌, IfOk};
+ghost use Rattle.std.specs.Prelude.{◌≡◌, ◌≤◌, IfOk};
+ghost use Rattle.std.specs.Option.{option_map};
 ghost use Rattle.gil_machine.specs.Run.{IsEntry};
 ghost use Rattle.gil_program.specs.Program.{prog_view};
+ghost use Rattle.sym_test.specs.Judged.{first_query, verdict_of};
 ghost use Rattle.sym_test.specs.Undecided.{IsRightVerdict};
-ghost use Rattle.sym_test.specs.View.{verdict_view};
+ghost use Rattle.sym_test.specs.View.{query_view, verdict_view};
 
+use crate::judging::{Judgement, judge};
 use crate::verdicts::Verdict;
 use gil_program::Prog;
 use gil_values::Text;
-use pure_terms::Decider;
+use pure_terms::{Decider, Query};
 use rewrite_book::RuleBook;
 use std::alloc::{AllocError, Global};
+use sym_explore::Exploration;
 use sym_model::SymMemory;
+use sym_paths::Path;
+use sym_step::starts_may_step;
 
-/// Runs a procedure without parameters from the empty memory on symbolic inputs, along all paths of at most so many steps.
+/// The query that is kept, or else this one.
+fn first_query(kept: Option<Query>, query: Query) -> Option<Query>
+    ensures { option_map query_view result ≡ first_query (option_map query_view kept) (query_view query) }
+{
+    match kept {
+        Some(kept) => Some(kept),
+        None => Some(query),
+    }
+}
+
+/// What is answered where no path is left.
+fn conclude(kept: Option<Query>) -> Verdict
+    ensures { verdict_view result ≡ verdict_of (option_map query_view kept) }
+{
+    match kept {
+        Some(query) => Verdict::Unknown(query),
+        None => Verdict::Clean,
+    }
+}
+
+/// Runs a procedure without parameters from the empty memory on symbolic inputs, along all paths of at most so many steps. It stops at
+/// the first bug, and keeps no path that has ended.
 pub fn test<M: SymMemory, D: Decider>(
     alloc: Global,
     prog: &Prog,
@@ -27,5 +54,29 @@ pub fn test<M: SymMemory, D: Decider>(
     ensures { IfOk result (λ verdict. IsRightVerdict (prog_view prog.now) M.Local.actions M.stands M.terms M.asked M.keeps_plain proc.now
         bound (verdict_view verdict)) }
 {
+    starts_may_step::<M>();
+    let start: Path<M> = Path::start(alloc, proc)?;
+    let mut exploration = Exploration::new(alloc, start)?;
+    let mut kept: Option<Query> = None;
+    for _turn in 0..u64::MAX {
+        match exploration.next_ended(alloc, prog, bound, rules, decider)? {
+            None => return Ok(conclude(kept)),
+            Some(path) => match judge(alloc, decider, path)? {
+                Judgement::Harmless => {}
+                Judgement::Bug {
+                    place,
+                    value,
+                    inputs,
+                } => {
+                    return Ok(Verdict::Bug {
+                        place,
+                        value,
+                        inputs,
+                    });
+                }
+                Judgement::Undecided(query) => kept = first_query(kept, query),
+            },
+        }
+    }
     Err(AllocError)
 }

@@ -1,0 +1,159 @@
+-- A test under way: each failing run is accounted for by a path that is left, unless a query is kept.
+use Rattle.std.proofs.Common.{◌≡◌, ◌⊎◌, ⊎_elim, inl, inr, ℕ, zero, suc, ◌+◌, ◌≤◌, List, [], ◌∷◌, ◌++◌, Option, Some, None, IsTrue, refl, sym, ap, subst, ◌∙◌, arith}
+use Rattle.std.proofs.lemmas.List.{append-nil}
+use Rattle.gil_values.specs.declared.places.Place.{Place}
+use Rattle.gil_values.specs.Pure.{PureValue}
+use Rattle.gil_syntax.specs.Pure.{PureParts}
+use Rattle.gil_machine.specs.Run.{run, test_run, IsEntry, IsBug, IsClean}
+use Rattle.gil_machine.specs.State.{State, Ending, IsFailed}
+use Rattle.gil_machine.specs.State as machine
+use Rattle.mem_model.specs.Actions.{Actions}
+use Rattle.mem_model.specs.Heaps.{Heap}
+use Rattle.pure_terms.specs.Meaning.{value, Satisfies}
+use Rattle.pure_terms.specs.Pure.{PureTerm}
+use Rattle.sym_explore.specs.Exploring.{MayGoOn, IsFrom, IsEndedFrom, cut_off, KeepTrails, KeepAccounts, or_none}
+use Rattle.sym_explore.specs.Runs.{StandsAfter, AccountsFor}
+use Rattle.sym_model.specs.Lists.{Each, OneOf}
+use Rattle.sym_model.specs.Terms.{StateTerms}
+use Rattle.sym_model.proofs.ListLaws.{same_some, not_none}
+use Rattle.sym_paths.specs.Meaning.{IsOverTable}
+use Rattle.sym_paths.specs.Pure.{failed, cut, PurePath}
+use Rattle.sym_paths.specs.Steps.{IsInputFault, IsUnknown, IsNewSort}
+use Rattle.sym_test.specs.Canonical.{draws_among, IsCanonical}
+use Rattle.sym_test.specs.Judged.{Begins, MayBeJudged, PureJudgement, harmless, fails, undecided, IsJudgedEnd, IsRightlyJudged, first_query, verdict_of}
+use Rattle.sym_test.specs.Undecided.{first_state, IsUndecided, IsRightVerdict}
+use Rattle.sym_test.specs.View.{PureQuery, PureVerdict, bug, clean, unknown}
+use Rattle.sym_test.proofs.Replaying.{failure_has_value}
+use Rattle.sym_test.proofs.Saying.{judged_right}
+use Rattle.sym_test.proofs.Trailing.{TrailLaws, new_sorts, is_over, is_met}
+
+abbrev pub OnSome : {X : Type 0} → (X → Type 0) → Option X → Type 0
+OnSome P (Some x) = P x
+OnSome P None = Unit {0}
+
+-- a failing run doesn't end for want of a fitting input
+failed_has_input : (e : Ending) → IsFailed e → ¬ IsInputFault e
+failed_has_input (machine.failed w place) is fault = fault
+failed_has_input (machine.returned w) is fault = is
+failed_has_input machine.vanished is fault = is
+failed_has_input (machine.no_input k) is fault = is
+failed_has_input (machine.bad_input k) is fault = is
+failed_has_input machine.cut is fault = is
+
+pub record IsUnderWay {S : Type 0} (p : PureParts) (m : Actions) (stands : S → List PureValue → Heap → Type 0) (terms : S → StateTerms) (asked : List ℕ → List PureTerm → List PureTerm) (keeps_plain : Type 0) (f : List ℕ) (n : ℕ)
+    (left : List (PurePath S)) (kept : Option PureQuery) : Type 0 where
+  pub start : PurePath S
+  pub begins : Begins p stands terms f start
+  pub may : Each (MayGoOn p terms) left
+  pub from : Each (IsFrom p m stands terms asked n start) left
+  pub cover : kept ≡ None → (inputs : List PureValue) → IsFailed (test_run p m f inputs n).ending → OneOf (AccountsFor p m stands inputs (first_state p f) start []) left
+  pub asks : OnSome (IsUndecided p m stands terms asked keeps_plain f n) kept
+
+module _ {S : Type 0} (p : PureParts) (m : Actions) (stands : S → List PureValue → Heap → Type 0) (terms : S → StateTerms) (asked : List ℕ → List PureTerm → List PureTerm)
+    (laws : TrailLaws p m stands terms asked) (keeps_plain : Type 0) (f : List ℕ) (n : ℕ) (entry : IsEntry p f) where
+  abbrev UnderWay : List (PurePath S) → Option PureQuery → Type 0
+  UnderWay = IsUnderWay p m stands terms asked keeps_plain f n
+
+  abbrev s0 : State
+  s0 = first_state p f
+
+  abbrev Accounts : PurePath S → List PureValue → PurePath S → Type 0
+  Accounts start inputs path = AccountsFor p m stands inputs s0 start [] path
+
+  -- the start accounts for every run
+  start_accounts : (start : PurePath S) → Begins p stands terms f start → (inputs : List PureValue) → Accounts start inputs start
+  start_accounts start begins inputs = (
+    [],
+    (
+      record { new_vars = []; new_values = []; vars = sym (append-nil start.vars); values = refl; in_turn = tt },
+      inl (subst (λ k. StandsAfter p m stands inputs s0 start start [] k start.ending) (sym begins.steps)
+          (subst (StandsAfter p m stands inputs s0 start start [] 0) (sym begins.going)
+          (s0, record { comes_to = refl; stands_for = begins.stands_for; symbols = refl; draws = refl }))),
+    ),
+  )
+
+  pub begins_so : (start : PurePath S) → Begins p stands terms f start → MayGoOn p terms start → UnderWay (start ∷ []) None
+  begins_so start begins may = record {
+    start = start;
+    begins = begins;
+    may = (may, tt);
+    from = (record { earlier = []; trail = refl; within = (let none : start.steps ≡ 0 = begins.steps in omega (arith, none)) }, tt);
+    cover = λ none inputs fails_there. inl (start_accounts start begins inputs);
+    asks = tt;
+  }
+
+  -- ---- a path is handed out
+
+  pub may_be_judged : (start : PurePath S) → Begins p stands terms f start → (path : PurePath S) → IsEndedFrom p m stands terms asked n start path → MayBeJudged terms path
+  may_be_judged start begins path (inl (from, some)) = record {
+    over = is_over p m stands terms asked laws f start begins from.earlier path from.trail;
+    sorts = new_sorts p m stands terms asked laws f start begins from.earlier path from.trail;
+    met = is_met p m stands terms asked laws f start begins from.earlier path from.trail;
+    defined = λ t place v ending canonical. failure_has_value p m stands terms asked laws f start begins n entry from.earlier path from.trail from.within v canonical t place ending;
+  }
+  may_be_judged start begins path (inr (last, (from, going, steps, is))) =
+      let over : IsOverTable terms last = is_over p m stands terms asked laws f start begins from.earlier last from.trail in
+      subst (MayBeJudged terms) (sym is) (record {
+        over = record { conds = over.conds; given = over.given; stores = over.stores; memory = over.memory; drawn = over.drawn; ending = tt };
+        sorts = new_sorts p m stands terms asked laws f start begins from.earlier last from.trail;
+        met = λ known. is_met p m stands terms asked laws f start begins from.earlier last from.trail (λ holds. subst IsUnknown going holds);
+        defined = λ t place v ending canonical. no_cut_fails t place ending;
+      }) where
+        no_cut_fails : (t : PureTerm) (place : Place) → Some cut ≡ Some (failed t place) → {X : Type 0} → X
+        no_cut_fails t place unlike = cc
+
+  -- what is left, after a path was handed out of which this is said
+  abbrev pub AfterJudgement : List (PurePath S) → Option PureQuery → PureJudgement → Type 0
+  AfterJudgement rest kept harmless = UnderWay rest kept
+  AfterJudgement rest kept (fails place w inputs) = IsBug p m f n inputs w place
+  AfterJudgement rest kept (undecided q) = UnderWay rest (first_query kept q)
+
+  -- the query that is kept from one end to the next
+  after : (left rest : List (PurePath S)) (path : PurePath S) (kept : Option PureQuery) (so : UnderWay left kept) → Each (IsFrom p m stands terms asked n so.start) rest → KeepAccounts p m stands n left (path ∷ rest) → Each (MayGoOn p terms) rest
+      → (j : PureJudgement) → IsRightlyJudged p m stands terms asked keeps_plain f n so.start path j → AfterJudgement rest kept j
+  after left rest path kept so from accounts may harmless right = record {
+    start = so.start;
+    begins = so.begins;
+    may = may;
+    from = from;
+    cover = λ none inputs fails_there.
+        ⊎_elim (λ here. absurd (right inputs fails_there here)) (λ later. later)
+        (accounts so.start inputs [] s0 (failed_has_input (test_run p m f inputs n).ending fails_there) (so.cover none inputs fails_there));
+    asks = so.asks;
+  }
+  after left rest path kept so from accounts may (fails place w inputs) right = right
+  after left rest path None so from accounts may (undecided q) right = record {
+    start = so.start;
+    begins = so.begins;
+    may = may;
+    from = from;
+    cover = λ none. not_none (sym none);
+    asks = right;
+  }
+  after left rest path (Some q0) so from accounts may (undecided q) right = record {
+    start = so.start;
+    begins = so.begins;
+    may = may;
+    from = from;
+    cover = λ none. not_none (sym none);
+    asks = so.asks;
+  }
+
+  pub goes_on : (left rest : List (PurePath S)) (path : PurePath S) (kept : Option PureQuery) (j : PureJudgement) → UnderWay left kept → KeepTrails p m stands terms asked n left (path ∷ []) rest
+      → KeepAccounts p m stands n left (path ∷ rest) → Each (MayGoOn p terms) rest → IsJudgedEnd path path.ending j → AfterJudgement rest kept j
+  goes_on left rest path kept j so trails accounts may judged =
+      let (ended, from) = trails so.start so.from in
+      after left rest path kept so from accounts may j (judged_right p m stands terms asked laws f so.start so.begins n entry keeps_plain path j ended.0 judged)
+
+  pub handed_out : (left rest : List (PurePath S)) (path : PurePath S) (kept : Option PureQuery) → UnderWay left kept → KeepTrails p m stands terms asked n left (path ∷ []) rest → MayBeJudged terms path
+  handed_out left rest path kept so trails = may_be_judged so.start so.begins path (trails so.start so.from).0.0
+
+  -- ---- no path is left
+
+  pub concludes : (left rest : List (PurePath S)) (kept : Option PureQuery) → UnderWay left kept → KeepAccounts p m stands n left rest → rest ≡ [] → IsRightVerdict p m stands terms asked keeps_plain f n (verdict_of kept)
+  concludes left rest (Some q) so accounts none = so.asks
+  concludes left rest None so accounts none = record {
+    entry = entry;
+    never_fails = λ inputs fails_there.
+        subst (OneOf (Accounts so.start inputs)) none (accounts so.start inputs [] s0 (failed_has_input (test_run p m f inputs n).ending fails_there) (so.cover refl inputs fails_there));
+  }
