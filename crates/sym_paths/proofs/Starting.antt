@@ -59,7 +59,7 @@ pub first_plain : {S : Type 0} (plain : S → ℤ → ℤ → Type 0) (path : Pu
     → IsPlainPath plain b path
 first_plain plain path f b conds stack memory ending = record {
   stores = subst (Each (λ k. OfEachName (IsPlainWithin (neg_ℤ (pos b)) (pos b)) k.store)) (sym stack) ((λ x t is. not_none is), tt);
-  memory = memory (neg_ℤ (pos b)) (pos b);
+  memory = λ low high below above. memory low high;
   conds = subst (Each (IsDecidedWithin (neg_ℤ (pos b)) (pos b))) (sym conds) tt;
   ending = subst (λ o. Each (IsPlainWithin (neg_ℤ (pos b)) (pos b)) (end_terms o)) (sym ending) tt;
 }

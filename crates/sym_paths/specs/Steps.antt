@@ -1,5 +1,5 @@
 -- What a step of a path must do: the laws of the paths that it answers, of which each extends the old one.
-use Rattle.std.specs.Prelude.{◌≡◌, ◌⊎◌, ℕ, suc, ◌+◌, ◌<◌, ◌≤◌, ◌^◌, ℤ, pos, neg_ℤ, List, [], ◌∷◌, ◌++◌, length, slice_get, Bool, true, false, if◌then◌else◌, Option, Some, None, IsTrue, ⊤}
+use Rattle.std.specs.Prelude.{◌≡◌, ◌⊎◌, ℕ, suc, ◌+◌, ◌<◌, ◌≤◌, ◌^◌, ℤ, pos, neg_ℤ, ◌≤ℤ◌, List, [], ◌∷◌, ◌++◌, length, slice_get, Bool, true, false, if◌then◌else◌, Option, Some, None, IsTrue, ⊤}
 use Rattle.std.specs.Option.{is_some}
 use Rattle.gil_values.specs.declared.places.Place.{Place}
 use Rattle.gil_values.specs.Pure.{PureValue, symbol}
@@ -239,11 +239,11 @@ pub record AreNextPaths {S : Type 0} (p : PureParts) (m : Actions) (stands : S �
 
 -- ---- commands that keep paths in the fragment
 
--- A path that is plain with numbers from -b to b: its terms are plain, those of its end too, and its conditions have forms of the
--- fragment.
+-- A path that is plain with numbers from -b to b: its terms are plain, those of its end too, its memory is plain within these and all
+-- wider bounds, and its conditions have forms of the fragment.
 pub record IsPlainPath {S : Type 0} (plain : S → ℤ → ℤ → Type 0) (b : ℕ) (path : PurePath S) : Type 0 where
   pub stores : Each (λ f. OfEachName (IsPlainWithin (neg_ℤ (pos b)) (pos b)) f.store) path.stack
-  pub memory : plain path.memory (neg_ℤ (pos b)) (pos b)
+  pub memory : (low high : ℤ) → low ≤ℤ neg_ℤ (pos b) → pos b ≤ℤ high → plain path.memory low high
   pub conds : Each (IsDecidedWithin (neg_ℤ (pos b)) (pos b)) path.conds
   pub ending : Each (IsPlainWithin (neg_ℤ (pos b)) (pos b)) (end_terms path.ending)
 
