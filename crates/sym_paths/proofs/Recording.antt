@@ -1,5 +1,5 @@
 -- What a step records of its command, and how many variables are fresh.
-use Rattle.std.proofs.Common.{◌≡◌, ℕ, ◌+◌, List, [], ◌∷◌, ◌++◌, false, Option, Some, None, is_some, refl, sym, ap, subst, ◌∙◌, arith}
+use Rattle.std.proofs.Common.{◌≡◌, ℕ, ◌+◌, List, [], ◌∷◌, ◌++◌, false, Option, Some, None, is_some, refl, sym, ap, ◌∙◌, arith}
 use Rattle.gil_syntax.specs.Pure.{PureParts, PureNumberedCommand}
 use Rattle.mem_model.specs.Actions.{Actions}
 use Rattle.pure_terms.specs.declared.variables.Sort.{Sort}

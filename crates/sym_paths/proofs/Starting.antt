@@ -1,5 +1,5 @@
 -- The first path stands for the first state.
-use Rattle.std.proofs.Common.{◌≡◌, ℕ, List, [], ◌∷◌, length, IsTrue, refl, sym, ap, subst}
+use Rattle.std.proofs.Common.{◌≡◌, ℕ, ℤ, pos, neg_ℤ, None, List, [], ◌∷◌, length, IsTrue, refl, sym, ap, subst}
 use Rattle.std.specs.FinMap.{empty}
 use Rattle.gil_values.specs.Pure.{PureValue}
 use Rattle.gil_values.specs.Symbols.{AreBelow}
@@ -12,9 +12,12 @@ use Rattle.mem_model.specs.Heaps.{Heap}
 use Rattle.pure_terms.specs.Meaning.{all_true, IsProper}
 use Rattle.pure_terms.specs.Pure.{PureTerm}
 use Rattle.sym_evaluation.specs.Meaning.{StandsFor}
+use Rattle.sym_model.specs.Laws.{IsPlainWithin, IsDecidedWithin}
+use Rattle.sym_model.specs.Lists.{Each}
 use Rattle.sym_model.proofs.ListLaws.{not_none}
-use Rattle.sym_paths.specs.Meaning.{AreFrames, frames_of, Stands}
+use Rattle.sym_paths.specs.Meaning.{AreFrames, frames_of, Stands, OfEachName, end_terms}
 use Rattle.sym_paths.specs.Pure.{entry_frame, PurePath}
+use Rattle.sym_paths.specs.Steps.{IsPlainPath}
 
 no_arguments : (xs : List (List ℕ)) → bind_all xs [] ≡ []
 no_arguments [] = refl
@@ -49,4 +52,14 @@ first_stands stands path p f vars conds stack memory drawn = record {
   memory = memory;
   symbols_below = nothing_below;
   draws = sym (ap (λ (ts : List PureTerm). length ts) drawn);
+}
+
+-- it has no numbers
+pub first_plain : {S : Type 0} (plain : S → ℤ → ℤ → Type 0) (path : PurePath S) (f : List ℕ) (b : ℕ) → path.conds ≡ [] → path.stack ≡ entry_frame f ∷ [] → ((low high : ℤ) → plain path.memory low high) → path.ending ≡ None
+    → IsPlainPath plain b path
+first_plain plain path f b conds stack memory ending = record {
+  stores = subst (Each (λ k. OfEachName (IsPlainWithin (neg_ℤ (pos b)) (pos b)) k.store)) (sym stack) ((λ x t is. not_none is), tt);
+  memory = λ low high below above. memory low high;
+  conds = subst (Each (IsDecidedWithin (neg_ℤ (pos b)) (pos b))) (sym conds) tt;
+  ending = subst (λ o. Each (IsPlainWithin (neg_ℤ (pos b)) (pos b)) (end_terms o)) (sym ending) tt;
 }

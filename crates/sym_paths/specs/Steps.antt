@@ -1,5 +1,5 @@
 -- What a step of a path must do: the laws of the paths that it answers, of which each extends the old one.
-use Rattle.std.specs.Prelude.{◌≡◌, ◌⊎◌, ℕ, suc, ◌+◌, ◌<◌, ◌^◌, ℤ, pos, neg_ℤ, ◌-ℤ◌, ◌+ℤ◌, ◌≤ℤ◌, List, [], ◌∷◌, ◌++◌, length, slice_get, Bool, true, false, if◌then◌else◌, Option, Some, None, IsTrue, ⊤}
+use Rattle.std.specs.Prelude.{◌≡◌, ◌⊎◌, ℕ, suc, ◌+◌, ◌<◌, ◌≤◌, ◌^◌, ℤ, pos, neg_ℤ, ◌≤ℤ◌, List, [], ◌∷◌, ◌++◌, length, slice_get, Bool, true, false, if◌then◌else◌, Option, Some, None, IsTrue, ⊤}
 use Rattle.std.specs.Option.{is_some}
 use Rattle.gil_values.specs.declared.places.Place.{Place}
 use Rattle.gil_values.specs.Pure.{PureValue, symbol}
@@ -142,12 +142,13 @@ IsRightlyUnknown p path next (Some (unknown place reason)) =
     (¬ InFragment next.conds) × IsFirstOutside next.conds reason × IsPlaceOf p path.stack place
 IsRightlyUnknown p path next _ = ⊤
 
--- how far the literals of one step may leave the bounds
-abbrev pub step_growth : ℤ
-step_growth = pos (2 ^ 63 + 10000)
+-- by how much the numbers of a path may grow in one step
+abbrev pub step_growth : ℕ
+step_growth = 2 ^ 63 + 10000
 
-abbrev pub are_narrow_bounds : ℤ → ℤ → Type 0
-are_narrow_bounds low high = (neg_ℤ (pos (2 ^ 80)) ≤ℤ low) × (high ≤ℤ pos (2 ^ 80))
+-- the numbers of the fragment lie from -2^80 to 2^80
+abbrev pub narrow_bound : ℕ
+narrow_bound = 2 ^ 80
 
 -- ---- the laws
 
@@ -238,19 +239,18 @@ pub record AreNextPaths {S : Type 0} (p : PureParts) (m : Actions) (stands : S �
 
 -- ---- commands that keep paths in the fragment
 
--- A path that is plain within bounds: its terms are plain, those of its end too, and its conditions have forms of the fragment.
-pub record IsPlainPath {S : Type 0} (plain : S → ℤ → ℤ → Type 0) (low high : ℤ) (path : PurePath S) : Type 0 where
-  pub stores : Each (λ f. OfEachName (IsPlainWithin low high) f.store) path.stack
-  pub memory : plain path.memory low high
-  pub conds : Each (IsDecidedWithin low high) path.conds
-  pub ending : Each (IsPlainWithin low high) (end_terms path.ending)
+-- A path that is plain with numbers from -b to b: its terms are plain, those of its end too, its memory is plain within these and all
+-- wider bounds, and its conditions have forms of the fragment.
+pub record IsPlainPath {S : Type 0} (plain : S → ℤ → ℤ → Type 0) (b : ℕ) (path : PurePath S) : Type 0 where
+  pub stores : Each (λ f. OfEachName (IsPlainWithin (neg_ℤ (pos b)) (pos b)) f.store) path.stack
+  pub memory : (low high : ℤ) → low ≤ℤ neg_ℤ (pos b) → pos b ≤ℤ high → plain path.memory low high
+  pub conds : Each (IsDecidedWithin (neg_ℤ (pos b)) (pos b)) path.conds
+  pub ending : Each (IsPlainWithin (neg_ℤ (pos b)) (pos b)) (end_terms path.ending)
 
--- Simple: at a command of the class, a path that is kept within bounds leads to paths that are kept within wider ones, of which none
--- is unknown while the bounds are those of the fragment.
-abbrev pub StaysWithin : {S : Type 0} → PureParts → (PureCommand → Type 0) → (ℤ → ℤ → PurePath S → Type 0) → PurePath S
+-- Simple: at a command of the class, a path that is kept with numbers up to b leads to paths that are kept with larger ones, of which
+-- none is unknown, as long as those are numbers of the fragment.
+abbrev pub StaysWithin : {S : Type 0} → PureParts → (PureCommand → Type 0) → (ℕ → PurePath S → Type 0) → PurePath S
     → List (PurePath S) → Type 0
 StaysWithin p class keeps path nexts =
-    (c : PureNumberedCommand) (low high : ℤ) → command_of_path p path ≡ Some c → class c.command → (low ≤ℤ pos 0) × (pos 0 ≤ℤ high)
-    → keeps low high path
-    → Each (λ next. keeps (low -ℤ step_growth) (high +ℤ step_growth) next
-    × (are_narrow_bounds (low -ℤ step_growth) (high +ℤ step_growth) → ¬ IsUnknown next.ending)) nexts
+    (c : PureNumberedCommand) (b : ℕ) → command_of_path p path ≡ Some c → class c.command → b + step_growth ≤ narrow_bound
+    → keeps b path → Each (λ next. keeps (b + step_growth) next × ¬ IsUnknown next.ending) nexts

@@ -1,11 +1,12 @@
 //! Paths: what symbolic execution has come to.
-ghost use Rattle.std.specs.Prelude.{◌≡◌, [], None, IfOk};
+ghost use Rattle.std.specs.Prelude.{◌≡◌, ℕ, [], None, IfOk};
 ghost use Rattle.std.specs.FinMap.{empty};
 ghost use Rattle.gil_machine.specs.Run.{start as start_state};
 ghost use Rattle.gil_syntax.specs.Pure.{PureParts};
 ghost use Rattle.sym_model.specs.Laws.{IsCopy};
 ghost use Rattle.sym_paths.specs.Meaning.{Stands, IsOverTable};
 ghost use Rattle.sym_paths.specs.Pure.{PurePath};
+ghost use Rattle.sym_paths.specs.Steps.{IsPlainPath};
 ghost use Rattle.sym_paths.specs.View.{path_view};
 
 use crate::copying::{copy_choices, copy_path_condition, copy_table};
@@ -48,6 +49,7 @@ impl<M: SymMemory> Path<M> {
         ensures nothing_chosen { IfOk result (λ path. path.choices ≡ []) }
         ensures no_condition { IfOk result (λ path. (path_view path).conds ≡ []) }
         ensures nothing_assumed { IfOk result (λ path. (path_view path).given ≡ []) }
+        ensures plain { IfOk result (λ path. (b : ℕ) → IsPlainPath M.plain b (path_view path)) }
     {
         let stack = first_frames(alloc, proc)?;
         let memory = M::empty(alloc)?;
