@@ -3,6 +3,7 @@ pub mod Failing
 pub mod Holding
 pub mod Laws
 pub mod Outsides
+pub mod Plainly
 pub mod Replaying
 pub mod Saying
 pub mod Trailing

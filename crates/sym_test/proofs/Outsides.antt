@@ -15,13 +15,10 @@ use Rattle.pure_terms.proofs.FragmentLaws.{all_pass}
 use Rattle.pure_terms.proofs.NamingLaws.{count_bound}
 use Rattle.sym_model.proofs.ListLaws.{same_some, not_none}
 use Rattle.sym_paths.specs.Steps.{IsFirstOutside, place_of}
-use Rattle.sym_test.specs.Undecided.{IsOutsideAt}
-
-abbrev pub keeps_out : PureAtom → Bool
-keeps_out a = not (has_fragment_form a) || not (has_narrow_literals a)
+use Rattle.sym_test.specs.Undecided.{keeps_out, IsOutsideAt}
 
 -- both tests pass, or one fails
-both_pass : (b c : Bool) → (not b || not c) ≡ false → (b ≡ true) × (c ≡ true)
+pub both_pass : (b c : Bool) → (not b || not c) ≡ false → (b ≡ true) × (c ≡ true)
 both_pass true true fails = (refl, refl)
 both_pass true false fails = absurd (true≢false fails)
 both_pass false c fails = absurd (true≢false fails)

@@ -1,5 +1,5 @@
 -- What is said of an ended path is right: bugs replay, and what is left undecided is.
-use Rattle.std.proofs.Common.{◌≡◌, ◌⊎◌, ⊎_elim, inl, inr, ℕ, zero, suc, ◌+◌, ◌<◌, ◌≤◌, List, [], ◌∷◌, ◌++◌, length, Bool, true, false, ◌||◌, Option, Some, None, is_some, IsSome, IsTrue, true≢false, refl, sym, ap, subst, ◌∙◌, arith, slice_get, codes}
+use Rattle.std.proofs.Common.{◌≡◌, ℤ, ◌⊎◌, ⊎_elim, inl, inr, ℕ, zero, suc, ◌+◌, ◌<◌, ◌≤◌, List, [], ◌∷◌, ◌++◌, length, Bool, true, false, ◌||◌, Option, Some, None, is_some, IsSome, IsTrue, true≢false, refl, sym, ap, subst, ◌∙◌, arith, slice_get, codes}
 use Rattle.std.proofs.lemmas.List.{append-nil, append_assoc}
 use Rattle.std.proofs.lemmas.List.Folds.{list_any-append}
 use Rattle.gil_values.specs.declared.places.Place.{Place}
@@ -19,6 +19,7 @@ use Rattle.pure_terms.specs.Meaning.{value, all_true, Satisfies}
 use Rattle.pure_terms.specs.Pure.{PureTerm, PureAtom}
 use Rattle.sym_engine.specs.Lawful.{IsOwnAt}
 use Rattle.sym_explore.specs.Laws.{IsBeside, IsTraced}
+use Rattle.sym_explore.specs.Plain.{IsAtSimple}
 use Rattle.sym_explore.specs.Runs.{EndsAfter, StandsAfter, AccountsFor}
 use Rattle.sym_explore.specs.Trails.{IsNextPath, IsTrail}
 use Rattle.sym_model.specs.Lists.{Each, OneOf, IsAmong}
@@ -34,9 +35,10 @@ use Rattle.sym_paths.proofs.Silent.{stands_at}
 use Rattle.sym_steps.proofs.Following.{both_true, first_true}
 use Rattle.sym_test.specs.Canonical.{HaveValuation, draws_among, IsCanonical}
 use Rattle.sym_test.specs.Judged.{Begins}
-use Rattle.sym_test.specs.Undecided.{first_state, ComesAlong, IsAlong, Describes, IsOnTheWay, IsOwnOnTheWay, IsTraced as IsAskedOnTheWay, IsOutsideAt, IsUndecided}
+use Rattle.sym_test.specs.Undecided.{first_state, ComesAlong, IsAlong, MeetsOther, Describes, IsOnTheWay, IsOwnOnTheWay, IsTraced as IsAskedOnTheWay, IsOutsideAt, IsUndecided}
 use Rattle.sym_test.specs.View.{PureQuery}
 use Rattle.sym_test.proofs.Failing.{fails_here}
+use Rattle.sym_test.proofs.Plainly.{simple_or_other}
 use Rattle.sym_test.proofs.Trailing.{TrailLaws, new_sorts, inputs_counted, steps_counted, conds_over, is_met, has_canonical, beside, replayed, come_by, given_meets, leads_along}
 
 first_false : (a b : Bool) → (a || b) ≡ false → a ≡ false
@@ -63,7 +65,7 @@ last_fails p m inputs s0 k s t c e w place reach at (inr (comes, ends_cut)) is =
     not_cut w place unlike = cc
 
 module _ {S : Type 0} (p : PureParts) (m : Actions) (stands : S → List PureValue → Heap → Type 0) (terms : S → StateTerms) (asked : List ℕ → List PureTerm → List PureTerm)
-    (laws : TrailLaws p m stands terms asked) (f : List ℕ) (start : PurePath S) (begins : Begins p stands terms f start) where
+    (plain : S → ℤ → ℤ → Type 0) (laws : TrailLaws p m stands terms asked) (f : List ℕ) (start : PurePath S) (begins : Begins p stands terms plain f start) where
   abbrev IsTrailOf : List (PurePath S) → PurePath S → Type 0
   IsTrailOf = IsTrail p m stands terms asked start
 
@@ -80,11 +82,11 @@ module _ {S : Type 0} (p : PureParts) (m : Actions) (stands : S → List PureVal
 
     ended : (s : State) × ((e : End) × (EndsAfter p m inputs s0 (length earlier) s e × StandsForEnd p m stands path v s how e))
     ended = subst (StandsAfter p m stands inputs s0 start path v (length earlier)) ending
-        (replayed p m stands terms asked laws f start begins inputs earlier path v trail canonical.own canonical.meets (λ unknown. known (subst IsUnknown ending unknown)))
+        (replayed p m stands terms asked plain laws f start begins inputs earlier path v trail canonical.own canonical.meets (λ unknown. known (subst IsUnknown ending unknown)))
 
     is_the_run : (s : State) (e : End) → EndsAfter p m inputs s0 (length earlier) s e → IsOver e.ending → run p m inputs n s0 ≡ e
     is_the_run s e after over =
-        let counted : path.steps ≡ length earlier = steps_counted p m stands terms asked laws f start begins earlier path trail in
+        let counted : path.steps ≡ length earlier = steps_counted p m stands terms asked plain laws f start begins earlier path trail in
         (laws.ends p m inputs s0 s (length earlier) e after).1 n (omega (arith, counted, within)) over
 
     is_bug : (s : State) (e : End) (w : PureValue) (place : Place) → EndsAfter p m inputs s0 (length earlier) s e → StandsForEnd p m stands path v s how e → e.ending ≡ failed w place → IsBug p m f n inputs w place
@@ -93,7 +95,7 @@ module _ {S : Type 0} (p : PureParts) (m : Actions) (stands : S → List PureVal
         record {
           entry = entry;
           fails = ap (λ (r : End). r.ending) same ∙ is;
-          draws_each = ap (λ (r : End). r.draws) same ∙ stood.draws ∙ inputs_counted p m stands terms asked laws f start begins earlier path v trail canonical.own.proper.one_each;
+          draws_each = ap (λ (r : End). r.draws) same ∙ stood.draws ∙ inputs_counted p m stands terms asked plain laws f start begins earlier path v trail canonical.own.proper.one_each;
         }
 
   pub failure_is_bug : (n : ℕ) → IsEntry p f → (earlier : List (PurePath S)) (path : PurePath S) → IsTrailOf earlier path → path.steps ≤ n → (v : List PureValue) → IsCanonical path.vars path.conds v
@@ -140,7 +142,7 @@ module _ {S : Type 0} (p : PureParts) (m : Actions) (stands : S → List PureVal
   part_of k (before ∷ rest) path (next, trail) short a own =
       ⊎_elim
       (λ here.
-      let steps : before.steps ≡ length rest = steps_counted p m stands terms asked laws f start begins rest before trail in
+      let steps : before.steps ≡ length rest = steps_counted p m stands terms asked plain laws f start begins rest before trail in
       (before, (record {
         earlier = rest;
         trail = trail;
@@ -173,10 +175,10 @@ module _ {S : Type 0} (p : PureParts) (m : Actions) (stands : S → List PureVal
   describes k path part is =
       let known : ¬ IsUnknown part.ending = λ unknown. subst IsUnknown is.going unknown in
       record {
-        met = is_met p m stands terms asked laws f start begins is.earlier part is.trail known;
+        met = is_met p m stands terms asked plain laws f start begins is.earlier part is.trail known;
         comes = λ inputs v has meets.
-            let (s, at) = subst (StandsAfter p m stands inputs s0 start part v (length is.earlier)) is.going (replayed p m stands terms asked laws f start begins inputs is.earlier part v is.trail has meets known) in
-            (s, (subst (λ n. reached p m inputs n s0 ≡ Some s) (sym (steps_counted p m stands terms asked laws f start begins is.earlier part is.trail)) at.comes_to, at.stands_for));
+            let (s, at) = subst (StandsAfter p m stands inputs s0 start part v (length is.earlier)) is.going (replayed p m stands terms asked plain laws f start begins inputs is.earlier part v is.trail has meets known) in
+            (s, (subst (λ n. reached p m inputs n s0 ≡ Some s) (sym (steps_counted p m stands terms asked plain laws f start begins is.earlier part is.trail)) at.comes_to, at.stands_for));
       }
 
   -- the list of a query is that of the path, and maybe more
@@ -224,7 +226,7 @@ module _ {S : Type 0} (p : PureParts) (m : Actions) (stands : S → List PureVal
   module _ (n : ℕ) (entry : IsEntry p f) (before : PurePath S) (rest : List (PurePath S)) (path : PurePath S) (next : IsNextPath p m stands terms asked before path) (trail : IsTrailOf rest before) (how : PureEnd) (ending : path.ending ≡ Some how)
       (within : path.steps ≤ n) where
     steps_are : path.steps ≡ suc (length rest)
-    steps_are = steps_counted p m stands terms asked laws f start begins (before ∷ rest) path (next, trail)
+    steps_are = steps_counted p m stands terms asked plain laws f start begins (before ∷ rest) path (next, trail)
 
     abbrev query_of : Place → List PureAtom → ℕ → PureQuery
     query_of place atoms i = record { place = place; path = path.choices; vars = path.vars; given = path.given; query = atoms; outside = i }
@@ -241,18 +243,19 @@ module _ {S : Type 0} (p : PureParts) (m : Actions) (stands : S → List PureVal
       short : length (before ∷ rest) ≤ suc (length rest)
       short = omega arith
 
-      pub is_undecided : (keeps_plain : Type 0) → IsUndecided p m stands terms asked keeps_plain f n q
-      is_undecided keeps_plain = record {
+      pub is_undecided : (keeps_plain : Type 0) → (keeps_plain → MeetsOther p m f inputs (length rest)) → IsUndecided p m stands terms asked keeps_plain f n q
+      is_undecided keeps_plain others = record {
         entry = entry;
         k = length rest;
         within = (let counted : path.steps ≡ suc (length rest) = steps_are in omega (arith, counted, within));
         inputs = inputs;
         come = come;
+        not_simple = others;
         given_suffices = λ us v has along given.
-            let meets : IsTrue (all_true v path.conds) = given_meets p m stands terms asked laws f start begins before rest path next trail how ending us v has along given in
+            let meets : IsTrue (all_true v path.conds) = given_meets p m stands terms asked plain laws f start begins before rest path next trail how ending us v has along given in
             both_true v path.conds more meets (more_holds us v has meets);
         leads = λ closed us v has given whole.
-            leads_along p m stands terms asked laws f start begins before rest path next trail how ending us v has (first_true v path.conds more whole) (inr (closed_first path.conds more closed));
+            leads_along p m stands terms asked plain laws f start begins before rest path next trail how ending us v has (first_true v path.conds more whole) (inr (closed_first path.conds more closed));
         query_traced = each_append (IsAskedOnTheWay p m stands terms asked f q (length rest)) path.conds more (conds_traced (length rest) (before ∷ rest) path (next, trail) short q of_path) more_traced;
         given_traced = given_traced (length rest) (before ∷ rest) path (next, trail) short q of_path;
         outside = outside;
@@ -260,15 +263,21 @@ module _ {S : Type 0} (p : PureParts) (m : Actions) (stands : S → List PureVal
 
     -- ---- how some run comes there
 
-    pub come_unknown : (place : Place) → IsPlaceOf p before.stack place → (us : List PureValue) × ComesAlong p m f us (length rest) place path.choices
+    abbrev pub ComesSimply : List PureValue → Place → Type 0
+    ComesSimply us place = ComesAlong p m f us (length rest) place path.choices × (Each (IsAtSimple p) (before ∷ rest) ⊎ MeetsOther p m f us (length rest))
+
+    pub come_unknown : (place : Place) → IsPlaceOf p before.stack place → (us : List PureValue) × ComesSimply us place
     come_unknown place at =
         let known : ¬ IsUnknown before.ending = λ unknown. subst IsUnknown next.going unknown in
-        let (v, canonical) = has_canonical p m stands terms asked laws f start begins rest before trail known in
-        let us : List PureValue = draws_among before.vars v in (
+        let (v, canonical) = has_canonical p m stands terms asked plain laws f start begins rest before trail known in
+        let us : List PureValue = draws_among before.vars v in
+        let along = beside p m stands terms asked plain laws f start begins us rest before v trail canonical.own in
+        let sat : Satisfies before.vars v before.conds = record { proper = canonical.own.proper; true_there = canonical.meets } in (
           us,
-          come_by p m stands terms asked laws f start begins before rest path next trail how ending us v place (beside p m stands terms asked laws f start begins us rest before v trail canonical.own)
-              (record { proper = canonical.own.proper; true_there = canonical.meets })
-              (λ s c stood reach at_c. place_there p v before.stack s c place stood.frames at_c at),
+          (
+            come_by p m stands terms asked plain laws f start begins before rest path next trail how ending us v place along sat (λ s c stood reach at_c. place_there p v before.stack s c place stood.frames at_c at),
+            simple_or_other p m stands terms asked laws f start us rest before v trail next.going next.at_command along sat,
+          ),
         )
 
     module _ (v : List PureValue) (canonical : IsCanonical path.vars path.conds v) (known : ¬ IsUnknown (Some how)) (place : Place)
@@ -282,8 +291,10 @@ module _ {S : Type 0} (p : PureParts) (m : Actions) (stands : S → List PureVal
           let (w, is) = fails_there e t stood in
           last_fails p m us s0 (length rest) s t c e w place reach at after is
 
-      pub come_failing : ComesAlong p m f us (length rest) place path.choices
+      pub come_failing : ComesSimply us place
       come_failing =
           let sat : Satisfies path.vars v path.conds = record { proper = canonical.own.proper; true_there = canonical.meets } in
-          let (w, (along, sat_before)) = laws.end_before us [] v s0 start before path rest (beside p m stands terms asked laws f start begins us (before ∷ rest) path v (next, trail) canonical.own) sat in
-          come_by p m stands terms asked laws f start begins before rest path next trail how ending us w place along sat_before (λ s c stood reach at. placed s c reach at)
+          let (w, (along, sat_before)) = laws.end_before us [] v s0 start before path rest (beside p m stands terms asked plain laws f start begins us (before ∷ rest) path v (next, trail) canonical.own) sat in (
+            come_by p m stands terms asked plain laws f start begins before rest path next trail how ending us w place along sat_before (λ s c stood reach at. placed s c reach at),
+            simple_or_other p m stands terms asked laws f start us rest before w trail next.going next.at_command along sat_before,
+          )

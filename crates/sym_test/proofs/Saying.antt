@@ -1,5 +1,5 @@
 -- What is said of an ended path is right.
-use Rattle.std.proofs.Common.{◌≡◌, ◌⊎◌, ⊎_elim, inl, inr, ℕ, zero, suc, ◌+◌, ◌<◌, ◌≤◌, ◌^◌, List, [], ◌∷◌, ◌++◌, length, Bool, true, false, ◌&&◌, Option, Some, None, is_some, IsSome, IsTrue, true≢false, refl, sym, ap, subst, ◌∙◌, arith, slice_get, codes}
+use Rattle.std.proofs.Common.{◌≡◌, ℤ, pos, neg_ℤ, ◌⊎◌, ⊎_elim, inl, inr, ℕ, zero, suc, ◌+◌, ◌<◌, ◌≤◌, ◌^◌, List, [], ◌∷◌, ◌++◌, length, Bool, true, false, ◌&&◌, Option, Some, None, is_some, IsSome, IsTrue, true≢false, refl, sym, ap, subst, ◌∙◌, arith, slice_get, codes}
 use Rattle.std.specs.List.{list_all}
 use Rattle.std.proofs.lemmas.Bool.{and_parts, and_from}
 use Rattle.std.proofs.lemmas.List.{append-nil, length-append}
@@ -23,25 +23,32 @@ use Rattle.pure_terms.specs.Pure.{PureTerm, PureAtom, opening}
 use Rattle.pure_terms.specs.Wide.{has_wide_part}
 use Rattle.pure_terms.proofs.FragmentLaws.{fragment_atom_by_atom}
 use Rattle.sym_explore.specs.Exploring.{IsFrom, IsEndedFrom, cut_off}
+use Rattle.sym_explore.specs.Laws.{IsBeside}
+use Rattle.sym_explore.specs.Plain.{IsAtSimple, TrailsStayPlain, grown}
 use Rattle.sym_explore.specs.Runs.{EndsAfter, StandsAfter, AccountsFor}
 use Rattle.sym_explore.specs.Trails.{IsNextPath, IsTrail}
+use Rattle.sym_model.specs.Laws.{IsPlainWithin, IsDecidedWithin}
 use Rattle.sym_model.specs.Lists.{Each, OneOf}
 use Rattle.sym_model.specs.Terms.{StateTerms, AreEachOver}
-use Rattle.sym_model.proofs.ListLaws.{same_some, not_none}
+use Rattle.sym_model.proofs.ListLaws.{same_some, not_none, each_at}
 use Rattle.sym_paths.specs.Meaning.{Stands, StandsForEnd, IsEnding, end_terms}
 use Rattle.sym_paths.specs.Pure.{PureEnd, returned, failed, missed, vanished, cut, unknown, PurePath}
-use Rattle.sym_paths.specs.Steps.{IsUnknown, IsRightlyUnknown, IsPlaceOf, IsFirstOutside, place_of}
+use Rattle.sym_paths.specs.Steps.{Extends, IsUnknown, IsRightlyUnknown, IsPlaceOf, IsFirstOutside, place_of, IsPlainPath}
 use Rattle.sym_test.specs.Canonical.{HaveValuation, draws_among, IsCanonical}
 use Rattle.sym_test.specs.Judged.{Begins, PureJudgement, harmless, fails, undecided, FailsWith, IsAbout, IsListOutside, IsWide, IsFoundBug, lists_of, IsFailureJudged, IsUnknownJudged, IsJudgedEnd, AccountsForNoFailure, IsRightlyJudged}
-use Rattle.sym_test.specs.Undecided.{first_state, ComesAlong, is_narrow_term, IsOutsideAt, IsWideFailure, IsTraced as IsAskedOnTheWay, IsUndecided}
+use Rattle.sym_test.specs.Undecided.{first_state, ComesAlong, MeetsOther, FailsSimply, is_narrow_term, IsOutsideAt, IsWideFailure, IsTraced as IsAskedOnTheWay, IsUndecided}
 use Rattle.sym_test.specs.View.{PureQuery}
 use Rattle.sym_test.proofs.Canonicals.{at_length}
 use Rattle.sym_test.proofs.Holding.{narrow_is_held}
+use Rattle.sym_test.proofs.Plainly.{atom_passes, term_is_narrow, simple_or_other}
 use Rattle.sym_test.proofs.Replaying.{failure_is_bug, miss_is_bug, is_undecided, come_unknown, come_failing}
 use Rattle.sym_test.proofs.Trailing.{TrailLaws, new_sorts, steps_counted, is_over, has_canonical, replayed}
 
 not_cut : {X : Type 0} (how : PureEnd) → Some how ≡ Some cut → (how ≡ cut → ⊥) → X
 not_cut how is other = absurd (other (same_some is))
+
+not_harmless : (q : PureQuery) → undecided q ≡ harmless → ⊥
+not_harmless q unlike = cc
 
 abbrev is_cut : PureEnd → Bool
 is_cut cut = true
@@ -71,15 +78,15 @@ open_is_outside atoms t inside = (
 )
 
 module _ {S : Type 0} (p : PureParts) (m : Actions) (stands : S → List PureValue → Heap → Type 0) (terms : S → StateTerms) (asked : List ℕ → List PureTerm → List PureTerm)
-    (laws : TrailLaws p m stands terms asked) (f : List ℕ) (start : PurePath S) (begins : Begins p stands terms f start) (n : ℕ) (entry : IsEntry p f) (keeps_plain : Type 0) where
+    (plain : S → ℤ → ℤ → Type 0) (laws : TrailLaws p m stands terms asked) (f : List ℕ) (start : PurePath S) (begins : Begins p stands terms plain f start) (n : ℕ) (entry : IsEntry p f) (few : n ≤ 10000) (keeps_plain : Type 0) (stays : TrailsStayPlain p m stands terms asked plain) where
   abbrev s0 : State
   s0 = first_state p f
 
   abbrev From : PurePath S → Type 0
-  From path = IsFrom p m stands terms asked n start path
+  From path = IsFrom p m stands terms asked plain keeps_plain n start path
 
   abbrev Ended : PurePath S → Type 0
-  Ended path = IsEndedFrom p m stands terms asked n start path
+  Ended path = IsEndedFrom p m stands terms asked plain keeps_plain n start path
 
   -- an end that is no cut is that of a trail
   from_of : (path : PurePath S) (how : PureEnd) → Ended path → path.ending ≡ Some how → is_cut how ≡ false → From path
@@ -150,14 +157,14 @@ module _ {S : Type 0} (p : PureParts) (m : Actions) (stands : S → List PureVal
   found_failure path t place here w inputs ended ending same bug =
       let from = from_of path (failed t place) ended ending refl in
       subst (λ us. IsBug p m f n us w here) (sym bug.draws) (subst (IsBug p m f n (draws_among path.vars bug.valuation) w) (sym same)
-      (failure_is_bug p m stands terms asked laws f start begins n entry from.earlier path from.trail from.within bug.valuation bug.canonical t place w ending bug.value_is))
+      (failure_is_bug p m stands terms asked plain laws f start begins n entry from.earlier path from.trail from.within bug.valuation bug.canonical t place w ending bug.value_is))
 
   found_miss : (path : PurePath S) (key : _) (place here : Place) (w : PureValue) (inputs : List PureValue) → Ended path → path.ending ≡ Some (missed key place) → here ≡ place → IsFoundBug (lists_of path) (missed key place) w inputs → IsBug p m f n inputs w here
   found_miss path key place here w inputs ended ending same bug =
       let from = from_of path (missed key place) ended ending refl in
       subst (λ us. IsBug p m f n us w here) (sym bug.draws) (subst (IsBug p m f n (draws_among path.vars bug.valuation) w) (sym same)
       (subst (λ u. IsBug p m f n (draws_among path.vars bug.valuation) u place) (sym bug.value_is)
-      (miss_is_bug p m stands terms asked laws f start begins n entry from.earlier path from.trail from.within bug.valuation bug.canonical key place ending)))
+      (miss_is_bug p m stands terms asked plain laws f start begins n entry from.earlier path from.trail from.within bug.valuation bug.canonical key place ending)))
 
   -- ---- undecided
 
@@ -172,44 +179,83 @@ module _ {S : Type 0} (p : PureParts) (m : Actions) (stands : S → List PureVal
       subst Undecided (sym (λ j. record { place = is.place_is j; path = is.choices j; vars = is.vars j; given = is.given j; query = query j; outside = outside j })) so
 
   -- a path with an end comes after another one
-  record LastStep (path : PurePath S) : Type 0 where
+  record LastStep (path : PurePath S) (earlier : List (PurePath S)) : Type 0 where
     before : PurePath S
     rest : List (PurePath S)
+    is : earlier ≡ before ∷ rest
     next : IsNextPath p m stands terms asked before path
     trail : IsTrail p m stands terms asked start rest before
 
-  last_step : (path : PurePath S) (how : PureEnd) (earlier : List (PurePath S)) → IsTrail p m stands terms asked start earlier path → path.ending ≡ Some how → LastStep path
+  last_step : (path : PurePath S) (how : PureEnd) (earlier : List (PurePath S)) → IsTrail p m stands terms asked start earlier path → path.ending ≡ Some how → LastStep path earlier
   last_step path how [] same ending = not_none (sym begins.going ∙ ap (λ (q : PurePath S). q.ending) (sym same) ∙ ending)
-  last_step path how (before ∷ rest) (next, trail) ending = record { before = before; rest = rest; next = next; trail = trail }
+  last_step path how (before ∷ rest) (next, trail) ending = record { before = before; rest = rest; is = refl; next = next; trail = trail }
 
-  -- the query is the path's own list
-  own_list : (path : PurePath S) (how : PureEnd) → From path → path.ending ≡ Some how → (last : LastStep path) → (place : Place) (i : ℕ) → (us : List PureValue) × ComesAlong p m f us (length last.rest) place path.choices → IsOutsideAt path.conds i
-      → Undecided (about path place path.conds i)
-  own_list path how from ending last place i (us, come) outside =
+  -- ---- where every command on the way has a simple form
+
+  narrow_there : (path : PurePath S) (from : From path) → grown (length from.earlier) 0 ≤ 2 ^ 80
+  narrow_there path from =
+      let counted : path.steps ≡ length from.earlier = steps_counted p m stands terms asked plain laws f start begins from.earlier path from.trail in
+      let within : path.steps ≤ n = from.within in
+      stays.narrow (length from.earlier) (omega (arith, counted, within, few))
+
+  plain_there : (path : PurePath S) (from : From path) → keeps_plain → Each (IsAtSimple p) from.earlier → IsPlainPath plain (grown (length from.earlier) 0) path
+  plain_there path from keeps simple = stays.plain_path start path from.earlier 0 from.trail (from.simple keeps) simple (narrow_there path from) begins.starts_plain
+
+  -- no path is unknown, no condition is outside, and no failing term has another form
+  refutes_unknown : (path : PurePath S) (from : From path) → keeps_plain → Each (IsAtSimple p) from.earlier → IsUnknown path.ending → ⊥
+  refutes_unknown path from keeps simple =
+      stays.known start path from.earlier 0 from.trail (from.simple keeps) simple (narrow_there path from) begins.starts_plain (λ holds. subst IsUnknown begins.going holds)
+
+  refutes_list : (path : PurePath S) (from : From path) → keeps_plain → Each (IsAtSimple p) from.earlier → (q : PureQuery) → IsListOutside (lists_of path) q → ⊥
+  refutes_list path from keeps simple q list =
+      let (a, (at, out)) = list.keeps in
+      let b : ℕ = grown (length from.earlier) 0 in
+      true≢false (sym out ∙ atom_passes b a (narrow_there path from) (each_at (IsDecidedWithin (neg_ℤ (pos b)) (pos b)) path.conds q.outside a (plain_there path from keeps simple).conds at))
+
+  refutes_term : (path : PurePath S) (from : From path) → keeps_plain → Each (IsAtSimple p) from.earlier → (t : PureTerm) (place : Place) → path.ending ≡ Some (failed t place) → is_narrow_term t ≡ true
+  refutes_term path from keeps simple t place ending =
+      let b : ℕ = grown (length from.earlier) 0 in
+      term_is_narrow b t (narrow_there path from) (subst (λ o. Each (IsPlainWithin (neg_ℤ (pos b)) (pos b)) (end_terms o)) ending (plain_there path from keeps simple).ending).0
+
+  -- ---- the path's own list
+
+  own_list : (path : PurePath S) (how : PureEnd) → (from : From path) → path.ending ≡ Some how → (last : LastStep path from.earlier) → (place : Place) (i : ℕ) (us : List PureValue) → ComesAlong p m f us (length last.rest) place path.choices
+      → (keeps_plain → MeetsOther p m f us (length last.rest)) → IsOutsideAt path.conds i → Undecided (about path place path.conds i)
+  own_list path how from ending last place i us come others outside =
       subst (λ atoms. Undecided (about path place atoms i)) (append-nil path.conds)
-      (is_undecided p m stands terms asked laws f start begins n entry last.before last.rest path last.next last.trail how ending from.within place [] i us come (λ vs v has meets. refl) tt
-      (subst (λ atoms. IsOutsideAt atoms i) (sym (append-nil path.conds)) outside) keeps_plain)
+      (is_undecided p m stands terms asked plain laws f start begins n entry last.before last.rest path last.next last.trail how ending from.within place [] i us come (λ vs v has meets. refl) tt
+      (subst (λ atoms. IsOutsideAt atoms i) (sym (append-nil path.conds)) outside) keeps_plain others)
+
+  -- a run meets a command of another form, where simple commands alone are impossible
+  others_of : (path : PurePath S) (from : From path) (last : LastStep path from.earlier) (us : List PureValue) → Each (IsAtSimple p) (last.before ∷ last.rest) ⊎ MeetsOther p m f us (length last.rest)
+      → (keeps_plain → Each (IsAtSimple p) from.earlier → ⊥) → keeps_plain → MeetsOther p m f us (length last.rest)
+  others_of path from last us (inl simple) impossible keeps = absurd (impossible keeps (subst (Each (IsAtSimple p)) (sym last.is) simple))
+  others_of path from last us (inr other) impossible keeps = other
 
   unknown_is_undecided : (path : PurePath S) (place : Place) (reason : Reason) (q : PureQuery) → Ended path → path.ending ≡ Some (unknown place reason) → IsAbout (lists_of path) place q → q.query ≡ path.conds → q.outside ≡ place_of reason → Undecided q
   unknown_is_undecided path place reason q ended ending is query outside =
       let from = from_of path (unknown place reason) ended ending refl in
       let last = last_step path (unknown place reason) from.earlier from.trail ending in
       let rightly : IsRightlyUnknown p last.before path (Some (unknown place reason)) = subst (IsRightlyUnknown p last.before path) ending last.next.unknown_rightly in
+      let (us, (come, either)) = come_unknown p m stands terms asked plain laws f start begins n entry last.before last.rest path last.next last.trail (unknown place reason) ending from.within place rightly.2 in
       is_about path place q path.conds (place_of reason) is query outside
-      (own_list path (unknown place reason) from ending last place (place_of reason)
-      (come_unknown p m stands terms asked laws f start begins n entry last.before last.rest path last.next last.trail (unknown place reason) ending from.within place rightly.2)
+      (own_list path (unknown place reason) from ending last place (place_of reason) us come
+      (others_of path from last us either (λ keeps simple. refutes_unknown path from keeps simple (subst IsUnknown (sym ending) tt)))
       (rightly.0, (reason, (rightly.1, refl))))
 
   -- how a run comes to the last command of a failing path
-  module _ (path : PurePath S) (how : PureEnd) (from : From path) (ending : path.ending ≡ Some how) (known : IsUnknown (Some how) → ⊥) (last : LastStep path) (place : Place)
+  module _ (path : PurePath S) (how : PureEnd) (from : From path) (ending : path.ending ≡ Some how) (known : IsUnknown (Some how) → ⊥) (last : LastStep path from.earlier) (place : Place)
       (fails_there : (v : List PureValue) (e : End) (s : State) → StandsForEnd p m stands path v s how e → (w : PureValue) × (e.ending ≡ machine.failed w place)) where
-    comes_failing : (us : List PureValue) × ComesAlong p m f us (length last.rest) place path.choices
+    comes_failing : (us : List PureValue) × (ComesAlong p m f us (length last.rest) place path.choices × (Each (IsAtSimple p) (last.before ∷ last.rest) ⊎ MeetsOther p m f us (length last.rest)))
     comes_failing =
-        let (v, canonical) = has_canonical p m stands terms asked laws f start begins (last.before ∷ last.rest) path (last.next, last.trail) (λ holds. known (subst IsUnknown ending holds)) in
-        (draws_among path.vars v, come_failing p m stands terms asked laws f start begins n entry last.before last.rest path last.next last.trail how ending from.within v canonical known place (fails_there v))
+        let (v, canonical) = has_canonical p m stands terms asked plain laws f start begins (last.before ∷ last.rest) path (last.next, last.trail) (λ holds. known (subst IsUnknown ending holds)) in
+        (draws_among path.vars v, come_failing p m stands terms asked plain laws f start begins n entry last.before last.rest path last.next last.trail how ending from.within v canonical known place (fails_there v))
 
     outside_is_undecided : (q : PureQuery) → IsAbout (lists_of path) place q → IsListOutside (lists_of path) q → Undecided q
-    outside_is_undecided q is list = is_about path place q path.conds q.outside is list.query refl (own_list path how from ending last place q.outside comes_failing list.outside)
+    outside_is_undecided q is list =
+        let (us, (come, either)) = comes_failing in
+        is_about path place q path.conds q.outside is list.query refl
+        (own_list path how from ending last place q.outside us come (others_of path from last us either (λ keeps simple. refutes_list path from keeps simple q list)) list.outside)
 
   failing_end : (path : PurePath S) (t : PureTerm) (place : Place) (v : List PureValue) (e : End) (s : State) → StandsForEnd p m stands path v s (failed t place) e → (w : PureValue) × (e.ending ≡ machine.failed w place)
   failing_end path t place v e s stood = let (w, (val, is)) = stood.ending in (w, is)
@@ -219,7 +265,7 @@ module _ {S : Type 0} (p : PureParts) (m : Actions) (stands : S → List PureVal
 
   -- ---- a failing value that leaves 128 bits
 
-  module _ (path : PurePath S) (t : PureTerm) (place : Place) (from : From path) (ending : path.ending ≡ Some (failed t place)) (last : LastStep path) where
+  module _ (path : PurePath S) (t : PureTerm) (place : Place) (from : From path) (ending : path.ending ≡ Some (failed t place)) (last : LastStep path from.earlier) where
     known : IsUnknown path.ending → ⊥
     known holds = subst IsUnknown ending holds
 
@@ -230,7 +276,7 @@ module _ {S : Type 0} (p : PureParts) (m : Actions) (stands : S → List PureVal
     fails_with : (us v : List PureValue) → HaveValuation path.vars us v → IsTrue (all_true v path.conds)
         → (s : State) × ((e : End) × ((w : PureValue) × (EndsAfter p m us s0 (suc (length last.rest)) s e × (value v t ≡ Some w) × (e.ending ≡ machine.failed w place))))
     fails_with us v has meets =
-        let (s, (e, (after, stood))) = subst (StandsAfter p m stands us s0 start path v (suc (length last.rest))) ending (replayed p m stands terms asked laws f start begins us (last.before ∷ last.rest) path v trail has meets known) in
+        let (s, (e, (after, stood))) = subst (StandsAfter p m stands us s0 start path v (suc (length last.rest))) ending (replayed p m stands terms asked plain laws f start begins us (last.before ∷ last.rest) path v trail has meets known) in
         let (w, (val, is)) = stood.ending in
         (s, (e, (w, (after, val, is))))
 
@@ -249,7 +295,7 @@ module _ {S : Type 0} (p : PureParts) (m : Actions) (stands : S → List PureVal
         cut_fails w place unlike = cc
 
     term_over : IsOverVars path.vars t
-    term_over = (subst (λ o. AreEachOver path.vars (end_terms o)) ending (is_over p m stands terms asked laws f start begins (last.before ∷ last.rest) path trail).ending).0
+    term_over = (subst (λ o. AreEachOver path.vars (end_terms o)) ending (is_over p m stands terms asked plain laws f start begins (last.before ∷ last.rest) path trail).ending).0
 
     wide_is_undecided : (q : PureQuery) → IsAbout (lists_of path) place q → IsWide (lists_of path) t q → Undecided q
     wide_is_undecided q is wide =
@@ -260,10 +306,10 @@ module _ {S : Type 0} (p : PureParts) (m : Actions) (stands : S → List PureVal
               ∙ and_from (all_true wide.leaves.valuation path.conds) (all_true wide.leaves.valuation (opening t ∷ [])) wide.leaves.canonical.meets
               (has_value (draws_among path.vars wide.leaves.valuation) wide.leaves.valuation wide.leaves.canonical.own wide.leaves.canonical.meets);
         } in
+        let (us, (come, either)) = comes_failing path (failed t place) from ending (λ holds. holds) last place (failing_end path t place) in
+        let not_narrow : is_narrow_term t ≡ false = not_narrow_by (is_narrow_term t) refl wide.leaves.wide in
         is_about path place q atoms (length path.conds) is wide.query wide.outside
-        (is_undecided p m stands terms asked laws f start begins n entry last.before last.rest path last.next last.trail (failed t place) ending from.within place (opening t ∷ []) (length path.conds)
-        (comes_failing path (failed t place) from ending (λ holds. holds) last place (failing_end path t place)).0
-        (comes_failing path (failed t place) from ending (λ holds. holds) last place (failing_end path t place)).1
+        (is_undecided p m stands terms asked plain laws f start begins n entry last.before last.rest path last.next last.trail (failed t place) ending from.within place (opening t ∷ []) (length path.conds) us come
         has_value
         (inr (inr (record {
           term = t;
@@ -272,12 +318,13 @@ module _ {S : Type 0} (p : PureParts) (m : Actions) (stands : S → List PureVal
               let meets : IsTrue (all_true v path.conds) = (and_parts (all_true v path.conds) (all_true v (opening t ∷ [])) (sym (list_all-append (truth v) path.conds (opening t ∷ [])) ∙ whole)).0 in
               let (r, (e, (w, (after, val, fails_so)))) = fails_with us v has meets in
               (w, (e, (val, at_last us s r e w reach after fails_so, fails_so)));
-          not_narrow = not_narrow_by (is_narrow_term t) refl wide.leaves.wide;
+          not_narrow = not_narrow;
           met = wide.leaves.valuation;
           meets = met;
           wide = wide.leaves.wide;
         })), tt)
-        (open_is_outside path.conds t wide.inside) keeps_plain) where
+        (open_is_outside path.conds t wide.inside) keeps_plain
+        (others_of path from last us either (λ keeps simple. true≢false (sym (refutes_term path from keeps simple t place ending) ∙ not_narrow)))) where
           not_narrow_by : (b : Bool) → is_narrow_term t ≡ b → IsTrue (has_wide_part wide.leaves.valuation t) → is_narrow_term t ≡ false
           not_narrow_by false holds there = holds
           not_narrow_by true narrow there =
@@ -329,3 +376,54 @@ module _ {S : Type 0} (p : PureParts) (m : Actions) (stands : S → List PureVal
 
   pub judged_right : (path : PurePath S) (j : PureJudgement) → Ended path → IsJudgedEnd path path.ending j → IsRightlyJudged p m stands terms asked keeps_plain f n start path j
   judged_right path j ended judged = right_at path path.ending j ended refl judged
+
+  -- ---- runs that fail by simple commands alone
+
+  -- under some valuation that follows the run the path's conditions are met
+  met_by : (path : PurePath S) (how : PureEnd) → path.ending ≡ Some how → (inputs : List PureValue) → AccountsFor p m stands inputs s0 start [] path
+      → (v : List PureValue) × (Extends inputs s0 start path [] v × Satisfies path.vars v path.conds)
+  met_by path how ending inputs (v, (ext, inl after)) =
+      let (s, (e, (ends_so, stood))) = subst (StandsAfter p m stands inputs s0 start path v path.steps) ending after in
+      (v, (ext, record { proper = stood.proper; true_there = stood.meets }))
+  met_by path how ending inputs (v, (ext, inr (holds, sat))) = (v, (ext, sat))
+
+  -- the commands on its way are simple
+  simple_on_the_way : (path : PurePath S) (how : PureEnd) (from : From path) → path.ending ≡ Some how → (inputs : List PureValue) → FailsSimply p m f inputs n → AccountsFor p m stands inputs s0 start [] path → Each (IsAtSimple p) from.earlier
+  simple_on_the_way path how from ending inputs fails_so accounts =
+      let (v, (ext, sat)) = met_by path how ending inputs accounts in
+      let last = last_step path how from.earlier from.trail ending in
+      let along : IsBeside p m stands terms asked inputs [] v s0 start (last.before ∷ last.rest) path =
+      record { trail = (last.next, last.trail); going = begins.going; over = begins.over; stands_for = begins.stands_for; follows = ext } in
+      let (w, (along_before, sat_before)) = laws.end_before inputs [] v s0 start last.before path last.rest along sat in
+      ⊎_elim
+      (λ simple. subst (Each (IsAtSimple p)) (sym last.is) simple)
+      (λ other. absurd (true≢false (sym (fails_so.simple other.steps other.state other.command other.stands) ∙ other.other)))
+      (simple_or_other p m stands terms asked laws f start inputs last.rest last.before w last.trail last.next.going last.next.at_command along_before sat_before)
+
+  refutes_at : (path : PurePath S) (o : Option PureEnd) (q : PureQuery) → Ended path → path.ending ≡ o → IsJudgedEnd path o (undecided q) → keeps_plain → (inputs : List PureValue) → FailsSimply p m f inputs n
+      → AccountsFor p m stands inputs s0 start [] path → ⊥
+  refutes_at path None q ended ending judged keeps inputs fails_so accounts = not_open path ended ending
+  refutes_at path (Some (returned t)) q ended ending judged keeps inputs fails_so accounts = not_harmless q judged
+  refutes_at path (Some vanished) q ended ending judged keeps inputs fails_so accounts = not_harmless q judged
+  refutes_at path (Some cut) q ended ending judged keeps inputs fails_so accounts = not_harmless q judged
+  refutes_at path (Some (failed t place)) q ended ending (is, either) keeps inputs fails_so accounts =
+      let from = from_of path (failed t place) ended ending refl in
+      let simple = simple_on_the_way path (failed t place) from ending inputs fails_so accounts in
+      ⊎_elim
+      (λ list. refutes_list path from keeps simple q list)
+      (λ wide. true≢false (sym wide.leaves.wide
+      ∙ narrow_is_held path.vars wide.leaves.valuation t wide.leaves.canonical.own.proper
+      (subst (λ o. AreEachOver path.vars (end_terms o)) ending (is_over p m stands terms asked plain laws f start begins from.earlier path from.trail).ending).0
+      (wide.leaves.moderate wide.inside) (refutes_term path from keeps simple t place ending)))
+      either
+  refutes_at path (Some (missed key place)) q ended ending (is, either) keeps inputs fails_so accounts =
+      let from = from_of path (missed key place) ended ending refl in
+      let simple = simple_on_the_way path (missed key place) from ending inputs fails_so accounts in
+      ⊎_elim (λ list. refutes_list path from keeps simple q list) (λ none. absurd none) either
+  refutes_at path (Some (unknown place reason)) q ended ending judged keeps inputs fails_so accounts =
+      let from = from_of path (unknown place reason) ended ending refl in
+      refutes_unknown path from keeps (simple_on_the_way path (unknown place reason) from ending inputs fails_so accounts) (subst IsUnknown (sym ending) tt)
+
+  -- no such run is one for which an undecided path accounts
+  pub simple_is_decided : (path : PurePath S) (q : PureQuery) → Ended path → IsJudgedEnd path path.ending (undecided q) → keeps_plain → (inputs : List PureValue) → FailsSimply p m f inputs n → AccountsFor p m stands inputs s0 start [] path → ⊥
+  simple_is_decided path q ended judged keeps inputs fails_so accounts = refutes_at path path.ending q ended refl judged keeps inputs fails_so accounts

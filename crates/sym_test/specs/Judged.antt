@@ -1,5 +1,5 @@
 -- The start of a test, and what is said of one path that has ended.
-use Rattle.std.specs.Prelude.{◌≡◌, ◌⊎◌, ℕ, List, [], ◌∷◌, ◌++◌, length, Option, Some, None, IsTrue, codes}
+use Rattle.std.specs.Prelude.{◌≡◌, ◌⊎◌, ℕ, ℤ, List, [], ◌∷◌, ◌++◌, length, slice_get, Option, Some, None, IsTrue, codes}
 use Rattle.std.specs.List.{list_all}
 use Rattle.gil_values.specs.declared.places.Place.{Place}
 use Rattle.gil_values.specs.Pure.{PureValue, text}
@@ -20,18 +20,18 @@ use Rattle.sym_model.specs.Lists.{Each}
 use Rattle.sym_model.specs.Terms.{StateTerms}
 use Rattle.sym_paths.specs.Meaning.{Stands, IsOverTable}
 use Rattle.sym_paths.specs.Pure.{PureEnd, failed, missed, unknown, PurePath}
-use Rattle.sym_paths.specs.Steps.{IsNewSort, IsUnknown, place_of}
+use Rattle.sym_paths.specs.Steps.{IsNewSort, IsUnknown, place_of, IsPlainPath}
 use Rattle.pure_terms.specs.View.{atoms_view}
 use Rattle.sym_test.specs.declared.judging.Judgement.{Judgement}
 use Rattle.sym_test.specs.declared.judging.Lists.{Lists}
 use Rattle.sym_test.specs.Canonical.{draws_among, IsCanonical}
-use Rattle.sym_test.specs.Undecided.{first_state, IsOutsideAt, IsUndecided}
+use Rattle.sym_test.specs.Undecided.{first_state, keeps_out, IsOutsideAt, IsUndecided}
 use Rattle.sym_test.specs.View.{PureQuery, query_view, PureVerdict, clean}
 use Rattle.sym_test.specs.View as verdict
 
 -- the path on which the test of a procedure begins
-pub record Begins {S : Type 0} (p : PureParts) (stands : S → List PureValue → Heap → Type 0) (terms : S → StateTerms) (f : List ℕ)
-    (path : PurePath S) : Type 0 where
+pub record Begins {S : Type 0} (p : PureParts) (stands : S → List PureValue → Heap → Type 0) (terms : S → StateTerms)
+    (plain : S → ℤ → ℤ → Type 0) (f : List ℕ) (path : PurePath S) : Type 0 where
   pub stands_for : Stands stands path [] (first_state p f)
   pub over : IsOverTable terms path
   pub steps : path.steps ≡ 0
@@ -39,6 +39,7 @@ pub record Begins {S : Type 0} (p : PureParts) (stands : S → List PureValue �
   pub choices : path.choices ≡ []
   pub conds : path.conds ≡ []
   pub given : path.given ≡ []
+  pub starts_plain : IsPlainPath plain 0 path
 
 -- ---- what is said of a path
 
@@ -97,6 +98,7 @@ pub record IsAbout (l : PureLists) (place : Place) (q : PureQuery) : Type 0 wher
 pub record IsListOutside (l : PureLists) (q : PureQuery) : Type 0 where
   pub query : q.query ≡ l.conds
   pub outside : IsOutsideAt l.conds q.outside
+  pub keeps : (a : PureAtom) × ((slice_get l.conds q.outside ≡ Some a) × IsTrue (keeps_out a))
 
 -- under a valuation that a decider gives, if the conditions are in the fragment, a part of the term leaves 128 bits
 pub record LeavesHeld (l : PureLists) (t : PureTerm) : Type 0 where

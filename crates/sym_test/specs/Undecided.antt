@@ -1,19 +1,19 @@
 -- What a verdict promises: a bug, clean, or undecided. Bugs and clean are those of Gillian, Part I (PLDI 2020).
-use Rattle.std.specs.Prelude.{◌≡◌, ◌⊎◌, ℕ, suc, ◌<◌, ◌≤◌, ◌^◌, pos, neg_ℤ, List, [], ◌∷◌, ◌++◌, Bool, true, false, ◌&&◌, Option, Some, None, IsTrue}
+use Rattle.std.specs.Prelude.{◌≡◌, ◌⊎◌, ℕ, suc, ◌<◌, ◌≤◌, ◌^◌, pos, neg_ℤ, List, [], ◌∷◌, ◌++◌, Bool, true, false, not, ◌&&◌, ◌||◌, Option, Some, None, IsTrue, ⊤}
 use Rattle.std.specs.FinMap.{empty}
 use Rattle.gil_values.specs.declared.places.Place.{Place}
 use Rattle.gil_values.specs.Pure.{PureValue}
 use Rattle.gil_syntax.specs.Pure.{PureParts, PureNumberedCommand}
 use Rattle.gil_syntax.specs.Simple.{is_simple_command}
 use Rattle.gil_machine.specs.Choices.{choices, with_choice}
-use Rattle.gil_machine.specs.Run.{reached, start, IsEntry, IsBug, IsClean}
-use Rattle.gil_machine.specs.State.{State, End, failed, ends}
+use Rattle.gil_machine.specs.Run.{reached, start, test_run, IsEntry, IsBug, IsClean}
+use Rattle.gil_machine.specs.State.{State, End, failed, IsFailed, ends}
 use Rattle.gil_machine.specs.Step.{command_at, step}
 use Rattle.mem_model.specs.Actions.{Actions}
 use Rattle.mem_model.specs.Heaps.{Heap}
 use Rattle.pure_terms.specs.declared.deciders.Reason.{Reason}
 use Rattle.pure_terms.specs.declared.variables.Sort.{Sort}
-use Rattle.pure_terms.specs.Fragment.{is_simple, has_literals_between, InFragment}
+use Rattle.pure_terms.specs.Fragment.{is_simple, has_literals_between, has_fragment_form, has_narrow_literals, InFragment}
 use Rattle.pure_terms.specs.Meaning.{value, all_true, IsProper, Satisfies}
 use Rattle.pure_terms.specs.Pure.{PureTerm, PureAtom, opening}
 use Rattle.pure_terms.specs.Wide.{has_wide_part}
@@ -62,6 +62,11 @@ module _ (p : PureParts) (m : Actions) (f : List ℕ) where
     pub command : PureNumberedCommand
     pub stands : StandsAtCommand inputs steps state command
     pub other : is_simple_command command.command ≡ false
+
+  -- within the bound the run fails, and each command at which it stands is of simple form
+  pub record FailsSimply (inputs : List PureValue) (n : ℕ) : Type 0 where
+    pub fails : IsFailed (test_run p m f inputs n).ending
+    pub simple : (k : ℕ) (state : State) (c : PureNumberedCommand) → StandsAtCommand inputs k state c → IsTrue (is_simple_command c.command)
 
 -- ---- where atoms come from
 
@@ -112,6 +117,10 @@ module _ {S : Type 0} (p : PureParts) (m : Actions) (stands : S → List PureVal
   abbrev pub IsTraced : PureQuery → ℕ → PureAtom → Type 0
   IsTraced q k a = InFragment (a ∷ []) ⊎ (IsOwnOnTheWay q k a ⊎ IsWideFailure q k a)
 
+-- the atom has no form of the fragment, or a literal outside its range
+abbrev pub keeps_out : PureAtom → Bool
+keeps_out a = not (has_fragment_form a) || not (has_narrow_literals a)
+
 -- ---- undecided
 
 -- the list isn't in the fragment, and this is the place of its first atom that by itself isn't
@@ -120,6 +129,7 @@ IsOutsideAt atoms i = (¬ InFragment atoms) × ((reason : Reason) × (IsFirstOut
 
 -- Undecided: after exactly k steps, fewer than the bound, some run stands at the place along the path.
 --   come: so no place or path is invented;
+--   not_simple: so no program is left undecided whose commands are all of simple form;
 --   given_suffices and leads: what is asked is what decides whether the run goes along the path, no more and no less;
 --   traced: so no atom is asked that no command asks;
 --   outside: so no list is handed out that a decider would have decided.
@@ -130,6 +140,7 @@ pub record IsUndecided {S : Type 0} (p : PureParts) (m : Actions) (stands : S �
   pub within : k < n
   pub inputs : List PureValue
   pub come : ComesAlong p m f inputs k q.place q.path
+  pub not_simple : keeps_plain → MeetsOther p m f inputs k
   pub given_suffices : (inputs v : List PureValue) → HaveValuation q.vars inputs v → IsAlong p m f inputs k q.path
       → IsTrue (all_true v q.given) → IsTrue (all_true v q.query)
   pub leads : has_open q.query ≡ false → (inputs v : List PureValue) → HaveValuation q.vars inputs v → IsTrue (all_true v q.given)
@@ -145,3 +156,12 @@ abbrev pub IsRightVerdict : {S : Type 0} → PureParts → Actions → (S → Li
 IsRightVerdict p m stands terms asked keeps_plain f n (bug place w inputs) = IsBug p m f n inputs w place
 IsRightVerdict p m stands terms asked keeps_plain f n clean = IsClean p m f n
 IsRightVerdict p m stands terms asked keeps_plain f n (unknown q) = IsUndecided p m stands terms asked keeps_plain f n q
+
+-- Decided: in a simple program nothing is left unknown, and a bug is answered wherever some inputs fail by commands of simple form alone.
+abbrev pub IsUnknownVerdict : PureVerdict → Type 0
+IsUnknownVerdict (unknown q) = ⊤
+IsUnknownVerdict _ = ⊥
+
+abbrev pub IsBugVerdict : PureVerdict → Type 0
+IsBugVerdict (bug place w inputs) = ⊤
+IsBugVerdict _ = ⊥

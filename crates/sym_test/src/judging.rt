@@ -1,12 +1,13 @@
 //! What is said of one path that has ended.
-ghost use Rattle.std.specs.Prelude.{◌≡◌, ◌⊎◌, List, not, ◌||◌, Some, IfOk, IfSome, MatchOption, IsTrue};
+ghost use Rattle.std.specs.Prelude.{◌≡◌, ◌⊎◌, List, slice_get, Some, IfOk, IfSome, MatchOption, IsTrue};
 ghost use Rattle.std.specs.List.{list_all};
 ghost use Rattle.std.specs.Option.{option_map};
 ghost use Rattle.gil_values.specs.Pure.{PureValue};
 ghost use Rattle.gil_values.specs.View.{values_view};
 ghost use Rattle.pure_terms.specs.Deciding.{has_moderate_numbers};
-ghost use Rattle.pure_terms.specs.Fragment.{has_fragment_form, has_narrow_literals, InFragment};
+ghost use Rattle.pure_terms.specs.Fragment.{InFragment};
 ghost use Rattle.pure_terms.specs.Meaning.{value, AreOver, Satisfies};
+ghost use Rattle.pure_terms.specs.Pure.{PureAtom};
 ghost use Rattle.pure_terms.specs.View.{term_view, atom_view, atoms_view};
 ghost use Rattle.sym_model.specs.Lists.{Each};
 ghost use Rattle.sym_model.specs.Pure.{PureKey};
@@ -15,7 +16,7 @@ ghost use Rattle.sym_paths.specs.Steps.{IsNewSort, place_of};
 ghost use Rattle.sym_paths.specs.View.{end_view, path_view};
 ghost use Rattle.sym_test.specs.Canonical.{IsCanonical};
 ghost use Rattle.sym_test.specs.Judged.{MayBeJudged, AreMet, LeavesHeld, IsListOutside, IsWide, IsQuestion, IsFailureJudged, IsJudgedEnd, undecided, lists_view, judgement_view};
-ghost use Rattle.sym_test.specs.Undecided.{IsOutsideAt};
+ghost use Rattle.sym_test.specs.Undecided.{keeps_out, IsOutsideAt};
 
 use crate::canonical::{canonical_valuation, draws_among};
 use crate::evaluating::evaluate;
@@ -62,7 +63,7 @@ fn find_valuation<D: Decider>(
 
 /// Whether the atom keeps a list out of the fragment.
 fn keeps_out(atom: &Atom) -> bool
-    ensures { result ≡ (not (has_fragment_form (atom_view atom.now)) || not (has_narrow_literals (atom_view atom.now))) }
+    ensures { result ≡ keeps_out (atom_view atom.now) }
 {
     !atom.has_fragment_form() || !atom.has_narrow_literals()
 }
@@ -71,7 +72,8 @@ fn keeps_out(atom: &Atom) -> bool
 fn outside_at(vars: &VarTable, atoms: &Atoms) -> Result<usize, AllocError>
     requires over { AreOver vars.now (atoms_view atoms.now) }
     requires outside { ¬ InFragment (atoms_view atoms.now) }
-    ensures { IfOk result (λ place. IsOutsideAt (atoms_view atoms.now) place) }
+    ensures outside { IfOk result (λ place. IsOutsideAt (atoms_view atoms.now) place) }
+    ensures keeps { IfOk result (λ place. (a : PureAtom) × ((slice_get (atoms_view atoms.now) place ≡ Some a) × IsTrue (keeps_out a))) }
 {
     if vars.len() >= 1 << 40 {
         return Err(AllocError);

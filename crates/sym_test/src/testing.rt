@@ -1,10 +1,12 @@
 //! The test of a procedure.
-ghost use Rattle.std.specs.Prelude.{◌≡◌, ◌≤◌, IfOk};
+ghost use Rattle.std.specs.Prelude.{◌≡◌, ◌≤◌, List, IfOk, IsTrue};
 ghost use Rattle.std.specs.Option.{option_map};
 ghost use Rattle.gil_machine.specs.Run.{IsEntry};
 ghost use Rattle.gil_program.specs.Program.{prog_view};
+ghost use Rattle.gil_syntax.specs.Simple.{is_simple};
+ghost use Rattle.gil_values.specs.Pure.{PureValue};
 ghost use Rattle.sym_test.specs.Judged.{first_query, verdict_of};
-ghost use Rattle.sym_test.specs.Undecided.{IsRightVerdict};
+ghost use Rattle.sym_test.specs.Undecided.{FailsSimply, IsRightVerdict, IsUnknownVerdict, IsBugVerdict};
 ghost use Rattle.sym_test.specs.View.{query_view, verdict_view};
 
 use crate::judging::{Judgement, judge};
@@ -51,8 +53,14 @@ pub fn test<M: SymMemory, D: Decider>(
 ) -> Result<Verdict, AllocError>
     requires entry { IsEntry (prog_view prog.now) proc.now }
     requires bound { bound ≤ 10000 }
-    ensures { IfOk result (λ verdict. IsRightVerdict (prog_view prog.now) M.Local.actions M.stands M.terms M.asked M.keeps_plain proc.now
-        bound (verdict_view verdict)) }
+    ensures right { IfOk result (λ verdict. IsRightVerdict (prog_view prog.now) M.Local.actions M.stands M.terms M.asked M.keeps_plain
+        proc.now bound (verdict_view verdict)) }
+
+    // A simple program is never left unknown, and a bug is answered wherever a run fails by commands of simple form alone.
+    ensures decided { M.keeps_plain → IsTrue (is_simple (prog_view prog.now)) → IfOk result (λ verdict. ¬ IsUnknownVerdict
+        (verdict_view verdict)) }
+    ensures found { M.keeps_plain → (inputs : List PureValue) → FailsSimply (prog_view prog.now) M.Local.actions proc.now inputs bound
+        → IfOk result (λ verdict. IsBugVerdict (verdict_view verdict)) }
 {
     starts_may_step::<M>();
     let start: Path<M> = Path::start(alloc, proc)?;
