@@ -1,5 +1,5 @@
 -- A valuation that meets atoms, with other symbols for its fresh variables and other values for the draws that unlike atom names, still meets them.
-use Rattle.std.proofs.Common.{◌≡◌, take, add-one, ◌⊎◌, ⊎_elim, inl, inr, ℕ, zero, suc, ◌+◌, ◌<◌, ◌≤◌, List, [], ◌∷◌, ◌++◌, map, length, slice_get, Bool, true, false, ◌||◌, ◌&&◌, if◌then◌else◌, eqb, Option, Some, None, IsTrue, refl, sym, ap, subst, ◌∙◌, arith, true≢false, add-zero, zero-add}
+use Rattle.std.proofs.Common.{◌≡◌, take, add-one, ◌⊎◌, ⊎_elim, inl, inr, ℕ, zero, suc, ◌+◌, ◌<◌, ◌≤◌, List, [], ◌∷◌, ◌++◌, map, length, slice_get, Bool, true, false, ◌||◌, ◌&&◌, if◌then◌else◌, eqb, Some, IsTrue, refl, sym, ap, subst, ◌∙◌, arith, true≢false, zero-add}
 use Rattle.std.specs.List.{Contains, list_all, list_any}
 use Rattle.std.proofs.lemmas.Bool.{cases_eq, eq-eqb, ne_eqb, and_parts, and_from}
 use Rattle.std.proofs.lemmas.List.{append_assoc, length_push, length-take-le, take_all}
@@ -26,7 +26,7 @@ use Rattle.sym_model.proofs.ListLaws.{same_some, not_none}
 use Rattle.sym_paths.specs.Moves.{draw_sort}
 use Rattle.sym_paths.specs.Steps.{AreNext, IsNewSort, counter_after, counter_past, drawn_from}
 use Rattle.sym_paths.proofs.Drawing.{fits_kind, no_symbols}
-use Rattle.sym_test.specs.Canonical.{blank, IsAt, is_named, draw_and, draws_among, HaveValuation, IsCanonical}
+use Rattle.sym_test.specs.Canonical.{blank, IsAt, is_named, draw_and, draws_among, IsCanonical}
 
 -- ---- how the canonical valuation is made of another one
 
@@ -165,9 +165,9 @@ same_symbol m n is = cc
 
 only_symbol : (m n : ℕ) → OccursIn m (symbol n) → n ≡ m
 only_symbol m n occurs = ⊎_elim (λ none. absurd (none_contained m none)) (λ is. is) (push_cases m n occurs) where
-    push_cases : (m n : ℕ) → Contains (n ∷ []) m → Contains [] m ⊎ (n ≡ m)
-    push_cases m n (zero, within, is) = inr is
-    push_cases m n (suc k, within, is) = absurd (omega (arith, within))
+  push_cases : (m n : ℕ) → Contains (n ∷ []) m → Contains [] m ⊎ (n ≡ m)
+  push_cases m n (zero, within, is) = inr is
+  push_cases m n (suc k, within, is) = absurd (omega (arith, within))
 
 -- a later fresh variable has a symbol from n on
 from_counter : (named : ℕ → Bool) (n : ℕ) (sorts : List Sort) (us ws : List PureValue) → IsMade named n sorts us ws → (x m : ℕ) → slice_get sorts x ≡ Some Sort.Fresh → slice_get ws x ≡ Some (symbol m) → n ≤ m

@@ -1,5 +1,5 @@
 -- A step that fails does so at the place of its command.
-use Rattle.std.proofs.Common.{◌≡◌, ℕ, List, [], ◌∷◌, length, Bool, true, false, ◌==◌, if◌then◌else◌, slice_get, Option, Some, None, Ok, Err, refl, sym, ap, subst, ◌∙◌}
+use Rattle.std.proofs.Common.{◌≡◌, ℕ, List, [], ◌∷◌, length, Bool, true, false, ◌==◌, if◌then◌else◌, slice_get, Option, Some, None, Ok, Err, sym, ap, subst, ◌∙◌}
 use Rattle.std.specs.Prelude.{ℤ, pos, negsuc, codes}
 use Rattle.gil_values.specs.declared.kinds.Kind.{Kind}
 use Rattle.gil_values.specs.declared.places.Place.{Place}
@@ -11,8 +11,8 @@ use Rattle.gil_syntax.specs.Programs.{find_proc}
 use Rattle.gil_syntax.specs.Pure.{PureCommand, assign, call, act, usym, isym, ifgoto, return, fail, vanish, fold_use, unfold_use, assert_that, loop_invariant, PureNumberedCommand, PureProc, PureParts}
 use Rattle.mem_model.specs.Actions.{Actions}
 use Rattle.mem_model.specs.Pure.{PureOutcome, done, failed as action_failed, miss}
-use Rattle.gil_machine.specs.State.{Frame, State, Ending, End, returned, failed, vanished, no_input, bad_input, cut, Step, goes_on, ends, end_at}
-use Rattle.gil_machine.specs.Step.{command_at, with_value, with_values, enter_found, enter_value, leave, after_action, action_result, counted, draw, branch, to_label, do_command, step, step_at}
+use Rattle.gil_machine.specs.State.{Frame, State, End, returned, failed, vanished, no_input, bad_input, Step, goes_on, ends, end_at}
+use Rattle.gil_machine.specs.Step.{command_at, with_value, with_values, enter_found, enter_value, leave, after_action, action_result, draw, branch, to_label, do_command, step, step_at}
 
 -- where the end is a failure, it is one at this place
 abbrev pub EndsHere : Place → Step → Type 0

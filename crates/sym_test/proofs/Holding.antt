@@ -1,6 +1,6 @@
 -- Numbers of simple terms with narrow literals are held, where the valuation's are moderate.
-use Rattle.std.proofs.Common.{◌≡◌, ℕ, zero, suc, ◌-◌, ◌^◌, ℤ, pos, neg_ℤ, ◌+ℤ◌, ◌-ℤ◌, ◌≤ℤ◌, int_le, List, [], ◌∷◌, Bool, true, false, ◌&&◌, ◌||◌, not, Option, Some, None, Ok, slice_get, IsTrue, refl, sym, ap, ◌∙◌, subst, arith}
-use Rattle.std.specs.List.{list_all, list_any}
+use Rattle.std.proofs.Common.{◌≡◌, ℕ, zero, suc, ◌-◌, ◌^◌, ℤ, pos, neg_ℤ, ◌+ℤ◌, ◌-ℤ◌, ◌≤ℤ◌, int_le, List, [], ◌∷◌, Bool, true, false, ◌&&◌, ◌||◌, not, Option, Some, None, slice_get, IsTrue, refl, sym, ap, ◌∙◌, subst, arith}
+use Rattle.std.specs.List.{list_all}
 use Rattle.std.specs.Option.{option_and_then}
 use Rattle.std.specs.Result.{result_ok}
 use Rattle.std.proofs.lemmas.Bool.{false≢true, and_parts, and_from, or_from}
@@ -21,7 +21,7 @@ use Rattle.pure_terms.specs.Truth.{have_wide_parts}
 use Rattle.pure_terms.specs.Wide.{is_wide, has_wide_part}
 use Rattle.pure_terms.proofs.Evaluated.{wide-list, wide-binary}
 use Rattle.pure_terms.proofs.KindLaws.{over_left, over_right}
-use Rattle.pure_terms.proofs.SimpleLaws.{HasValue, IsVariableOf, from_is_variable_of, IsIntegerLiteral, from_is_integer_literal, variable-has_value, IsInteger, integer-of_known}
+use Rattle.pure_terms.proofs.SimpleLaws.{IsVariableOf, from_is_variable_of, IsIntegerLiteral, from_is_integer_literal, variable-has_value, IsInteger, integer-of_known}
 use Rattle.sym_test.specs.Undecided.{is_narrow_term}
 
 -- ---- numbers

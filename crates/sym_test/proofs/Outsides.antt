@@ -1,13 +1,13 @@
 -- The first atom that keeps a list out of the fragment.
-use Rattle.std.proofs.Common.{◌≡◌, ◌⊎◌, ⊎_elim, inl, inr, ℕ, zero, suc, ◌+◌, ◌<◌, ◌≤◌, ◌^◌, List, [], ◌∷◌, ◌++◌, length, Bool, true, false, not, ◌&&◌, ◌||◌, Some, None, slice_get, IsTrue, refl, sym, ap, ◌∙◌, subst, arith, true≢false}
-use Rattle.std.specs.List.{Contains, list_all}
+use Rattle.std.proofs.Common.{◌≡◌, ◌⊎◌, ⊎_elim, inl, inr, ℕ, zero, suc, ◌+◌, ◌<◌, ◌≤◌, ◌^◌, List, [], ◌∷◌, length, Bool, true, false, not, ◌&&◌, ◌||◌, Some, slice_get, refl, sym, ap, ◌∙◌, subst, arith, true≢false}
+use Rattle.std.specs.List.{Contains}
 use Rattle.std.proofs.lemmas.Bool.{cases_lt}
 use Rattle.std.proofs.lemmas.Option.{slice_get_within}
 use Rattle.std.proofs.lemmas.List.Elements.{Contains-append_left, Contains-append_right, Contains-append_cases}
 use Rattle.gil_values.proofs.OperatorSymbols.{none_contained}
 use Rattle.pure_terms.specs.declared.deciders.Reason.{Reason}
 use Rattle.pure_terms.specs.declared.variables.Sort.{Sort}
-use Rattle.pure_terms.specs.Deciding.{IsReason, has_wide_arithmetic}
+use Rattle.pure_terms.specs.Deciding.{has_wide_arithmetic}
 use Rattle.pure_terms.specs.Fragment.{has_fragment_form, has_narrow_literals, variable_count, InFragment}
 use Rattle.pure_terms.specs.Meaning.{AreOver}
 use Rattle.pure_terms.specs.Pure.{PureAtom, term_of, variables, variables_of_atoms}
@@ -68,11 +68,11 @@ all_pass_inside vars atoms over few n past pass =
 
 pub found_outside : (vars : List Sort) (atoms : List PureAtom) → AreOver vars atoms → length vars < 2 ^ 40 → ¬ InFragment atoms → (n : ℕ) (a : PureAtom) → PassTo atoms n → slice_get atoms n ≡ Some a → keeps_out a ≡ true → IsOutsideAt atoms n
 found_outside vars atoms over few outside n a pass at keeps = (outside, by_form (has_fragment_form a) refl (has_narrow_literals a) refl keeps) where
-    before : (i : ℕ) (b : PureAtom) → i < n → slice_get atoms i ≡ Some b → InFragment (b ∷ [])
-    before i b less at_i = inside_alone vars b (over_element vars atoms i b over at_i) few (pass i b less at_i)
+  before : (i : ℕ) (b : PureAtom) → i < n → slice_get atoms i ≡ Some b → InFragment (b ∷ [])
+  before i b less at_i = inside_alone vars b (over_element vars atoms i b over at_i) few (pass i b less at_i)
 
-    by_form : (b : Bool) → has_fragment_form a ≡ b → (c : Bool) → has_narrow_literals a ≡ c → (not b || not c) ≡ true → (reason : Reason) × (IsFirstOutside atoms reason × (place_of reason ≡ n))
-    by_form false form c narrow so = (Reason.Atom n, (record { named = (a, (at, form)); those_before = before }, refl))
-    by_form true form false narrow so =
-        (Reason.Number n, (record { named = (a, (at, ap (λ b. not b || has_wide_arithmetic a) narrow)); those_before = before }, refl))
-    by_form true form true narrow so = absurd (true≢false (sym so))
+  by_form : (b : Bool) → has_fragment_form a ≡ b → (c : Bool) → has_narrow_literals a ≡ c → (not b || not c) ≡ true → (reason : Reason) × (IsFirstOutside atoms reason × (place_of reason ≡ n))
+  by_form false form c narrow so = (Reason.Atom n, (record { named = (a, (at, form)); those_before = before }, refl))
+  by_form true form false narrow so =
+      (Reason.Number n, (record { named = (a, (at, ap (λ b. not b || has_wide_arithmetic a) narrow)); those_before = before }, refl))
+  by_form true form true narrow so = absurd (true≢false (sym so))

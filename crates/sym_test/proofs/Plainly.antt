@@ -1,5 +1,5 @@
 -- Where every command on the way to an end has a simple form, the path is plain within the bounds of the fragment: so nothing is asked.
-use Rattle.std.proofs.Common.{◌≡◌, ◌⊎◌, ⊎_elim, inl, inr, ℕ, zero, suc, ◌≤◌, ◌^◌, ℤ, pos, neg_ℤ, ◌≤ℤ◌, int_le, List, [], ◌∷◌, length, Bool, true, false, not, ◌&&◌, ◌||◌, if◌then◌else◌, Option, Some, None, IsTrue, true≢false, refl, sym, ap, subst, ◌∙◌, arith, slice_get}
+use Rattle.std.proofs.Common.{◌≡◌, ◌⊎◌, ⊎_elim, inl, inr, ℕ, suc, ◌≤◌, ◌^◌, ℤ, pos, neg_ℤ, ◌≤ℤ◌, int_le, List, [], ◌∷◌, length, Bool, true, false, not, ◌&&◌, ◌||◌, if◌then◌else◌, Some, None, IsTrue, refl, sym, ap, subst, ◌∙◌, arith}
 use Rattle.std.proofs.lemmas.Bool.{and_parts, and_from}
 use Rattle.std.proofs.lemmas.Int.{ints}
 use Rattle.gil_values.specs.Pure.{PureValue}
@@ -8,7 +8,6 @@ use Rattle.std.specs.Str.{bytes_eq}
 use Rattle.gil_syntax.specs.Programs.{find_proc}
 use Rattle.gil_syntax.specs.Pure.{PureParts, PureProc, PureNumberedCommand}
 use Rattle.gil_syntax.specs.Simple.{is_simple as is_simple_program, is_simple_command}
-use Rattle.gil_machine.specs.Run.{reached}
 use Rattle.gil_machine.specs.State.{Frame, State}
 use Rattle.gil_machine.specs.Step.{command_of, command_at}
 use Rattle.mem_model.specs.Actions.{Actions}
@@ -23,7 +22,7 @@ use Rattle.pure_terms.specs.Pure.{PureTerm, literal, variable, list_of, unary_of
 use Rattle.sym_explore.specs.Laws.{IsBeside}
 use Rattle.sym_explore.specs.Plain.{IsAtSimple}
 use Rattle.sym_explore.specs.Runs.{StandsAfter}
-use Rattle.sym_explore.specs.Trails.{IsNextPath, IsTrail}
+use Rattle.sym_explore.specs.Trails.{IsTrail}
 use Rattle.sym_model.specs.Laws.{IsPlainWithin, IsDecidedWithin}
 use Rattle.sym_model.specs.Lists.{Each}
 use Rattle.sym_model.specs.Terms.{StateTerms}
@@ -119,7 +118,7 @@ module _ {S : Type 0} (p : PureParts) (m : Actions) (stands : S → List PureVal
         → Satisfies before.vars v before.conds → is_simple_command c.command ≡ false → MeetsOther p m f inputs (length rest)
     other_here before rest v c going at beside sat other =
         let (s, there) = subst (StandsAfter p m stands inputs s0 start before v (length rest)) going
-            (laws.replay.stands_after inputs [] v s0 start rest before beside sat (λ unknown. subst IsUnknown going unknown)) in
+        (laws.replay.stands_after inputs [] v s0 start rest before beside sat (λ unknown. subst IsUnknown going unknown)) in
         record {
           steps = length rest;
           within = omega arith;
@@ -133,15 +132,15 @@ module _ {S : Type 0} (p : PureParts) (m : Actions) (stands : S → List PureVal
     pub simple_or_other : (rest : List (PurePath S)) (before : PurePath S) (v : List PureValue) → IsTrailOf rest before → before.ending ≡ None → (c : PureNumberedCommand) × (command_of_path p before ≡ Some c)
         → IsBeside p m stands terms asked inputs [] v s0 start rest before → Satisfies before.vars v before.conds → Each (IsAtSimple p) (before ∷ rest) ⊎ MeetsOther p m f inputs (length rest)
     simple_or_other [] before v trail going (c, at) beside sat = by_form (is_simple_command c.command) refl where
-        by_form : (b : Bool) → is_simple_command c.command ≡ b → Each (IsAtSimple p) (before ∷ []) ⊎ MeetsOther p m f inputs 0
-        by_form true form = inl ((c, (at, form)), tt)
-        by_form false form = inr (other_here before [] v c going at beside sat form)
+      by_form : (b : Bool) → is_simple_command c.command ≡ b → Each (IsAtSimple p) (before ∷ []) ⊎ MeetsOther p m f inputs 0
+      by_form true form = inl ((c, (at, form)), tt)
+      by_form false form = inr (other_here before [] v c going at beside sat form)
     simple_or_other (earlier ∷ rest) before v (next, trail) going (c, at) beside sat =
         let (w, (beside_that, sat_that)) = laws.end_before inputs [] v s0 start earlier before rest beside sat in
         by_form (is_simple_command c.command) refl (simple_or_other rest earlier w trail next.going next.at_command beside_that sat_that) where
-        by_form : (b : Bool) → is_simple_command c.command ≡ b → Each (IsAtSimple p) (earlier ∷ rest) ⊎ MeetsOther p m f inputs (length rest) → Each (IsAtSimple p) (before ∷ earlier ∷ rest) ⊎ MeetsOther p m f inputs (suc (length rest))
-        by_form true form so_far = ⊎_elim (λ each. inl ((c, (at, form)), each)) (λ other. inr (later_other inputs (length rest) (suc (length rest)) (omega arith) other)) so_far
-        by_form false form so_far = inr (other_here before (earlier ∷ rest) v c going at beside sat form)
+          by_form : (b : Bool) → is_simple_command c.command ≡ b → Each (IsAtSimple p) (earlier ∷ rest) ⊎ MeetsOther p m f inputs (length rest) → Each (IsAtSimple p) (before ∷ earlier ∷ rest) ⊎ MeetsOther p m f inputs (suc (length rest))
+          by_form true form so_far = ⊎_elim (λ each. inl ((c, (at, form)), each)) (λ other. inr (later_other inputs (length rest) (suc (length rest)) (omega arith) other)) so_far
+          by_form false form so_far = inr (other_here before (earlier ∷ rest) v c going at beside sat form)
 
 -- ---- simple programs
 

@@ -1,33 +1,30 @@
 -- What is said of an ended path is right: bugs replay, and what is left undecided is.
-use Rattle.std.proofs.Common.{◌≡◌, ℤ, ◌⊎◌, ⊎_elim, inl, inr, ℕ, zero, suc, ◌+◌, ◌<◌, ◌≤◌, List, [], ◌∷◌, ◌++◌, length, Bool, true, false, ◌||◌, Option, Some, None, is_some, IsSome, IsTrue, true≢false, refl, sym, ap, subst, ◌∙◌, arith, slice_get, codes}
-use Rattle.std.proofs.lemmas.List.{append-nil, append_assoc}
+use Rattle.std.proofs.Common.{◌≡◌, ℤ, ◌⊎◌, ⊎_elim, inl, inr, ℕ, suc, ◌≤◌, List, [], ◌∷◌, ◌++◌, length, Bool, true, false, ◌||◌, Some, None, IsTrue, refl, sym, ap, subst, ◌∙◌, arith, codes}
+use Rattle.std.proofs.lemmas.List.{append_assoc}
 use Rattle.std.proofs.lemmas.List.Folds.{list_any-append}
 use Rattle.gil_values.specs.declared.places.Place.{Place}
 use Rattle.gil_values.specs.Pure.{PureValue, text}
 use Rattle.gil_syntax.specs.Pure.{PureParts, PureNumberedCommand}
-use Rattle.gil_machine.specs.Choices.{choices, with_choice, miss_at}
+use Rattle.gil_machine.specs.Choices.{with_choice}
 use Rattle.gil_machine.specs.Run.{reached, run, IsEntry, IsBug}
-use Rattle.gil_machine.specs.State.{State, Ending, End, IsOver, cut, returned, vanished, failed, IsFailed, Step, goes_on, ends}
-use Rattle.gil_machine.specs.State as machine
+use Rattle.gil_machine.specs.State.{State, End, IsOver, cut, failed}
 use Rattle.gil_machine.specs.Step.{command_at, step}
 use Rattle.mem_model.specs.Actions.{Actions}
 use Rattle.mem_model.specs.Heaps.{Heap}
-use Rattle.mem_model.specs.declared.keys.Key.{Key}
 use Rattle.pure_terms.specs.declared.variables.Sort.{Sort}
-use Rattle.pure_terms.specs.Fragment.{InFragment}
 use Rattle.pure_terms.specs.Meaning.{value, all_true, Satisfies}
 use Rattle.pure_terms.specs.Pure.{PureTerm, PureAtom}
 use Rattle.sym_engine.specs.Lawful.{IsOwnAt}
-use Rattle.sym_explore.specs.Laws.{IsBeside, IsTraced}
+use Rattle.sym_explore.specs.Laws.{IsTraced}
 use Rattle.sym_explore.specs.Plain.{IsAtSimple}
-use Rattle.sym_explore.specs.Runs.{EndsAfter, StandsAfter, AccountsFor}
+use Rattle.sym_explore.specs.Runs.{EndsAfter, StandsAfter}
 use Rattle.sym_explore.specs.Trails.{IsNextPath, IsTrail}
 use Rattle.sym_model.specs.Lists.{Each, OneOf, IsAmong}
-use Rattle.sym_model.specs.Meaning.{is_open, has_open, key_value}
+use Rattle.sym_model.specs.Meaning.{is_open, has_open}
 use Rattle.sym_model.specs.Pure.{PureKey}
 use Rattle.sym_model.specs.Terms.{StateTerms}
-use Rattle.sym_model.proofs.ListLaws.{same_some, not_none, each_append, each_to, one_with}
-use Rattle.sym_paths.specs.Meaning.{AreFrames, frames_of, Stands, StandsForEnd, IsEnding}
+use Rattle.sym_model.proofs.ListLaws.{same_some, each_append, each_to, one_with}
+use Rattle.sym_paths.specs.Meaning.{AreFrames, frames_of, StandsForEnd}
 use Rattle.sym_paths.specs.Pure.{PureFrame, PureEnd, PurePath}
 use Rattle.sym_paths.specs.Pure as path_end
 use Rattle.sym_paths.specs.Steps.{IsUnknown, IsPlaceOf}
@@ -35,11 +32,11 @@ use Rattle.sym_paths.proofs.Silent.{stands_at}
 use Rattle.sym_steps.proofs.Following.{both_true, first_true}
 use Rattle.sym_test.specs.Canonical.{HaveValuation, draws_among, IsCanonical}
 use Rattle.sym_test.specs.Judged.{Begins}
-use Rattle.sym_test.specs.Undecided.{first_state, ComesAlong, IsAlong, MeetsOther, Describes, IsOnTheWay, IsOwnOnTheWay, IsTraced as IsAskedOnTheWay, IsOutsideAt, IsUndecided}
+use Rattle.sym_test.specs.Undecided.{first_state, ComesAlong, MeetsOther, Describes, IsOnTheWay, IsTraced as IsAskedOnTheWay, IsOutsideAt, IsUndecided}
 use Rattle.sym_test.specs.View.{PureQuery}
 use Rattle.sym_test.proofs.Failing.{fails_here}
 use Rattle.sym_test.proofs.Plainly.{simple_or_other}
-use Rattle.sym_test.proofs.Trailing.{TrailLaws, new_sorts, inputs_counted, steps_counted, conds_over, is_met, has_canonical, beside, replayed, come_by, given_meets, leads_along}
+use Rattle.sym_test.proofs.Trailing.{TrailLaws, inputs_counted, steps_counted, is_met, has_canonical, beside, replayed, come_by, given_meets, leads_along}
 
 first_false : (a b : Bool) → (a || b) ≡ false → a ≡ false
 first_false true b none = none
@@ -61,8 +58,8 @@ last_fails p m inputs s0 k s t c e w place reach at (inl (j, (same, comes, leads
     let there : t ≡ s = same_some (sym comes ∙ ap (λ i. reached p m inputs i s0) (sym at_k) ∙ reach) in
     fails_here p m inputs s c e w place at (ap (step p m inputs) (sym there) ∙ leads) is
 last_fails p m inputs s0 k s t c e w place reach at (inr (comes, ends_cut)) is = not_cut w place (sym (ap (λ (r : End). r.ending) ends_cut) ∙ is) where
-    not_cut : (w : PureValue) (place : Place) → cut ≡ failed w place → place ≡ record { proc = s.current.procedure; at = c.at }
-    not_cut w place unlike = cc
+  not_cut : (w : PureValue) (place : Place) → cut ≡ failed w place → place ≡ record { proc = s.current.procedure; at = c.at }
+  not_cut w place unlike = cc
 
 module _ {S : Type 0} (p : PureParts) (m : Actions) (stands : S → List PureValue → Heap → Type 0) (terms : S → StateTerms) (asked : List ℕ → List PureTerm → List PureTerm)
     (plain : S → ℤ → ℤ → Type 0) (laws : TrailLaws p m stands terms asked) (f : List ℕ) (start : PurePath S) (begins : Begins p stands terms plain f start) where
@@ -142,33 +139,43 @@ module _ {S : Type 0} (p : PureParts) (m : Actions) (stands : S → List PureVal
   part_of k (before ∷ rest) path (next, trail) short a own =
       ⊎_elim
       (λ here.
-      let steps : before.steps ≡ length rest = steps_counted p m stands terms asked plain laws f start begins rest before trail in
-      (before, (record {
-        earlier = rest;
-        trail = trail;
-        going = next.going;
-        short = omega (arith, steps, short);
-        more_vars = next.growth.new_vars;
-        vars = next.growth.vars;
-        more_choices = with_choice next.growth.chosen [];
-        choices_are = next.growth.choices;
-        more_conds = next.growth.new_conds;
-        conds = next.growth.conds;
-      }, here)))
+      let steps : before.steps ≡ length rest = steps_counted p m stands terms asked plain laws f start begins rest before trail in (
+        before,
+        (
+          record {
+            earlier = rest;
+            trail = trail;
+            going = next.going;
+            short = omega (arith, steps, short);
+            more_vars = next.growth.new_vars;
+            vars = next.growth.vars;
+            more_choices = with_choice next.growth.chosen [];
+            choices_are = next.growth.choices;
+            more_conds = next.growth.new_conds;
+            conds = next.growth.conds;
+          },
+          here,
+        ),
+      ))
       (λ later.
-      let (part, (is, has)) = part_of k rest before trail (omega (arith, short)) a later in
-      (part, (record {
-        earlier = is.earlier;
-        trail = is.trail;
-        going = is.going;
-        short = is.short;
-        more_vars = is.more_vars ++ next.growth.new_vars;
-        vars = next.growth.vars ∙ ap (λ xs. xs ++ next.growth.new_vars) is.vars ∙ append_assoc part.vars is.more_vars next.growth.new_vars;
-        more_choices = is.more_choices ++ with_choice next.growth.chosen [];
-        choices_are = next.growth.choices ∙ ap (λ xs. xs ++ with_choice next.growth.chosen []) is.choices_are ∙ append_assoc part.choices is.more_choices (with_choice next.growth.chosen []);
-        more_conds = is.more_conds ++ next.growth.new_conds;
-        conds = next.growth.conds ∙ ap (λ xs. xs ++ next.growth.new_conds) is.conds ∙ append_assoc part.conds is.more_conds next.growth.new_conds;
-      }, has)))
+      let (part, (is, has)) = part_of k rest before trail (omega (arith, short)) a later in (
+        part,
+        (
+          record {
+            earlier = is.earlier;
+            trail = is.trail;
+            going = is.going;
+            short = is.short;
+            more_vars = is.more_vars ++ next.growth.new_vars;
+            vars = next.growth.vars ∙ ap (λ xs. xs ++ next.growth.new_vars) is.vars ∙ append_assoc part.vars is.more_vars next.growth.new_vars;
+            more_choices = is.more_choices ++ with_choice next.growth.chosen [];
+            choices_are = next.growth.choices ∙ ap (λ xs. xs ++ with_choice next.growth.chosen []) is.choices_are ∙ append_assoc part.choices is.more_choices (with_choice next.growth.chosen []);
+            more_conds = is.more_conds ++ next.growth.new_conds;
+            conds = next.growth.conds ∙ ap (λ xs. xs ++ next.growth.new_conds) is.conds ∙ append_assoc part.conds is.more_conds next.growth.new_conds;
+          },
+          has,
+        ),
+      ))
       own
 
   describes : (k : ℕ) (path part : PurePath S) → IsPart k path part → Describes p m stands terms asked f part

@@ -1,10 +1,9 @@
 -- What is said of an ended path is right.
-use Rattle.std.proofs.Common.{◌≡◌, ℤ, pos, neg_ℤ, ◌⊎◌, ⊎_elim, inl, inr, ℕ, zero, suc, ◌+◌, ◌<◌, ◌≤◌, ◌^◌, List, [], ◌∷◌, ◌++◌, length, Bool, true, false, ◌&&◌, Option, Some, None, is_some, IsSome, IsTrue, true≢false, refl, sym, ap, subst, ◌∙◌, arith, slice_get, codes}
+use Rattle.std.proofs.Common.{◌≡◌, ℤ, pos, neg_ℤ, ◌⊎◌, ⊎_elim, inl, inr, ℕ, zero, suc, ◌<◌, ◌≤◌, ◌^◌, List, [], ◌∷◌, ◌++◌, length, Bool, true, false, ◌&&◌, Option, Some, None, is_some, IsTrue, true≢false, refl, sym, ap, subst, ◌∙◌, arith, slice_get, codes}
 use Rattle.std.specs.List.{list_all}
 use Rattle.std.proofs.lemmas.Bool.{and_parts, and_from}
-use Rattle.std.proofs.lemmas.List.{append-nil, length-append}
+use Rattle.std.proofs.lemmas.List.{append-nil}
 use Rattle.std.proofs.lemmas.List.Folds.{list_all-append}
-use Rattle.std.proofs.lemmas.Option.{slice_get_within}
 use Rattle.gil_values.specs.declared.places.Place.{Place}
 use Rattle.gil_values.specs.Pure.{PureValue, text}
 use Rattle.gil_syntax.specs.Pure.{PureParts}
@@ -15,34 +14,32 @@ use Rattle.gil_machine.specs.Step.{step}
 use Rattle.mem_model.specs.Actions.{Actions}
 use Rattle.mem_model.specs.Heaps.{Heap}
 use Rattle.pure_terms.specs.declared.deciders.Reason.{Reason}
-use Rattle.pure_terms.specs.declared.variables.Sort.{Sort}
-use Rattle.pure_terms.specs.Deciding.{has_moderate_numbers}
 use Rattle.pure_terms.specs.Fragment.{has_fragment_form, InFragment}
-use Rattle.pure_terms.specs.Meaning.{value, truth, all_true, IsOver as IsOverVars, IsProper, Satisfies}
+use Rattle.pure_terms.specs.Meaning.{value, truth, all_true, IsOver as IsOverVars, Satisfies}
 use Rattle.pure_terms.specs.Pure.{PureTerm, PureAtom, opening}
 use Rattle.pure_terms.specs.Wide.{has_wide_part}
 use Rattle.pure_terms.proofs.FragmentLaws.{fragment_atom_by_atom}
-use Rattle.sym_explore.specs.Exploring.{IsFrom, IsEndedFrom, cut_off}
+use Rattle.sym_explore.specs.Exploring.{IsFrom, IsEndedFrom}
 use Rattle.sym_explore.specs.Laws.{IsBeside}
 use Rattle.sym_explore.specs.Plain.{IsAtSimple, TrailsStayPlain, grown}
 use Rattle.sym_explore.specs.Runs.{EndsAfter, StandsAfter, AccountsFor}
 use Rattle.sym_explore.specs.Trails.{IsNextPath, IsTrail}
 use Rattle.sym_model.specs.Laws.{IsPlainWithin, IsDecidedWithin}
-use Rattle.sym_model.specs.Lists.{Each, OneOf}
+use Rattle.sym_model.specs.Lists.{Each}
 use Rattle.sym_model.specs.Terms.{StateTerms, AreEachOver}
 use Rattle.sym_model.proofs.ListLaws.{same_some, not_none, each_at}
-use Rattle.sym_paths.specs.Meaning.{Stands, StandsForEnd, IsEnding, end_terms}
+use Rattle.sym_paths.specs.Meaning.{StandsForEnd, end_terms}
 use Rattle.sym_paths.specs.Pure.{PureEnd, returned, failed, missed, vanished, cut, unknown, PurePath}
-use Rattle.sym_paths.specs.Steps.{Extends, IsUnknown, IsRightlyUnknown, IsPlaceOf, IsFirstOutside, place_of, IsPlainPath}
-use Rattle.sym_test.specs.Canonical.{HaveValuation, draws_among, IsCanonical}
-use Rattle.sym_test.specs.Judged.{Begins, PureJudgement, harmless, fails, undecided, FailsWith, IsAbout, IsListOutside, IsWide, IsFoundBug, lists_of, IsFailureJudged, IsUnknownJudged, IsJudgedEnd, AccountsForNoFailure, IsRightlyJudged}
-use Rattle.sym_test.specs.Undecided.{first_state, ComesAlong, MeetsOther, FailsSimply, is_narrow_term, IsOutsideAt, IsWideFailure, IsTraced as IsAskedOnTheWay, IsUndecided}
+use Rattle.sym_paths.specs.Steps.{Extends, IsUnknown, IsRightlyUnknown, place_of, IsPlainPath}
+use Rattle.sym_test.specs.Canonical.{HaveValuation, draws_among}
+use Rattle.sym_test.specs.Judged.{Begins, PureJudgement, harmless, fails, undecided, IsAbout, IsListOutside, IsWide, IsFoundBug, lists_of, IsFailureJudged, IsUnknownJudged, IsJudgedEnd, AccountsForNoFailure, IsRightlyJudged}
+use Rattle.sym_test.specs.Undecided.{first_state, ComesAlong, MeetsOther, FailsSimply, is_narrow_term, IsOutsideAt, IsUndecided}
 use Rattle.sym_test.specs.View.{PureQuery}
 use Rattle.sym_test.proofs.Canonicals.{at_length}
 use Rattle.sym_test.proofs.Holding.{narrow_is_held}
 use Rattle.sym_test.proofs.Plainly.{atom_passes, term_is_narrow, simple_or_other}
 use Rattle.sym_test.proofs.Replaying.{failure_is_bug, miss_is_bug, is_undecided, come_unknown, come_failing}
-use Rattle.sym_test.proofs.Trailing.{TrailLaws, new_sorts, steps_counted, is_over, has_canonical, replayed}
+use Rattle.sym_test.proofs.Trailing.{TrailLaws, steps_counted, is_over, has_canonical, replayed}
 
 not_cut : {X : Type 0} (how : PureEnd) → Some how ≡ Some cut → (how ≡ cut → ⊥) → X
 not_cut how is other = absurd (other (same_some is))
@@ -291,8 +288,8 @@ module _ {S : Type 0} (p : PureParts) (m : Actions) (stands : S → List PureVal
         let there : r ≡ s = same_some (sym comes ∙ ap (λ i. reached p m us i s0) (sym at_k) ∙ reach) in
         ap (step p m us) (sym there) ∙ leads
     at_last us s r e w reach (inr (comes, ends_cut)) is = absurd (cut_fails w place (sym (ap (λ (x : End). x.ending) ends_cut) ∙ is)) where
-        cut_fails : (w : PureValue) (place : Place) → machine.cut ≡ machine.failed w place → ⊥
-        cut_fails w place unlike = cc
+      cut_fails : (w : PureValue) (place : Place) → machine.cut ≡ machine.failed w place → ⊥
+      cut_fails w place unlike = cc
 
     term_over : IsOverVars path.vars t
     term_over = (subst (λ o. AreEachOver path.vars (end_terms o)) ending (is_over p m stands terms asked plain laws f start begins (last.before ∷ last.rest) path trail).ending).0
@@ -310,19 +307,21 @@ module _ {S : Type 0} (p : PureParts) (m : Actions) (stands : S → List PureVal
         let not_narrow : is_narrow_term t ≡ false = not_narrow_by (is_narrow_term t) refl wide.leaves.wide in
         is_about path place q atoms (length path.conds) is wide.query wide.outside
         (is_undecided p m stands terms asked plain laws f start begins n entry last.before last.rest path last.next last.trail (failed t place) ending from.within place (opening t ∷ []) (length path.conds) us come
-        has_value
-        (inr (inr (record {
-          term = t;
-          asks = refl;
-          fails = λ us v s has whole reach.
-              let meets : IsTrue (all_true v path.conds) = (and_parts (all_true v path.conds) (all_true v (opening t ∷ [])) (sym (list_all-append (truth v) path.conds (opening t ∷ [])) ∙ whole)).0 in
-              let (r, (e, (w, (after, val, fails_so)))) = fails_with us v has meets in
-              (w, (e, (val, at_last us s r e w reach after fails_so, fails_so)));
-          not_narrow = not_narrow;
-          met = wide.leaves.valuation;
-          meets = met;
-          wide = wide.leaves.wide;
-        })), tt)
+        has_value (
+          inr (inr (record {
+            term = t;
+            asks = refl;
+            fails = λ us v s has whole reach.
+                let meets : IsTrue (all_true v path.conds) = (and_parts (all_true v path.conds) (all_true v (opening t ∷ [])) (sym (list_all-append (truth v) path.conds (opening t ∷ [])) ∙ whole)).0 in
+                let (r, (e, (w, (after, val, fails_so)))) = fails_with us v has meets in
+                (w, (e, (val, at_last us s r e w reach after fails_so, fails_so)));
+            not_narrow = not_narrow;
+            met = wide.leaves.valuation;
+            meets = met;
+            wide = wide.leaves.wide;
+          })),
+          tt,
+        )
         (open_is_outside path.conds t wide.inside) keeps_plain
         (others_of path from last us either (λ keeps simple. true≢false (sym (refutes_term path from keeps simple t place ending) ∙ not_narrow)))) where
           not_narrow_by : (b : Bool) → is_narrow_term t ≡ b → IsTrue (has_wide_part wide.leaves.valuation t) → is_narrow_term t ≡ false

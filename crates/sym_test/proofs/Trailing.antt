@@ -1,7 +1,6 @@
 -- What a trail from the start of a test says of a path, and of the runs along it.
-use Rattle.std.proofs.Common.{◌≡◌, ℤ, ◌⊎◌, ⊎_elim, inl, inr, ℕ, zero, suc, ◌+◌, ◌<◌, ◌≤◌, List, [], ◌∷◌, ◌++◌, length, Bool, true, false, if◌then◌else◌, Option, Some, None, is_some, IsSome, IsTrue, true≢false, refl, sym, ap, subst, ◌∙◌, arith, slice_get}
-use Rattle.std.specs.List.{Contains}
-use Rattle.std.proofs.lemmas.List.{append-nil, append_assoc, length-append}
+use Rattle.std.proofs.Common.{◌≡◌, ℤ, ◌⊎◌, ⊎_elim, inl, ℕ, suc, ◌+◌, List, [], ◌∷◌, ◌++◌, length, false, Option, Some, None, is_some, IsSome, IsTrue, true≢false, refl, sym, ap, subst, ◌∙◌, arith}
+use Rattle.std.proofs.lemmas.List.{length-append}
 use Rattle.std.proofs.lemmas.List.Elements.{Contains-append_cases}
 use Rattle.gil_values.specs.declared.places.Place.{Place}
 use Rattle.gil_values.specs.Pure.{PureValue}
@@ -14,26 +13,22 @@ use Rattle.gil_machine.specs.Step.{command_at}
 use Rattle.mem_model.specs.Actions.{Actions}
 use Rattle.mem_model.specs.Heaps.{Heap}
 use Rattle.pure_terms.specs.declared.variables.Sort.{Sort}
-use Rattle.pure_terms.specs.declared.variables.Var.{Var}
-use Rattle.pure_terms.specs.Fragment.{InFragment}
-use Rattle.pure_terms.specs.Meaning.{all_true, IsOver, AreOver, AreVariablesOf, IsProper, Satisfies}
+use Rattle.pure_terms.specs.Meaning.{all_true, IsOver, AreOver, Satisfies}
 use Rattle.pure_terms.specs.Pure.{PureTerm, PureAtom, term_of, variables, variables_of_atoms}
-use Rattle.sym_engine.specs.Lawful.{IsOwnAt}
-use Rattle.sym_explore.specs.Laws.{EndsAreOfRuns, IsBeside, IsTraced, TrailsKeep, TrailsReplay, TrailsHoldAlong, TrailsMayEndBefore}
+use Rattle.sym_explore.specs.Laws.{EndsAreOfRuns, IsBeside, TrailsKeep, TrailsReplay, TrailsHoldAlong, TrailsMayEndBefore}
 use Rattle.sym_explore.specs.Runs.{ComesTo, MakesChoices, StandsAfter, draw_count}
 use Rattle.sym_explore.specs.Trails.{IsNextPath, IsTrail}
-use Rattle.sym_model.specs.Lists.{Each, OneOf, IsAmong}
+use Rattle.sym_model.specs.Lists.{Each}
 use Rattle.sym_model.specs.Meaning.{has_open}
 use Rattle.sym_model.specs.Terms.{StateTerms}
 use Rattle.sym_model.proofs.ListLaws.{each_append}
 use Rattle.sym_paths.specs.Meaning.{Stands, IsOverTable}
 use Rattle.sym_paths.specs.Pure.{PureEnd, PurePath}
-use Rattle.sym_paths.specs.Steps.{AreNext, Extends, IsUnknown, IsNewSort, drawn_from, drawn_and, draws_after, draws_past}
+use Rattle.sym_paths.specs.Steps.{IsUnknown, IsNewSort, drawn_from, drawn_and, draws_after, draws_past}
 use Rattle.sym_paths.proofs.Silent.{stands_at}
 use Rattle.sym_test.specs.Canonical.{HaveValuation, draws_among, IsCanonical}
 use Rattle.sym_test.specs.Judged.{Begins}
-use Rattle.sym_test.specs.Undecided.{first_state, StandsAtCommand, ComesAlong, IsAlong, Describes, IsOnTheWay, IsOwnOnTheWay}
-use Rattle.sym_test.specs.View.{PureQuery}
+use Rattle.sym_test.specs.Undecided.{first_state, ComesAlong, IsAlong}
 use Rattle.sym_test.proofs.Canonicals.{as_many_draws, some_canonical}
 
 none_of : {X : Type 0} (xs : List X) → 0 ≡ length xs → xs ≡ []
@@ -137,8 +132,8 @@ module _ {S : Type 0} (p : PureParts) (m : Actions) (stands : S → List PureVal
 
   pub steps_counted : (earlier : List (PurePath S)) (path : PurePath S) → IsTrailOf earlier path → path.steps ≡ length earlier
   steps_counted earlier path trail = laws.keep.steps start path earlier trail ∙ ap (λ n. n + length earlier) begins.steps ∙ zero-plus (length earlier) where
-      zero-plus : (n : ℕ) → 0 + n ≡ n
-      zero-plus n = omega arith
+    zero-plus : (n : ℕ) → 0 + n ≡ n
+    zero-plus n = omega arith
 
   pub is_over : (earlier : List (PurePath S)) (path : PurePath S) → IsTrailOf earlier path → IsOverTable terms path
   is_over earlier path trail = laws.keep.over start path earlier trail begins.over

@@ -1,27 +1,25 @@
 -- A test under way: each failing run is accounted for by a path that is left, unless a query is kept.
-use Rattle.std.proofs.Common.{◌≡◌, ℤ, ◌⊎◌, ⊎_elim, inl, inr, ℕ, zero, suc, ◌+◌, ◌≤◌, List, [], ◌∷◌, ◌++◌, Option, Some, None, IsTrue, true≢false, refl, sym, ap, subst, ◌∙◌, arith}
+use Rattle.std.proofs.Common.{◌≡◌, ℤ, ⊎_elim, inl, inr, ℕ, ◌≤◌, List, [], ◌∷◌, Option, Some, None, IsTrue, true≢false, refl, sym, subst, ◌∙◌, arith}
 use Rattle.std.proofs.lemmas.List.{append-nil}
 use Rattle.gil_values.specs.declared.places.Place.{Place}
 use Rattle.gil_values.specs.Pure.{PureValue}
 use Rattle.gil_syntax.specs.Pure.{PureParts}
 use Rattle.gil_syntax.specs.Simple.{is_simple}
-use Rattle.gil_machine.specs.Run.{run, test_run, IsEntry, IsBug, IsClean}
+use Rattle.gil_machine.specs.Run.{test_run, IsEntry, IsBug}
 use Rattle.gil_machine.specs.State.{State, Ending, IsFailed}
 use Rattle.gil_machine.specs.State as machine
 use Rattle.mem_model.specs.Actions.{Actions}
 use Rattle.mem_model.specs.Heaps.{Heap}
-use Rattle.pure_terms.specs.Meaning.{value, Satisfies}
 use Rattle.pure_terms.specs.Pure.{PureTerm}
-use Rattle.sym_explore.specs.Exploring.{MayGoOn, IsFrom, IsEndedFrom, cut_off, KeepTrails, KeepAccounts, or_none}
+use Rattle.sym_explore.specs.Exploring.{MayGoOn, IsFrom, IsEndedFrom, KeepTrails, KeepAccounts}
 use Rattle.sym_explore.specs.Plain.{TrailsStayPlain}
 use Rattle.sym_explore.specs.Runs.{StandsAfter, AccountsFor}
 use Rattle.sym_model.specs.Lists.{Each, OneOf}
 use Rattle.sym_model.specs.Terms.{StateTerms}
-use Rattle.sym_model.proofs.ListLaws.{same_some, not_none}
+use Rattle.sym_model.proofs.ListLaws.{not_none}
 use Rattle.sym_paths.specs.Meaning.{IsOverTable}
 use Rattle.sym_paths.specs.Pure.{failed, cut, PurePath}
-use Rattle.sym_paths.specs.Steps.{IsInputFault, IsUnknown, IsNewSort}
-use Rattle.sym_test.specs.Canonical.{draws_among, IsCanonical}
+use Rattle.sym_paths.specs.Steps.{IsInputFault, IsUnknown}
 use Rattle.sym_test.specs.Judged.{Begins, MayBeJudged, PureJudgement, harmless, fails, undecided, IsJudgedEnd, IsRightlyJudged, first_query, verdict_of}
 use Rattle.sym_test.specs.Undecided.{first_state, FailsSimply, IsUndecided, IsRightVerdict, IsUnknownVerdict}
 use Rattle.sym_test.specs.View.{PureQuery, PureVerdict, bug, clean, unknown}

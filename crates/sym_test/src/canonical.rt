@@ -46,12 +46,7 @@ fn blank(alloc: Global, sort: Sort) -> Result<Value, AllocError>
 }
 
 /// The value of a draw: the one that was found, where an atom names it.
-fn draw(
-    alloc: Global,
-    sort: Sort,
-    named: bool,
-    found: &Value,
-) -> Result<Value, AllocError>
+fn draw(alloc: Global, sort: Sort, named: bool, found: &Value) -> Result<Value, AllocError>
     ensures { IfOk result (λ w. value_view w ≡ (if named then value_view found.now else blank sort)) }
 {
     if named {

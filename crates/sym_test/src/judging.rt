@@ -21,7 +21,10 @@ ghost use Rattle.sym_test.specs.Undecided.{keeps_out, IsOutsideAt};
 use crate::canonical::{canonical_valuation, draws_among};
 use crate::evaluating::evaluate;
 use gil_values::{Place, Text, Value, Values};
-use pure_terms::{Atom, Atoms, Choices, Decider, Decision, HoldsFault, Query, Reason, Term, Valuation, VarTable, in_fragment};
+use pure_terms::{
+    Atom, Atoms, Choices, Decider, Decision, HoldsFault, Query, Reason, Term, Valuation, VarTable,
+    in_fragment,
+};
 use std::alloc::{AllocError, Global};
 use sym_model::SymMemory;
 use sym_paths::{Path, PathEnd};
@@ -98,8 +101,14 @@ struct Lists {
 
 /// The question whether a path goes on, with the place of an atom that keeps it out of the fragment.
 fn ask(lists: Lists, place: Place, outside: usize) -> Judgement
-    ensures { judgement_view result ≡ undecided (record { place = place; path = lists.choices; vars = lists.vars;
-        given = atoms_view lists.given; query = atoms_view lists.conds; outside = outside }) }
+    ensures { judgement_view result ≡ undecided (record {
+      place = place;
+      path = lists.choices;
+      vars = lists.vars;
+      given = atoms_view lists.given;
+      query = atoms_view lists.conds;
+      outside = outside;
+    }) }
 {
     Judgement::Undecided(Query {
         place,
@@ -210,20 +219,62 @@ pub(crate) fn judge<M: SymMemory, D: Decider>(
     requires { MayBeJudged M.terms (path_view path) }
     ensures { IfOk result (λ j. IsJudgedEnd (path_view path) (option_map end_view path.end) (judgement_view j)) }
 {
-    let Path { vars, conds, given, choices, end, stack: _, memory: _, drawn: _, steps: _ } = path;
+    let Path {
+        vars,
+        conds,
+        given,
+        choices,
+        end,
+        stack: _,
+        memory: _,
+        drawn: _,
+        steps: _,
+    } = path;
     match end {
-        None | Some(PathEnd::Returned(_) | PathEnd::Vanished | PathEnd::Cut) => Ok(Judgement::Harmless),
+        None | Some(PathEnd::Returned(_) | PathEnd::Vanished | PathEnd::Cut) => Ok(
+            Judgement::Harmless,
+        ),
         Some(PathEnd::Failed(term, place)) => {
             let conds = conds.atoms(alloc)?;
-            judge_failure(alloc, decider, Lists { vars, choices, given, conds }, term, place)
+            judge_failure(
+                alloc,
+                decider,
+                Lists {
+                    vars,
+                    choices,
+                    given,
+                    conds,
+                },
+                term,
+                place,
+            )
         }
         Some(PathEnd::Missed(_, place)) => {
             let conds = conds.atoms(alloc)?;
-            judge_miss(alloc, decider, Lists { vars, choices, given, conds }, place)
+            judge_miss(
+                alloc,
+                decider,
+                Lists {
+                    vars,
+                    choices,
+                    given,
+                    conds,
+                },
+                place,
+            )
         }
         Some(PathEnd::Unknown(place, reason)) => {
             let conds = conds.atoms(alloc)?;
-            Ok(ask(Lists { vars, choices, given, conds }, place, number_of(reason)))
+            Ok(ask(
+                Lists {
+                    vars,
+                    choices,
+                    given,
+                    conds,
+                },
+                place,
+                number_of(reason),
+            ))
         }
     }
 }

@@ -1,16 +1,14 @@
-use Rattle.std.proofs.Common.{◌≡◌, ℕ, ◌+◌, ◌<◌, ◌≤◌, List, map, length, slice_get, get_or, Some, sym, ap, ◌∙◌, subst, arith}
+use Rattle.std.proofs.Common.{◌≡◌, ◌+◌, ◌<◌, map, length, slice_get, get_or, Some, sym, ap, ◌∙◌, subst, arith}
 use Rattle.std.proofs.lemmas.List.{length-map}
 use Rattle.std.proofs.lemmas.Option.{slice_get-get_or}
-use Rattle.gil_values.specs.Pure.{PureValue}
 use Rattle.gil_values.specs.View.{value_view, values_view}
 use Rattle.gil_values.proofs.Lists.{slice_get-read}
 use Rattle.pure_terms.specs.declared.variables.Sort.{Sort}
-use Rattle.pure_terms.specs.Meaning.{AreOver, Satisfies}
 use Rattle.pure_terms.specs.Naming.{names_number}
 use Rattle.pure_terms.specs.Pure.{term_of}
 use Rattle.pure_terms.specs.View.{atom_view, atoms_view}
 use Rattle.pure_terms.proofs.NamingLaws.{list_any-map}
-use Rattle.sym_test.specs.Canonical.{is_named, IsAt, IsCanonical}
+use Rattle.sym_test.specs.Canonical.{is_named, IsAt}
 use Rattle.sym_test.proofs.Canonicals.{IsMade, IsMadeTo, made_next, made_whole, made_is_canonical, made_moderate}
 use Rattle.sym_test.proofs.canonical.canonical_valuation.Goals as goal
 

@@ -1,10 +1,10 @@
-use Rattle.std.proofs.Common.{◌≡◌, ◌<◌, ◌≤◌, ◌^◌, Some, slice_get, length, IsTrue, sym, ap, subst, ◌∙◌, arith}
+use Rattle.std.proofs.Common.{◌≡◌, ◌<◌, ◌≤◌, ◌^◌, Some, slice_get, length, IsTrue, sym, subst, ◌∙◌, arith}
 use Rattle.std.proofs.lemmas.List.{length-map}
 use Rattle.gil_values.proofs.Lists.{slice_get-read}
 use Rattle.pure_terms.specs.Fragment.{InFragment}
 use Rattle.pure_terms.specs.Meaning.{AreOver}
 use Rattle.pure_terms.specs.View.{atom_view, atoms_view}
-use Rattle.sym_test.specs.Undecided.{keeps_out, IsOutsideAt}
+use Rattle.sym_test.specs.Undecided.{keeps_out}
 use Rattle.sym_test.proofs.Outsides.{PassTo, found_outside, pass_more, all_pass_inside}
 use Rattle.sym_test.proofs.judging.outside_at.Goals as goal
 

@@ -1,12 +1,11 @@
-use Rattle.std.proofs.Common.{◌≡◌, List, [], ◌∷◌, ◌++◌, Option, Some, None, IfNone, sym, ap, subst, ◌∙◌}
+use Rattle.std.proofs.Common.{◌≡◌, [], ◌∷◌, ◌++◌, None, IfNone, sym, ap, subst, ◌∙◌}
 use Rattle.std.specs.Option.{option_map}
 use Rattle.gil_values.specs.View.{value_view, values_view}
 use Rattle.gil_program.specs.Program.{prog_view}
 use Rattle.sym_explore.specs.Exploring.{MayGoOn, KeepTrails, KeepAccounts, or_none}
 use Rattle.sym_explore.specs.View.{paths_left}
-use Rattle.sym_model.specs.Lists.{Each}
 use Rattle.sym_paths.specs.View.{path_view}
-use Rattle.sym_test.specs.Judged.{Begins, judgement_view, verdict_of}
+use Rattle.sym_test.specs.Judged.{Begins, judgement_view}
 use Rattle.sym_test.specs.Undecided.{IsRightVerdict}
 use Rattle.sym_test.specs.View.{query_view, verdict_view, bug}
 use Rattle.sym_test.proofs.Laws.{trail_laws, plain_laws}
@@ -126,10 +125,10 @@ loop-turn-preserved g c =
     let after = goes_on p m stands terms asked plain laws keeps (plain_laws p m stands terms asked plain) c.args.proc.now c.args.bound c.requires.entry c.requires.bound left rest (path_view c.in-Some.path) kept (judgement_view c.in_ok-judge-in-Some.field-0) c.loop-turn.invariant trails accounts
     c.in_ok-next_ended.ensures.placed c.in_ok-judge-in-Some.ensures in
     elim c.match-branch-6.branch [
-      in-Harmless w ↦
-      subst (λ o. IsUnderWay p m stands terms asked plain keeps c.args.proc.now c.args.bound rest (option_map query_view o)) (sym w.kept-is)
-      (subst (λ j. AfterJudgement p m stands terms asked plain laws keeps (plain_laws p m stands terms asked plain) c.args.proc.now c.args.bound c.requires.entry c.requires.bound rest kept (judgement_view j)) w.in-Harmless.is after)
-    | in-Undecided w ↦
-      subst (λ o. IsUnderWay p m stands terms asked plain keeps c.args.proc.now c.args.bound rest o) (sym (ap (option_map query_view) w.kept-is ∙ w.first_query-kept.ensures))
-      (subst (λ j. AfterJudgement p m stands terms asked plain laws keeps (plain_laws p m stands terms asked plain) c.args.proc.now c.args.bound c.requires.entry c.requires.bound rest kept (judgement_view j)) w.in-Undecided.is after)
+      | in-Harmless w ↦
+          subst (λ o. IsUnderWay p m stands terms asked plain keeps c.args.proc.now c.args.bound rest (option_map query_view o)) (sym w.kept-is)
+          (subst (λ j. AfterJudgement p m stands terms asked plain laws keeps (plain_laws p m stands terms asked plain) c.args.proc.now c.args.bound c.requires.entry c.requires.bound rest kept (judgement_view j)) w.in-Harmless.is after)
+      | in-Undecided w ↦
+          subst (λ o. IsUnderWay p m stands terms asked plain keeps c.args.proc.now c.args.bound rest o) (sym (ap (option_map query_view) w.kept-is ∙ w.first_query-kept.ensures))
+          (subst (λ j. AfterJudgement p m stands terms asked plain laws keeps (plain_laws p m stands terms asked plain) c.args.proc.now c.args.bound c.requires.entry c.requires.bound rest kept (judgement_view j)) w.in-Undecided.is after)
     ]
