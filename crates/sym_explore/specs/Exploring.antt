@@ -1,5 +1,5 @@
 -- What exploration promises of the paths that it has left and of those that it hands out.
-use Rattle.std.specs.Prelude.{◌≡◌, ◌⊎◌, ℕ, ◌<◌, ◌≤◌, List, [], ◌∷◌, Option, Some, None, IsSome}
+use Rattle.std.specs.Prelude.{◌≡◌, ◌⊎◌, ℕ, ◌<◌, ◌≤◌, ℤ, List, [], ◌∷◌, Option, Some, None, IsSome}
 use Rattle.gil_values.specs.Pure.{PureValue}
 use Rattle.gil_syntax.specs.Pure.{PureParts}
 use Rattle.gil_machine.specs.Run.{run}
@@ -7,6 +7,7 @@ use Rattle.gil_machine.specs.State.{State}
 use Rattle.mem_model.specs.Actions.{Actions}
 use Rattle.mem_model.specs.Heaps.{Heap}
 use Rattle.pure_terms.specs.Pure.{PureTerm}
+use Rattle.sym_explore.specs.Plain.{EachStep, StaysPlain}
 use Rattle.sym_explore.specs.Runs.{AccountsFor}
 use Rattle.sym_explore.specs.Trails.{IsTrail}
 use Rattle.sym_model.specs.Lists.{Each, OneOf}
@@ -29,12 +30,14 @@ or_none None = []
 or_none (Some x) = x ∷ []
 
 module _ {S : Type 0} (p : PureParts) (m : Actions) (stands : S → List PureValue → Heap → Type 0) (terms : S → StateTerms)
-    (asked : List ℕ → List PureTerm → List PureTerm) (bound : ℕ) where
-  -- the path has a trail from the start, and did no more steps than the bound
+    (asked : List ℕ → List PureTerm → List PureTerm) (plain : S → ℤ → ℤ → Type 0) (keeps_plain : Type 0) (bound : ℕ) where
+  -- the path has a trail from the start, and did no more steps than the bound; at commands of simple form it stays plain, where the
+  -- memory does
   pub record IsFrom (start path : PurePath S) : Type 0 where
     pub earlier : List (PurePath S)
     pub trail : IsTrail p m stands terms asked start earlier path
     pub within : path.steps ≤ bound
+    pub simple : keeps_plain → EachStep (StaysPlain p plain) earlier path
 
   -- the path has an end and comes from the start; or a path without an end does, with as many steps as the bound, and it is that one,
   -- cut

@@ -14,7 +14,7 @@ use sequence::Sequence;
 use std::alloc::{AllocError, Global};
 use sym_model::SymMemory;
 use sym_paths::{Path, PathEnd, Paths};
-use sym_step::step;
+use sym_step::Stepper;
 
 /// Paths that are left to be explored, the next one last. Contracts see them by `paths_left`. After want of memory some are lost.
 #[derive(Drop)]
@@ -34,7 +34,7 @@ impl<M: SymMemory> Exploration<M> {
 
     /// Does steps until a path has an end, and hands that one out: a path that has done as many steps as the bound is cut. No path
     /// is left where it answers `None`. After 2^64 - 1 steps it answers want of memory.
-    pub fn next_ended<D: Decider>(
+    pub fn next_ended<D: Decider, T: Stepper<M, D>>(
         &mut self,
         alloc: Global,
         prog: &Prog,
@@ -45,7 +45,7 @@ impl<M: SymMemory> Exploration<M> {
         requires bounded { bound ≤ 10000 }
         requires placed { Each (MayGoOn (prog_view prog.now) M.terms) (paths_left self.old) }
         ensures placed { IfOk result (λ ended. Each (MayGoOn (prog_view prog.now) M.terms) (paths_left self.new)) }
-        ensures trails { IfOk result (λ ended. KeepTrails (prog_view prog.now) M.Local.actions M.stands M.terms M.asked bound
+        ensures trails { IfOk result (λ ended. KeepTrails (prog_view prog.now) M.Local.actions M.stands M.terms M.asked M.plain M.keeps_plain bound
             (paths_left self.old) (or_none (option_map path_view ended)) (paths_left self.new)) }
         ensures cover { IfOk result (λ ended. KeepAccounts (prog_view prog.now) M.Local.actions M.stands bound (paths_left self.old)
             (or_none (option_map path_view ended) ++ paths_left self.new)) }
@@ -61,7 +61,7 @@ impl<M: SymMemory> Exploration<M> {
             if path.steps >= bound {
                 return Ok(Some(cut_off(path)));
             }
-            let next = step(alloc, prog, path, rules, decider)?;
+            let next = T::step(alloc, prog, path, rules, decider)?;
             self.left.append(&mut next.into_vec())?;
         }
         Err(AllocError)
@@ -78,7 +78,7 @@ fn cut_off<M: Drop>(path: Path<M>) -> Path<M>
 }
 
 /// Does steps until every path has an end, a path that has done as many as the bound being cut.
-pub fn explore<M: SymMemory, D: Decider>(
+pub fn explore<M: SymMemory, D: Decider, T: Stepper<M, D>>(
     alloc: Global,
     prog: &Prog,
     start: Path<M>,
@@ -91,13 +91,13 @@ pub fn explore<M: SymMemory, D: Decider>(
     requires going { start.end ≡ None }
     requires first { start.steps ≡ 0 }
     ensures cover { IfOk result (λ ps. CoverRuns (prog_view prog.now) M.Local.actions M.stands bound (path_view start) (paths_view ps)) }
-    ensures trails { IfOk result (λ ps. Each (IsEndedFrom (prog_view prog.now) M.Local.actions M.stands M.terms M.asked bound
+    ensures trails { IfOk result (λ ps. Each (IsEndedFrom (prog_view prog.now) M.Local.actions M.stands M.terms M.asked M.plain M.keeps_plain bound
         (path_view start)) (paths_view ps)) }
 {
     let mut exploration = Exploration::new(alloc, start)?;
     let mut ended = Sequence::new(alloc);
     for _turn in 0..u64::MAX {
-        match exploration.next_ended(alloc, prog, bound, rules, decider)? {
+        match exploration.next_ended::<D, T>(alloc, prog, bound, rules, decider)? {
             Some(path) => ended.push(path)?,
             None => return Ok(ended),
         }

@@ -1,8 +1,8 @@
-//! A step of a path of symbolic execution.
+//! A step of a path of symbolic execution: when one may be done, and what it must do.
 #![tactic(auto)]
 
 mod laws;
 mod stepping;
 
 pub use laws::starts_may_step;
-pub use stepping::step;
+pub use stepping::Stepper;
