@@ -9,6 +9,7 @@ mod joining;
 mod numbering;
 mod proper;
 mod proposing;
+mod repairing;
 mod terms;
 mod testing;
 mod values;

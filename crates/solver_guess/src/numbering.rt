@@ -2,7 +2,8 @@
 use crate::facts::{Facts, literal_said};
 use crate::graphs::{Edge, numbers_by};
 use crate::joining::Classes;
-use crate::terms::{AtMost, Shift, order_back, order_said};
+use crate::repairing::{Apart, repair};
+use crate::terms::{AtMost, Shift, difference_said, order_back, order_said};
 use pure_terms::{Atoms, Literal};
 use std::alloc::{AllocError, Global};
 
@@ -159,6 +160,23 @@ fn place_in(span: i128, zero: i128, part: usize, first: usize, number: i128) -> 
     span.checked_mul(turn)?.checked_add(number)
 }
 
+/// The numbers that atoms say to differ.
+fn aparts_of(alloc: Global, list: &Atoms, classes: &Classes) -> Result<Vec<Apart>, AllocError> {
+    let mut aparts: Vec<Apart> = Vec::new(alloc);
+    for atom in list.as_slice() {
+        if let Some((first, second)) = difference_said(atom) {
+            if let Some(by) = first.plus.checked_sub(second.plus) {
+                aparts.push(Apart {
+                    left: node_of(classes, first),
+                    right: node_of(classes, second),
+                    by,
+                })?;
+            }
+        }
+    }
+    Ok(aparts)
+}
+
 /// Numbers for all classes that meet what atoms say of their order, where they are found.
 pub(crate) fn numbers_for(
     alloc: Global,
@@ -170,7 +188,16 @@ pub(crate) fn numbers_for(
     let count = facts.items.len().saturating_add(1);
     match numbers_by(alloc, count, edges.as_slice())? {
         Some(numbers) => match spread(alloc, edges.as_slice(), numbers.as_slice())? {
-            Some(items) => Ok(Some(Numbers { items })),
+            Some(mut items) => {
+                let aparts = aparts_of(alloc, list, classes)?;
+                repair(
+                    alloc,
+                    edges.as_slice(),
+                    aparts.as_slice(),
+                    items.as_mut_slice(),
+                )?;
+                Ok(Some(Numbers { items }))
+            }
             None => Ok(None),
         },
         None => Ok(None),

@@ -168,3 +168,12 @@ pub(crate) fn order_back(atom: &Atom) -> Option<AtMost> {
         _ => None,
     }
 }
+
+/// The numbers that an atom says to be different.
+pub(crate) fn difference_said(atom: &Atom) -> Option<(Shift, Shift)> {
+    let pair = disequality_of(atom)?;
+    match (number_side(pair.left), number_side(pair.right)) {
+        (Some(first), Some(second)) => Some((first, second)),
+        _ => None,
+    }
+}

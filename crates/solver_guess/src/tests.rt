@@ -85,7 +85,7 @@ use Short::{Int, Kind as K, KindOf, Var as V};
 
 #[test]
 fn lists_without_splits_are_guessed(rt: HostRuntime) -> Result<(), Fail> {
-    let cases: [(&[Said], Found); 7] = [
+    let cases: [(&[Said], Found); 8] = [
         (&[], Found::Model),
         // three numbers that differ, in order
         (
@@ -124,6 +124,15 @@ fn lists_without_splits_are_guessed(rt: HostRuntime) -> Result<(), Fail> {
             ],
             Found::Closed,
         ),
+        // a number is moved
+        (
+            &[
+                Said(true, Int(0), LessOrEqual, V(0)),
+                Said(true, V(0), LessOrEqual, Int(1)),
+                Said(false, V(0), Equal, Int(0)),
+            ],
+            Found::Model,
+        ),
         // a cycle, and a split
         (
             &[Said(true, V(0), Less, V(1)), Said(true, V(1), Less, V(0))],
@@ -132,7 +141,7 @@ fn lists_without_splits_are_guessed(rt: HostRuntime) -> Result<(), Fail> {
         (
             &[
                 Said(true, Int(0), LessOrEqual, V(0)),
-                Said(true, V(0), LessOrEqual, Int(1)),
+                Said(true, V(0), LessOrEqual, Int(0)),
                 Said(false, V(0), Equal, Int(0)),
             ],
             Found::Nothing,
