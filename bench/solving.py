@@ -7,8 +7,9 @@ A time is that of the whole process less that of the same program on a list with
 takes longer than the limit is shown as such. The program has to be built: `./gillian` does it.
 
 The families: chains of differences; cycles of differences; random differences that have a solution, and such that have none; equality
-chains whose ends differ; variables that differ pairwise; and kinds of variables of any sort, in classes. Each has as many atoms as the
-size says, or the next smaller number that it can have.
+chains whose ends differ; equalities with one variable, on either side, of which two others differ, alone and beside a small list that
+needs splits; variables that differ pairwise; kinds of variables of any sort, in classes; and variables of any sort that differ one from
+the next, of which no kind is told. Each has as many atoms as the size says, or the next smaller number that it can have.
 """
 import random
 import shutil
@@ -122,6 +123,37 @@ def equality_chain(size):
     return listing, "unsat"
 
 
+def star_of(listing, size, sort):
+    """Equalities of all variables with the first one."""
+    xs = [listing.variable(f"x{i}", sort) for i in range(size + 1)]
+    for i, x in enumerate(xs[1:]):
+        if i % 2 == 0:
+            listing.equal(x, xs[0])
+        else:
+            listing.equal(xs[0], x)
+    return xs
+
+
+def equality_star(size):
+    listing = Listing()
+    xs = star_of(listing, size - 1, "any")
+    listing.differ(xs[1], xs[-1])
+    return listing, "unsat"
+
+
+def star_and_splits(size):
+    listing = Listing()
+    star_of(listing, size - 9, "any")
+    ys = [listing.variable(f"y{i}", "int") for i in range(3)]
+    zero = listing.variable("zero", "int")
+    for y in ys:
+        listing.at_most(zero, 0, y)
+        listing.at_most(y, -1, zero)
+    for y, z in [(ys[0], ys[1]), (ys[1], ys[2]), (ys[0], ys[2])]:
+        listing.differ(y, z)
+    return listing, "unsat"
+
+
 def distinct(size):
     listing = Listing()
     count = 2
@@ -151,14 +183,25 @@ def kinds(size):
     return listing, "sat"
 
 
+def free_kinds(size):
+    listing = Listing()
+    xs = [listing.variable(f"x{i}", "any") for i in range(size + 1)]
+    for x, y in zip(xs, xs[1:]):
+        listing.differ(x, y)
+    return listing, "sat"
+
+
 FAMILIES = [
     ("chain of differences", chain),
     ("cycle of differences", cycle),
     ("random differences", random_differences),
     ("tight random differences", tight_differences),
     ("equality chain", equality_chain),
+    ("equality star", equality_star),
+    ("equality star and splits", star_and_splits),
     ("distinct values", distinct),
     ("kinds", kinds),
+    ("free kinds", free_kinds),
 ]
 
 

@@ -9,5 +9,6 @@ pub mod Noding
 pub mod Saying
 pub mod Seeking
 pub mod Separating
+pub mod Sharing
 pub mod Taking
 pub mod Valuing

@@ -1,15 +1,14 @@
 -- Nodes that are added, and classes that become one.
-use Rattle.std.proofs.Common.{◌≡◌, ⊎_elim, ◌⊎◌, inl, inr, ℕ, zero, suc, ◌+◌, ◌-◌, ◌≤◌, List, [], ◌∷◌, ◌++◌, map, reverse, length, Bool, true, false, if◌then◌else◌, Option, Some, None, slice_get, eqb, refl, sym, ap, ◌∙◌, subst, arith}
-use Rattle.std.specs.Option.{option_map}
-use Rattle.std.proofs.lemmas.Bool.{eqb-true, eqb-false, eq-eqb, ne_eqb}
-use Rattle.std.proofs.lemmas.Option.{slice_get-map, same_Some}
+use Rattle.std.proofs.Common.{◌≡◌, ⊎_elim, ◌⊎◌, inl, inr, ℕ, zero, suc, ◌+◌, ◌-◌, ◌≤◌, List, [], ◌∷◌, ◌++◌, length, Bool, true, false, if◌then◌else◌, Option, Some, None, slice_get, eqb, refl, sym, ap, ◌∙◌, subst, arith}
+use Rattle.std.proofs.lemmas.Bool.{eq-eqb, ne_eqb}
+use Rattle.std.proofs.lemmas.Option.{same_Some}
 use Rattle.pure_terms.specs.Equality.{same_term}
 use Rattle.pure_terms.specs.EqualityLaws.{same_term-refl}
 use Rattle.pure_terms.specs.Pure.{PureTerm, PureAtom}
 use Rattle.solver_proof.specs.Chains.{Sides, equality_at, AreEqualAt, Leads}
 use Rattle.solver_proof.proofs.Growing.{found_left, found_right, past_end}
-use Rattle.equality_core.specs.Nodes.{PureNode, IsNode, AreNodes, root_of, IsUnited, IsFound, alone, AddsAtMost, moved, AreJoined, IsUnitedBy}
-use Rattle.equality_core.proofs.Leading.{leads_append, turned_step, leads_reverse}
+use Rattle.equality_core.specs.Nodes.{PureNode, IsNode, AreNodes, root_of, IsUnited, IsFound, alone, AddsAtMost, ArePaired, IsMoved, AreMoved, IsMovedInto, AreJoined, IsUnitedBy}
+use Rattle.equality_core.proofs.Leading.{leads_append, turned_step, leads_back}
 
 -- ---- one more node
 
@@ -83,105 +82,170 @@ module _ (list : List PureAtom) (old : List PureNode) (t : PureTerm) (new : List
 abbrev renamed : ℕ → ℕ → ℕ → ℕ
 renamed from into r = if eqb r from then into else r
 
-moved-term : (from into : ℕ) (suffix : List ℕ) (n : PureNode) → (moved from into suffix n).term ≡ n.term
-moved-term from into suffix n = by_test (eqb n.root from) where
-  by_test : (b : Bool) → (if b then record { term = n.term; root = into; chain = n.chain ++ suffix } else n).term ≡ n.term
-  by_test true = refl
-  by_test false = refl
+renamed-other : (from into r : ℕ) → (r ≡ from → ⊥) → renamed from into r ≡ r
+renamed-other from into r other = ap (λ (b : Bool). if b then into else r) (ne_eqb r from other)
 
-moved-root : (from into : ℕ) (suffix : List ℕ) (n : PureNode) → (moved from into suffix n).root ≡ renamed from into n.root
-moved-root from into suffix n = by_test (eqb n.root from) where
-  by_test : (b : Bool) → (if b then record { term = n.term; root = into; chain = n.chain ++ suffix } else n).root ≡ (if b then into else n.root)
-  by_test true = refl
-  by_test false = refl
+renamed-same : (from into r : ℕ) → r ≡ from → renamed from into r ≡ into
+renamed-same from into r same = ap (λ (b : Bool). if b then into else r) (eq-eqb r from same)
 
-root-moved : (from into : ℕ) (suffix : List ℕ) (nodes : List PureNode) (t : PureTerm) (r : ℕ) → root_of nodes t ≡ Some r → root_of (map (moved from into suffix) nodes) t ≡ Some (renamed from into r)
-root-moved from into suffix [] t r is = cc
-root-moved from into suffix (n ∷ ns) t r is =
-    (λ i. if same_term (moved-term from into suffix n i) t then Some (moved-root from into suffix n i) else root_of (map (moved from into suffix) ns) t) ∙ by_test (same_term n.term t) is (root-moved from into suffix ns t r) where
-      by_test : (b : Bool) → (if b then Some n.root else root_of ns t) ≡ Some r → (root_of ns t ≡ Some r → root_of (map (moved from into suffix) ns) t ≡ Some (renamed from into r)) → (if b then Some (renamed from into n.root) else root_of (map (moved from into suffix) ns) t) ≡ Some (renamed from into r)
-      by_test true is again = ap (λ k. Some (renamed from into k)) (same_Some n.root r is)
-      by_test false is again = again is
+module _ (from into : ℕ) (back onward : List ℕ) where
+  abbrev Moves : PureNode → PureNode → Type 0
+  Moves = IsMoved from into back onward
+
+  moved-term : (old new : PureNode) → Moves old new → new.term ≡ old.term
+  moved-term old new (inl stays) = ap (λ n. n.term) stays.1
+  moved-term old new (inr turns) = ap (λ n. n.term) turns.1.is
+
+  moved-root : (old new : PureNode) → Moves old new → new.root ≡ renamed from into old.root
+  moved-root old new (inl stays) = ap (λ n. n.root) stays.1 ∙ sym (renamed-other from into old.root stays.0)
+  moved-root old new (inr turns) = ap (λ n. n.root) turns.1.is ∙ sym (renamed-same from into old.root turns.0)
+
+  root-moved : (old new : List PureNode) (t : PureTerm) (r : ℕ) → ArePaired Moves old new → root_of old t ≡ Some r → root_of new t ≡ Some (renamed from into r)
+  root-moved [] [] t r paired is = cc
+  root-moved [] (m ∷ ms) t r paired is = absurd paired
+  root-moved (n ∷ ns) [] t r paired is = absurd paired
+  root-moved (n ∷ ns) (m ∷ ms) t r paired is =
+      (λ i. if same_term (moved-term n m paired.0 i) t then Some (moved-root n m paired.0 i) else root_of ms t) ∙ by_test (same_term n.term t) is (root-moved ns ms t r paired.1) where
+        by_test : (b : Bool) → (if b then Some n.root else root_of ns t) ≡ Some r → (root_of ns t ≡ Some r → root_of ms t ≡ Some (renamed from into r)) → (if b then Some (renamed from into n.root) else root_of ms t) ≡ Some (renamed from into r)
+        by_test true is again = ap (λ k. Some (renamed from into k)) (same_Some n.root r is)
+        by_test false is again = again is
+
+  -- what was moved to a node, and what a node was moved to
+  moved_from : (old new : List PureNode) (i : ℕ) (m : PureNode) → ArePaired Moves old new → slice_get new i ≡ Some m → (n : PureNode) × ((slice_get old i ≡ Some n) × Moves n m)
+  moved_from [] [] i m paired at = cc
+  moved_from [] (k ∷ ms) i m paired at = absurd paired
+  moved_from (n ∷ ns) [] i m paired at = absurd paired
+  moved_from (n ∷ ns) (k ∷ ms) zero m paired at = (n, (refl, subst (Moves n) (same_Some k m at) paired.0))
+  moved_from (n ∷ ns) (k ∷ ms) (suc i) m paired at = moved_from ns ms i m paired.1 at
+
+  moved_to : (old new : List PureNode) (i : ℕ) (n : PureNode) → ArePaired Moves old new → slice_get old i ≡ Some n → (m : PureNode) × ((slice_get new i ≡ Some m) × Moves n m)
+  moved_to [] [] i n paired at = cc
+  moved_to [] (m ∷ ms) i n paired at = absurd paired
+  moved_to (k ∷ ns) [] i n paired at = absurd paired
+  moved_to (k ∷ ns) (m ∷ ms) zero n paired at = (m, (refl, subst (λ x. Moves x m) (same_Some k n at) paired.0))
+  moved_to (k ∷ ns) (m ∷ ms) (suc i) n paired at = moved_to ns ms i n paired.1 at
+
+  -- a node of another class stands where it stood
+  stays_there : (old new : List PureNode) (i : ℕ) (n : PureNode) → ArePaired Moves old new → slice_get old i ≡ Some n → (n.root ≡ from → ⊥) → slice_get new i ≡ Some n
+  stays_there old new i n paired at other =
+      let to = moved_to old new i n paired at in
+      by_cases to.0 to.1.0 to.1.1 where
+        by_cases : (m : PureNode) → slice_get new i ≡ Some m → Moves n m → slice_get new i ≡ Some n
+        by_cases m there (inl stays) = there ∙ ap Some stays.1
+        by_cases m there (inr turns) = absurd (other turns.0)
 
 -- the nodes of one class lead on to the other's first term
-module _ (list : List PureAtom) (old : List PureNode) (place : ℕ) (first second : PureNode) (are : AreNodes list old) (left : IsNode list old first) (right : IsNode list old second) (step : AreEqualAt list place first.term second.term) (apart : first.root ≡ second.root → ⊥) where
-  abbrev suffix : List ℕ
-  suffix = reverse second.chain ++ place ∷ first.chain
+module _ (list : List PureAtom) (old : List PureNode) (place : ℕ) (from into : PureNode) (new : List PureNode) (are : AreNodes list old) (left : IsNode list old from) (right : IsNode list old into) (step : AreEqualAt list place from.term into.term) (apart : from.root ≡ into.root → ⊥) (paired : AreMoved from into place old new) where
+  abbrev onward : List ℕ
+  onward = place ∷ into.chain
 
-  abbrev move : PureNode → PureNode
-  move = moved second.root first.root suffix
+  there_still : (i : ℕ) (node : PureNode) → slice_get old i ≡ Some node → (node.root ≡ from.root → ⊥) → slice_get new i ≡ Some node
+  there_still i node at other = stays_there from.root into.root from.chain onward old new i node paired at other
 
-  bridge : Leads list suffix right.first.term left.first.term
-  bridge = leads_append list (reverse second.chain) (place ∷ first.chain) right.first.term second.term left.first.term
-      (leads_reverse list second.chain second.term right.first.term right.leads)
-      (first.term, (turned_step list place first.term second.term step, left.leads))
+  moved_node : (node moved : PureNode) → IsNode list old node → IsMoved from.root into.root from.chain onward node moved → IsNode list new moved
+  moved_node node moved is (inl stays) =
+      subst (IsNode list new) (sym stays.1)
+      (record { first = is.first; there = there_still node.root is.first is.there (λ e. stays.0 (sym is.own ∙ e)); own = is.own; leads = is.leads })
+  moved_node node moved is (inr turns) =
+      let which : is.first ≡ left.first = same_Some is.first left.first (sym (subst (λ k. slice_get old k ≡ Some is.first) turns.0 is.there) ∙ left.there) in
+      let along : Leads list node.chain node.term left.first.term = subst (λ n. Leads list node.chain node.term n.term) which is.leads in
+      let back : Leads list turns.1.way node.term from.term = leads_back list node.chain from.chain turns.1.way node.term from.term left.first.term turns.1.goes_back along left.leads in
+      let on : Leads list (turns.1.way ++ onward) node.term right.first.term = leads_append list turns.1.way onward node.term from.term right.first.term back (into.term, (step, right.leads)) in
+      subst (IsNode list new) (sym turns.1.is)
+      (record { first = right.first; there = there_still into.root right.first right.there (λ e. apart (sym e ∙ right.own)); own = right.own; leads = on })
 
-  -- a first node of its class that isn't moved
-  stays : (node : PureNode) → (node.root ≡ second.root → ⊥) → move node ≡ node
-  stays node other = ap (λ (b : Bool). if b then record { term = node.term; root = first.root; chain = node.chain ++ suffix } else node) (ne_eqb node.root second.root other)
+  all_moved : AreNodes list new
+  all_moved i m at =
+      let was = moved_from from.root into.root from.chain onward old new i m paired at in
+      moved_node was.0 m (are i was.0 was.1.0) was.1.1
 
-  there_still : (i : ℕ) (node : PureNode) → slice_get old i ≡ Some node → (node.root ≡ second.root → ⊥) → slice_get (map move old) i ≡ Some node
-  there_still i node at other = slice_get-map move old i ∙ ap (option_map move) at ∙ ap Some (stays node other)
+-- the root of a class that was moved into another, and that of the other
+module _ (from into : PureNode) (place : ℕ) (old new : List PureNode) (apart : from.root ≡ into.root → ⊥) (paired : AreMoved from into place old new) where
+  root-from : (t : PureTerm) → root_of old t ≡ Some from.root → root_of new t ≡ Some into.root
+  root-from t is =
+      root-moved from.root into.root from.chain (place ∷ into.chain) old new t from.root paired is ∙ ap Some (renamed-same from.root into.root from.root refl)
 
-  moved_node : (node : PureNode) → IsNode list old node → IsNode list (map move old) (move node)
-  moved_node node is = by_test (eqb node.root second.root) refl where
-    by_test : (b : Bool) → eqb node.root second.root ≡ b → IsNode list (map move old) (if b then record { term = node.term; root = first.root; chain = node.chain ++ suffix } else node)
-    by_test true same =
-        let which : is.first ≡ right.first = same_Some is.first right.first (sym (subst (λ k. slice_get old k ≡ Some is.first) (eqb-true node.root second.root same) is.there) ∙ right.there) in
-        let on : Leads list (node.chain ++ suffix) node.term left.first.term = leads_append list node.chain suffix node.term right.first.term left.first.term (subst (λ n. Leads list node.chain node.term n.term) which is.leads) bridge in
-        record { first = left.first; there = there_still first.root left.first left.there (λ e. apart (sym left.own ∙ e)); own = left.own; leads = on }
-    by_test false other =
-        record { first = is.first; there = there_still node.root is.first is.there (λ e. eqb-false node.root second.root other (sym is.own ∙ e)); own = is.own; leads = is.leads }
+  root-into : (t : PureTerm) → root_of old t ≡ Some into.root → root_of new t ≡ Some into.root
+  root-into t is =
+      root-moved from.root into.root from.chain (place ∷ into.chain) old new t into.root paired is ∙ ap Some (renamed-other from.root into.root into.root (λ e. apart (sym e)))
 
-  all_moved : AreNodes list (map move old)
-  all_moved i node at = by_cases (slice_get old i) refl (sym (slice_get-map move old i) ∙ at) where
-    by_cases : (o : Option PureNode) → slice_get old i ≡ o → option_map move o ≡ Some node → IsNode list (map move old) node
-    by_cases (Some n) there is = subst (IsNode list (map move old)) (same_Some (move n) node is) (moved_node n (are i n there))
-    by_cases None there is = cc
+  moved_united : (s t : PureTerm) → IsUnited old s t → IsUnited new s t
+  moved_united s t is =
+      record {
+        root = renamed from.root into.root is.root;
+        left = root-moved from.root into.root from.chain (place ∷ into.chain) old new s is.root paired is.left;
+        right = root-moved from.root into.root from.chain (place ∷ into.chain) old new t is.root paired is.right;
+      }
 
 module _ (list : List PureAtom) (old : List PureNode) (left right place : ℕ) (new : List PureNode) (are : AreNodes list old) (joined : AreJoined old left right place new) where
+  abbrev Either : Type 0
+  Either = ((joined.first.root ≡ joined.second.root) × (new ≡ old)) ⊎ ((joined.first.root ≡ joined.second.root → ⊥) × (AreMoved joined.second joined.first place old new ⊎ AreMoved joined.first joined.second place old new))
+
   pub joined_nodes : AreEqualAt list place joined.first.term joined.second.term → AreNodes list new
-  joined_nodes step =
-      ⊎_elim (λ same. subst (AreNodes list) (sym same.1) are)
-      (λ apart. subst (AreNodes list) (sym apart.1) (all_moved list old place joined.first joined.second are (are left joined.first joined.at_left) (are right joined.second joined.at_right) step apart.0))
-      joined.either
+  joined_nodes step = by_cases joined.either where
+    first : IsNode list old joined.first
+    first = are left joined.first joined.at_left
+
+    second : IsNode list old joined.second
+    second = are right joined.second joined.at_right
+
+    by_cases : Either → AreNodes list new
+    by_cases (inl same) = subst (AreNodes list) (sym same.1) are
+    by_cases (inr apart) =
+        ⊎_elim (λ paired. all_moved list old place joined.second joined.first new are second first (turned_step list place joined.first.term joined.second.term step) (λ e. apart.0 (sym e)) paired)
+        (λ paired. all_moved list old place joined.first joined.second new are first second step apart.0 paired)
+        apart.1
 
   -- roots that were one stay one
-  pub joined_root : (t : PureTerm) (r : ℕ) → root_of old t ≡ Some r → root_of new t ≡ Some (⊎_elim (λ same. r) (λ apart. renamed joined.second.root joined.first.root r) joined.either)
-  joined_root t r is = by_cases joined.either where
-    by_cases : (e : ((joined.first.root ≡ joined.second.root) × (new ≡ old)) ⊎ ((joined.first.root ≡ joined.second.root → ⊥) × (new ≡ map (moved joined.second.root joined.first.root (reverse joined.second.chain ++ place ∷ joined.first.chain)) old))) → root_of new t ≡ Some (⊎_elim (λ same. r) (λ apart. renamed joined.second.root joined.first.root r) e)
-    by_cases (inl same) = ap (λ ns. root_of ns t) same.1 ∙ is
-    by_cases (inr apart) = ap (λ ns. root_of ns t) apart.1 ∙ root-moved joined.second.root joined.first.root (reverse joined.second.chain ++ place ∷ joined.first.chain) old t r is
-
   pub joined_united : (s t : PureTerm) → IsUnited old s t → IsUnited new s t
-  joined_united s t is = record { root = _; left = joined_root s is.root is.left; right = joined_root t is.root is.right }
+  joined_united s t is = by_cases joined.either where
+    by_cases : Either → IsUnited new s t
+    by_cases (inl same) = subst (λ ns. IsUnited ns s t) (sym same.1) is
+    by_cases (inr apart) =
+        ⊎_elim (λ paired. moved_united joined.second joined.first place old new (λ e. apart.0 (sym e)) paired s t is)
+        (λ paired. moved_united joined.first joined.second place old new apart.0 paired s t is)
+        apart.1
 
   pub joined_sides : (s t : PureTerm) → IsFound old s left → IsFound old t right → IsUnited new s t
   joined_sides s t found_s found_t = by_cases joined.either where
-    first_is : found_s.node ≡ joined.first
-    first_is = same_Some found_s.node joined.first (sym found_s.at ∙ joined.at_left)
-
-    second_is : found_t.node ≡ joined.second
-    second_is = same_Some found_t.node joined.second (sym found_t.at ∙ joined.at_right)
-
     root_s : root_of old s ≡ Some joined.first.root
-    root_s = found_s.root ∙ ap (λ n. Some n.root) first_is
+    root_s = found_s.root ∙ ap (λ n. Some n.root) (same_Some found_s.node joined.first (sym found_s.at ∙ joined.at_left))
 
     root_t : root_of old t ≡ Some joined.second.root
-    root_t = found_t.root ∙ ap (λ n. Some n.root) second_is
+    root_t = found_t.root ∙ ap (λ n. Some n.root) (same_Some found_t.node joined.second (sym found_t.at ∙ joined.at_right))
 
-    into_is : (b : Bool) → (if b then joined.first.root else joined.first.root) ≡ joined.first.root
-    into_is true = refl
-    into_is false = refl
-
-    by_cases : (e : ((joined.first.root ≡ joined.second.root) × (new ≡ old)) ⊎ ((joined.first.root ≡ joined.second.root → ⊥) × (new ≡ map (moved joined.second.root joined.first.root (reverse joined.second.chain ++ place ∷ joined.first.chain)) old))) → IsUnited new s t
+    by_cases : Either → IsUnited new s t
     by_cases (inl same) = record { root = joined.first.root; left = ap (λ ns. root_of ns s) same.1 ∙ root_s; right = ap (λ ns. root_of ns t) same.1 ∙ root_t ∙ ap Some (sym same.0) }
     by_cases (inr apart) =
-        record {
-          root = joined.first.root;
-          left = ap (λ ns. root_of ns s) apart.1 ∙ root-moved joined.second.root joined.first.root (reverse joined.second.chain ++ place ∷ joined.first.chain) old s joined.first.root root_s ∙ ap Some (into_is (eqb joined.first.root joined.second.root));
-          right = ap (λ ns. root_of ns t) apart.1 ∙ root-moved joined.second.root joined.first.root (reverse joined.second.chain ++ place ∷ joined.first.chain) old t joined.second.root root_t ∙ ap (λ (b : Bool). Some (if b then joined.first.root else joined.second.root)) (eq-eqb joined.second.root joined.second.root refl);
-        }
+        ⊎_elim (λ paired. record { root = joined.first.root; left = root-into joined.second joined.first place old new (λ e. apart.0 (sym e)) paired s root_s; right = root-from joined.second joined.first place old new (λ e. apart.0 (sym e)) paired t root_t })
+        (λ paired. record { root = joined.second.root; left = root-from joined.first joined.second place old new apart.0 paired s root_s; right = root-into joined.first joined.second place old new apart.0 paired t root_t })
+        apart.1
+
+-- one of the classes was moved into the other
+module _ (old : List PureNode) (left right place : ℕ) (new : List PureNode) (first second : PureNode) (at_left : slice_get old left ≡ Some first) (at_right : slice_get old right ≡ Some second) (apart : first.root ≡ second.root → ⊥) where
+  pub joined_left : IsMovedInto old left right place new → AreJoined old left right place new
+  joined_left is =
+      let one : is.first ≡ first = same_Some is.first first (sym is.at_from ∙ at_left) in
+      let two : is.second ≡ second = same_Some is.second second (sym is.at_into ∙ at_right) in
+      record {
+        first = is.first;
+        second = is.second;
+        at_left = is.at_from;
+        at_right = is.at_into;
+        either = inr ((λ e. apart (ap (λ n. n.root) (sym one) ∙ e ∙ ap (λ n. n.root) two)), inr is.moved);
+      }
+
+  pub joined_right : IsMovedInto old right left place new → AreJoined old left right place new
+  joined_right is =
+      let one : is.first ≡ second = same_Some is.first second (sym is.at_from ∙ at_right) in
+      let two : is.second ≡ first = same_Some is.second first (sym is.at_into ∙ at_left) in
+      record {
+        first = is.second;
+        second = is.first;
+        at_left = is.at_into;
+        at_right = is.at_from;
+        either = inr ((λ e. apart (ap (λ n. n.root) (sym two) ∙ e ∙ ap (λ n. n.root) one)), inl is.moved);
+      }
 
 -- ---- the sides of an equality
 

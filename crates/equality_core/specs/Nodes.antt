@@ -1,5 +1,5 @@
 -- Nodes: the terms that equalities name, in classes, each with a chain to the first term of its class.
-use Rattle.std.specs.Prelude.{◌≡◌, ◌⊎◌, ℕ, List, [], ◌∷◌, ◌++◌, map, reverse, length, slice_get, if◌then◌else◌, Option, Some, None, nat_eq}
+use Rattle.std.specs.Prelude.{◌≡◌, ◌⊎◌, ℕ, ◌-◌, ◌≤◌, List, [], ◌∷◌, ◌++◌, map, reverse, drop, length, slice_get, if◌then◌else◌, Option, Some, None, nat_eq}
 use Rattle.pure_terms.specs.Equality.{same_term}
 use Rattle.pure_terms.specs.Kinds.{known_kind}
 use Rattle.pure_terms.specs.Pure.{PureTerm, PureAtom}
@@ -57,9 +57,49 @@ alone i t = record { term = t; root = i; chain = [] }
 abbrev pub AddsAtMost : List PureNode → PureTerm → List PureNode → Type 0
 AddsAtMost old t new = (new ≡ old) ⊎ (new ≡ old ++ alone (length old) t ∷ [])
 
+-- two chains share so many places at their ends
+pub record ShareEnd (first second : List ℕ) (count : ℕ) : Type 0 where
+  pub in_first : count ≤ length first
+  pub in_second : count ≤ length second
+  pub shared : drop (length first - count) first ≡ drop (length second - count) second
+
+-- the way along one chain and back along another, without the end that they share
+pub record GoesBack (along back way : List ℕ) : Type 0 where
+  pub ahead : List ℕ
+  pub behind : List ℕ
+  pub shared : List ℕ
+  pub is_along : along ≡ ahead ++ shared
+  pub is_back : back ≡ behind ++ shared
+  pub is_way : way ≡ ahead ++ reverse behind
+
+-- the node with another root, and a chain that goes back along a chain and then onward
+pub record IsTurned (into : ℕ) (back onward : List ℕ) (old new : PureNode) : Type 0 where
+  pub way : List ℕ
+  pub goes_back : GoesBack old.chain back way
+  pub is : new ≡ record { term = old.term; root = into; chain = way ++ onward }
+
 -- the node in another class, where it is in this one
-abbrev pub moved : ℕ → ℕ → List ℕ → PureNode → PureNode
-moved from into suffix node = if nat_eq node.root from then record { term = node.term; root = into; chain = node.chain ++ suffix } else node
+abbrev pub IsMoved : ℕ → ℕ → List ℕ → List ℕ → PureNode → PureNode → Type 0
+IsMoved from into back onward old new =
+    ((old.root ≡ from → ⊥) × (new ≡ old)) ⊎ ((old.root ≡ from) × IsTurned into back onward old new)
+
+-- the nodes of two lists belong together, place by place
+abbrev pub ArePaired : (PureNode → PureNode → Type 0) → List PureNode → List PureNode → Type 0
+ArePaired P [] [] = Unit {0}
+ArePaired P [] (new ∷ news) = ⊥
+ArePaired P (old ∷ olds) [] = ⊥
+ArePaired P (old ∷ olds) (new ∷ news) = P old new × ArePaired P olds news
+
+-- one node's class was moved into another's, by an equality of their terms at this place
+abbrev pub AreMoved : PureNode → PureNode → ℕ → List PureNode → List PureNode → Type 0
+AreMoved from into place old new = ArePaired (IsMoved from.root into.root from.chain (place ∷ into.chain)) old new
+
+pub record IsMovedInto (old : List PureNode) (from into place : ℕ) (new : List PureNode) : Type 0 where
+  pub first : PureNode
+  pub second : PureNode
+  pub at_from : slice_get old from ≡ Some first
+  pub at_into : slice_get old into ≡ Some second
+  pub moved : AreMoved first second place old new
 
 -- two nodes' classes are one, by an equality of their terms at this place
 pub record AreJoined (old : List PureNode) (left right place : ℕ) (new : List PureNode) : Type 0 where
@@ -68,7 +108,7 @@ pub record AreJoined (old : List PureNode) (left right place : ℕ) (new : List 
   pub at_left : slice_get old left ≡ Some first
   pub at_right : slice_get old right ≡ Some second
   pub either : ((first.root ≡ second.root) × (new ≡ old))
-      ⊎ ((first.root ≡ second.root → ⊥) × (new ≡ map (moved second.root first.root (reverse second.chain ++ place ∷ first.chain)) old))
+      ⊎ ((first.root ≡ second.root → ⊥) × (AreMoved second first place old new ⊎ AreMoved first second place old new))
 
 -- the sides of the equality at a place have nodes of one class
 pub record IsUnitedBy (old : List PureNode) (sides : Sides) (place : ℕ) (new : List PureNode) : Type 0 where

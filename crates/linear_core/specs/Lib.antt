@@ -1,5 +1,6 @@
 pub mod Answers
 pub mod Combining
+pub mod Confirmed
 pub mod Differences
 pub mod Nodes
 pub mod Rows

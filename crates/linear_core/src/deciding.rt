@@ -5,7 +5,9 @@ ghost use Rattle.linear_core.specs.Answers.{linear_view, IsRight};
 ghost use Rattle.linear_core.specs.Rows.{AreOver};
 
 use crate::answers::Linear;
+use crate::confirming::{Confirmed, confirm};
 use crate::differences::{differences_of, first_beyond};
+use crate::proposing::propose;
 use crate::rows::Rows;
 use crate::settling::settle;
 use crate::valuations::valuation_of;
@@ -24,8 +26,8 @@ fn node_count(vars: &VarTable) -> Result<usize, AllocError>
     Ok(count + 1)
 }
 
-/// Decides narrow differences.
-fn decide(alloc: Global, vars: &VarTable, rows: &Rows) -> Result<Linear, AllocError>
+/// Decides narrow differences by walks, which always ends.
+fn decide_by_walks(alloc: Global, vars: &VarTable, rows: &Rows) -> Result<Linear, AllocError>
     requires over { AreOver vars.now rows.now }
     requires narrow { All (λ row. IsTrue (is_narrow_difference row)) rows.now }
     ensures { IfOk result (λ answer. IsRight vars.now rows.now (linear_view answer)) }
@@ -37,6 +39,22 @@ fn decide(alloc: Global, vars: &VarTable, rows: &Rows) -> Result<Linear, AllocEr
     match found {
         Some(factors) => Ok(Linear::Combination(factors)),
         None => Ok(Linear::Integer(valuation_of(alloc, vars, &reaches)?)),
+    }
+}
+
+/// Decides narrow differences by what is found fast, where that stands its test, and by walks where it doesn't.
+fn decide(alloc: Global, vars: &VarTable, rows: &Rows) -> Result<Linear, AllocError>
+    requires over { AreOver vars.now rows.now }
+    requires narrow { All (λ row. IsTrue (is_narrow_difference row)) rows.now }
+    ensures { IfOk result (λ answer. IsRight vars.now rows.now (linear_view answer)) }
+{
+    let count = node_count(vars)?;
+    let differences = differences_of(alloc, rows)?;
+    let proposal = propose(alloc, differences.as_slice(), count)?;
+    match confirm(alloc, differences.as_slice(), count, proposal)? {
+        Confirmed::Numbers(reaches) => Ok(Linear::Integer(valuation_of(alloc, vars, &reaches)?)),
+        Confirmed::Cycle(factors) => Ok(Linear::Combination(factors)),
+        Confirmed::Nothing => decide_by_walks(alloc, vars, rows),
     }
 }
 

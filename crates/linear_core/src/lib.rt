@@ -2,9 +2,11 @@
 #![tactic(auto)]
 
 mod answers;
+mod confirming;
 mod cycles;
 mod deciding;
 mod differences;
+mod proposing;
 mod relaxing;
 mod rows;
 mod settling;

@@ -22,9 +22,9 @@ pub(crate) enum Relaxed {
 }
 
 /// A walk of more steps is want of memory.
-const LONGEST: usize = 1_099_511_627_776;
+pub(crate) const LONGEST: usize = 1_099_511_627_776;
 
-fn tail_of(difference: &Difference, backwards: bool) -> usize
+pub(crate) fn tail_of(difference: &Difference, backwards: bool) -> usize
     ensures { result ≡ tail_of difference.now backwards }
 {
     if backwards {
@@ -34,7 +34,7 @@ fn tail_of(difference: &Difference, backwards: bool) -> usize
     }
 }
 
-fn head_of(difference: &Difference, backwards: bool) -> usize
+pub(crate) fn head_of(difference: &Difference, backwards: bool) -> usize
     ensures { result ≡ head_of difference.now backwards }
 {
     if backwards {
@@ -44,7 +44,7 @@ fn head_of(difference: &Difference, backwards: bool) -> usize
     }
 }
 
-fn weight_of(difference: &Difference, backwards: bool) -> i128
+pub(crate) fn weight_of(difference: &Difference, backwards: bool) -> i128
     requires { IsTrue (is_between (neg_ℤ (pos (2 ^ 82))) (pos (2 ^ 82)) difference.now.constant) }
     ensures { result ≡ weight_of difference.now backwards }
 {

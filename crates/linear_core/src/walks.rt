@@ -40,6 +40,13 @@ impl Walk {
         }
     }
 
+    /// The walk of these steps, the last first.
+    pub(crate) fn of_steps(steps: Vec<Step>) -> Walk
+        ensures { result ≡ steps.items }
+    {
+        Walk { steps }
+    }
+
     /// The walk with one more step.
     pub(crate) fn and_then(&self, alloc: Global, step: Step) -> Result<Walk, AllocError>
         ensures { IfOk result (λ walk. walk ≡ step ∷ self.now) }

@@ -11,6 +11,7 @@ use crate::branches::{Branches, differences_at, joined, kinds_of, values_at};
 use crate::lists::cut_last;
 use crate::taking::{Kept, moved_proof};
 use pure_terms::{Atom, Atoms, Term, Valuation, VarTable};
+use solver_guess::{Guess, guess_at};
 use solver_proof::{Proof, Proofs, accepts};
 use solver_rules::Step;
 use solver_steps::next_step;
@@ -46,6 +47,25 @@ pub(crate) enum Each {
 /// Searches a list. It is made longer and cut back; where memory wants it may stay longer.
 #[cycle(search)]
 pub(crate) fn search(
+    alloc: Global,
+    vars: &VarTable,
+    list: &mut Atoms,
+    depth: u64,
+) -> Result<Found, AllocError>
+    requires plain { ArePlain vars.now (atoms_view list.old) }
+    ensures same { OnOk result (list.new ≡ list.old) }
+    ensures found { IfOk result (IsFound vars.now (atoms_view list.old)) }
+{
+    match guess_at(alloc, vars, list)? {
+        Guess::Model(valuation) => Ok(Found::Model(valuation)),
+        Guess::Closed(proof) => Ok(Found::Closed(proof)),
+        Guess::Nothing => search_by_steps(alloc, vars, list, depth),
+    }
+}
+
+/// Searches a list of which no guess is right.
+#[cycle(search)]
+fn search_by_steps(
     alloc: Global,
     vars: &VarTable,
     list: &mut Atoms,

@@ -1,20 +1,17 @@
 -- Where no rule has anything to add, disequalities of variables and literals, and of whole numbers, are true in a model.
-use Rattle.std.proofs.Common.{◌≡◌, ⊎_elim, ◌⊎◌, inl, inr, ℕ, List, Bool, true, false, not, ◌&&◌, Option, Some, None, slice_get, refl, sym, ap, ◌∙◌, subst}
-use Rattle.std.specs.Option.{option_and_then}
-use Rattle.std.specs.Result.{result_ok}
-use Rattle.std.proofs.lemmas.Bool.{false_from_ne_true, and_parts, both_ways, cases_eq}
+use Rattle.std.proofs.Common.{◌≡◌, ⊎_elim, ◌⊎◌, inl, inr, ℕ, List, Bool, true, false, ◌&&◌, Option, Some, None, slice_get, refl, sym, ap, ◌∙◌}
+use Rattle.std.proofs.lemmas.Bool.{false_from_ne_true, and_parts, both_ways}
 use Rattle.gil_values.specs.declared.kinds.Kind.{Kind}
 use Rattle.gil_values.specs.declared.operators.BinOp.{BinOp}
 use Rattle.gil_values.specs.Equality.{same_value}
 use Rattle.gil_values.specs.EqualityLaws.{same_value-refl, same_value-same}
-use Rattle.gil_values.specs.Operators.{binary}
 use Rattle.gil_values.specs.Pure.{PureValue}
 use Rattle.pure_terms.specs.declared.variables.Sort.{Sort}
 use Rattle.pure_terms.specs.Fragment.{is_flat, is_integer_side}
-use Rattle.pure_terms.specs.Meaning.{value, truth, is_that_boolean}
+use Rattle.pure_terms.specs.Meaning.{value, truth}
 use Rattle.pure_terms.specs.Pure.{PureTerm, PureAtom, negative, term_of}
 use Rattle.solver_proof.specs.Chains.{equals}
-use Rattle.solver_proof.proofs.Truths.{false_equality, equality_false, true_at, OtherValues}
+use Rattle.solver_proof.proofs.Truths.{false_equality, equality_false, true_at}
 use Rattle.equality_core.specs.declared.classes.Wanted.{Wanted}
 use Rattle.equality_core.specs.Classes.{PureClasses, given_list}
 use Rattle.equality_core.specs.Classified.{first_in_class}

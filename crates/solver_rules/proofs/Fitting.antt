@@ -1,38 +1,37 @@
 -- Where no rule has anything to add, numbers, kinds and disequalities are such that values can be given.
-use Rattle.std.proofs.Common.{◌≡◌, ⊎_elim, ◌⊎◌, inl, inr, ℕ, ◌^◌, ◌<◌, ℤ, pos, neg_ℤ, List, [], ◌∷◌, length, Bool, true, false, not, ◌&&◌, ◌||◌, Option, Some, None, slice_get, refl, sym, ap, ◌∙◌, subst}
-use Rattle.std.specs.List.{list_all}
-use Rattle.std.specs.Option.{option_and_then, is_some}
-use Rattle.std.proofs.lemmas.Bool.{false≢true, true≢false, or_parts, or_cases, and_parts, both_ways}
+use Rattle.std.proofs.Common.{◌≡◌, ⊎_elim, ◌⊎◌, inl, inr, ℕ, ◌^◌, ◌<◌, pos, neg_ℤ, List, Bool, true, false, ◌&&◌, ◌||◌, Option, Some, None, slice_get, refl, sym, ap, ◌∙◌, subst}
+use Rattle.std.specs.Option.{is_some}
+use Rattle.std.proofs.lemmas.Bool.{false≢true, true≢false, or_parts, and_parts}
 use Rattle.std.proofs.lemmas.Option.{same_Some, option_and_then_some, slice_get_within}
 use Rattle.gil_values.specs.declared.kinds.Kind.{Kind}
 use Rattle.gil_values.specs.declared.operators.BinOp.{BinOp}
 use Rattle.gil_values.specs.declared.operators.UnOp.{UnOp}
-use Rattle.gil_values.specs.Pure.{PureValue, integer}
+use Rattle.gil_values.specs.Pure.{PureValue}
 use Rattle.pure_terms.specs.declared.literals.Literal.{Literal}
 use Rattle.pure_terms.specs.declared.variables.Sort.{Sort}
 use Rattle.pure_terms.specs.declared.variables.Var.{Var}
 use Rattle.pure_terms.specs.Deciding.{has_numbers_between}
 use Rattle.pure_terms.specs.EqualityLaws.{same_sorts}
-use Rattle.pure_terms.specs.Fragment.{is_simple, is_flat, is_variable_of, is_integer_literal, is_integer_side, is_kind_of_any, is_kind_literal, is_simple_equality, is_comparison, has_form, is_fragment_term}
+use Rattle.pure_terms.specs.Fragment.{is_simple, is_flat, is_variable_of, is_integer_literal, has_form, is_fragment_term}
 use Rattle.pure_terms.specs.Kinds.{same_sort, known_kind, kind_of_sort}
 use Rattle.pure_terms.specs.Pure.{PureTerm, literal, variable, list_of, unary_of, binary_of, PureAtom, positive, negative, opening}
 use Rattle.pure_terms.proofs.FragmentLaws.{passes_at}
 use Rattle.pure_terms.proofs.SimpleLaws.{found}
-use Rattle.solver_proof.specs.Chains.{equals, kind_is, KindFact, kind_fact, kind_fact_of, kind_fact_of_term, kind_fact_at}
+use Rattle.solver_proof.specs.Chains.{equals, kind_is, KindFact, kind_fact_of, kind_fact_of_term}
 use Rattle.linear_core.specs.Answers.{IsSolution}
 use Rattle.equality_core.specs.declared.classes.Wanted.{Wanted}
 use Rattle.equality_core.specs.Classes.{PureClasses, given_list}
-use Rattle.equality_core.specs.Classified.{is_wanted, is_literal, first_in_class}
-use Rattle.equality_core.specs.Equating.{Equates, itself, turned, joined}
-use Rattle.equality_core.specs.Valued.{AreFragmentEqualities, IsModerateNumber, FitNumbers, FitKinds, kind_with, is_small_kind, IsSide, HasNoNumber, MayDiffer, MayAllDiffer}
+use Rattle.equality_core.specs.Classified.{is_literal, first_in_class}
+use Rattle.equality_core.specs.Equating.{Equates, joined}
+use Rattle.equality_core.specs.Valued.{AreFragmentEqualities, IsModerateNumber, FitNumbers, kind_with, is_small_kind, HasNoNumber, MayDiffer}
 use Rattle.equality_core.proofs.Seeking.{first-none}
 use Rattle.solver_rules.specs.declared.rules.Rule.{Rule}
-use Rattle.solver_rules.specs.Rules.{AreDone, HasKind, HasKindTerm, HasKindFact, AreKinds}
+use Rattle.solver_rules.specs.Rules.{AreDone, HasKindTerm, HasKindFact, AreKinds}
 use Rattle.solver_rules.specs.Rows.{rows_from}
 use Rattle.solver_rules.specs.Sides.{IsTableSide}
 use Rattle.solver_rules.specs.Steps.{IsPlainAtom, IsNode}
 use Rattle.solver_rules.proofs.KindsApart.{forms_given, clear_given, first_found, first_side, kind_beside, no_kind_beside}
-use Rattle.solver_rules.proofs.KindsFit.{HasKindThere, side_kind, kinds_fit}
+use Rattle.solver_rules.proofs.KindsFit.{side_kind}
 use Rattle.solver_rules.proofs.Meeting.{integers_same}
 use Rattle.solver_rules.proofs.Opened.{plain_there, all_met}
 use Rattle.solver_rules.proofs.Plain.{flat_sides}

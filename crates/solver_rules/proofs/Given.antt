@@ -1,13 +1,13 @@
 -- What stands in the given list stands in the list of the classes.
-use Rattle.std.proofs.Common.{◌≡◌, ℕ, List, true, Some, slice_get, refl, sym, ap, ◌∙◌, subst}
+use Rattle.std.proofs.Common.{◌≡◌, ℕ, List, true, Some, slice_get, sym, ap, ◌∙◌, subst}
 use Rattle.std.specs.Option.{option_and_then}
 use Rattle.std.proofs.lemmas.Bool.{or_left, and_from}
 use Rattle.pure_terms.specs.declared.variables.Sort.{Sort}
 use Rattle.pure_terms.specs.EqualityLaws.{same_term-refl}
 use Rattle.pure_terms.specs.Pure.{PureTerm, list_of, PureTerms, PureAtom, negative}
 use Rattle.solver_proof.specs.declared.proofs.ChainEnd.{ChainEnd}
-use Rattle.solver_proof.specs.Chains.{equals, disequality_of, are_sides, kind_fact_of, kind_fact_at, end_closes}
-use Rattle.equality_core.specs.Classes.{PureClasses, given_list}
+use Rattle.solver_proof.specs.Chains.{equals, disequality_of, are_sides, end_closes}
+use Rattle.equality_core.specs.Classes.{PureClasses}
 use Rattle.equality_core.proofs.Exact.{given_atom}
 use Rattle.solver_rules.specs.Steps.{IsNode}
 

@@ -1,5 +1,5 @@
 -- What is said of kinds, beside the terms of a class.
-use Rattle.std.proofs.Common.{◌≡◌, ⊎_elim, ◌⊎◌, inl, inr, ℕ, ◌+◌, ◌<◌, List, [], ◌∷◌, ◌++◌, length, Bool, true, false, ◌&&◌, ◌||◌, if◌then◌else◌, Option, Some, None, slice_get, refl, sym, ap, ◌∙◌, subst, arith, length-append}
+use Rattle.std.proofs.Common.{◌≡◌, ⊎_elim, ◌⊎◌, inl, inr, ℕ, ◌+◌, ◌<◌, List, [], ◌∷◌, ◌++◌, length, Bool, true, false, ◌&&◌, Option, Some, None, slice_get, refl, sym, ap, ◌∙◌, subst, arith, length-append}
 use Rattle.std.specs.Option.{option_and_then, is_some, IfSome, IfNone}
 use Rattle.std.proofs.lemmas.Bool.{false≢true, true≢false, or_parts, or_from, and_from, not-false, cases_eq}
 use Rattle.std.proofs.lemmas.Option.{same_Some, option_and_then_some}
@@ -8,7 +8,7 @@ use Rattle.pure_terms.specs.declared.variables.Sort.{Sort}
 use Rattle.pure_terms.specs.declared.variables.Var.{Var}
 use Rattle.pure_terms.specs.EqualityLaws.{same_term-refl}
 use Rattle.pure_terms.specs.Equality.{same_term}
-use Rattle.pure_terms.specs.Kinds.{known_kind, kind_of_sort, is_of_kind}
+use Rattle.pure_terms.specs.Kinds.{known_kind, kind_of_sort}
 use Rattle.pure_terms.specs.Pure.{PureTerm, PureAtom}
 use Rattle.pure_terms.proofs.KindLaws.{same_kinds}
 use Rattle.pure_terms.proofs.VariableLaws.{slice_get-append}
@@ -16,16 +16,16 @@ use Rattle.solver_proof.specs.declared.proofs.ChainEnd.{ChainEnd}
 use Rattle.solver_proof.specs.Chains.{KindFact, kind_fact_of, kind_fact_at, is_against, are_other_kinds, is_empty_kind, are_facts_apart, are_against, end_closes}
 use Rattle.solver_proof.proofs.Growing.{found_right}
 use Rattle.equality_core.specs.declared.classes.Wanted.{Wanted}
-use Rattle.equality_core.specs.Classes.{PureClasses, given_list, IsTaken}
-use Rattle.equality_core.specs.Classified.{is_wanted, first_in_class}
-use Rattle.equality_core.specs.Equating.{Equates, itself, turned, joined, EquatesNoClash, HaveFragmentForms}
+use Rattle.equality_core.specs.Classes.{PureClasses, given_list}
+use Rattle.equality_core.specs.Classified.{first_in_class}
+use Rattle.equality_core.specs.Equating.{Equates, turned, joined, EquatesNoClash, HaveFragmentForms}
 use Rattle.equality_core.specs.Values.{IsInTable}
 use Rattle.equality_core.proofs.Seeking.{IsFirst, first-found, first-none}
 use Rattle.equality_core.proofs.Valuing.{no_clash}
 use Rattle.solver_rules.specs.Atoms.{is_against_kind}
 use Rattle.solver_rules.specs.Rules.{HasKind}
 use Rattle.solver_rules.specs.Sides.{IsTableSide}
-use Rattle.solver_rules.specs.Steps.{IsNode, ArePlain}
+use Rattle.solver_rules.specs.Steps.{IsNode}
 use Rattle.solver_rules.proofs.Given.{given_there}
 use Rattle.solver_rules.proofs.Plain.{forms_of, equated_sides}
 

@@ -1,7 +1,7 @@
 -- Kinds that classes tell fit, where the rules about kinds have nothing to add.
-use Rattle.std.proofs.Common.{◌≡◌, ⊎_elim, ◌⊎◌, inl, inr, ℕ, ◌<◌, List, [], ◌∷◌, length, Bool, true, false, not, ◌&&◌, ◌||◌, if◌then◌else◌, Option, Some, None, slice_get, refl, sym, ap, ◌∙◌, subst}
-use Rattle.std.specs.Option.{option_and_then, option_or, is_some}
-use Rattle.std.proofs.lemmas.Bool.{false≢true, true≢false, or_parts, not-false, both_ways}
+use Rattle.std.proofs.Common.{◌≡◌, ⊎_elim, inl, inr, ℕ, ◌<◌, List, Bool, true, false, not, ◌&&◌, ◌||◌, if◌then◌else◌, Option, Some, None, slice_get, refl, sym, ap, ◌∙◌, subst}
+use Rattle.std.specs.Option.{option_or}
+use Rattle.std.proofs.lemmas.Bool.{false≢true, or_parts, not-false, both_ways}
 use Rattle.std.proofs.lemmas.Option.{same_Some, option_and_then_some, slice_get_within}
 use Rattle.gil_values.specs.declared.kinds.Kind.{Kind}
 use Rattle.gil_values.specs.declared.operators.BinOp.{BinOp}
@@ -11,16 +11,14 @@ use Rattle.gil_values.specs.Pure.{PureValue}
 use Rattle.pure_terms.specs.declared.literals.Literal.{Literal}
 use Rattle.pure_terms.specs.declared.variables.Sort.{Sort}
 use Rattle.pure_terms.specs.declared.variables.Var.{Var}
-use Rattle.pure_terms.specs.Fragment.{is_simple}
 use Rattle.pure_terms.specs.Kinds.{known_kind, kind_of_sort, kind_of_literal, kind_of_unary, kind_of_binary, allows}
 use Rattle.pure_terms.specs.Pure.{PureTerm, literal, variable, list_of, unary_of, binary_of, PureAtom}
 use Rattle.pure_terms.proofs.KindLaws.{same_kinds, over_variable}
 use Rattle.pure_terms.proofs.SimpleLaws.{found}
-use Rattle.solver_proof.specs.Chains.{KindFact, kind_fact_of, kind_fact_at, is_against, are_other_kinds, is_empty_kind, are_facts_apart}
+use Rattle.solver_proof.specs.Chains.{KindFact, kind_fact_of, kind_fact_at, are_other_kinds, is_empty_kind, are_facts_apart}
 use Rattle.equality_core.specs.Classes.{PureClasses, given_list}
 use Rattle.equality_core.specs.Equating.{Equates, itself, turned, joined}
 use Rattle.equality_core.specs.Valued.{kind_with, FitKinds}
-use Rattle.equality_core.specs.Values.{IsInTable}
 use Rattle.equality_core.proofs.Valuing.{no_clash}
 use Rattle.solver_rules.specs.declared.rules.Rule.{Rule}
 use Rattle.solver_rules.specs.Atoms.{is_against_kind}

@@ -1,29 +1,27 @@
 -- Where no rule has anything to add, all disequalities of simple terms are true in a model.
-use Rattle.std.proofs.Common.{◌≡◌, ⊎_elim, ◌⊎◌, inl, inr, ℕ, zero, suc, ◌+◌, ◌^◌, ◌<◌, ◌≤◌, pos, neg_ℤ, List, [], ◌∷◌, length, Bool, true, false, not, ◌&&◌, ◌||◌, Option, Some, None, slice_get, refl, sym, ap, ◌∙◌, subst, arith}
-use Rattle.std.specs.Option.{option_map}
+use Rattle.std.proofs.Common.{◌≡◌, ⊎_elim, ◌⊎◌, inl, inr, ℕ, zero, suc, ◌+◌, ◌<◌, ◌≤◌, List, [], length, Bool, true, false, not, ◌&&◌, ◌||◌, Some, slice_get, refl, sym, ap, ◌∙◌, subst, arith}
 use Rattle.std.proofs.lemmas.Bool.{false≢true, true≢false, false_from_ne_true, and_parts, and_from, or_cases, both_ways, not-true}
 use Rattle.std.proofs.lemmas.Option.{same_Some}
 use Rattle.gil_values.specs.declared.kinds.Kind.{Kind}
 use Rattle.gil_values.specs.declared.operators.BinOp.{BinOp}
 use Rattle.gil_values.specs.Equality.{same_kind, same_value}
 use Rattle.gil_values.specs.EqualityLaws.{same_value-refl, same_value-same}
-use Rattle.gil_values.specs.Pure.{PureValue, list as list_value_of, from_list, kind_of}
+use Rattle.gil_values.specs.Pure.{PureValue, kind_of}
 use Rattle.pure_terms.specs.declared.literals.Literal.{Literal}
 use Rattle.pure_terms.specs.declared.variables.Sort.{Sort}
-use Rattle.pure_terms.specs.declared.variables.Var.{Var}
-use Rattle.pure_terms.specs.Fragment.{is_simple, are_simple, is_flat, names_sort, is_integer_side, has_literals_between, is_fragment_term, has_form, is_kind_test, any_is_a_side}
+use Rattle.pure_terms.specs.Fragment.{is_simple, is_flat, names_sort, is_integer_side, has_form, is_kind_test, any_is_a_side}
 use Rattle.pure_terms.specs.Kinds.{same_sort, known_kind, is_of_kind, kind_of_sort}
-use Rattle.pure_terms.specs.Meaning.{value, values, truth, IsOver}
-use Rattle.pure_terms.specs.Pure.{PureTerm, literal, variable, list_of, unary_of, binary_of, PureTerms, no_terms, term_and, to_list, PureAtom, positive, negative, term_of, size, sizes}
+use Rattle.pure_terms.specs.Meaning.{value, values, truth}
+use Rattle.pure_terms.specs.Pure.{PureTerm, literal, variable, list_of, unary_of, binary_of, PureTerms, no_terms, term_and, to_list, PureAtom, positive, negative, size, sizes}
 use Rattle.pure_terms.proofs.KindLaws.{known_kinds_are_right, same_kinds}
 use Rattle.pure_terms.proofs.SimpleLaws.{simple_terms_have_values, simple_terms_have_kinds}
-use Rattle.solver_proof.specs.Chains.{equals, Sides, equality_of}
+use Rattle.solver_proof.specs.Chains.{equals, equality_of}
 use Rattle.solver_proof.specs.Closing.{HaveOneLength}
-use Rattle.solver_proof.proofs.Truths.{false_equality, equality_false, OtherValues}
+use Rattle.solver_proof.proofs.Truths.{false_equality, equality_false}
 use Rattle.equality_core.specs.Classes.{PureClasses, given_list}
 use Rattle.equality_core.specs.Valued.{MeetsApart}
 use Rattle.solver_rules.specs.declared.rules.Rule.{Rule}
-use Rattle.solver_rules.specs.Rules.{AreDone, AreKinds, SaysDifferent, ElementsDiffer}
+use Rattle.solver_rules.specs.Rules.{AreDone, AreKinds}
 use Rattle.solver_rules.specs.Sides.{IsTableSide}
 use Rattle.solver_rules.specs.Steps.{IsPlainAtom, IsNode}
 use Rattle.solver_rules.proofs.Disequalities.{AreGathered, integers_differ, flat_differ, turned_differ}

@@ -1,28 +1,24 @@
 -- Numbers that meet the rows of a list fit its equalities, where the rules about numbers have nothing to add.
-use Rattle.std.proofs.Common.{◌≡◌, ⊎_elim, ◌⊎◌, inl, inr, ℕ, ◌^◌, ℤ, pos, neg_ℤ, List, [], ◌∷◌, length, Bool, true, false, not, ◌&&◌, ◌||◌, if◌then◌else◌, Option, Some, None, slice_get, refl, sym, ap, ◌∙◌, subst}
-use Rattle.std.specs.Option.{option_and_then, is_some}
-use Rattle.std.proofs.lemmas.Bool.{false≢true, true≢false, and_parts, and_from, or_from, or_cases, not-true, not-false, cases_Bool, both_ways, false_from_ne_true}
-use Rattle.std.proofs.lemmas.Option.{option_and_then_some, same_Some}
+use Rattle.std.proofs.Common.{◌≡◌, ⊎_elim, ◌⊎◌, inl, inr, ℕ, List, [], ◌∷◌, Bool, true, false, not, ◌&&◌, ◌||◌, if◌then◌else◌, Option, Some, None, refl, sym, ap, ◌∙◌}
+use Rattle.std.proofs.lemmas.Bool.{false≢true, and_parts, and_from, or_cases, not-true, not-false, both_ways, false_from_ne_true}
 use Rattle.gil_values.specs.declared.kinds.Kind.{Kind}
-use Rattle.gil_values.specs.Equality.{same_kind}
 use Rattle.gil_values.specs.Pure.{PureValue}
 use Rattle.pure_terms.specs.declared.literals.Literal.{Literal}
 use Rattle.pure_terms.specs.declared.variables.Sort.{Sort}
-use Rattle.pure_terms.specs.declared.variables.Var.{Var}
 use Rattle.pure_terms.specs.EqualityLaws.{same_sorts}
-use Rattle.pure_terms.specs.Fragment.{is_simple, is_flat, names_sort, is_variable_of, is_integer_literal, is_integer_side}
+use Rattle.pure_terms.specs.Fragment.{is_simple, is_flat, names_sort, is_variable_of, is_integer_side}
 use Rattle.pure_terms.specs.Kinds.{same_sort, known_kind, is_of_kind, kind_of_sort}
 use Rattle.pure_terms.specs.Meaning.{value}
-use Rattle.pure_terms.specs.Pure.{PureTerm, literal, variable, list_of, unary_of, binary_of, PureAtom, positive}
+use Rattle.pure_terms.specs.Pure.{PureTerm, literal, variable, list_of, unary_of, binary_of, PureAtom}
 use Rattle.pure_terms.proofs.KindLaws.{same_kinds}
 use Rattle.pure_terms.proofs.SimpleLaws.{from_is_of_kind, simple_terms_have_kinds}
-use Rattle.solver_proof.specs.Chains.{equals, Sides, equality_of, equality_at, AreEqualAt, Leads, are_other_kinds}
+use Rattle.solver_proof.specs.Chains.{equality_at, Leads, are_other_kinds}
 use Rattle.equality_core.specs.declared.classes.Wanted.{Wanted}
-use Rattle.equality_core.specs.Classes.{PureClasses, given_list, are_plain}
+use Rattle.equality_core.specs.Classes.{PureClasses, given_list}
 use Rattle.equality_core.specs.Classified.{is_wanted, first_in_class}
-use Rattle.equality_core.specs.Equating.{Equates, itself, by_atom, turned, joined}
-use Rattle.equality_core.proofs.Exact.{PlainSides, plain_sides, leads_equates}
-use Rattle.equality_core.proofs.Seeking.{IsFirst, first-none, first-same, paths}
+use Rattle.equality_core.specs.Equating.{Equates, turned, joined}
+use Rattle.equality_core.proofs.Exact.{PlainSides, plain_sides}
+use Rattle.equality_core.proofs.Seeking.{first-same, paths}
 use Rattle.equality_core.proofs.Valuing.{no_clash}
 use Rattle.solver_rules.specs.Rules.{SaysEqual, IsMet}
 use Rattle.solver_rules.specs.Steps.{IsNode}

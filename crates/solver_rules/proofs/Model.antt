@@ -1,6 +1,5 @@
 -- Where no rule has anything to add, the values of classes satisfy the list.
-use Rattle.std.proofs.Common.{◌≡◌, ⊎_elim, ◌⊎◌, inl, inr, ℕ, List, Bool, true, false, not, ◌&&◌, ◌||◌, if◌then◌else◌, Option, Some, None, slice_get, refl, sym, ap, ◌∙◌, subst}
-use Rattle.std.specs.List.{list_all}
+use Rattle.std.proofs.Common.{◌≡◌, ⊎_elim, ◌⊎◌, inl, inr, ℕ, List, Bool, true, false, ◌&&◌, ◌||◌, if◌then◌else◌, Option, Some, None, slice_get, refl, ap, ◌∙◌}
 use Rattle.std.specs.Option.{is_some}
 use Rattle.std.proofs.lemmas.Bool.{false≢true, and_parts, or_cases}
 use Rattle.gil_values.specs.declared.kinds.Kind.{Kind}
@@ -11,12 +10,11 @@ use Rattle.pure_terms.specs.declared.literals.Literal.{Literal}
 use Rattle.pure_terms.specs.declared.variables.Sort.{Sort}
 use Rattle.pure_terms.specs.declared.variables.Var.{Var}
 use Rattle.pure_terms.specs.Fragment.{is_simple, is_variable_of, is_simple_equality, is_comparison, is_order, is_integer_side, is_kind_test, is_kind_of_any, is_kind_literal, has_form, is_fragment_term}
-use Rattle.pure_terms.specs.Kinds.{same_sort}
-use Rattle.pure_terms.specs.Meaning.{truth, all_true, Satisfies}
+use Rattle.pure_terms.specs.Meaning.{truth, Satisfies}
 use Rattle.pure_terms.specs.Pure.{PureTerm, literal, variable, list_of, unary_of, binary_of, PureAtom, positive, negative, opening, term_of}
 use Rattle.pure_terms.proofs.FragmentLaws.{all_pass}
 use Rattle.linear_core.specs.Answers.{IsSolution}
-use Rattle.solver_proof.specs.Chains.{Sides, equals, KindFact, kind_fact, kind_fact_of, kind_fact_of_term, equality_of, either_sides, unless_kind_fact, truth_term}
+use Rattle.solver_proof.specs.Chains.{Sides, equals, KindFact, kind_fact, kind_fact_of, kind_fact_of_term, equality_of, truth_term}
 use Rattle.equality_core.specs.Classes.{PureClasses, given_list}
 use Rattle.equality_core.specs.Valued.{MeetsApart}
 use Rattle.solver_rules.specs.declared.rules.Rule.{Rule}

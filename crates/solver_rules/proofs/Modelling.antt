@@ -1,44 +1,38 @@
 -- Where no rule has anything to add, the values of classes make every atom of the list true.
-use Rattle.std.proofs.Common.{◌≡◌, ⊎_elim, ◌⊎◌, inl, inr, ℕ, zero, suc, ◌+◌, ◌^◌, ◌<◌, ◌≤◌, List, [], ◌∷◌, ◌++◌, length, Bool, true, false, not, ◌&&◌, ◌||◌, if◌then◌else◌, Option, Some, None, slice_get, refl, sym, ap, ◌∙◌, subst, arith}
-use Rattle.std.specs.List.{Contains}
-use Rattle.std.specs.Option.{option_map, option_and_then, is_some}
+use Rattle.std.proofs.Common.{◌≡◌, ⊎_elim, inl, inr, ℕ, ◌<◌, List, Bool, true, false, not, ◌&&◌, ◌||◌, if◌then◌else◌, Some, slice_get, refl, sym, ap, ◌∙◌, subst}
+use Rattle.std.specs.Option.{option_map, option_and_then}
 use Rattle.std.specs.Result.{result_ok}
-use Rattle.std.proofs.lemmas.Bool.{false≢true, true≢false, and_parts, and_from, and_cases, or_cases, both_ways, false_from_ne_true, cases_eq, not-true}
+use Rattle.std.proofs.lemmas.Bool.{both_ways, false_from_ne_true}
 use Rattle.std.proofs.lemmas.List.Elements.{Contains-append_cases}
-use Rattle.std.proofs.lemmas.Option.{same_Some, slice_get_within}
+use Rattle.std.proofs.lemmas.Option.{slice_get_within}
 use Rattle.gil_values.specs.declared.kinds.Kind.{Kind}
 use Rattle.gil_values.specs.declared.operators.BinOp.{BinOp}
 use Rattle.gil_values.specs.declared.operators.UnOp.{UnOp}
-use Rattle.gil_values.specs.Equality.{same_kind, same_value}
-use Rattle.gil_values.specs.EqualityLaws.{same_value-same}
+use Rattle.gil_values.specs.Equality.{same_kind}
 use Rattle.gil_values.specs.Operators.{unary}
 use Rattle.gil_values.specs.Pure.{PureValue, kind, kind_of}
 use Rattle.pure_terms.specs.declared.literals.Literal.{Literal}
 use Rattle.pure_terms.specs.declared.variables.Sort.{Sort}
 use Rattle.pure_terms.specs.declared.variables.Var.{Var}
-use Rattle.pure_terms.specs.Fragment.{is_flat, is_simple, is_integer_side, is_variable_of}
+use Rattle.pure_terms.specs.Fragment.{is_integer_side}
 use Rattle.pure_terms.specs.Kinds.{known_kind}
 use Rattle.pure_terms.specs.Laws.{AgreeOn}
-use Rattle.pure_terms.specs.Meaning.{value, values, truth, IsOver, IsProper}
-use Rattle.pure_terms.specs.Pure.{PureTerm, literal, variable, list_of, unary_of, binary_of, PureTerms, no_terms, term_and, to_list, PureAtom, positive, negative, term_of, variables, size, sizes}
-use Rattle.pure_terms.proofs.KindLaws.{over_variable, known_kinds_are_right, same_kinds}
-use Rattle.pure_terms.proofs.SimpleLaws.{found, simple_terms_have_values, simple_terms_have_kinds}
+use Rattle.pure_terms.specs.Meaning.{truth, IsOver}
+use Rattle.pure_terms.specs.Pure.{PureTerm, literal, variable, unary_of, binary_of, PureAtom, positive, term_of, variables}
+use Rattle.pure_terms.proofs.KindLaws.{over_variable, same_kinds}
+use Rattle.pure_terms.proofs.SimpleLaws.{found}
 use Rattle.pure_terms.proofs.VariableLaws.{depend_on_variables}
-use Rattle.solver_proof.specs.Chains.{equals, kind_is, KindFact, kind_fact_of, kind_fact_at, are_facts_apart}
-use Rattle.solver_proof.specs.Closing.{HaveOneLength}
-use Rattle.solver_proof.proofs.Truths.{over_sides, kind_is-true, equality_false, false_equality, true_at, OtherValues}
-use Rattle.equality_core.specs.declared.classes.Wanted.{Wanted}
+use Rattle.solver_proof.specs.Chains.{kind_is, KindFact, kind_fact_of, kind_fact_at, are_facts_apart}
+use Rattle.solver_proof.proofs.Truths.{over_sides, kind_is-true, equality_false}
 use Rattle.equality_core.specs.Classes.{PureClasses, given_list}
-use Rattle.equality_core.specs.Classified.{first_in_class}
 use Rattle.equality_core.specs.Equating.{Equates, itself}
 use Rattle.equality_core.specs.Valued.{MeetsApart}
 use Rattle.equality_core.proofs.Valuing.{int_variables}
 use Rattle.solver_rules.specs.declared.rules.Rule.{Rule}
 use Rattle.solver_rules.specs.Atoms.{is_against_kind}
-use Rattle.solver_rules.specs.Rules.{AreDone, AreKinds, HasKind, SaysDifferent, ElementsDiffer}
+use Rattle.solver_rules.specs.Rules.{AreDone, AreKinds, HasKind}
 use Rattle.solver_rules.specs.Steps.{IsPlainAtom, IsNode}
 use Rattle.solver_rules.proofs.Fitting.{SaysKind, says_kind}
-use Rattle.solver_rules.proofs.KindsApart.{first_found}
 use Rattle.solver_rules.proofs.KindsFit.{one_kind, said_once, said_twice, same_kind-refl}
 
 -- a kind that is denied is another one

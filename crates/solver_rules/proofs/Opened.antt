@@ -1,27 +1,26 @@
 -- What holds of the atoms of a list, and passes to elements, holds of the atoms that the classes add.
-use Rattle.std.proofs.Common.{◌≡◌, ⊎_elim, ◌⊎◌, inl, inr, ℕ, zero, suc, ◌+◌, ◌-◌, ◌<◌, ◌≤◌, List, [], ◌∷◌, ◌++◌, length, Bool, true, false, not, ◌&&◌, ◌||◌, Option, Some, None, slice_get, refl, sym, ap, ◌∙◌, subst, arith}
+use Rattle.std.proofs.Common.{◌≡◌, ⊎_elim, ℕ, zero, suc, ◌+◌, ◌-◌, ◌≤◌, List, [], ◌∷◌, ◌++◌, length, true, false, not, Option, Some, None, slice_get, refl, sym, ap, ◌∙◌, subst, arith}
 use Rattle.std.specs.Prelude.{IsSomeAnd}
-use Rattle.std.specs.Option.{option_and_then, is_some}
-use Rattle.std.proofs.lemmas.Bool.{false≢true, and_parts, and_from, and_left, and_right, or_right, or_parts, not-true, not_from_false, both_ways, cases_lt}
+use Rattle.std.specs.Option.{option_and_then}
+use Rattle.std.proofs.lemmas.Bool.{and_parts, and_from, or_right, or_parts, not-true, not_from_false, both_ways, cases_lt}
 use Rattle.std.proofs.lemmas.Option.{same_Some, option_and_then_some}
 use Rattle.gil_values.specs.declared.operators.BinOp.{BinOp}
 use Rattle.pure_terms.specs.declared.variables.Sort.{Sort}
 use Rattle.gil_values.specs.Pure.{PureValue}
 use Rattle.pure_terms.specs.EqualityLaws.{same_sorts}
 use Rattle.pure_terms.specs.Kinds.{same_sort}
-use Rattle.pure_terms.specs.Fragment.{is_simple, is_flat, names_sort, name_sort, is_variable_of}
+use Rattle.pure_terms.specs.Fragment.{is_simple, names_sort, name_sort, is_variable_of}
 use Rattle.pure_terms.specs.Pure.{PureTerm, literal, variable, list_of, unary_of, binary_of, PureTerms, no_terms, term_and, to_list, PureAtom, positive, negative, opening}
 use Rattle.pure_terms.proofs.VariableLaws.{slice_get-append}
-use Rattle.solver_proof.specs.Chains.{equals, truth_term, Sides, equality_of, equality_at, sides_of_equality, either_sides, unless_kind_fact}
+use Rattle.solver_proof.specs.Chains.{equals, truth_term, Sides, equality_of, either_sides, unless_kind_fact}
 use Rattle.solver_proof.specs.Closing.{HaveOneLength, Lists, lists_of, lists_of_terms, equal_sides_of, equal_lists_at, element_equalities}
 use Rattle.solver_proof.proofs.Growing.{found_right}
-use Rattle.equality_core.specs.Classes.{PureClasses, given_list, IsOpened, are_plain}
-use Rattle.equality_core.proofs.Exact.{PlainSides, plain_sides}
-use Rattle.equality_core.proofs.Saying.{SaysEqual, SaysTruth, says, plain, equality_said}
+use Rattle.equality_core.specs.Classes.{PureClasses, given_list, IsOpened}
+use Rattle.equality_core.proofs.Exact.{plain_sides}
+use Rattle.equality_core.proofs.Saying.{SaysEqual, SaysTruth, says, plain}
 use Rattle.equality_core.proofs.Taking.{IsElement}
-use Rattle.solver_rules.specs.Rules.{IsMet, IsDone, AreDone}
+use Rattle.solver_rules.specs.Rules.{IsMet, AreDone}
 use Rattle.solver_rules.specs.declared.rules.Rule.{Rule}
-use Rattle.solver_rules.specs.Sides.{IsTableSide}
 use Rattle.solver_rules.specs.Steps.{IsPlainAtom, ArePlain, IsNode}
 use Rattle.solver_rules.proofs.Meeting.{AreAllMet}
 use Rattle.solver_rules.proofs.Plain.{sides_of, element_side, equality_plain}

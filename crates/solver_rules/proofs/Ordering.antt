@@ -1,22 +1,18 @@
 -- Whole numbers that are equal, that differ and that are ordered.
-use Rattle.std.proofs.Common.{◌≡◌, ⊎_elim, ◌⊎◌, inl, inr, ℕ, zero, suc, ◌^◌, pos, neg_ℤ, List, [], ◌∷◌, ◌++◌, Bool, true, false, not, ◌&&◌, ◌||◌, Option, Some, None, slice_get, refl, sym, ap, ◌∙◌, subst}
+use Rattle.std.proofs.Common.{◌≡◌, ⊎_elim, inl, inr, ℕ, ◌^◌, pos, neg_ℤ, List, [], true, false, ◌&&◌, Some, slice_get, refl, sym, ap, ◌∙◌, subst}
 use Rattle.std.specs.Option.{option_and_then}
 use Rattle.std.proofs.lemmas.List.Elements.{Contains-push}
-use Rattle.std.proofs.lemmas.Bool.{false≢true, and_parts, and_from, or_from, or_left, or_right, not_from_false}
-use Rattle.gil_values.specs.declared.kinds.Kind.{Kind}
+use Rattle.std.proofs.lemmas.Bool.{false≢true, and_parts, and_from, or_from, or_left, not_from_false}
 use Rattle.gil_values.specs.declared.operators.BinOp.{BinOp}
-use Rattle.pure_terms.specs.declared.literals.Literal.{Literal}
 use Rattle.pure_terms.specs.declared.variables.Sort.{Sort}
-use Rattle.pure_terms.specs.declared.variables.Var.{Var}
 use Rattle.pure_terms.specs.EqualityLaws.{same_term-refl}
-use Rattle.pure_terms.specs.Equality.{same_term}
-use Rattle.pure_terms.specs.Fragment.{is_simple, are_simple, is_flat, is_shift, names_sort, is_variable_of, is_integer_literal, is_integer_side, has_literals_between, is_comparison, is_fragment_term, is_simple_equality}
-use Rattle.pure_terms.specs.Kinds.{same_sort, known_kind, is_of_kind, kind_of_sort}
+use Rattle.pure_terms.specs.Fragment.{is_simple, are_simple, is_shift, names_sort, is_variable_of, is_integer_literal, is_integer_side, has_literals_between, is_comparison, is_fragment_term}
+use Rattle.pure_terms.specs.Kinds.{same_sort}
 use Rattle.pure_terms.specs.Meaning.{IsOver}
 use Rattle.pure_terms.specs.Pure.{PureTerm, literal, variable, list_of, unary_of, binary_of, PureAtom, positive, negative}
-use Rattle.pure_terms.proofs.SimpleLaws.{from_is_variable_of, from_is_integer_literal, from_is_of_kind}
-use Rattle.solver_proof.specs.Chains.{equals, Sides, disequality_at, disequality_of, are_sides, equality_of, equality_at}
-use Rattle.solver_proof.specs.Closing.{at_most, at_most_of, at_most_at, meet, may_split}
+use Rattle.pure_terms.proofs.SimpleLaws.{from_is_variable_of, from_is_integer_literal}
+use Rattle.solver_proof.specs.Chains.{equals, Sides, disequality_at, disequality_of, equality_of, equality_at}
+use Rattle.solver_proof.specs.Closing.{at_most, at_most_of, at_most_at, meet}
 use Rattle.solver_proof.proofs.Truths.{over_sides, over_both}
 use Rattle.equality_core.specs.declared.classes.Wanted.{Wanted}
 use Rattle.equality_core.specs.Classes.{PureClasses, given_list}

@@ -1,23 +1,19 @@
 -- Terms of plain atoms, and of the classes that their equalities make.
-use Rattle.std.proofs.Common.{◌≡◌, ⊎_elim, ◌⊎◌, inl, inr, ℕ, zero, suc, ◌^◌, ◌<◌, pos, neg_ℤ, List, [], ◌∷◌, ◌++◌, length, Bool, true, false, not, ◌&&◌, ◌||◌, Option, Some, None, slice_get, refl, sym, ap, ◌∙◌, subst, arith}
+use Rattle.std.proofs.Common.{◌≡◌, ⊎_elim, ◌⊎◌, inl, inr, ℕ, zero, suc, ◌^◌, pos, neg_ℤ, List, [], Bool, true, not, ◌&&◌, ◌||◌, Some, slice_get, refl, sym, ap, ◌∙◌, subst, arith}
 use Rattle.std.specs.List.{Contains}
-use Rattle.std.specs.Option.{option_and_then, is_some}
-use Rattle.std.proofs.lemmas.Bool.{false≢true, true≢false, and_parts, and_from, or_from, or_parts, or_left, or_right, or_cases, not-true, not_from_false, and_left, and_right}
-use Rattle.std.proofs.lemmas.Option.{option_and_then_some, same_Some, slice_get_within}
-use Rattle.gil_values.specs.declared.kinds.Kind.{Kind}
+use Rattle.std.proofs.lemmas.Bool.{false≢true, and_parts, and_from, or_from, or_parts, or_left, or_right, not_from_false}
+use Rattle.std.proofs.lemmas.Option.{option_and_then_some, same_Some}
 use Rattle.gil_values.specs.declared.operators.BinOp.{BinOp}
-use Rattle.gil_values.specs.declared.operators.UnOp.{UnOp}
 use Rattle.pure_terms.specs.declared.literals.Literal.{Literal}
 use Rattle.pure_terms.specs.declared.variables.Sort.{Sort}
 use Rattle.pure_terms.specs.declared.variables.Var.{Var}
 use Rattle.pure_terms.specs.EqualityLaws.{same_sorts}
-use Rattle.pure_terms.specs.Fragment.{is_simple, are_simple, is_flat, names_sort, name_sort, is_variable_of, is_integer_literal, is_integer_side, has_literals_between, have_literals_between, has_narrow_literals, has_form, is_kind_test, is_kind_of_any, is_kind_literal, any_is_a_side, is_fragment_term, has_fragment_form, is_simple_equality, is_comparison, is_order}
-use Rattle.pure_terms.specs.Kinds.{same_sort, known_kind, is_of_kind, kind_of_sort}
-use Rattle.pure_terms.specs.Meaning.{IsOver, AreVariablesOf}
-use Rattle.pure_terms.specs.Pure.{PureTerm, literal, variable, list_of, unary_of, binary_of, PureTerms, no_terms, term_and, to_list, PureAtom, positive, negative, opening, term_of, variables, variables_of_all}
+use Rattle.pure_terms.specs.Fragment.{is_simple, are_simple, is_flat, names_sort, name_sort, is_variable_of, is_integer_literal, has_literals_between, have_literals_between, has_narrow_literals, is_fragment_term, is_comparison}
+use Rattle.pure_terms.specs.Kinds.{same_sort}
+use Rattle.pure_terms.specs.Meaning.{IsOver}
+use Rattle.pure_terms.specs.Pure.{PureTerm, literal, variable, list_of, unary_of, binary_of, PureTerms, no_terms, term_and, to_list, PureAtom, positive, negative, term_of, variables, variables_of_all}
 use Rattle.pure_terms.proofs.KindLaws.{over_left, over_right}
-use Rattle.solver_proof.specs.Chains.{equals, Sides, equality_of, equality_at}
-use Rattle.solver_proof.specs.Closing.{may_split, at_most}
+use Rattle.solver_proof.specs.Chains.{equals, Sides, equality_of}
 use Rattle.solver_proof.proofs.Truths.{over_sides, over_both}
 use Rattle.equality_core.specs.Classes.{are_plain}
 use Rattle.equality_core.specs.Equating.{Equates, itself, by_atom, turned, joined, by_elements, HaveFragmentForms}

@@ -1,15 +1,14 @@
 -- A combination of the rows of a list is a sum of rows of its atoms.
-use Rattle.std.proofs.Common.{◌≡◌, ⊎_elim, ◌⊎◌, inl, inr, ℕ, zero, suc, ◌+◌, ◌^◌, ◌<◌, ◌≤◌, ℤ, pos, neg_ℤ, ◌+ℤ◌, ◌-ℤ◌, ◌*ℤ◌, List, [], ◌∷◌, ◌++◌, map, length, get_or, Bool, true, false, not, ◌&&◌, ◌||◌, if◌then◌else◌, Option, Some, None, slice_get, eqb, refl, sym, ap, ◌∙◌, subst, arith}
+use Rattle.std.proofs.Common.{◌≡◌, ℕ, zero, suc, ◌+◌, ◌≤◌, ℤ, pos, neg_ℤ, ◌+ℤ◌, ◌-ℤ◌, ◌*ℤ◌, List, [], ◌∷◌, ◌++◌, map, get_or, Bool, true, false, not, ◌&&◌, ◌||◌, if◌then◌else◌, Option, Some, None, slice_get, eqb, refl, sym, ap, ◌∙◌, subst, arith}
 use Rattle.std.specs.Prelude.{int_lt, ◌<ℤ◌}
 use Rattle.std.specs.List.{list_all, list_any}
 use Rattle.std.specs.Option.{option_and_then}
-use Rattle.std.proofs.lemmas.Bool.{false≢true, true≢false, and_parts, and_from, or_from, or_parts, not-true, not_from_false, ne_eqb, eqb-false}
+use Rattle.std.proofs.lemmas.Bool.{false≢true, and_parts, and_from, or_from, or_parts, not-true, not_from_false, ne_eqb, eqb-false}
 use Rattle.std.proofs.lemmas.Option.{same_Some, get_or_from_slice_get}
 use Rattle.pure_terms.specs.Numbers.{is_held}
 use Rattle.pure_terms.specs.Pure.{PureAtom}
 use Rattle.solver_proof.specs.declared.proofs.Factor.{Factor}
 use Rattle.solver_proof.specs.Sums.{Row, row_of, row_at, of_row, total, is_held_total, coefficient, one_if_variable, is_factor_of, is_held_row, are_factors, are_apart, DividesEach, SumCloses}
-use Rattle.linear_core.specs.declared.rows.Coefficient.{Coefficient}
 use Rattle.linear_core.specs.declared.rows.Row.{Row as LinearRow}
 use Rattle.linear_core.specs.Combining.{IsCombination, of_row as linear_of_row, total as linear_total, is_held_total as linear_held, is_factor_of as is_linear_factor, coefficient as linear_coefficient, coefficient_of, is_equality}
 use Rattle.solver_rules.specs.Rows.{part_of, linear_row, relation_of, row_before, rows_from, place_before, places_from}

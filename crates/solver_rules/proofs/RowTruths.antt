@@ -1,8 +1,8 @@
 -- What rows that are met say of the values of sides.
-use Rattle.std.proofs.Common.{◌≡◌, ⊎_elim, ◌⊎◌, inl, inr, ℕ, zero, suc, ◌+◌, ◌-◌, ◌^◌, ◌<◌, ◌≤◌, ℤ, pos, neg_ℤ, ◌+ℤ◌, ◌-ℤ◌, ◌*ℤ◌, ◌≤ℤ◌, List, [], ◌∷◌, ◌++◌, length, Bool, true, false, not, ◌&&◌, ◌||◌, if◌then◌else◌, Option, Some, None, slice_get, refl, sym, ap, ◌∙◌, subst, arith}
-use Rattle.std.specs.Prelude.{int_le, int_lt, All, IsSomeAnd}
-use Rattle.std.specs.Option.{option_and_then, option_map}
-use Rattle.std.proofs.lemmas.Bool.{false≢true, true≢false, and_parts, and_from}
+use Rattle.std.proofs.Common.{◌≡◌, ℕ, ◌-◌, ◌^◌, ◌<◌, ℤ, pos, neg_ℤ, ◌+ℤ◌, ◌-ℤ◌, ◌*ℤ◌, ◌≤ℤ◌, List, ◌++◌, Bool, true, false, ◌&&◌, if◌then◌else◌, Option, Some, None, slice_get, refl, sym, ap, ◌∙◌, subst, arith}
+use Rattle.std.specs.Prelude.{int_le, IsSomeAnd}
+use Rattle.std.specs.Option.{option_and_then}
+use Rattle.std.proofs.lemmas.Bool.{false≢true, and_parts, and_from}
 use Rattle.std.proofs.lemmas.Int.{ints}
 use Rattle.std.proofs.lemmas.Option.{same_Some, slice_get_within}
 use Rattle.gil_values.specs.declared.kinds.Kind.{Kind}
@@ -11,16 +11,15 @@ use Rattle.gil_values.specs.Pure.{PureValue, integer, boolean, text, symbol, kin
 use Rattle.pure_terms.specs.declared.literals.Literal.{Literal}
 use Rattle.pure_terms.specs.declared.variables.Sort.{Sort}
 use Rattle.pure_terms.specs.declared.variables.Var.{Var}
-use Rattle.pure_terms.specs.EqualityLaws.{same_sorts}
-use Rattle.pure_terms.specs.Fragment.{is_simple, are_simple, is_shift, is_variable_of, is_integer_literal, is_integer_side, has_literals_between}
+use Rattle.pure_terms.specs.Fragment.{are_simple, is_shift, is_variable_of, is_integer_literal, is_integer_side, has_literals_between}
 use Rattle.pure_terms.specs.Kinds.{same_sort, kind_of_sort, is_of_kind, has_sort}
-use Rattle.pure_terms.specs.Meaning.{value, truth, IsProper, IsOver}
+use Rattle.pure_terms.specs.Meaning.{value, IsProper, IsOver}
 use Rattle.pure_terms.specs.Numbers.{is_between, is_held}
-use Rattle.pure_terms.specs.Pure.{PureTerm, literal, variable, list_of, unary_of, binary_of, PureAtom, positive, negative, variables}
+use Rattle.pure_terms.specs.Pure.{PureTerm, literal, variable, list_of, unary_of, binary_of, variables}
 use Rattle.pure_terms.proofs.DirectLaws.{binary-value}
 use Rattle.pure_terms.proofs.KindLaws.{over_left, over_variable}
 use Rattle.pure_terms.proofs.SimpleLaws.{from_is_variable_of, from_is_integer_literal, found}
-use Rattle.solver_proof.specs.Sums.{Side, Row, side_of, variable_side, integer_variable, integer_of, shifted_side, opposite_of, difference}
+use Rattle.solver_proof.specs.Sums.{Side, Row, side_of, variable_side, integer_variable, shifted_side, difference}
 use Rattle.linear_core.specs.declared.rows.Relation.{Relation}
 use Rattle.linear_core.specs.Rows.{whole_number, number_at, scaled_and_added, sum_at, Relates, Meets}
 use Rattle.solver_rules.specs.Rows.{part_of, linear_row, relation_of}

@@ -1,28 +1,27 @@
 -- Rows of plain atoms are narrow differences over the table, which the code can hold.
-use Rattle.std.proofs.Common.{◌≡◌, ⊎_elim, ◌⊎◌, inl, inr, ℕ, zero, suc, ◌+◌, ◌-◌, ◌^◌, ◌<◌, ◌≤◌, ℤ, pos, neg_ℤ, ◌+ℤ◌, ◌-ℤ◌, ◌≤ℤ◌, List, [], ◌∷◌, ◌++◌, length, Bool, true, false, not, ◌&&◌, ◌||◌, if◌then◌else◌, Option, Some, None, slice_get, refl, sym, ap, ◌∙◌, subst, arith}
+use Rattle.std.proofs.Common.{◌≡◌, ℕ, zero, suc, ◌-◌, ◌^◌, ℤ, pos, neg_ℤ, ◌+ℤ◌, ◌-ℤ◌, ◌≤ℤ◌, List, ◌++◌, Bool, true, false, if◌then◌else◌, Option, Some, None, slice_get, refl, sym, ap, ◌∙◌, subst, arith}
 use Rattle.std.specs.Prelude.{int_le, All}
-use Rattle.std.proofs.lemmas.Bool.{false≢true, and_parts, and_from}
+use Rattle.std.proofs.lemmas.Bool.{and_parts, and_from}
 use Rattle.std.proofs.lemmas.Int.{ints}
 use Rattle.std.proofs.lemmas.Option.{same_Some}
 use Rattle.gil_values.specs.declared.operators.BinOp.{BinOp}
 use Rattle.pure_terms.specs.declared.literals.Literal.{Literal}
 use Rattle.pure_terms.specs.declared.variables.Sort.{Sort}
-use Rattle.pure_terms.specs.declared.variables.Var.{Var}
 use Rattle.pure_terms.specs.EqualityLaws.{same_sorts}
-use Rattle.pure_terms.specs.Fragment.{has_literals_between, has_narrow_literals}
+use Rattle.pure_terms.specs.Fragment.{has_literals_between}
 use Rattle.pure_terms.specs.Kinds.{same_sort}
 use Rattle.pure_terms.specs.Meaning.{IsOver}
 use Rattle.pure_terms.specs.Numbers.{is_between, is_held}
-use Rattle.pure_terms.specs.Pure.{PureTerm, literal, variable, list_of, unary_of, binary_of, PureAtom, positive, negative, opening, variables, term_of}
+use Rattle.pure_terms.specs.Pure.{PureTerm, literal, variable, list_of, unary_of, binary_of, PureAtom, positive, negative, opening, variables}
 use Rattle.pure_terms.proofs.KindLaws.{over_left, over_variable}
-use Rattle.solver_proof.specs.Sums.{Side, Row, side_of, variable_side, integer_variable, integer_of, shifted_side, opposite_of, difference, row_of, is_held_row}
+use Rattle.solver_proof.specs.Sums.{Side, Row, side_of, variable_side, integer_variable, integer_of, shifted_side, opposite_of, difference, row_of}
 use Rattle.solver_proof.proofs.Truths.{over_sides}
 use Rattle.linear_core.specs.declared.rows.Coefficient.{Coefficient}
 use Rattle.linear_core.specs.declared.rows.Row.{Row as LinearRow}
 use Rattle.linear_core.specs.Differences.{are_of_difference, is_narrow_difference}
 use Rattle.linear_core.specs.Rows.{AreOver}
 use Rattle.linear_core.proofs.Meeting.{all_from}
-use Rattle.solver_rules.specs.Rows.{part_of, linear_row, rows_from}
+use Rattle.solver_rules.specs.Rows.{part_of, rows_from}
 use Rattle.solver_rules.specs.Sides.{IsNarrow}
 use Rattle.solver_rules.specs.Steps.{IsPlainAtom, ArePlain}
 use Rattle.solver_rules.proofs.RowSums.{row_there, AreRowsHeld}

@@ -1,31 +1,25 @@
 -- Rows of plain atoms: they are narrow differences over the table, and where they are met the atoms are true.
-use Rattle.std.proofs.Common.{◌≡◌, ⊎_elim, ◌⊎◌, inl, inr, ℕ, zero, suc, ◌+◌, ◌-◌, ◌^◌, ◌<◌, ◌≤◌, ℤ, pos, neg_ℤ, ◌+ℤ◌, ◌-ℤ◌, ◌≤ℤ◌, List, [], ◌∷◌, ◌++◌, length, Bool, true, false, not, ◌&&◌, ◌||◌, Option, Some, None, slice_get, refl, sym, ap, ◌∙◌, subst, arith}
-use Rattle.std.specs.Prelude.{int_le, int_lt, All}
-use Rattle.std.specs.Option.{option_and_then}
-use Rattle.std.proofs.lemmas.Bool.{false≢true, true≢false, and_parts, and_from}
+use Rattle.std.proofs.Common.{◌≡◌, ⊎_elim, ◌⊎◌, inl, inr, ℕ, ◌^◌, ℤ, pos, neg_ℤ, ◌+ℤ◌, ◌-ℤ◌, ◌≤ℤ◌, List, Bool, true, false, Some, slice_get, refl, sym, ap, ◌∙◌, subst, arith}
+use Rattle.std.specs.Prelude.{int_le, int_lt}
+use Rattle.std.proofs.lemmas.Bool.{false≢true, and_parts}
 use Rattle.std.proofs.lemmas.Int.{ints}
-use Rattle.std.proofs.lemmas.Option.{same_Some, option_and_then_some}
-use Rattle.gil_values.specs.declared.kinds.Kind.{Kind}
+use Rattle.std.proofs.lemmas.Option.{option_and_then_some}
 use Rattle.gil_values.specs.declared.operators.BinOp.{BinOp}
 use Rattle.gil_values.specs.Pure.{PureValue, integer, boolean}
 use Rattle.pure_terms.specs.declared.variables.Sort.{Sort}
-use Rattle.pure_terms.specs.declared.variables.Var.{Var}
-use Rattle.pure_terms.specs.Fragment.{is_integer_side, has_literals_between, has_narrow_literals, is_comparison, is_order}
+use Rattle.pure_terms.specs.Fragment.{is_integer_side, has_literals_between, has_narrow_literals, is_comparison}
 use Rattle.pure_terms.specs.Meaning.{value, truth, is_that_boolean, IsProper, IsOver}
-use Rattle.pure_terms.specs.Numbers.{is_between, is_held}
 use Rattle.pure_terms.specs.Pure.{PureTerm, binary_of, PureAtom, positive, negative, term_of}
 use Rattle.pure_terms.proofs.DirectLaws.{binary-value}
-use Rattle.solver_proof.specs.Chains.{equals, Sides, equality_of, equality_at}
-use Rattle.solver_proof.specs.Sums.{Side, Row, side_of, difference, row_of}
+use Rattle.solver_proof.specs.Chains.{equals, Sides, equality_of}
+use Rattle.solver_proof.specs.Sums.{Row, side_of, difference, row_of}
 use Rattle.solver_proof.proofs.Truths.{over_sides}
-use Rattle.linear_core.specs.declared.rows.Row.{Row as LinearRow}
 use Rattle.linear_core.specs.Rows.{Meets, MeetsAll}
 use Rattle.linear_core.proofs.Meeting.{all_at}
 use Rattle.equality_core.specs.Classes.{PureClasses}
 use Rattle.equality_core.proofs.Saying.{SaysEqual, SaysTruth, says}
-use Rattle.solver_rules.specs.Rows.{linear_row, relation_of, rows_from}
-use Rattle.solver_rules.specs.Sides.{IsNarrow}
-use Rattle.solver_rules.specs.Steps.{IsPlainAtom, ArePlain}
+use Rattle.solver_rules.specs.Rows.{linear_row, rows_from}
+use Rattle.solver_rules.specs.Steps.{ArePlain}
 use Rattle.solver_rules.proofs.Meeting.{AreRowsMet}
 use Rattle.solver_rules.proofs.RowSums.{row_listed}
 use Rattle.solver_rules.proofs.RowTruths.{IsSideAt, side_at, row_says}

@@ -1,13 +1,13 @@
 -- Where the equalities of a list are true, equated terms have equal values.
-use Rattle.std.proofs.Common.{◌≡◌, ⊎_elim, ◌⊎◌, inl, inr, ℕ, zero, suc, List, [], ◌∷◌, Bool, true, false, Option, Some, None, slice_get, refl, sym, ap, ◌∙◌, subst}
+use Rattle.std.proofs.Common.{◌≡◌, ⊎_elim, ◌⊎◌, inl, inr, ℕ, zero, suc, List, [], ◌∷◌, true, Option, Some, None, slice_get, refl, sym, ap, ◌∙◌, subst}
 use Rattle.std.specs.Option.{option_map, is_some}
 use Rattle.std.proofs.lemmas.Option.{same_Some, option_and_then_some}
 use Rattle.gil_values.specs.Pure.{PureValue, list, from_list}
 use Rattle.pure_terms.specs.declared.variables.Sort.{Sort}
 use Rattle.pure_terms.specs.Meaning.{both, value, values, truth, IsOver}
 use Rattle.pure_terms.specs.Pure.{PureTerm, list_of, PureTerms, no_terms, term_and, to_list, PureAtom, term_of}
-use Rattle.solver_proof.specs.Chains.{Sides, equality_of}
-use Rattle.solver_proof.proofs.Truths.{SameValues, Linked, equality-linked}
+use Rattle.solver_proof.specs.Chains.{equality_of}
+use Rattle.solver_proof.proofs.Truths.{SameValues, equality-linked}
 use Rattle.equality_core.specs.Equating.{Equates, itself, by_atom, turned, joined, by_elements}
 
 record HasValues (v : List PureValue) (ts : PureTerms) (ws : List PureValue) : Type 0 where

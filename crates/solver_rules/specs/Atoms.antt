@@ -1,12 +1,11 @@
 -- Parts of atoms as the code has them, and what it finds in a list.
-use Rattle.std.specs.Prelude.{◌≡◌, ℕ, List, slice_get, Bool, true, false, ◌||◌, if◌then◌else◌, Option, Some, None}
+use Rattle.std.specs.Prelude.{◌≡◌, Bool, ◌||◌, if◌then◌else◌, Option, Some}
 use Rattle.gil_values.specs.declared.kinds.Kind.{Kind}
 use Rattle.pure_terms.specs.declared.variables.Var.{Var}
 use Rattle.pure_terms.specs.Kinds.{is_of_kind}
-use Rattle.pure_terms.specs.Pure.{PureTerm, variable, PureAtom, positive, negative}
+use Rattle.pure_terms.specs.Pure.{PureTerm, variable, PureAtom, positive}
 use Rattle.pure_terms.specs.View.{term_view}
-use Rattle.solver_proof.specs.Chains.{equals, kind_is, KindFact, are_other_kinds, is_empty_kind}
-use Rattle.solver_proof.specs.Closing.{at_most}
+use Rattle.solver_proof.specs.Chains.{kind_is, KindFact, are_other_kinds, is_empty_kind}
 use Rattle.solver_rules.specs.declared.pairs.Fact.{Fact}
 
 abbrev pub fact_view : Fact → KindFact

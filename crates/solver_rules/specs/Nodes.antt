@@ -1,12 +1,12 @@
 -- Nodes as the code has them.
-use Rattle.std.specs.Prelude.{◌≡◌, ℕ, List, slice_get, true, Option, Some, None, IsTrue}
+use Rattle.std.specs.Prelude.{List, Option, Some, None, IsTrue}
 use Rattle.std.specs.List.{list_all}
 use Rattle.gil_values.specs.View.{values_view}
 use Rattle.pure_terms.specs.declared.variables.Sort.{Sort}
 use Rattle.pure_terms.specs.Deciding.{has_moderate_numbers}
 use Rattle.pure_terms.specs.Meaning.{IsProper}
 use Rattle.pure_terms.specs.Pure.{PureAtom}
-use Rattle.pure_terms.specs.View.{atom_view, atoms_view}
+use Rattle.pure_terms.specs.View.{atoms_view}
 use Rattle.equality_core.specs.Classes.{PureClasses, classes_view}
 use Rattle.solver_rules.specs.declared.nodes.Node.{Node}
 use Rattle.solver_rules.specs.declared.rules.Rule.{Rule}

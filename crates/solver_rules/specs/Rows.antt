@@ -1,6 +1,5 @@
 -- Rows of atoms for the procedure that decides rows.
-use Rattle.std.specs.Prelude.{◌≡◌, ℕ, zero, suc, ◌+◌, ℤ, pos, neg_ℤ, List, [], ◌∷◌, ◌++◌, length, slice_get, Bool, true, false, if◌then◌else◌, Option, Some, None}
-use Rattle.std.specs.Option.{option_map}
+use Rattle.std.specs.Prelude.{ℕ, ◌+◌, ℤ, pos, neg_ℤ, List, [], ◌∷◌, ◌++◌, Bool, true, false, Option, Some, None}
 use Rattle.pure_terms.specs.Pure.{PureAtom}
 use Rattle.solver_proof.specs.Sums.{Side, Row, row_of}
 use Rattle.linear_core.specs.declared.rows.Coefficient.{Coefficient}

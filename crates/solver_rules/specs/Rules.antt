@@ -1,5 +1,5 @@
 -- What holds of an atom where a rule has nothing to add.
-use Rattle.std.specs.Prelude.{◌≡◌, ◌⊎◌, ℕ, List, length, slice_get, Bool, true, false, ◌&&◌, Option, Some, None}
+use Rattle.std.specs.Prelude.{◌≡◌, ◌⊎◌, ℕ, List, length, slice_get, true, false, ◌&&◌, Some}
 use Rattle.std.specs.Option.{is_some}
 use Rattle.gil_values.specs.declared.kinds.Kind.{Kind}
 use Rattle.gil_values.specs.Pure.{PureValue}
@@ -9,7 +9,7 @@ use Rattle.pure_terms.specs.Fragment.{is_simple, is_flat, is_variable_of, is_int
 use Rattle.pure_terms.specs.Kinds.{known_kind}
 use Rattle.pure_terms.specs.Meaning.{truth}
 use Rattle.pure_terms.specs.Pure.{PureTerm, variable, list_of, PureTerms, to_list, PureAtom, positive, negative}
-use Rattle.solver_proof.specs.Chains.{equals, kind_is, Sides, KindFact, kind_fact_of, kind_fact_at, equality_of, AreEqualAt, is_against, are_facts_apart}
+use Rattle.solver_proof.specs.Chains.{equals, kind_is, KindFact, kind_fact_of, kind_fact_at, AreEqualAt, is_against, are_facts_apart}
 use Rattle.solver_proof.specs.Closing.{HaveOneLength}
 use Rattle.equality_core.specs.declared.classes.Wanted.{Wanted}
 use Rattle.equality_core.specs.Classes.{PureClasses, given_list}

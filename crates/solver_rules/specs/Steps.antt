@@ -1,5 +1,5 @@
 -- Lists of atoms of the fragment, and the next step on one.
-use Rattle.std.specs.Prelude.{◌≡◌, ◌⊎◌, ℕ, ◌^◌, pos, neg_ℤ, List, length, slice_get, Bool, true, false, Some, IsTrue}
+use Rattle.std.specs.Prelude.{◌≡◌, ℕ, List, slice_get, true, Some, IsTrue}
 use Rattle.std.specs.List.{list_all}
 use Rattle.gil_values.specs.declared.kinds.Kind.{Kind}
 use Rattle.gil_values.specs.View.{values_view}

@@ -4,7 +4,7 @@ ghost use Rattle.solver_rules.specs.Nodes.{vars_of, list_of_node, IsNodeOf};
 ghost use Rattle.solver_rules.specs.Steps.{IsStep};
 
 use crate::plain::is_plain;
-use crate::ranges::{Range, node_of, range_at, ranges_from};
+use crate::ranges::{Range, Sides as RowSides, node_of, range_at, ranges_from, sides_of_each};
 use gil_values::BinOp;
 use linear_core::Rows;
 use pure_terms::{Atom, Literal, Sort, Term, Var, holds};
@@ -168,7 +168,12 @@ fn nearer(first: Option<Near>, second: Near) -> Near {
 }
 
 /// How far the second side may be from the first one.
-fn distance(alloc: Global, count: usize, rows: &Rows, sides: Sides) -> Result<Range, AllocError> {
+fn distance(
+    alloc: Global,
+    count: usize,
+    rows: &[RowSides],
+    sides: Sides,
+) -> Result<Range, AllocError> {
     let ranges = ranges_from(alloc, count, rows, node_at(sides.first))?;
     let range = range_of(ranges.as_slice(), sides.second);
     match 0i128.checked_sub(sides.first.plus) {
@@ -190,7 +195,7 @@ fn choice_of_broken(
     alloc: Global,
     node: &Node<'_>,
     count: usize,
-    rows: &Rows,
+    rows: &[RowSides],
     ranges: &[Range],
 ) -> Result<Option<Choice>, AllocError> {
     let atoms = node.list.as_slice();
@@ -227,10 +232,11 @@ fn last_choice(few: Option<Few>, nearest: Option<Near>) -> Option<Choice> {
 
 fn choose(alloc: Global, node: &Node<'_>, rows: &Rows) -> Result<Option<Choice>, AllocError> {
     let count = node.vars.len().saturating_add(1);
-    let ranges = ranges_from(alloc, count, rows, node_of(None))?;
+    let rows = sides_of_each(alloc, rows)?;
+    let ranges = ranges_from(alloc, count, rows.as_slice(), node_of(None))?;
     match forced(ranges.as_slice(), node.list.as_slice()) {
         Some(choice) => Ok(Some(choice)),
-        None => choice_of_broken(alloc, node, count, rows, ranges.as_slice()),
+        None => choice_of_broken(alloc, node, count, rows.as_slice(), ranges.as_slice()),
     }
 }
 

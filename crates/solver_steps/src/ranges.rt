@@ -64,10 +64,11 @@ pub(crate) fn node_of(variable: Option<u64>) -> usize {
 
 /// A row as `plus - minus + constant` of two nodes.
 #[derive(Clone, Copy)]
-struct Sides {
+pub(crate) struct Sides {
     plus: usize,
     minus: usize,
     constant: i128,
+    is_equal: bool,
 }
 
 fn sides_of(row: &Row) -> Sides {
@@ -84,7 +85,17 @@ fn sides_of(row: &Row) -> Sides {
         plus,
         minus,
         constant: row.constant,
+        is_equal: row.relation == Relation::Zero,
     }
+}
+
+/// Each row as two nodes.
+pub(crate) fn sides_of_each(alloc: Global, rows: &Rows) -> Result<Vec<Sides>, AllocError> {
+    let mut sides: Vec<Sides> = Vec::new(alloc);
+    for row in rows.as_slice() {
+        sides.push(sides_of(row))?;
+    }
+    Ok(sides)
 }
 
 /// The range of a node.
@@ -134,14 +145,15 @@ fn follow(ranges: &mut [Range], plus: usize, minus: usize, constant: i128) -> bo
     lowered || raised
 }
 
-fn follow_row(ranges: &mut [Range], row: &Row) -> bool {
+fn follow_row(ranges: &mut [Range], row: Sides) -> bool {
     let Sides {
         plus,
         minus,
         constant,
-    } = sides_of(row);
+        is_equal,
+    } = row;
     let moved = follow(ranges, plus, minus, constant);
-    if row.relation == Relation::AtMostZero {
+    if !is_equal {
         return moved;
     }
     match 0i128.checked_sub(constant) {
@@ -151,7 +163,7 @@ fn follow_row(ranges: &mut [Range], row: &Row) -> bool {
 }
 
 /// Follows each row once, from the first or from the last one.
-fn pass(ranges: &mut [Range], rows: &[Row], from_last: bool) -> bool {
+fn pass(ranges: &mut [Range], rows: &[Sides], from_last: bool) -> bool {
     let mut moved = false;
     for turn in 0..rows.len() {
         let place = if from_last {
@@ -159,7 +171,7 @@ fn pass(ranges: &mut [Range], rows: &[Row], from_last: bool) -> bool {
         } else {
             turn
         };
-        if follow_row(ranges, &rows[place]) {
+        if follow_row(ranges, rows[place]) {
             moved = true;
         }
     }
@@ -170,7 +182,7 @@ fn pass(ranges: &mut [Range], rows: &[Row], from_last: bool) -> bool {
 pub(crate) fn ranges_from(
     alloc: Global,
     count: usize,
-    rows: &Rows,
+    rows: &[Sides],
     origin: usize,
 ) -> Result<Vec<Range>, AllocError> {
     let mut ranges: Vec<Range> = Vec::new(alloc);
@@ -178,7 +190,7 @@ pub(crate) fn ranges_from(
         ranges.push(if node == origin { HERE } else { ANY })?;
     }
     for turn in 0..count {
-        if !pass(&mut ranges, rows.as_slice(), turn % 2 == 1) {
+        if !pass(&mut ranges, rows, turn % 2 == 1) {
             return Ok(ranges);
         }
     }

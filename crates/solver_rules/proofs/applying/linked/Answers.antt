@@ -1,4 +1,4 @@
-use Rattle.std.proofs.Common.{◌≡◌, List, Option, Some, slice_get, sym, ap, ◌∙◌, subst}
+use Rattle.std.proofs.Common.{◌≡◌, List, Option, Some, slice_get, ap, ◌∙◌, subst}
 use Rattle.pure_terms.specs.Pure.{PureAtom, negative}
 use Rattle.pure_terms.specs.View.{term_view}
 use Rattle.solver_proof.specs.declared.proofs.ChainEnd.{ChainEnd}

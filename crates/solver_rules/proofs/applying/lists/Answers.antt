@@ -1,5 +1,5 @@
-use Rattle.std.proofs.Common.{◌≡◌, List, Some, map, sym, ap, ◌∙◌, subst}
-use Rattle.pure_terms.specs.Pure.{PureTerm, PureTerms, PureAtom, from_list}
+use Rattle.std.proofs.Common.{List, Some, map, sym, ap, ◌∙◌, subst}
+use Rattle.pure_terms.specs.Pure.{PureTerm, PureAtom, from_list}
 use Rattle.pure_terms.specs.View.{term_view, terms_view, atom_view}
 use Rattle.solver_proof.specs.Closing.{HaveOneLength}
 use Rattle.solver_proof.proofs.Growing.{one_length, lengths_of}

@@ -1,4 +1,4 @@
-use Rattle.std.proofs.Common.{◌≡◌, ◌-◌, ◌∷◌, List, drop, take, length, map, sym, ap, subst}
+use Rattle.std.proofs.Common.{◌-◌, ◌∷◌, List, drop, take, length, map, sym, subst}
 use Rattle.pure_terms.specs.declared.terms.Term.{Term}
 use Rattle.pure_terms.specs.Pure.{from_list}
 use Rattle.pure_terms.specs.View.{term_view, atoms_view}

@@ -1,8 +1,7 @@
-use Rattle.std.proofs.Common.{◌≡◌, true, false, Some, None, sym, ap, ◌∙◌, subst}
-use Rattle.pure_terms.specs.Kinds.{known_kind}
+use Rattle.std.proofs.Common.{◌≡◌, false, Some, sym, ap, ◌∙◌}
 use Rattle.pure_terms.specs.Pure.{PureTerm}
 use Rattle.pure_terms.specs.View.{term_view, atom_view}
-use Rattle.solver_proof.specs.Chains.{KindFact, kind_fact_of, is_against}
+use Rattle.solver_proof.specs.Chains.{KindFact, is_against}
 use Rattle.equality_core.specs.declared.classes.Wanted.{Wanted}
 use Rattle.equality_core.specs.Classes.{given_list}
 use Rattle.equality_core.specs.Equating.{Equates, itself}

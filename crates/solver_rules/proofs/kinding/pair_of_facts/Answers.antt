@@ -1,6 +1,5 @@
-use Rattle.std.proofs.Common.{◌≡◌, Some, slice_get, sym, ap, ◌∙◌}
+use Rattle.std.proofs.Common.{◌≡◌, Some, sym, ap, ◌∙◌}
 use Rattle.std.specs.Option.{option_and_then}
-use Rattle.pure_terms.specs.View.{atom_view}
 use Rattle.solver_proof.specs.Chains.{kind_fact_of, kind_fact_at}
 use Rattle.solver_rules.specs.Atoms.{fact_view}
 use Rattle.solver_rules.specs.Nodes.{vars_of, list_of_node, classes_of}

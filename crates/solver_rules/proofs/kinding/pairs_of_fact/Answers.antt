@@ -1,10 +1,9 @@
-use Rattle.std.proofs.Common.{◌≡◌, List, Option, None, map, sym, ap, ◌∙◌, subst}
+use Rattle.std.proofs.Common.{List, map, subst}
 use Rattle.pure_terms.specs.declared.atoms.Atom.{Atom}
 use Rattle.pure_terms.specs.View.{atom_view}
 use Rattle.equality_core.proofs.Finding.{each_more, each_all}
-use Rattle.solver_rules.specs.declared.steps.Step.{Step}
 use Rattle.solver_rules.specs.Atoms.{fact_view}
-use Rattle.solver_rules.specs.Nodes.{list_of_node, classes_of, IsStepOr}
+use Rattle.solver_rules.specs.Nodes.{classes_of, IsStepOr}
 use Rattle.solver_rules.specs.Rules.{IsPairDone, ArePairsDone}
 use Rattle.solver_rules.proofs.kinding.pairs_of_fact.Goals as goal
 

@@ -1,8 +1,6 @@
-use Rattle.std.proofs.Common.{◌≡◌, Some, slice_get, sym, ap, ◌∙◌, subst}
-use Rattle.pure_terms.specs.Pure.{negative}
+use Rattle.std.proofs.Common.{subst}
 use Rattle.pure_terms.specs.View.{term_view}
-use Rattle.solver_proof.specs.Chains.{equals}
-use Rattle.solver_rules.specs.Nodes.{vars_of, list_of_node, classes_of}
+use Rattle.solver_rules.specs.Nodes.{vars_of}
 use Rattle.solver_rules.specs.Steps.{IsPlainAtom}
 use Rattle.solver_rules.proofs.Plain.{flat_sides}
 use Rattle.solver_rules.proofs.kinding.small_side.Goals as goal

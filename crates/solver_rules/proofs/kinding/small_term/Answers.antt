@@ -1,6 +1,4 @@
-use Rattle.std.proofs.Common.{◌≡◌, sym, ap, ◌∙◌, subst}
-use Rattle.pure_terms.specs.declared.variables.Sort.{Sort}
-use Rattle.pure_terms.specs.Fragment.{is_variable_of}
+use Rattle.std.proofs.Common.{sym, subst}
 use Rattle.pure_terms.specs.View.{term_view}
 use Rattle.equality_core.specs.declared.classes.Wanted.{Wanted}
 use Rattle.solver_rules.specs.Nodes.{vars_of, list_of_node, classes_of}

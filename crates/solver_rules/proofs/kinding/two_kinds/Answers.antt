@@ -1,11 +1,9 @@
-use Rattle.std.proofs.Common.{◌≡◌, List, Option, sym, ap, ◌∙◌, subst}
+use Rattle.std.proofs.Common.{List, sym, subst}
 use Rattle.pure_terms.specs.Pure.{PureAtom}
 use Rattle.pure_terms.specs.View.{atom_view}
-use Rattle.solver_proof.specs.Chains.{KindFact}
 use Rattle.equality_core.specs.Classes.{given_list}
 use Rattle.equality_core.proofs.Finding.{ok_then}
 use Rattle.solver_rules.specs.declared.rules.Rule.{Rule}
-use Rattle.solver_rules.specs.declared.steps.Step.{Step}
 use Rattle.solver_rules.specs.Atoms.{fact_view}
 use Rattle.solver_rules.specs.Nodes.{list_of_node, classes_of, IsStepOr, IsApplied}
 use Rattle.solver_rules.specs.Rules.{ArePairsDone}

@@ -1,4 +1,4 @@
-use Rattle.std.proofs.Common.{◌≡◌, ◌<◌, ℕ, length, Some, slice_get}
+use Rattle.std.proofs.Common.{◌≡◌, ◌<◌, length, Some, slice_get}
 use Rattle.gil_values.specs.declared.kinds.Kind.{Kind}
 use Rattle.pure_terms.specs.declared.variables.Var.{Var}
 use Rattle.pure_terms.specs.Pure.{variable}

@@ -1,7 +1,6 @@
-use Rattle.std.proofs.Common.{◌≡◌, ◌++◌, List, Some, map, slice_get, sym, ap, ◌∙◌, subst}
+use Rattle.std.proofs.Common.{◌++◌, List, map, slice_get, sym, ap, ◌∙◌}
 use Rattle.pure_terms.specs.declared.atoms.Atom.{Atom}
 use Rattle.pure_terms.specs.View.{atom_view, atoms_view}
-use Rattle.equality_core.proofs.Finding.{view_at}
 use Rattle.solver_rules.specs.Rows.{found_rows, found_places}
 use Rattle.solver_rules.proofs.RowLists.{rows_more, places_more, atom_there}
 use Rattle.solver_rules.proofs.listing.rows_of.Goals as goal

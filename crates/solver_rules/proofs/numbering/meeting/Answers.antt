@@ -1,7 +1,7 @@
 use Rattle.pure_terms.specs.View.{term_view, atom_view}
 use Rattle.equality_core.specs.Equating.{turned}
 use Rattle.solver_rules.specs.Nodes.{vars_of, list_of_node, classes_of}
-use Rattle.solver_rules.proofs.Ordering.{IsEqualThere, equal_there}
+use Rattle.solver_rules.proofs.Ordering.{equal_there}
 use Rattle.solver_rules.proofs.numbering.meeting.Goals as goal
 
 pub met-requires-clause-equated : goal.met-requires-clause-equated

@@ -1,9 +1,8 @@
-use Rattle.std.proofs.Common.{◌≡◌, inr, List, Some, None, sym, ap, ◌∙◌, subst}
+use Rattle.std.proofs.Common.{inr, List, sym, ◌∙◌, subst}
 use Rattle.std.proofs.lemmas.Bool.{true≢false}
-use Rattle.pure_terms.specs.Pure.{PureTerm, PureAtom}
-use Rattle.pure_terms.specs.View.{term_view, atoms_view}
+use Rattle.pure_terms.specs.Pure.{PureAtom}
+use Rattle.pure_terms.specs.View.{term_view}
 use Rattle.equality_core.specs.declared.classes.Wanted.{Wanted}
-use Rattle.equality_core.specs.Classified.{is_wanted}
 use Rattle.equality_core.proofs.Seeking.{first-none}
 use Rattle.solver_rules.specs.Nodes.{vars_of, list_of_node, classes_of}
 use Rattle.solver_rules.specs.Rules.{SaysPositive}

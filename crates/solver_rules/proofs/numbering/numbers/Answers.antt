@@ -1,4 +1,4 @@
-use Rattle.std.proofs.Common.{◌≡◌, sym, ap, ◌∙◌, subst}
+use Rattle.std.proofs.Common.{sym, subst}
 use Rattle.pure_terms.specs.View.{term_view}
 use Rattle.solver_rules.specs.Nodes.{vars_of, list_of_node, classes_of}
 use Rattle.solver_rules.specs.Steps.{IsPlainAtom, IsSplit}

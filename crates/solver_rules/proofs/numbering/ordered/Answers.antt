@@ -1,11 +1,11 @@
-use Rattle.std.proofs.Common.{◌≡◌, true, sym, ap, ◌∙◌, subst, rules}
+use Rattle.std.proofs.Common.{◌≡◌, sym, subst, rules}
 use Rattle.pure_terms.specs.View.{term_view}
 use Rattle.solver_proof.specs.declared.proofs.Proof
 use Rattle.solver_proof.specs.declared.proofs.Proof.{the_lemmas}
 use Rattle.solver_proof.specs.Closing.{Closes}
 use Rattle.solver_proof.specs.Pure.{meet_at}
 use Rattle.solver_proof.specs.View.{proof_view}
-use Rattle.solver_rules.specs.Nodes.{vars_of, list_of_node, classes_of}
+use Rattle.solver_rules.specs.Nodes.{vars_of, list_of_node}
 use Rattle.solver_rules.specs.Steps.{IsSplit}
 use Rattle.solver_rules.proofs.Ordering.{orders_split, meets}
 use Rattle.solver_rules.proofs.numbering.ordered.Goals as goal

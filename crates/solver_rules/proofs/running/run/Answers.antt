@@ -1,10 +1,10 @@
-use Rattle.std.proofs.Common.{◌≡◌, ℕ, List, Some, None, map, slice_get, sym, ap, ◌∙◌, subst}
+use Rattle.std.proofs.Common.{◌≡◌, ℕ, List, Some, map, slice_get, sym, ap, ◌∙◌, subst}
 use Rattle.gil_values.specs.View.{values_view}
 use Rattle.pure_terms.specs.declared.atoms.Atom.{Atom}
 use Rattle.pure_terms.specs.Pure.{PureAtom}
 use Rattle.pure_terms.specs.View.{atom_view}
 use Rattle.equality_core.proofs.Finding.{each_more, each_all}
-use Rattle.solver_rules.specs.Nodes.{classes_of, list_of_node, IsApplied}
+use Rattle.solver_rules.specs.Nodes.{classes_of, IsApplied}
 use Rattle.solver_rules.specs.Rules.{IsDone}
 use Rattle.solver_rules.proofs.running.run.Goals as goal
 

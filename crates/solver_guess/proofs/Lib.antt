@@ -1,0 +1,2 @@
+pub mod Taming
+pub mod Trying
