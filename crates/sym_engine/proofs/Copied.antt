@@ -6,6 +6,7 @@ use Rattle.gil_values.specs.declared.places.Place.{Place}
 use Rattle.gil_values.specs.Operators.{fault_text}
 use Rattle.gil_values.specs.Pure.{PureValue}
 use Rattle.gil_syntax.specs.Pure.{PureExpr, assign, fail, return}
+use Rattle.gil_syntax.specs.Valid.{ends_body}
 use Rattle.mem_model.specs.Actions.{Actions}
 use Rattle.mem_model.specs.Heaps.{Heap}
 use Rattle.pure_terms.specs.declared.literals.Literal.{Literal}
@@ -24,6 +25,7 @@ use Rattle.sym_paths.specs.Settling.{Candidate}
 use Rattle.sym_paths.specs.Valued.{faulted, failing, Assigns, Fails, IsResult, AreForCases, IsEvaluated}
 use Rattle.sym_paths.proofs.Valued.{valued_candidates}
 use Rattle.sym_engine.specs.Lawful.{AreLawful}
+use Rattle.sym_engine.proofs.Placing.{all_placed, assigns_placed, fails_placed, returns_placed}
 use Rattle.sym_steps.specs.Cases.{AreResults, AreOfCases}
 use Rattle.sym_steps.specs.Copies.{IsCopied, AreCopied}
 use Rattle.sym_steps.specs.Returns.{Returns}
@@ -46,10 +48,10 @@ module _ {S : Type 0} where
   no_results Make o is = subst (λ q. AreResults Make (option_map (good_view term_view) q) []) (sym is) refl
 
 module _ {S : Type 0} (stands : S → List PureValue → Heap → Type 0) (terms : S → StateTerms) (depends : S → List ℕ → List PureTerm → List PureValue → Heap → PureTerm → Type 0) (plain : S → ℤ → ℤ → Type 0) where
-  abbrev Copied : Candidate S → Candidate S → Type 0
+  abbrev pub Copied : Candidate S → Candidate S → Type 0
   Copied = IsCopied stands terms depends plain
 
-  abbrev AllCopied : List (Candidate S) → List (Candidate S) → Type 0
+  abbrev pub AllCopied : List (Candidate S) → List (Candidate S) → Type 0
   AllCopied = AreCopied stands terms depends plain
 
   itself : (c : Candidate S) → Copied c c
@@ -64,7 +66,7 @@ module _ {S : Type 0} (stands : S → List PureValue → Heap → Type 0) (terms
     };
   }
 
-  each_itself : (cs : List (Candidate S)) → AllCopied cs cs
+  pub each_itself : (cs : List (Candidate S)) → AllCopied cs cs
   each_itself [] = refl
   each_itself (c ∷ cs) = (c, (cs, (refl, itself c, each_itself cs)))
 
@@ -97,19 +99,25 @@ module _ {S : Type 0} (stands : S → List PureValue → Heap → Type 0) (terms
     all_copied = joined (map (faulted path here) cases.faults) faults last last copies (each_itself last)
 
     pub assign_lawful : (x : List ℕ) (e : PureExpr) → IsEvaluated (running_store path.stack) e cases → IsResult (Assigns path x) cases.good last → AreLawful stands terms asked m path here (assign x e) (faults ++ last)
-    assign_lawful x e evaluated result p c over no_end at command place =
-        copies_keep_the_laws stands terms depends plain p m (IsAsked (running_store path.stack) e) path ideal (faults ++ last)
-        ((valued_candidates stands terms).of_assignment p m path c x e cases ideal over no_end at command evaluated (subst (λ h. AreForCases path h (Assigns path x) cases ideal) (sym place) (last, (refl, result))))
-        all_copied
+    assign_lawful x e evaluated result p c over no_end at command place = (
+      copies_keep_the_laws stands terms depends plain p m (IsAsked (running_store path.stack) e) path ideal (faults ++ last)
+          ((valued_candidates stands terms).of_assignment p m path c x e cases ideal over no_end at command evaluated (subst (λ h. AreForCases path h (Assigns path x) cases ideal) (sym place) (last, (refl, result))))
+          all_copied,
+      λ valid placed. all_placed p path here stands terms depends plain faults last (faults ++ last) cases.faults all_copied (assigns_placed p valid path here c at placed x cases.good last (ap ends_body command) result),
+    )
 
     pub fail_lawful : (e : PureExpr) → IsEvaluated (running_store path.stack) e cases → IsResult (Fails path here) cases.good last → AreLawful stands terms asked m path here (fail e) (faults ++ last)
-    fail_lawful e evaluated result p c over no_end at command place =
-        copies_keep_the_laws stands terms depends plain p m (IsAsked (running_store path.stack) e) path ideal (faults ++ last)
-        ((valued_candidates stands terms).of_failure p m path c e cases ideal over no_end at command evaluated (subst (λ h. AreForCases path h (Fails path h) cases ideal) (sym place) (last, (refl, result))))
-        all_copied
+    fail_lawful e evaluated result p c over no_end at command place = (
+      copies_keep_the_laws stands terms depends plain p m (IsAsked (running_store path.stack) e) path ideal (faults ++ last)
+          ((valued_candidates stands terms).of_failure p m path c e cases ideal over no_end at command evaluated (subst (λ h. AreForCases path h (Fails path h) cases ideal) (sym place) (last, (refl, result))))
+          all_copied,
+      λ valid placed. all_placed p path here stands terms depends plain faults last (faults ++ last) cases.faults all_copied (fails_placed p valid path here c at placed cases.good last result),
+    )
 
     pub return_lawful : (e : PureExpr) → IsEvaluated (running_store path.stack) e cases → AreResults (Returns path path.stack) cases.good last → AreLawful stands terms asked m path here (return e) (faults ++ last)
-    return_lawful e evaluated result p c over no_end at command place =
-        copies_keep_the_laws stands terms depends plain p m (IsAsked (running_store path.stack) e) path ideal (faults ++ last)
-        (returns_keep_the_laws stands terms p m path c e cases ideal over no_end at command evaluated (subst (λ h. AreOfCases path h (Returns path path.stack) cases ideal) (sym place) (last, (refl, result))))
-        all_copied
+    return_lawful e evaluated result p c over no_end at command place = (
+      copies_keep_the_laws stands terms depends plain p m (IsAsked (running_store path.stack) e) path ideal (faults ++ last)
+          (returns_keep_the_laws stands terms p m path c e cases ideal over no_end at command evaluated (subst (λ h. AreOfCases path h (Returns path path.stack) cases ideal) (sym place) (last, (refl, result))))
+          all_copied,
+      λ valid placed. all_placed p path here stands terms depends plain faults last (faults ++ last) cases.faults all_copied (returns_placed p valid path here c at placed cases.good last result),
+    )

@@ -1,4 +1,9 @@
+pub mod Adding
+pub mod Arguments
+pub mod Asked
 pub mod Copied
 pub mod Fragments
 pub mod Leaving
+pub mod Placing
 pub mod Settled
+pub mod Simpler

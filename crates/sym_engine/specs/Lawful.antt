@@ -1,12 +1,15 @@
 -- What the code of a step promises: candidates that keep the laws of a command, and paths that are those of the step.
-use Rattle.std.specs.Prelude.{◌≡◌, ℕ, ◌+◌, ◌<◌, ◌^◌, List, [], ◌∷◌, ◌++◌, Some, None}
+use Rattle.std.specs.Prelude.{◌≡◌, ℕ, ℤ, ◌+◌, ◌<◌, ◌^◌, List, [], ◌∷◌, ◌++◌, Some, None}
 use Rattle.gil_values.specs.declared.places.Place.{Place}
 use Rattle.gil_values.specs.Pure.{PureValue}
 use Rattle.gil_syntax.specs.Pure.{PureParts, PureCommand, assign, call, act, ifgoto, return, fail, PureNumberedCommand}
+use Rattle.gil_syntax.specs.Valid.{IsValid}
 use Rattle.mem_model.specs.Actions.{Actions}
 use Rattle.mem_model.specs.Heaps.{Heap}
 use Rattle.pure_terms.specs.Pure.{PureTerm, PureAtom}
+use Rattle.sym_engine.specs.Placed.{AreAtCommands, GoesOnAtCommands}
 use Rattle.sym_evaluation.specs.Questions.{IsAsked}
+use Rattle.sym_model.specs.Lists.{Each}
 use Rattle.sym_model.specs.Terms.{StateTerms}
 use Rattle.sym_paths.specs.Meaning.{IsOverTable, command_of_path}
 use Rattle.sym_paths.specs.Moves.{running_store}
@@ -15,6 +18,7 @@ use Rattle.sym_paths.specs.Settling.{Candidate, AreCandidates}
 use Rattle.sym_paths.specs.Valued.{place_at}
 use Rattle.sym_steps.specs.Acting.{IsAskedByAction}
 use Rattle.sym_steps.specs.Calls.{IsAskedByCall}
+use Rattle.sym_steps.specs.Copies.{AreCopied}
 use Rattle.sym_steps.specs.Guards.{IsAskedByGuard}
 
 -- a frame runs, and may go to the command after the one at which it stands
@@ -44,8 +48,23 @@ module _ {S : Type 0} (stands : S → List PureValue → Heap → Type 0) (terms
   abbrev pub IsOwnAt : PureParts → PurePath S → PureAtom → Type 0
   IsOwnAt p path a = (c : PureNumberedCommand) × ((command_of_path p path ≡ Some c) × IsOwnOf path c.command a)
 
-  -- wherever the path stands at the command, at this place, these are its candidates
+  -- Wherever the path stands at the command, at this place of the program, these are its candidates; and in a valid program they
+  -- stand at commands, where the path does.
+  abbrev pub AreLawfulIn : PureParts → PurePath S → Place → PureCommand → List (Candidate S) → Type 0
+  AreLawfulIn p path here command cs =
+      (c : PureNumberedCommand) → IsOverTable terms path → path.ending ≡ None → command_of_path p path ≡ Some c
+      → c.command ≡ command → place_at path.stack c ≡ here
+      → AreCandidates p m stands terms (IsOwnOf path command) path cs
+      × (IsValid p → AreAtCommands p path.stack → Each (λ d. GoesOnAtCommands p d.path) cs)
+
+  -- the same of every program
   abbrev pub AreLawful : PurePath S → Place → PureCommand → List (Candidate S) → Type 0
-  AreLawful path here command cs =
-      (p : PureParts) (c : PureNumberedCommand) → IsOverTable terms path → path.ending ≡ None → command_of_path p path ≡ Some c
-      → c.command ≡ command → place_at path.stack c ≡ here → AreCandidates p m stands terms (IsOwnOf path command) path cs
+  AreLawful path here command cs = (p : PureParts) → AreLawfulIn p path here command cs
+
+-- Where those before are copies of some candidates, those after are copies of these and more.
+abbrev pub AddsCopies : {S : Type 0} → (S → List PureValue → Heap → Type 0) → (S → StateTerms)
+    → (S → List ℕ → List PureTerm → List PureValue → Heap → PureTerm → Type 0) → (S → ℤ → ℤ → Type 0) → List (Candidate S)
+    → List (Candidate S) → List (Candidate S) → Type 0
+AddsCopies {S} stands terms depends plain more before after =
+    (first : List (Candidate S)) → AreCopied stands terms depends plain first before
+    → AreCopied stands terms depends plain (first ++ more) after

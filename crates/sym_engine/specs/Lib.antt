@@ -1,3 +1,4 @@
 pub mod Lawful
+pub mod Placed
 pub mod Settles
 pub mod View

@@ -7,6 +7,7 @@ ghost use Rattle.sym_paths.specs.Laws.{IsBound};
 ghost use Rattle.sym_paths.specs.Moves.{running_store, advanced};
 ghost use Rattle.sym_paths.specs.View.{frame_view, frames_view};
 ghost use Rattle.sym_steps.specs.Calls.{waiting};
+ghost use Rattle.sym_steps.specs.Guards.{at_label};
 ghost use Rattle.sym_steps.specs.Returns.{Resumes};
 
 use gil_values::Text;
@@ -88,6 +89,22 @@ pub(crate) fn assign(
             run_in(running, callers)
         }
         None => unreachable!(),
+    }
+}
+
+/// The frame that runs goes to the command with an index, and stays where the label is below 0.
+pub(crate) fn go_to(alloc: Global, frames: Frames, label: &i64) -> Result<Frames, AllocError>
+    ensures { IfOk result (λ fs. frames_view fs ≡ at_label label.now (frames_view frames)) }
+{
+    match split(alloc, frames)? {
+        Some(Calls { running, callers }) => {
+            let mut running = running;
+            if let Ok(next) = usize::try_from(*label) {
+                running.next = next;
+            }
+            run_in(running, callers)
+        }
+        None => Ok(Sequence::new(alloc)),
     }
 }
 

@@ -29,7 +29,11 @@ use sym_model::SymMemory;
 use sym_paths::{Frame, Frames, Path, PathEnd};
 
 /// The cases of an expression in the frame that runs.
-fn evaluate_in(alloc: Global, frames: &Frames, expression: &Expr) -> Result<Cases<Term>, AllocError>
+pub(crate) fn evaluate_in(
+    alloc: Global,
+    frames: &Frames,
+    expression: &Expr,
+) -> Result<Cases<Term>, AllocError>
     requires { IsTrue (list_all is_spellable (literals_of (expr_view expression.now))) }
     ensures { IfOk result (λ c. IsEvaluated (running_store (frames_view frames.now)) (expr_view expression.now) (cases_view c)) }
 {
@@ -40,7 +44,7 @@ fn evaluate_in(alloc: Global, frames: &Frames, expression: &Expr) -> Result<Case
 }
 
 /// A failing candidate for each fault, on copies of the path.
-fn fail_each<M: SymMemory>(
+pub(crate) fn fail_each<M: SymMemory>(
     alloc: Global,
     path: &Path<M>,
     here: &Place,

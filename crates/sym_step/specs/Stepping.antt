@@ -1,26 +1,15 @@
 -- When a path may make a step.
-use Rattle.std.specs.Prelude.{◌≡◌, ℕ, ◌<◌, List, [], ◌∷◌, None, IsSome}
+use Rattle.std.specs.Prelude.{◌≡◌, ℕ, ◌<◌, List, [], None}
 use Rattle.std.specs.FinMap.{empty}
 use Rattle.gil_machine.specs.Run.{start, IsEntry}
-use Rattle.gil_machine.specs.Step.{command_of}
-use Rattle.gil_syntax.specs.Programs.{find_proc}
 use Rattle.gil_syntax.specs.Pure.{PureParts}
 use Rattle.gil_syntax.specs.Valid.{IsValid}
 use Rattle.gil_values.specs.Pure.{PureValue}
 use Rattle.mem_model.specs.Heaps.{Heap}
-use Rattle.sym_model.specs.Lists.{Each}
+pub use Rattle.sym_engine.specs.Placed.{IsAtCommand, AreAtCommands}
 use Rattle.sym_model.specs.Terms.{StateTerms}
 use Rattle.sym_paths.specs.Meaning.{Stands, IsOverTable}
-use Rattle.sym_paths.specs.Pure.{PureFrame, PurePath}
-
--- the frame stands at a command of the program
-abbrev pub IsAtCommand : PureParts → PureFrame → Type 0
-IsAtCommand p f = IsSome (command_of (find_proc p.procs f.procedure) f.next)
-
--- there is a frame that runs, and each frame stands at a command of the program
-abbrev pub AreAtCommands : PureParts → List PureFrame → Type 0
-AreAtCommands p [] = ⊥
-AreAtCommands p (f ∷ fs) = IsAtCommand p f × Each (IsAtCommand p) fs
+use Rattle.sym_paths.specs.Pure.{PurePath}
 
 -- how many steps a path makes at most
 abbrev pub most_steps : ℕ

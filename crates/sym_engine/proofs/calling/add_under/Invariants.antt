@@ -1,0 +1,9 @@
+use Rattle.std.proofs.Common.{◌≡◌, ◌++◌, map, take}
+use Rattle.pure_terms.specs.View.{atoms_view}
+use Rattle.sym_evaluation.specs.View.{faults_view}
+use Rattle.sym_steps.specs.Calls.{fault_under}
+use Rattle.sym_engine.proofs.calling.add_under.Given as goal
+
+abbrev pub invariant-loop-fault : goal.invariant-loop-fault
+invariant-loop-fault l =
+    faults_view l.all ≡ faults_view l.fn.faults ++ map (fault_under (atoms_view l.conds)) (faults_view (take l.fault-index l.fault-items))

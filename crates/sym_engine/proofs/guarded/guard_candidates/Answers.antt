@@ -1,0 +1,40 @@
+use Rattle.std.proofs.Common.{◌≡◌, ◌∷◌, ◌++◌, [], map, Some, refl, ap, sym, subst, ◌∙◌}
+use Rattle.std.specs.Option.{option_map}
+use Rattle.std.proofs.lemmas.List.{append-nil}
+use Rattle.gil_syntax.specs.Pure.{ifgoto as pure_ifgoto}
+use Rattle.gil_syntax.specs.View.{expr_view}
+use Rattle.pure_terms.specs.View.{term_view}
+use Rattle.sym_engine.specs.Lawful.{AddsCopies, AreLawful}
+use Rattle.sym_engine.specs.View.{candidates_view}
+use Rattle.sym_engine.proofs.Adding.{guard_lawful, adds_none}
+use Rattle.sym_engine.proofs.Arguments.{seen_none}
+use Rattle.sym_engine.proofs.Leaving.{if_ok_map}
+use Rattle.sym_engine.proofs.Simpler.{guard_evaluated}
+use Rattle.sym_engine.proofs.guarded.guard_candidates.Goals as goal
+use Rattle.sym_evaluation.specs.View.{cases_view, faults_view, good_view, sides_view}
+use Rattle.sym_paths.specs.Moves.{running_store}
+use Rattle.sym_paths.specs.Valued.{IsEvaluated}
+use Rattle.sym_paths.specs.View.{path_view}
+use Rattle.sym_steps.specs.Guards.{Turns, turns}
+
+pub returns-in-None : goal.returns-in-None
+returns-in-None g c =
+    guard_lawful g.M.SymMemory.stands g.M.SymMemory.terms g.M.SymMemory.depends g.M.SymMemory.plain g.M.SymMemory.asked g.M.Local.LocalMemory.actions (path_view c.args.path) c.args.here.now (cases_view c.in_ok-faults.field-0) (candidates_view c.in_ok-candidates.candidates) (candidates_view c.in_ok-candidates.candidates) []
+    c.in_ok-candidates.ensures (adds_none g.M.SymMemory.stands g.M.SymMemory.terms g.M.SymMemory.depends g.M.SymMemory.plain (candidates_view c.in_ok-candidates.candidates))
+    (expr_view c.args.expression.now) c.args.label.now c.in_ok-faults.ensures (seen_none term_view (Turns (path_view c.args.path) c.args.label.now c.args.here.now) c.in_ok-faults.field-0.good c.in-None.is)
+
+pub returns-in_ok-sides-in-Some : goal.returns-in_ok-sides-in-Some
+returns-in_ok-sides-in-Some g c =
+    let path = path_view c.args.path in
+    let e = expr_view c.args.expression.now in
+    let guard = good_view term_view (record { conds = c.in-Some.good.conds; result = c.in_ok-result-in-Some.result }) in
+    let evaluated : IsEvaluated (running_store path.stack) e (record { faults = faults_view c.in_ok-faults.field-0.faults; good = Some guard }) =
+    guard_evaluated (running_store path.stack) e c.in_ok-faults.field-0.good c.in-Some.good (faults_view c.in_ok-faults.field-0.faults) (term_view c.in_ok-result-in-Some.result) c.in-Some.is c.in_ok-faults.ensures c.in_ok-result-in-Some.ensures in
+    if_ok_map
+    (λ cs. AddsCopies g.M.SymMemory.stands g.M.SymMemory.terms g.M.SymMemory.depends g.M.SymMemory.plain (turns path c.args.label.now c.args.here.now guard (sides_view c.in_ok-sides-in-Some.sides)) (candidates_view c.in_ok-candidates.candidates) (candidates_view cs))
+    (λ cs. AreLawful g.M.SymMemory.stands g.M.SymMemory.terms g.M.SymMemory.asked g.M.Local.LocalMemory.actions path c.args.here.now (pure_ifgoto e c.args.label.now) (candidates_view cs)) c.add_sides.result
+    (λ cs adds.
+    guard_lawful g.M.SymMemory.stands g.M.SymMemory.terms g.M.SymMemory.depends g.M.SymMemory.plain g.M.SymMemory.asked g.M.Local.LocalMemory.actions path c.args.here.now (record { faults = faults_view c.in_ok-faults.field-0.faults; good = Some guard }) (candidates_view c.in_ok-candidates.candidates) (candidates_view cs)
+    (turns path c.args.label.now c.args.here.now guard (sides_view c.in_ok-sides-in-Some.sides)) c.in_ok-candidates.ensures adds e c.args.label.now evaluated
+    (sides_view c.in_ok-sides-in-Some.sides, (c.in_ok-sides-in-Some.ensures.sides, c.in_ok-sides-in-Some.ensures.origin, refl)))
+    c.add_sides.ensures
