@@ -115,24 +115,24 @@ fn settle_one<M: SymMemory, D: Decider>(
     ensures { IfOk result (λ o. (p : PureParts) (path : PurePath M) → StandsThere p path old here.now
         → IsAfter path (candidate_view candidate) → SettlesAs p path (candidate_view candidate) (option_map path_view o)) }
 {
-    let atoms = candidate.path.conds.atoms(alloc)?;
-    let open = needs_form(&atoms);
+    let atoms = candidate.path.conds.atoms();
+    let open = needs_form(atoms);
     if !open && atoms.len() == old {
         return Ok(Some(candidate.path));
     }
-    match decider.decide(alloc, &candidate.path.vars, &atoms)? {
+    match decider.decide(alloc, &candidate.path.vars, atoms)? {
         Decision::Unsat => Ok(None),
         Decision::Sat(_) => {
             if !open {
                 return Ok(Some(candidate.path));
             }
-            match first_outside(alloc, &candidate.path.vars, &atoms)? {
+            match first_outside(alloc, &candidate.path.vars, atoms)? {
                 Some(reason) => Ok(Some(leave_unknown(alloc, candidate, here, reason)?)),
                 None => unreachable!(),
             }
         }
         Decision::Unknown(named) => {
-            let reason = match first_outside(alloc, &candidate.path.vars, &atoms)? {
+            let reason = match first_outside(alloc, &candidate.path.vars, atoms)? {
                 Some(reason) => reason,
                 None => named,
             };

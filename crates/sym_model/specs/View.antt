@@ -44,4 +44,4 @@ abbrev pub branches_view : {M : Type 0} → List (Branch M) → List (PureBranch
 branches_view bs = map branch_view bs
 
 abbrev pub path_view : PathCond → List PureAtom
-path_view p = atoms_view p.conds.items
+path_view p = atoms_view p.conds

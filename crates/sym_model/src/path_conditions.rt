@@ -1,5 +1,5 @@
 //! The conditions of a path.
-ghost use Rattle.std.specs.Prelude.{◌≡◌, [], ◌∷◌, ◌++◌, IfOk, OnOk, OnErr};
+ghost use Rattle.std.specs.Prelude.{◌≡◌, [], ◌∷◌, ◌++◌, OnOk, OnErr};
 ghost use Rattle.pure_terms.specs.View.{atom_view, atoms_view};
 ghost use Rattle.sym_model.specs.View.{path_view};
 
@@ -11,7 +11,7 @@ use std::alloc::{AllocError, Global};
 /// `path_view`.
 #[derive(Debug, Drop)]
 pub struct PathCond {
-    conds: Vec<Atom>,
+    conds: Atoms,
 }
 
 impl PathCond {
@@ -20,7 +20,7 @@ impl PathCond {
         ensures { path_view result ≡ [] }
     {
         PathCond {
-            conds: Vec::new(alloc),
+            conds: Sequence::new(alloc),
         }
     }
 
@@ -34,13 +34,17 @@ impl PathCond {
     }
 
     /// The conditions in order.
-    pub fn atoms(&self, alloc: Global) -> Result<Atoms, AllocError>
-        ensures { IfOk result (λ atoms. atoms_view atoms ≡ path_view self.now) }
+    pub fn atoms(&self) -> &Atoms
+        ensures { atoms_view result.now ≡ path_view self.now }
     {
-        let mut atoms = Sequence::new(alloc);
-        for condition in &self.conds {
-            atoms.push(condition.copy(alloc)?)?;
-        }
-        Ok(atoms)
+        &self.conds
+    }
+
+    /// The conditions in order, which stay where they are.
+    pub fn into_atoms(self) -> Atoms
+        ensures { atoms_view result ≡ path_view self }
+    {
+        let PathCond { conds } = self;
+        conds
     }
 }

@@ -47,11 +47,10 @@ fn a_chunk_is_removed_at_its_place(rt: HostRuntime) -> Result<(), Fail> {
 fn conditions_stay_in_order(rt: HostRuntime) -> Result<(), Fail> {
     let alloc = rt.alloc();
     let mut path = PathCond::new(alloc);
-    assert_eq!(rt; path.atoms(alloc)?.len(), 0);
+    assert_eq!(rt; path.atoms().len(), 0);
     path.add(Atom::Holds(number(1)))?;
     path.add(Atom::Open(number(2)))?;
-    let atoms = path.atoms(alloc)?;
-    match atoms.as_slice() {
+    match path.atoms().as_slice() {
         [Atom::Holds(first), Atom::Open(second)] => {
             assert!(rt; *first == number(1));
             assert!(rt; *second == number(2));

@@ -30,9 +30,8 @@ pub(crate) fn copy_choices(alloc: Global, choices: &Choices) -> Result<Choices, 
 pub(crate) fn copy_path_condition(alloc: Global, conds: &PathCond) -> Result<PathCond, AllocError>
     ensures { IfOk result (λ copied. conditions_view copied ≡ conditions_view conds.now) }
 {
-    let atoms = conds.atoms(alloc)?;
     let mut copied = PathCond::new(alloc);
-    for atom in atoms.as_slice() {
+    for atom in conds.atoms().as_slice() {
         copied.add(atom.copy(alloc)?)?;
     }
     Ok(copied)

@@ -235,7 +235,7 @@ pub(crate) fn judge<M: SymMemory, D: Decider>(
             Judgement::Harmless,
         ),
         Some(PathEnd::Failed(term, place)) => {
-            let conds = conds.atoms(alloc)?;
+            let conds = conds.into_atoms();
             judge_failure(
                 alloc,
                 decider,
@@ -250,7 +250,7 @@ pub(crate) fn judge<M: SymMemory, D: Decider>(
             )
         }
         Some(PathEnd::Missed(_, place)) => {
-            let conds = conds.atoms(alloc)?;
+            let conds = conds.into_atoms();
             judge_miss(
                 alloc,
                 decider,
@@ -264,7 +264,7 @@ pub(crate) fn judge<M: SymMemory, D: Decider>(
             )
         }
         Some(PathEnd::Unknown(place, reason)) => {
-            let conds = conds.atoms(alloc)?;
+            let conds = conds.into_atoms();
             Ok(ask(
                 Lists {
                     vars,

@@ -30,17 +30,17 @@ met_lists terms path conds may known same = record {
 pub judge_failure-requires-clause-met : goal.judge_failure-requires-clause-met
 judge_failure-requires-clause-met g c =
     let ending : option_map end_view c.args.path.end ≡ Some (failed (term_view c.in-Some-Failed.term) c.in-Some-Failed.place) = ap (option_map end_view) (c.in-Some-Failed.is ∙ ap Some c.in-Some-Failed.field-0-is) in
-    met_lists g.M.SymMemory.terms (path_view c.args.path) (atoms_view c.in_ok-conds-in-Some-Failed.conds) c.requires (λ holds. subst IsUnknown ending holds) c.in_ok-conds-in-Some-Failed.ensures
+    met_lists g.M.SymMemory.terms (path_view c.args.path) (atoms_view c.into_atoms-conds-in-Some-Failed.result) c.requires (λ holds. subst IsUnknown ending holds) c.into_atoms-conds-in-Some-Failed.ensures
 
 pub judge_failure-requires-clause-defined : goal.judge_failure-requires-clause-defined
 judge_failure-requires-clause-defined g c v canonical =
     let ending : option_map end_view c.args.path.end ≡ Some (failed (term_view c.in-Some-Failed.term) c.in-Some-Failed.place) = ap (option_map end_view) (c.in-Some-Failed.is ∙ ap Some c.in-Some-Failed.field-0-is) in
-    c.requires.defined (term_view c.in-Some-Failed.term) c.in-Some-Failed.place v ending (subst (λ atoms. IsCanonical c.args.path.vars atoms v) c.in_ok-conds-in-Some-Failed.ensures canonical)
+    c.requires.defined (term_view c.in-Some-Failed.term) c.in-Some-Failed.place v ending (subst (λ atoms. IsCanonical c.args.path.vars atoms v) c.into_atoms-conds-in-Some-Failed.ensures canonical)
 
 pub judge_miss-requires : goal.judge_miss-requires
 judge_miss-requires g c =
     let ending : option_map end_view c.args.path.end ≡ Some (missed (key_view c.in-Some-Missed.field-0-0) c.in-Some-Missed.place) = ap (option_map end_view) (c.in-Some-Missed.is ∙ ap Some c.in-Some-Missed.field-0-is) in
-    record { met = met_lists g.M.SymMemory.terms (path_view c.args.path) (atoms_view c.in_ok-conds-in-Some-Missed.conds) c.requires (λ holds. subst IsUnknown ending holds) c.in_ok-conds-in-Some-Missed.ensures }
+    record { met = met_lists g.M.SymMemory.terms (path_view c.args.path) (atoms_view c.into_atoms-conds-in-Some-Missed.result) c.requires (λ holds. subst IsUnknown ending holds) c.into_atoms-conds-in-Some-Missed.ensures }
 
 pub returns-in-Some-Missed : goal.returns-in-Some-Missed
 returns-in-Some-Missed g c =
@@ -48,8 +48,8 @@ returns-in-Some-Missed g c =
     let place : Place = c.in-Some-Missed.place in
     let ending : option_map end_view c.args.path.end ≡ Some (missed key place) = ap (option_map end_view) (c.in-Some-Missed.is ∙ ap Some c.in-Some-Missed.field-0-is) in
     let lists : List PureAtom → PureLists = λ atoms. record { vars = c.args.path.vars; choices = c.args.path.choices; given = atoms_view c.args.path.given; conds = atoms } in
-    let judged : Judgement → Type 0 = λ j. (k : PureKey) → IsFailureJudged (lists (atoms_view c.in_ok-conds-in-Some-Missed.conds)) (missed k place) place (λ q. ⊥) (judgement_view j) in
+    let judged : Judgement → Type 0 = λ j. (k : PureKey) → IsFailureJudged (lists (atoms_view c.into_atoms-conds-in-Some-Missed.result)) (missed k place) place (λ q. ⊥) (judgement_view j) in
     let whole : Judgement → Type 0 = λ j. IsJudgedEnd (path_view c.args.path) (Some (missed key place)) (judgement_view j) in
     subst (λ o. IfOk c.judge_miss.result (λ j. IsJudgedEnd (path_view c.args.path) o (judgement_view j))) (sym ending)
     (IfOk-weaker c.judge_miss.result judged whole
-    (λ j is. subst (λ atoms. IsFailureJudged (lists atoms) (missed key place) place (λ q. ⊥) (judgement_view j)) c.in_ok-conds-in-Some-Missed.ensures (is key)) c.judge_miss.ensures)
+    (λ j is. subst (λ atoms. IsFailureJudged (lists atoms) (missed key place) place (λ q. ⊥) (judgement_view j)) c.into_atoms-conds-in-Some-Missed.ensures (is key)) c.judge_miss.ensures)
