@@ -1,4 +1,5 @@
 pub mod Lawful
 pub mod Placed
+pub mod Plain
 pub mod Settles
 pub mod View

@@ -8,3 +8,4 @@ pub mod Silent
 pub mod Starting
 pub mod Valuations
 pub mod Valued
+pub mod Wider

@@ -1,5 +1,5 @@
 -- The first path stands for the first state.
-use Rattle.std.proofs.Common.{◌≡◌, ℕ, ℤ, pos, neg_ℤ, None, List, [], ◌∷◌, length, IsTrue, refl, sym, ap, subst}
+use Rattle.std.proofs.Common.{◌≡◌, ℕ, ℤ, pos, neg_ℤ, None, List, [], ◌∷◌, length, IsTrue, refl, sym, ap, subst, arith}
 use Rattle.std.specs.FinMap.{empty}
 use Rattle.gil_values.specs.Pure.{PureValue}
 use Rattle.gil_values.specs.Symbols.{AreBelow}
@@ -9,6 +9,7 @@ use Rattle.gil_syntax.specs.Pure.{PureParts}
 use Rattle.gil_machine.specs.Run.{start, params_of}
 use Rattle.gil_machine.specs.Step.{bind_all}
 use Rattle.mem_model.specs.Heaps.{Heap}
+use Rattle.pure_terms.specs.declared.variables.Sort.{Sort}
 use Rattle.pure_terms.specs.Meaning.{all_true, IsProper}
 use Rattle.pure_terms.specs.Pure.{PureTerm}
 use Rattle.sym_evaluation.specs.Meaning.{StandsFor}
@@ -55,11 +56,12 @@ first_stands stands path p f vars conds stack memory drawn = record {
 }
 
 -- it has no numbers
-pub first_plain : {S : Type 0} (plain : S → ℤ → ℤ → Type 0) (path : PurePath S) (f : List ℕ) (b : ℕ) → path.conds ≡ [] → path.stack ≡ entry_frame f ∷ [] → ((low high : ℤ) → plain path.memory low high) → path.ending ≡ None
-    → IsPlainPath plain b path
-first_plain plain path f b conds stack memory ending = record {
+pub first_plain : {S : Type 0} (plain : S → ℤ → ℤ → Type 0) (path : PurePath S) (f : List ℕ) (b : ℕ) → path.vars ≡ [] → path.conds ≡ [] → path.stack ≡ entry_frame f ∷ [] → ((low high : ℤ) → plain path.memory low high)
+    → path.ending ≡ None → IsPlainPath plain b path
+first_plain plain path f b vars conds stack memory ending = record {
   stores = subst (Each (λ k. OfEachName (IsPlainWithin (neg_ℤ (pos b)) (pos b)) k.store)) (sym stack) ((λ x t is. not_none is), tt);
   memory = λ low high below above. memory low high;
   conds = subst (Each (IsDecidedWithin (neg_ℤ (pos b)) (pos b))) (sym conds) tt;
   ending = subst (λ o. Each (IsPlainWithin (neg_ℤ (pos b)) (pos b)) (end_terms o)) (sym ending) tt;
+  few_variables = omega (arith, ap (λ (sorts : List Sort). length sorts) vars);
 }
