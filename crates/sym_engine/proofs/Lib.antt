@@ -4,6 +4,12 @@ pub mod Asked
 pub mod Copied
 pub mod Fragments
 pub mod Leaving
+pub mod Literal
 pub mod Placing
+pub mod Plain
 pub mod Settled
+pub mod SettledPlain
+pub mod SilentPlain
 pub mod Simpler
+pub mod Staying
+pub mod Texts

@@ -67,7 +67,7 @@ without_fault p f q valid found kind =
 
 -- ---- the commands that follow
 
-neither : (a b : Bool) → (a || b) ≡ false → (a ≡ false) × (b ≡ false)
+pub neither : (a b : Bool) → (a || b) ≡ false → (a ≡ false) × (b ≡ false)
 neither true b e = absurd (true≢false e)
 neither false b e = (refl, e)
 
@@ -96,7 +96,7 @@ one_first : (cs : List PureNumberedCommand) → last_ends_body cs ≡ true → I
 one_first [] last = absurd (true≢false (sym last))
 one_first (c ∷ cs) last = refl
 
-command_found : (o : Option PureProc) (i : ℕ) (c : PureNumberedCommand) → command_of o i ≡ Some c → (q : PureProc) × ((o ≡ Some q) × (slice_get q.body i ≡ Some c))
+pub command_found : (o : Option PureProc) (i : ℕ) (c : PureNumberedCommand) → command_of o i ≡ Some c → (q : PureProc) × ((o ≡ Some q) × (slice_get q.body i ≡ Some c))
 command_found None i c is = not_none is
 command_found (Some q) i c is = (q, (refl, is))
 

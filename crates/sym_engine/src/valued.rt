@@ -7,7 +7,9 @@ ghost use Rattle.gil_syntax.specs.View.{expr_view};
 ghost use Rattle.gil_syntax.specs.WellMade.{is_spellable};
 ghost use Rattle.pure_terms.specs.View.{term_view};
 ghost use Rattle.sym_engine.specs.Lawful.{AreLawful, MayAdvance};
+ghost use Rattle.sym_engine.specs.Plain.{StayPlain};
 ghost use Rattle.sym_engine.specs.View.{candidate_view, candidates_view};
+ghost use Rattle.sym_evaluation.specs.Plainly.{AnswersPlainly, GuardsPlainly};
 ghost use Rattle.sym_evaluation.specs.View.{cases_view, faults_view, good_view};
 ghost use Rattle.sym_paths.specs.Moves.{running_store};
 ghost use Rattle.sym_paths.specs.Valued.{Assigns, Fails, IsEvaluated, faulted};
@@ -35,7 +37,9 @@ pub(crate) fn evaluate_in(
     expression: &Expr,
 ) -> Result<Cases<Term>, AllocError>
     requires { IsTrue (list_all is_spellable (literals_of (expr_view expression.now))) }
-    ensures { IfOk result (λ c. IsEvaluated (running_store (frames_view frames.now)) (expr_view expression.now) (cases_view c)) }
+    ensures evaluated { IfOk result (λ c. IsEvaluated (running_store (frames_view frames.now)) (expr_view expression.now) (cases_view c)) }
+    ensures plain { IfOk result (λ c. AnswersPlainly (running_store (frames_view frames.now)) (expr_view expression.now) (cases_view c)) }
+    ensures guard { IfOk result (λ c. GuardsPlainly (running_store (frames_view frames.now)) (expr_view expression.now) (cases_view c)) }
 {
     match frames.as_slice() {
         [.., running] => evaluate(alloc, &running.store, expression),
@@ -92,8 +96,10 @@ pub fn assign_candidates<M: SymMemory>(
     requires spellable { IsTrue (list_all is_spellable (literals_of (expr_view expression.now))) }
     requires steps { path.steps + 1 < 2 ^ 32 }
     requires next { MayAdvance (frames_view path.stack) }
-    ensures { IfOk result (λ cs. AreLawful M.stands M.terms M.asked M.Local.actions (path_view path) here.now
+    ensures lawful { IfOk result (λ cs. AreLawful M.stands M.terms M.asked M.Local.actions (path_view path) here.now
         (pure_assign name.now (expr_view expression.now)) (candidates_view cs)) }
+    ensures plain { M.keeps_plain → IfOk result (λ cs. StayPlain M.plain (path_view path) (pure_assign name.now (expr_view expression.now))
+        (candidates_view cs)) }
 {
     let Cases { faults, good } = evaluate_in(alloc, &path.stack, expression)?;
     let mut candidates = fail_each(alloc, &path, here, &faults)?;
@@ -129,8 +135,10 @@ pub fn fail_candidates<M: SymMemory>(
 ) -> Result<Candidates<M>, AllocError>
     requires spellable { IsTrue (list_all is_spellable (literals_of (expr_view expression.now))) }
     requires steps { path.steps + 1 < 2 ^ 32 }
-    ensures { IfOk result (λ cs. AreLawful M.stands M.terms M.asked M.Local.actions (path_view path) here.now
+    ensures lawful { IfOk result (λ cs. AreLawful M.stands M.terms M.asked M.Local.actions (path_view path) here.now
         (pure_fail (expr_view expression.now)) (candidates_view cs)) }
+    ensures plain { M.keeps_plain → IfOk result (λ cs. StayPlain M.plain (path_view path) (pure_fail (expr_view expression.now))
+        (candidates_view cs)) }
 {
     let Cases { faults, good } = evaluate_in(alloc, &path.stack, expression)?;
     let mut candidates = fail_each(alloc, &path, here, &faults)?;
@@ -215,8 +223,10 @@ pub fn return_candidates<M: SymMemory>(
     requires spellable { IsTrue (list_all is_spellable (literals_of (expr_view expression.now))) }
     requires steps { path.steps + 1 < 2 ^ 32 }
     requires next { MayAdvance (frames_view path.stack) }
-    ensures { IfOk result (λ cs. AreLawful M.stands M.terms M.asked M.Local.actions (path_view path) here.now
+    ensures lawful { IfOk result (λ cs. AreLawful M.stands M.terms M.asked M.Local.actions (path_view path) here.now
         (pure_return (expr_view expression.now)) (candidates_view cs)) }
+    ensures plain { M.keeps_plain → IfOk result (λ cs. StayPlain M.plain (path_view path) (pure_return (expr_view expression.now))
+        (candidates_view cs)) }
 {
     let Cases { faults, good } = evaluate_in(alloc, &path.stack, expression)?;
     let mut candidates = fail_each(alloc, &path, here, &faults)?;
