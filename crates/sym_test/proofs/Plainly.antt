@@ -1,7 +1,6 @@
 -- Where every command on the way to an end has a simple form, the path is plain within the bounds of the fragment: so nothing is asked.
-use Rattle.std.proofs.Common.{◌≡◌, ◌⊎◌, ⊎_elim, inl, inr, ℕ, suc, ◌≤◌, ◌^◌, ℤ, pos, neg_ℤ, ◌≤ℤ◌, int_le, List, [], ◌∷◌, length, Bool, true, false, not, ◌&&◌, ◌||◌, if◌then◌else◌, Some, None, IsTrue, refl, sym, ap, subst, ◌∙◌, arith}
+use Rattle.std.proofs.Common.{◌≡◌, ◌⊎◌, ⊎_elim, inl, inr, ℕ, suc, ◌≤◌, ◌^◌, ℤ, pos, neg_ℤ, List, [], ◌∷◌, length, Bool, true, false, not, ◌&&◌, ◌||◌, if◌then◌else◌, Some, None, IsTrue, refl, sym, ap, subst, ◌∙◌, arith}
 use Rattle.std.proofs.lemmas.Bool.{and_parts, and_from}
-use Rattle.std.proofs.lemmas.Int.{ints}
 use Rattle.gil_values.specs.Pure.{PureValue}
 use Rattle.std.specs.List.{list_all}
 use Rattle.std.specs.Str.{bytes_eq}
@@ -12,13 +11,11 @@ use Rattle.gil_machine.specs.State.{Frame, State}
 use Rattle.gil_machine.specs.Step.{command_of, command_at}
 use Rattle.mem_model.specs.Actions.{Actions}
 use Rattle.mem_model.specs.Heaps.{Heap}
-use Rattle.pure_terms.specs.declared.literals.Literal.{Literal}
 use Rattle.pure_terms.specs.declared.variables.Sort.{Sort}
-use Rattle.pure_terms.specs.Fragment.{is_simple, names_sort, is_literal_between, has_literals_between, have_literals_between, has_narrow_literals}
+use Rattle.pure_terms.specs.Fragment.{is_simple, names_sort, has_literals_between, has_narrow_literals}
 use Rattle.pure_terms.specs.Meaning.{Satisfies}
-use Rattle.pure_terms.specs.Numbers.{is_between}
 use Rattle.pure_terms.proofs.FragmentLaws.{passes_at}
-use Rattle.pure_terms.specs.Pure.{PureTerm, literal, variable, list_of, unary_of, binary_of, PureTerms, no_terms, term_and, PureAtom, term_of}
+use Rattle.pure_terms.specs.Pure.{PureTerm, PureAtom, term_of}
 use Rattle.sym_explore.specs.Laws.{IsBeside}
 use Rattle.sym_explore.specs.Plain.{IsAtSimple}
 use Rattle.sym_explore.specs.Runs.{StandsAfter}
@@ -30,67 +27,25 @@ use Rattle.sym_model.proofs.ListLaws.{not_none}
 use Rattle.sym_paths.specs.Meaning.{command_of_path}
 use Rattle.sym_paths.specs.Pure.{PurePath}
 use Rattle.sym_paths.specs.Steps.{IsUnknown}
+use Rattle.sym_paths.proofs.Wider.{term_wider, lower_bound, higher_bound}
 use Rattle.sym_paths.proofs.Silent.{stands_at}
 use Rattle.sym_test.specs.Undecided.{first_state, MeetsOther, keeps_out, is_narrow_term}
 use Rattle.sym_test.proofs.Trailing.{TrailLaws}
 
--- ---- wider bounds
-
-test_to : (m n : ℤ) → int_le m n ≡ true → m ≤ℤ n
-test_to m n e = grind (arith, ints)
-
-to_test : (m n : ℤ) → m ≤ℤ n → int_le m n ≡ true
-to_test m n h = grind (arith, ints)
-
-between_wider : (low high least greatest n : ℤ) → least ≤ℤ low → high ≤ℤ greatest → is_between low high n ≡ true → is_between least greatest n ≡ true
-between_wider low high least greatest n below above between =
-    let parts = and_parts (int_le low n) (int_le n high) between in
-    let first : low ≤ℤ n = test_to low n parts.0 in
-    let second : n ≤ℤ high = test_to n high parts.1 in
-    and_from (int_le least n) (int_le n greatest) (to_test least n (omega (arith, ints, below, first))) (to_test n greatest (omega (arith, ints, above, second)))
-
-module _ (low high least greatest : ℤ) (below : least ≤ℤ low) (above : high ≤ℤ greatest) where
-  literal_wider : (l : Literal) → is_literal_between low high l ≡ true → is_literal_between least greatest l ≡ true
-  literal_wider (Literal.Int n) is = between_wider low high least greatest n below above is
-  literal_wider (Literal.Bool b) is = refl
-  literal_wider (Literal.Str cs) is = refl
-  literal_wider (Literal.Kind k) is = refl
-  literal_wider (Literal.Proc f) is = refl
-
-  mutual
-    pub term_wider : (t : PureTerm) → has_literals_between low high t ≡ true → has_literals_between least greatest t ≡ true
-    term_wider (literal l) is = literal_wider l is
-    term_wider (variable x) is = refl
-    term_wider (list_of ts) is = terms_wider ts is
-    term_wider (unary_of op t) is = term_wider t is
-    term_wider (binary_of op s t) is =
-        let parts = and_parts (has_literals_between low high s) (has_literals_between low high t) is in
-        and_from (has_literals_between least greatest s) (has_literals_between least greatest t) (term_wider s parts.0) (term_wider t parts.1)
-
-    terms_wider : (ts : PureTerms) → have_literals_between low high ts ≡ true → have_literals_between least greatest ts ≡ true
-    terms_wider no_terms is = refl
-    terms_wider (term_and t ts) is =
-        let parts = and_parts (has_literals_between low high t) (have_literals_between low high ts) is in
-        and_from (has_literals_between least greatest t) (have_literals_between least greatest ts) (term_wider t parts.0) (terms_wider ts parts.1)
+-- ---- narrow terms
 
 abbrev minus : ℕ → ℤ
 minus b = neg_ℤ (pos b)
 
-wide_below : (b : ℕ) → b ≤ 2 ^ 80 → minus (2 ^ 80) ≤ℤ minus b
-wide_below b le = omega (arith, ints, le)
-
-wide_above : (b : ℕ) → b ≤ 2 ^ 80 → pos b ≤ℤ pos (2 ^ 80)
-wide_above b le = omega (arith, ints, le)
-
 -- conditions and failing terms of a plain path are those of the fragment
 pub atom_passes : (b : ℕ) (a : PureAtom) → b ≤ 2 ^ 80 → IsDecidedWithin (minus b) (pos b) a → keeps_out a ≡ false
 atom_passes b a le (form, literals) =
-    (λ i. not (form i) || not (has_narrow_literals a)) ∙ ap not (term_wider (minus b) (pos b) (minus (2 ^ 80)) (pos (2 ^ 80)) (wide_below b le) (wide_above b le) (term_of a) literals)
+    (λ i. not (form i) || not (has_narrow_literals a)) ∙ ap not (term_wider (minus b) (pos b) (minus (2 ^ 80)) (pos (2 ^ 80)) (lower_bound b (2 ^ 80) le) (higher_bound b (2 ^ 80) le) (term_of a) literals)
 
 pub term_is_narrow : (b : ℕ) (t : PureTerm) → b ≤ 2 ^ 80 → IsPlainWithin (minus b) (pos b) t → is_narrow_term t ≡ true
 term_is_narrow b t le (plain, literals) =
     and_from (is_simple t) (has_literals_between (minus (2 ^ 80)) (pos (2 ^ 80)) t) (and_parts (is_simple t) (not (names_sort Sort.Any t) && not (names_sort Sort.List t)) plain).0
-    (term_wider (minus b) (pos b) (minus (2 ^ 80)) (pos (2 ^ 80)) (wide_below b le) (wide_above b le) t literals)
+    (term_wider (minus b) (pos b) (minus (2 ^ 80)) (pos (2 ^ 80)) (lower_bound b (2 ^ 80) le) (higher_bound b (2 ^ 80) le) t literals)
 
 -- ---- commands of other forms
 
