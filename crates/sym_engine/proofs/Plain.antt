@@ -5,7 +5,6 @@ use Rattle.std.specs.Str.{bytes_eq}
 use Rattle.std.proofs.lemmas.Int.{ints}
 use Rattle.std.proofs.lemmas.List.{length-append}
 use Rattle.gil_values.specs.declared.places.Place.{Place}
-use Rattle.gil_values.specs.Operators.{Fault}
 use Rattle.gil_values.specs.Pure.{PureValue}
 use Rattle.gil_syntax.specs.Programs.{find_proc}
 use Rattle.gil_syntax.specs.Pure.{PureParts, PureProc}
@@ -14,15 +13,14 @@ use Rattle.pure_terms.specs.declared.literals.Literal.{Literal}
 use Rattle.pure_terms.specs.declared.variables.Sort.{Sort}
 use Rattle.pure_terms.specs.Pure.{PureTerm, literal, variable, list_of, unary_of, binary_of, PureAtom}
 use Rattle.sym_engine.specs.Plain.{AreAllPlain}
-use Rattle.sym_evaluation.specs.Plainly.{IsPlain, text_bound, IsSureFault, IsSureResult, IsPlainGuard}
-use Rattle.sym_evaluation.specs.Pure.{PureStore, term_at, PureFaultCase, PureGoodCase, PureCases, PureSides}
+use Rattle.sym_evaluation.specs.Plainly.{IsPlain, text_bound, IsSureFault, IsSureResult}
+use Rattle.sym_evaluation.specs.Pure.{PureStore, term_at, PureGoodCase, PureCases, PureSides}
 use Rattle.sym_evaluation.specs.Questions.{OnSide, EachSide}
-use Rattle.sym_model.specs.Laws.{IsPlainWithin, IsDecidedWithin, IsCopy, ActsPlainly, ArePlainArguments, growth}
+use Rattle.sym_model.specs.Laws.{IsPlainWithin, IsDecidedWithin, IsCopy, ActsPlainly, growth}
 use Rattle.sym_model.specs.Lists.{Each}
 use Rattle.sym_model.specs.Pure.{PureBranch, PureResult, done, failed as action_failed, missed, result_terms}
 use Rattle.sym_model.specs.Terms.{StateTerms, is_literal}
 use Rattle.sym_model.proofs.ListLaws.{same_some, not_none, each_append, each_to}
-use Rattle.sym_paths.specs.Laws.{IsBound}
 use Rattle.sym_paths.specs.Meaning.{OfEachName, end_terms}
 use Rattle.sym_paths.specs.Moves.{advanced, running_store}
 use Rattle.sym_paths.specs.Pure.{PureFrame, failed, missed as path_missed, PurePath}

@@ -1,5 +1,5 @@
 -- The numbers in the commands of a valid program are those of texts.
-use Rattle.std.proofs.Common.{◌≡◌, ℕ, ◌-◌, ◌≤◌, ◌^◌, ℤ, pos, negsuc, neg_ℤ, List, [], ◌∷◌, map, length, Bool, true, false, ◌&&◌, ◌||◌, Some, slice_get, refl, sym, ap, ◌∙◌, arith}
+use Rattle.std.proofs.Common.{◌≡◌, ℕ, ◌-◌, ◌^◌, ℤ, pos, negsuc, neg_ℤ, List, [], ◌∷◌, map, length, true, false, ◌||◌, Some, slice_get, refl, sym, ap, ◌∙◌, arith}
 use Rattle.std.specs.Prelude.{int_lt, int_le, nat_le}
 use Rattle.std.specs.List.{list_any, list_all, filter}
 use Rattle.std.specs.Option.{option_map}

@@ -13,7 +13,9 @@ ghost use Rattle.pure_terms.specs.Kinds.{allows, known_kind};
 ghost use Rattle.pure_terms.specs.Pure.{opening};
 ghost use Rattle.pure_terms.specs.View.{term_view, terms_view, atoms_view};
 ghost use Rattle.sym_engine.specs.Lawful.{AreLawfulIn, MayAdvance};
+ghost use Rattle.sym_engine.specs.Plain.{StayPlainIn};
 ghost use Rattle.sym_engine.specs.View.{called_view, candidate_view, candidates_view};
+ghost use Rattle.sym_evaluation.specs.Plainly.{AllAnswerPlainly};
 ghost use Rattle.sym_evaluation.specs.Pure.{PureStore};
 ghost use Rattle.sym_evaluation.specs.View.{store_view, faults_view, cases_by, cases_view, all_cases_view, good_view};
 ghost use Rattle.sym_paths.specs.Moves.{running_store};
@@ -49,8 +51,10 @@ pub(crate) fn evaluate_all_in(
     expressions: &Exprs,
 ) -> Result<Cases<Terms>, AllocError>
     requires { IsTrue (list_all (λ e. list_all is_spellable (literals_of e)) (exprs_view expressions.now)) }
-    ensures { IfOk result
+    ensures evaluated { IfOk result
         (λ c. AreEvaluated (running_store (frames_view frames.now)) (exprs_view expressions.now) (all_cases_view c)) }
+    ensures plain { IfOk result
+        (λ c. AllAnswerPlainly (running_store (frames_view frames.now)) (exprs_view expressions.now) (all_cases_view c)) }
 {
     match frames.as_slice() {
         [.., running] => evaluate_all(alloc, &running.store, expressions),
@@ -287,8 +291,10 @@ pub fn call_candidates<M: SymMemory>(
     requires arguments { IsTrue (list_all (λ e. list_all is_spellable (literals_of e)) (exprs_view arguments.now)) }
     requires steps { path.steps + 1 < 2 ^ 32 }
     requires next { MayAdvance (frames_view path.stack) }
-    ensures { IfOk result (λ cs. AreLawfulIn M.stands M.terms M.asked M.Local.actions (prog_view prog.now) (path_view path)
+    ensures lawful { IfOk result (λ cs. AreLawfulIn M.stands M.terms M.asked M.Local.actions (prog_view prog.now) (path_view path)
         here.now (pure_call name.now (expr_view callee.now) (exprs_view arguments.now)) (candidates_view cs)) }
+    ensures plain { M.keeps_plain → IfOk result (λ cs. StayPlainIn M.plain (prog_view prog.now) (path_view path)
+        (pure_call name.now (expr_view callee.now) (exprs_view arguments.now)) (candidates_view cs)) }
 {
     let callee = evaluate_in(alloc, &path.stack, callee)?;
     let arguments = evaluate_all_in(alloc, &path.stack, arguments)?;

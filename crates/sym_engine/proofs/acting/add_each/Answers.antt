@@ -1,5 +1,6 @@
-use Rattle.std.proofs.Common.{rules, ◌≡◌, [], ◌∷◌, ◌++◌, refl, ap, sym, subst, ◌∙◌, append_assoc}
-use Rattle.std.proofs.lemmas.List.{append-nil, map-append}
+use Rattle.std.proofs.Common.{◌≡◌, [], ◌∷◌, ◌++◌, length, refl, ap, sym, subst, ◌∙◌, append_assoc}
+use Rattle.std.specs.Prelude.{vec_len}
+use Rattle.std.proofs.lemmas.List.{append-nil, map-append, nil_from_length}
 use Rattle.pure_terms.specs.View.{terms_view}
 use Rattle.sym_engine.specs.View.{candidate_view, candidates_view}
 use Rattle.sym_engine.proofs.Arguments.{acts_more}
@@ -11,7 +12,9 @@ use Rattle.sym_steps.specs.Acting.{ActsAsEach}
 
 pub returns-in-None : goal.returns-in-None
 returns-in-None g c =
-    let none : c.args.branches ≡ [] = search rules in
+    let count : vec_len c.into_vec-branches.result ≡ length c.into_vec-branches.result.items = c.into_vec-branches.result.ok.0 in
+    let empty : vec_len c.into_vec-branches.result ≡ 0 = c.in-None.ensures.cases.0 in
+    let none : c.args.branches ≡ [] = sym c.into_vec-branches.ensures ∙ nil_from_length c.into_vec-branches.result.items (sym count ∙ empty) in
     ([], (sym (append-nil (candidates_view c.args.candidates)), subst (λ bs. ActsAsEach (path_view c.args.path) c.args.name.now c.args.here.now c.args.takes (good_view terms_view c.args.good.now) (branches_view bs) []) (sym none) refl))
 
 pub returns-in_ok-push-in-Some : goal.returns-in_ok-push-in-Some
