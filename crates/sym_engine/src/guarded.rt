@@ -1,15 +1,19 @@
 //! The candidates of `ifgoto`.
-ghost use Rattle.std.specs.Prelude.{◌≡◌, ◌+◌, ◌<◌, ◌^◌, ◌++◌, ◌∷◌, codes, IfOk, IsTrue};
+ghost use Rattle.std.specs.Prelude.{◌≡◌, ℕ, ◌+◌, ◌<◌, ◌^◌, ◌++◌, ◌∷◌, codes, IfOk, IsTrue};
 ghost use Rattle.std.specs.List.{list_all};
 ghost use Rattle.std.specs.Option.{option_map};
 ghost use Rattle.gil_syntax.specs.Pure.{ifgoto as pure_ifgoto};
 ghost use Rattle.gil_syntax.specs.Subexpressions.{literals_of};
 ghost use Rattle.gil_syntax.specs.View.{expr_view};
 ghost use Rattle.gil_syntax.specs.WellMade.{is_spellable};
+ghost use Rattle.gil_values.specs.declared.kinds.Kind.{Kind};
+ghost use Rattle.pure_terms.specs.Kinds.{allows, known_kind};
 ghost use Rattle.pure_terms.specs.Rewriting.{Replaces};
 ghost use Rattle.pure_terms.specs.View.{term_view, atoms_view};
 ghost use Rattle.sym_engine.specs.Lawful.{AddsCopies, AreLawful, MayAdvance};
+ghost use Rattle.sym_engine.specs.Plain.{StayPlain, connects, negates, stands_as_it_is};
 ghost use Rattle.sym_engine.specs.View.{candidate_view, candidates_view};
+ghost use Rattle.sym_evaluation.specs.Plainly.{IsPlainGuard};
 ghost use Rattle.sym_evaluation.specs.View.{good_view, sides_view};
 ghost use Rattle.sym_paths.specs.Moves.{advanced, running_store};
 ghost use Rattle.sym_paths.specs.View.{frames_view, path_view};
@@ -31,21 +35,33 @@ use sym_model::SymMemory;
 use sym_paths::{Frames, Path};
 
 /// Whether the term's value may be a boolean, by the term's form and its variables' sorts.
-fn may_be_boolean(term: &Term) -> bool {
+fn may_be_boolean(term: &Term) -> bool
+    ensures { result ≡ allows (known_kind (term_view term.now)) Kind.Bool }
+{
     match term.known_kind() {
         Some(kind) => kind == Kind::Bool,
         None => true,
     }
 }
 
+/// `not`.
+fn is_negation(op: UnOp) -> bool
+    ensures { result ≡ negates op }
+{
+    matches!(op, UnOp::Not)
+}
+
 /// `and` and `or`.
-fn is_connective(op: BinOp) -> bool {
+fn is_connective(op: BinOp) -> bool
+    ensures { result ≡ connects op }
+{
     matches!(op, BinOp::And | BinOp::Or)
 }
 
 /// A part of a guard, simplified where it is asked about and no atom of the fragment.
 fn simpler_part(alloc: Global, rules: &RuleBook, term: &Term) -> Result<Term, AllocError>
-    ensures { IfOk result (λ t. Replaces (term_view term.now) (term_view t)) }
+    ensures replaces { IfOk result (λ t. Replaces (term_view term.now) (term_view t)) }
+    ensures plain { IfOk result (λ t. IsTrue (stands_as_it_is (term_view term.now)) → term_view t ≡ term_view term.now) }
 {
     let said = Atom::Holds(term.copy(alloc)?);
     if said.has_fragment_form() || !may_be_boolean(term) {
@@ -56,20 +72,27 @@ fn simpler_part(alloc: Global, rules: &RuleBook, term: &Term) -> Result<Term, Al
 
 /// The term of a guard, each part of which is simplified where it is no atom of the fragment.
 fn simpler(alloc: Global, rules: &RuleBook, term: &Term) -> Result<Term, AllocError>
-    ensures { IfOk result (λ t. Replaces (term_view term.now) (term_view t)) }
+    ensures replaces { IfOk result (λ t. Replaces (term_view term.now) (term_view t)) }
+    ensures plain { IfOk result (λ t. (b : ℕ) → IsPlainGuard b (term_view term.now) → term_view t ≡ term_view term.now) }
 {
     match term {
         Term::Lit(_) => term.copy(alloc),
-        Term::Op1(op, operand) if *op == UnOp::Not => {
+        Term::Op1(op, operand) => {
+            if !is_negation(*op) {
+                return simpler_part(alloc, rules, term);
+            }
             let operand = simpler(alloc, rules, operand)?;
             Ok(Term::Op1(*op, Box::new(alloc, operand)?))
         }
-        Term::Op2(op, left, right) if is_connective(*op) => {
+        Term::Op2(op, left, right) => {
+            if !is_connective(*op) {
+                return simpler_part(alloc, rules, term);
+            }
             let left = simpler(alloc, rules, left)?;
             let right = simpler(alloc, rules, right)?;
             Ok(Term::Op2(*op, Box::new(alloc, left)?, Box::new(alloc, right)?))
         }
-        _ => simpler_part(alloc, rules, term),
+        Term::Var(_) | Term::List(_) => simpler_part(alloc, rules, term),
     }
 }
 
@@ -322,7 +345,9 @@ pub fn guard_candidates<M: SymMemory>(
     requires spellable { IsTrue (list_all is_spellable (literals_of (expr_view expression.now))) }
     requires steps { path.steps + 1 < 2 ^ 32 }
     requires next { MayAdvance (frames_view path.stack) }
-    ensures { IfOk result (λ cs. AreLawful M.stands M.terms M.asked M.Local.actions (path_view path) here.now
+    ensures lawful { IfOk result (λ cs. AreLawful M.stands M.terms M.asked M.Local.actions (path_view path) here.now
+        (pure_ifgoto (expr_view expression.now) label.now) (candidates_view cs)) }
+    ensures plain { M.keeps_plain → IfOk result (λ cs. StayPlain M.plain (path_view path)
         (pure_ifgoto (expr_view expression.now) label.now) (candidates_view cs)) }
 {
     let Cases { faults, good } = evaluate_in(alloc, &path.stack, expression)?;
