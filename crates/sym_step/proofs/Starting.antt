@@ -1,19 +1,18 @@
 -- A path that begins may make a step.
-use Rattle.std.proofs.Common.{◌≡◌, ℕ, ◌<◌, List, [], ◌∷◌, IsSome, Some, None, refl, sym, ap, subst, ◌∙◌, arith}
+use Rattle.std.proofs.Common.{List, [], ◌∷◌, IsSome, sym, subst, arith}
 use Rattle.std.specs.FinMap.{empty}
-use Rattle.gil_machine.specs.Run.{start, IsEntry}
+use Rattle.gil_machine.specs.Run.{start}
 use Rattle.gil_machine.specs.State.{Frame}
 use Rattle.gil_machine.specs.Step.{command_of}
 use Rattle.gil_machine.proofs.Placed.{starts_placed}
 use Rattle.gil_syntax.specs.Programs.{find_proc}
 use Rattle.gil_syntax.specs.Pure.{PureParts}
-use Rattle.gil_syntax.specs.Valid.{IsValid}
 use Rattle.gil_values.specs.Pure.{PureValue}
 use Rattle.mem_model.specs.Heaps.{Heap}
 use Rattle.sym_step.specs.Stepping.{AreAtCommands}
 use Rattle.sym_model.specs.Terms.{StateTerms}
-use Rattle.sym_paths.specs.Meaning.{AreFrames, Stands}
-use Rattle.sym_paths.specs.Pure.{PureFrame, PurePath}
+use Rattle.sym_paths.specs.Meaning.{AreFrames}
+use Rattle.sym_paths.specs.Pure.{PureFrame}
 use Rattle.sym_step.specs.Stepping.{StartsMayStep}
 
 entry_placed : (p : PureParts) (v : List PureValue) (fs : List PureFrame) (g : Frame) → AreFrames v fs (g ∷ []) → IsSome (command_of (find_proc p.procs g.procedure) g.next) → AreAtCommands p fs

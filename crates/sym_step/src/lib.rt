@@ -1,8 +1,10 @@
-//! A step of a path of symbolic execution: when one may be done, and what it must do.
+//! A step of a path of symbolic execution, over any memory and any decider: when one may be done, and the paths that come next.
 #![tactic(auto)]
 
+mod finding;
+mod following;
 mod laws;
 mod stepping;
 
 pub use laws::starts_may_step;
-pub use stepping::Stepper;
+pub use stepping::step;

@@ -34,8 +34,8 @@ returns-in_ok-leave_unknown-in-Some g c = λ p path stands after.
 pub returns-in_ok-leave_unknown-in-Unknown : goal.returns-in_ok-leave_unknown-in-Unknown
 returns-in_ok-leave_unknown-in-Unknown g c = λ p path stands after.
     let right = subst (λ d. IsRight c.args.candidate.path.vars (atoms_view c.atoms-atoms.result.now) (decision_view d)) c.in-Unknown.is c.in_ok-decide.ensures in
-    stays_unknown p path (candidate_view c.args.candidate) c.args.here.now c.args.old c.atoms-atoms.result.now stands c.atoms-atoms.ensures c.match-branch-8.reason _ right.0
-    (elim c.match-branch-8.branch [
+    stays_unknown p path (candidate_view c.args.candidate) c.args.here.now c.args.old c.atoms-atoms.result.now stands c.atoms-atoms.ensures c.match-branch-7.reason _ right.0
+    (elim c.match-branch-7.branch [
       | in-Some-2 w ↦ subst (IsFirstOutside (atoms_view c.atoms-atoms.result.now)) (sym w.reason-is)
           (subst (λ o. IfSome o (IsFirstOutside (atoms_view c.atoms-atoms.result.now))) w.in-Some-2.is c.in_ok-reason-in-Unknown.ensures.first)
       | in-None-2 w ↦ subst (IsFirstOutside (atoms_view c.atoms-atoms.result.now)) (sym w.reason-is)

@@ -30,12 +30,12 @@ met_lists terms path conds may known same = record {
 pub judge_failure-requires-clause-met : goal.judge_failure-requires-clause-met
 judge_failure-requires-clause-met g c =
     let ending : option_map end_view c.args.path.end ≡ Some (failed (term_view c.in-Some-Failed.term) c.in-Some-Failed.place) = ap (option_map end_view) (c.in-Some-Failed.is ∙ ap Some c.in-Some-Failed.field-0-is) in
-    met_lists g.M.SymMemory.terms (path_view c.args.path) (atoms_view c.into_atoms-conds-in-Some-Failed.result) c.requires (λ holds. subst IsUnknown ending holds) c.into_atoms-conds-in-Some-Failed.ensures
+    met_lists g.M.SymMemory.terms (path_view c.args.path) (atoms_view c.into_atoms-conds.result) c.requires (λ holds. subst IsUnknown ending holds) c.into_atoms-conds.ensures
 
 pub judge_failure-requires-clause-defined : goal.judge_failure-requires-clause-defined
 judge_failure-requires-clause-defined g c v canonical =
     let ending : option_map end_view c.args.path.end ≡ Some (failed (term_view c.in-Some-Failed.term) c.in-Some-Failed.place) = ap (option_map end_view) (c.in-Some-Failed.is ∙ ap Some c.in-Some-Failed.field-0-is) in
-    c.requires.defined (term_view c.in-Some-Failed.term) c.in-Some-Failed.place v ending (subst (λ atoms. IsCanonical c.args.path.vars atoms v) c.into_atoms-conds-in-Some-Failed.ensures canonical)
+    c.requires.defined (term_view c.in-Some-Failed.term) c.in-Some-Failed.place v ending (subst (λ atoms. IsCanonical c.args.path.vars atoms v) c.into_atoms-conds.ensures canonical)
 
 pub judge_miss-requires : goal.judge_miss-requires
 judge_miss-requires g c =
