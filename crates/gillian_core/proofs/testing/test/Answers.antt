@@ -1,0 +1,17 @@
+use Rattle.gil_program.specs.Program.{prog_view}
+use Rattle.gillian_words.specs.View.{words_view}
+use Rattle.gillian_core.specs.Answers.{answer_view}
+use Rattle.gillian_core.proofs.ProgramTexts.{test_has_program, verdict_is_meant}
+use Rattle.gillian_core.proofs.Refusing.{no_atoms_tested, test_refused_at_entry}
+use Rattle.gillian_core.proofs.testing.test.Goals as goal
+
+pub program-requires-clause-language : goal.program-requires-clause-language
+program-requires-clause-language c = no_atoms_tested c.args.words.now.mode c.args.words.now.second c.requires.mode c.args.words.now.taken
+
+pub program-requires-clause-accepted : goal.program-requires-clause-accepted
+program-requires-clause-accepted c = test_has_program (words_view c.args.words.now) c.args.bytes.now c.requires.mode
+
+pub returns-clause-stop : goal.returns-clause-stop
+returns-clause-stop c =
+    test_refused_at_entry (words_view c.args.words.now) c.args.bytes.now (prog_view c.in_ok-prog.prog) c.requires.mode c.in_ok-prog.ensures.program.0
+    c.in_ok-prog.ensures.only {! !}
