@@ -4,3 +4,4 @@ pub mod Joined
 pub mod ProgramTexts
 pub mod Refusing
 pub mod Solutions
+pub mod Verdicts

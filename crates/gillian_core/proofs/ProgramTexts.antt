@@ -6,7 +6,7 @@ use Rattle.gil_values.specs.Pure.{PureValue}
 use Rattle.gil_syntax.specs.Pure.{PureParts}
 use Rattle.record_heap.specs.Table.{record_actions}
 use Rattle.gil_machine.specs.Held.{HeldEnd, ended, number as held_number, held_run_of}
-use Rattle.gil_machine.specs.Run.{IsBug, IsEntry, run_of, start, test_run}
+use Rattle.gil_machine.specs.Run.{IsEntry, run_of, start, test_run}
 use Rattle.gil_machine.specs.State.{End, Ending, IsOver, returned, failed, vanished, no_input, bad_input, cut}
 use Rattle.gil_machine.proofs.Entries.{entry_starts}
 use Rattle.gil_machine.proofs.HeldRuns.{held_runs_are_runs}
@@ -24,9 +24,8 @@ use Rattle.gillian_words.specs.Asked.{Asked}
 use Rattle.gillian_core.specs.declared.refusals.RefusalKind.TheVariants.{Limit}
 use Rattle.gillian_core.specs.Accepted.{IsAccepted, IsAcceptedBy, IsSourceOf, IsTextIn}
 use Rattle.gillian_core.specs.Refusals.{IsRefusal, IsTooLong}
-use Rattle.gillian_core.specs.Reports.{PureAnswer, clean, bug, undecided, returned as returned_answer, failed as failed_answer, vanished as vanished_answer, cut as cut_answer}
-use Rattle.gillian_core.specs.Reports.{no_input as no_input_answer, bad_input as bad_input_answer, number, sat, unsat, unknown}
-use Rattle.gillian_core.specs.Right.{IsProgramOf, KeepsEnds, IsMeant, IsRightVerdict, IsMeantVerdict, IsEndOfSource, end_answer, ending_answer}
+use Rattle.gillian_core.specs.Reports.{PureAnswer, failed as failed_answer}
+use Rattle.gillian_core.specs.Right.{IsProgramOf, KeepsEnds, IsMeant, IsEndOfSource, end_answer, ending_answer}
 
 -- ---- accepted texts
 
@@ -113,11 +112,11 @@ module _ (f : List ℕ) (inputs : List PureValue) (bytes : List ℕ) (p : PurePa
   meant_by Atoms bound keeps = tt
   meant_by While bound keeps = (keeps.0, keeps.1, by_held f inputs keeps.0 p keeps.2 entry bound _ refl)
 
-  fails_by : (l : Language) (bound : ℕ) (v : PureValue) (place : Place) → KeepsEnds l bytes p
+  pub fails_by : (l : Language) (bound : ℕ) (v : PureValue) (place : Place) → KeepsEnds l bytes p
       → (test_run p record_actions f inputs bound).ending ≡ failed v place → IsMeant l f inputs bytes (failed_answer v place)
   fails_by GilRecord bound v place keeps fails = tt
   fails_by Atoms bound v place keeps fails = tt
-  fails_by While bound v place keeps fails = (keeps.0, keeps.1, by_ending f inputs keeps.0 p keeps.2 entry bound (failed v place) _ fails refl)
+  fails_by While bound v place keeps fails = (keeps.0, keeps.1, by_ending f inputs keeps.0 p keeps.2 entry bound (failed v place) (test_run p record_actions f inputs bound) fails refl)
 
 -- the answer of a run is meant by the text, where its program keeps the text's ends
 pub meant : (a : Asked) (bytes : List ℕ) (p : PureParts) (answer : PureAnswer) → KeepsEnds a.second bytes p → IsEntry p a.entry
@@ -125,26 +124,3 @@ pub meant : (a : Asked) (bytes : List ℕ) (p : PureParts) (answer : PureAnswer)
     → IsMeant a.second a.entry a.inputs bytes answer
 meant a bytes p answer keeps entry is =
     subst (IsMeant a.second a.entry a.inputs bytes) (sym is) (meant_by a.entry a.inputs bytes p entry a.second a.bound keeps)
-
--- and so is a bug
-pub bug_is_meant : (a : Asked) (bytes : List ℕ) (p : PureParts) (place : Place) (v : PureValue) (inputs : List PureValue)
-    → KeepsEnds a.second bytes p → IsBug p record_actions a.entry a.bound inputs v place
-    → IsMeant a.second a.entry inputs bytes (failed_answer v place)
-bug_is_meant a bytes p place v inputs keeps bug = fails_by a.entry inputs bytes p bug.entry a.second a.bound v place keeps bug.fails
-
--- a verdict is meant where it is right
-pub verdict_is_meant : (a : Asked) (bytes : List ℕ) (p : PureParts) (answer : PureAnswer) → KeepsEnds a.second bytes p
-    → IsRightVerdict p a.entry a.bound answer → IsMeantVerdict a bytes answer
-verdict_is_meant a bytes p (bug place v inputs) keeps right = bug_is_meant a bytes p place v inputs keeps right
-verdict_is_meant a bytes p clean keeps right = tt
-verdict_is_meant a bytes p (undecided q) keeps right = tt
-verdict_is_meant a bytes p (returned_answer v) keeps right = tt
-verdict_is_meant a bytes p (failed_answer v place) keeps right = tt
-verdict_is_meant a bytes p vanished_answer keeps right = tt
-verdict_is_meant a bytes p cut_answer keeps right = tt
-verdict_is_meant a bytes p (no_input_answer k) keeps right = tt
-verdict_is_meant a bytes p (bad_input_answer k) keeps right = tt
-verdict_is_meant a bytes p (number place) keeps right = tt
-verdict_is_meant a bytes p (sat bindings) keeps right = tt
-verdict_is_meant a bytes p (unsat names proof) keeps right = tt
-verdict_is_meant a bytes p (unknown place) keeps right = tt

@@ -2,7 +2,8 @@
 use Rattle.gil_values.specs.View.{value_view, values_view}
 use Rattle.std.specs.Prelude.{map}
 use Rattle.solver_proof.specs.View.{proof_view}
-use Rattle.sym_test.specs.View.{query_view}
+use Rattle.sym_test.specs.View.{query_view, PureVerdict}
+use Rattle.sym_test.specs.View as verdict
 use Rattle.gillian_core.specs.declared.answers.Answer.{Answer}
 use Rattle.gillian_core.specs.declared.answers.Answer.TheVariants.{Clean, Bug, Undecided, Returned, Failed, Vanished, Cut, NoInput, BadInput, Number, Sat, Unsat, Unknown}
 use Rattle.gillian_core.specs.declared.answers.Binding.{Binding}
@@ -25,3 +26,9 @@ answer_view (Number place) = number place
 answer_view (Sat bindings) = sat (map binding_view bindings)
 answer_view (Unsat names proof) = unsat names (proof_view proof)
 answer_view (Unknown place) = unknown place
+
+-- the answer that a verdict is
+abbrev pub verdict_answer : PureVerdict → PureAnswer
+verdict_answer (verdict.bug place value inputs) = bug place value inputs
+verdict_answer verdict.clean = clean
+verdict_answer (verdict.unknown q) = undecided q

@@ -4,7 +4,8 @@ ghost use Rattle.gil_program.specs.Program.{prog_view};
 ghost use Rattle.gil_machine.specs.Run.{IsEntry};
 ghost use Rattle.gillian_words.specs.View.{words_view};
 ghost use Rattle.record_heap.specs.Table.{record_actions};
-ghost use Rattle.gillian_core.specs.Answers.{answer_view};
+ghost use Rattle.sym_test.specs.View.{verdict_view};
+ghost use Rattle.gillian_core.specs.Answers.{answer_view, verdict_answer};
 ghost use Rattle.gillian_core.specs.Finishing.{IsStop};
 ghost use Rattle.gillian_core.specs.Right.{IsRightTest, IsRightVerdict};
 
@@ -29,14 +30,14 @@ pub fn test(alloc: Global, words: &Words, rules: &RuleBook, bytes: &[u8]) -> Res
     ensures stop { IfErr result (IsStop (words_view words.now) bytes.now) }
 {
     let prog = program(alloc, words, bytes)?;
-    if is_entry(&prog, &words.entry) {
-        Ok(verdict(alloc, &prog, &words.entry, words.bound, rules)?)
-    } else {
-        Err(Stop::Refused(Refusal {
+    if !is_entry(&prog, &words.entry) {
+        return Err(Stop::Refused(Refusal {
             kind: RefusalKind::Entry,
             at: bytes.len(),
-        }))
+        }));
     }
+    let answer = verdict(alloc, &prog, &words.entry, words.bound, rules)?;
+    Ok(answer)
 }
 
 /// Whether the procedure is one of the program, without parameters.
@@ -59,24 +60,32 @@ fn verdict(
     ensures { IfOk result (λ answer. IsRightVerdict (prog_view prog.now) entry.now bound (answer_view answer)) }
 {
     let mut decider = PathSolver::new(alloc);
-    match sym_test::test::<RecordSym, PathSolver, EngineStepper>(
+    let tested = sym_test::test::<RecordSym, PathSolver, EngineStepper>(
         alloc,
         prog,
         entry,
         bound,
         rules,
         &mut decider,
-    )? {
+    )?;
+    Ok(answer_of(tested))
+}
+
+/// The answer that a verdict is.
+fn answer_of(verdict: Verdict) -> Answer
+    ensures { answer_view result ≡ verdict_answer (verdict_view verdict) }
+{
+    match verdict {
         Verdict::Bug {
             place,
             value,
             inputs,
-        } => Ok(Answer::Bug {
+        } => Answer::Bug {
             place,
             value,
             inputs,
-        }),
-        Verdict::Clean => Ok(Answer::Clean),
-        Verdict::Unknown(query) => Ok(Answer::Undecided(query)),
+        },
+        Verdict::Clean => Answer::Clean,
+        Verdict::Unknown(query) => Answer::Undecided(query),
     }
 }
