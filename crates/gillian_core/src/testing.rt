@@ -19,7 +19,6 @@ use path_solver::PathSolver;
 use record_sym::RecordSym;
 use rewrite_book::RuleBook;
 use std::alloc::{AllocError, Global};
-use sym_stepping::EngineStepper;
 use sym_test::Verdict;
 
 /// The verdict that is asked for, over symbolic records.
@@ -60,7 +59,7 @@ fn verdict(
     ensures { IfOk result (λ answer. IsRightVerdict (prog_view prog.now) entry.now bound (answer_view answer)) }
 {
     let mut decider = PathSolver::new(alloc);
-    let tested = sym_test::test::<RecordSym, PathSolver, EngineStepper>(
+    let tested = sym_test::test::<RecordSym, PathSolver>(
         alloc,
         prog,
         entry,

@@ -14,7 +14,7 @@ use sequence::Sequence;
 use std::alloc::{AllocError, Global};
 use sym_model::SymMemory;
 use sym_paths::{Path, PathEnd, Paths};
-use sym_step::Stepper;
+use sym_stepping::step;
 
 /// Paths that are left to be explored, the next one last. Contracts see them by `paths_left`. After want of memory some are lost.
 #[derive(Drop)]
@@ -34,7 +34,7 @@ impl<M: SymMemory> Exploration<M> {
 
     /// Does steps until a path has an end, and hands that one out: a path that has done as many steps as the bound is cut. No path
     /// is left where it answers `None`. After 2^64 - 1 steps it answers want of memory.
-    pub fn next_ended<D: Decider, T: Stepper<M, D>>(
+    pub fn next_ended<D: Decider>(
         &mut self,
         alloc: Global,
         prog: &Prog,
@@ -61,7 +61,7 @@ impl<M: SymMemory> Exploration<M> {
             if path.steps >= bound {
                 return Ok(Some(cut_off(path)));
             }
-            let next = T::step(alloc, prog, path, rules, decider)?;
+            let next = step(alloc, prog, path, rules, decider)?;
             self.left.append(&mut next.into_vec())?;
         }
         Err(AllocError)
@@ -78,7 +78,7 @@ fn cut_off<M: Drop>(path: Path<M>) -> Path<M>
 }
 
 /// Does steps until every path has an end, a path that has done as many as the bound being cut.
-pub fn explore<M: SymMemory, D: Decider, T: Stepper<M, D>>(
+pub fn explore<M: SymMemory, D: Decider>(
     alloc: Global,
     prog: &Prog,
     start: Path<M>,
@@ -97,7 +97,7 @@ pub fn explore<M: SymMemory, D: Decider, T: Stepper<M, D>>(
     let mut exploration = Exploration::new(alloc, start)?;
     let mut ended = Sequence::new(alloc);
     for _turn in 0..u64::MAX {
-        match exploration.next_ended::<D, T>(alloc, prog, bound, rules, decider)? {
+        match exploration.next_ended(alloc, prog, bound, rules, decider)? {
             Some(path) => ended.push(path)?,
             None => return Ok(ended),
         }

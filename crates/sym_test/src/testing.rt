@@ -19,7 +19,7 @@ use std::alloc::{AllocError, Global};
 use sym_explore::Exploration;
 use sym_model::SymMemory;
 use sym_paths::Path;
-use sym_step::{Stepper, starts_may_step};
+use sym_step::starts_may_step;
 
 /// The query that is kept, or else this one.
 fn first_query(kept: Option<Query>, query: Query) -> Option<Query>
@@ -43,7 +43,7 @@ fn conclude(kept: Option<Query>) -> Verdict
 
 /// Runs a procedure without parameters from the empty memory on symbolic inputs, along all paths of at most so many steps. It stops at
 /// the first bug, and keeps no path that has ended.
-pub fn test<M: SymMemory, D: Decider, T: Stepper<M, D>>(
+pub fn test<M: SymMemory, D: Decider>(
     alloc: Global,
     prog: &Prog,
     proc: &Text,
@@ -67,7 +67,7 @@ pub fn test<M: SymMemory, D: Decider, T: Stepper<M, D>>(
     let mut exploration = Exploration::new(alloc, start)?;
     let mut kept: Option<Query> = None;
     for _turn in 0..u64::MAX {
-        match exploration.next_ended::<D, T>(alloc, prog, bound, rules, decider)? {
+        match exploration.next_ended(alloc, prog, bound, rules, decider)? {
             None => return Ok(conclude(kept)),
             Some(path) => match judge(alloc, decider, path)? {
                 Judgement::Harmless => {}
