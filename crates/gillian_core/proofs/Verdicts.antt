@@ -1,5 +1,5 @@
 -- Verdicts of tests are right for the text, too.
-use Rattle.std.proofs.Common.{◌≡◌, ℕ, List}
+use Rattle.std.proofs.Common.{ℕ, List}
 use Rattle.std.specs.Prelude.{⊤}
 use Rattle.gil_values.specs.declared.places.Place.{Place}
 use Rattle.gil_values.specs.Pure.{PureValue}
@@ -29,7 +29,7 @@ verdict_is_right p entry bound (verdict.unknown q) right found = (right, found)
 pub bug_is_meant : (a : Asked) (bytes : List ℕ) (p : PureParts) (place : Place) (v : PureValue) (inputs : List PureValue)
     → KeepsEnds a.second bytes p → IsBug p record_actions a.entry a.bound inputs v place
     → IsMeant a.second a.entry inputs bytes (failed v place)
-bug_is_meant a bytes p place v inputs keeps bug = fails_by a.entry inputs bytes p bug.entry a.second a.bound v place keeps bug.fails
+bug_is_meant a bytes p place v inputs keeps found = fails_by a.entry inputs bytes p found.entry a.second a.bound v place keeps found.fails
 
 -- a verdict is meant where it is right
 pub verdict_is_meant : (a : Asked) (bytes : List ℕ) (p : PureParts) (answer : PureAnswer) → KeepsEnds a.second bytes p

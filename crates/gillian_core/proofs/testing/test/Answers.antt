@@ -8,18 +8,18 @@ use Rattle.gillian_core.proofs.Verdicts.{verdict_is_meant}
 use Rattle.gillian_core.proofs.testing.test.Goals as goal
 
 pub program-requires-clause-language : goal.program-requires-clause-language
-program-requires-clause-language c = no_atoms_tested c.args.words.now.mode c.args.words.now.second c.requires.mode c.args.words.now.taken
+program-requires-clause-language g c = no_atoms_tested c.args.words.now.mode c.args.words.now.second c.requires.mode c.args.words.now.taken
 
 pub program-requires-clause-accepted : goal.program-requires-clause-accepted
-program-requires-clause-accepted c = test_has_program (words_view c.args.words.now) c.args.bytes.now c.requires.mode
+program-requires-clause-accepted g c = test_has_program (words_view c.args.words.now) c.args.bytes.now c.requires.mode
 
 pub returns-then-not-is_entry-clause-stop : goal.returns-then-not-is_entry-clause-stop
-returns-then-not-is_entry-clause-stop c =
+returns-then-not-is_entry-clause-stop g c =
     test_refused_at_entry (words_view c.args.words.now) c.args.bytes.now (prog_view c.in_ok-prog.prog) c.requires.mode c.in_ok-prog.ensures.program.0
     c.in_ok-prog.ensures.only (λ is. not_true _ c.if-not-is_entry.true (c.is_entry.ensures.1 is))
 
 pub returns-clause-answer : goal.returns-clause-answer
-returns-clause-answer c =
+returns-clause-answer g c =
     let program = c.in_ok-prog.ensures.program in
     record {
       program = prog_view c.in_ok-prog.prog;
