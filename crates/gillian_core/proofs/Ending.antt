@@ -8,7 +8,7 @@ use Rattle.gillian_core.specs.declared.status.Status.TheVariants.{Good, Found, W
 use Rattle.gillian_core.specs.Outcomes.{Call, IsReported, Ends, written, write_failed, read_failed, out_of_memory, MayWrite, IsRead, IsRefused, IsRight, OfBytes, Output, a_report, a_program, Refuses, Reports, answer_status, output_status, output_text}
 use Rattle.gillian_core.specs.Finishing.{Finishes, Answers, IsResponseOrRefusal}
 use Rattle.gillian_core.specs.Refusals.{refusal_line}
-use Rattle.gillian_core.specs.Reports.{PureAnswer, clean, bug, returned, failed, vanished, cut, no_input, bad_input, number, sat, unsat, unknown}
+use Rattle.gillian_core.specs.Reports.{PureAnswer, clean, bug, undecided, returned, failed, vanished, cut, no_input, bad_input, number, sat, unsat, unknown}
 
 pub ends_of_finish : (c : Call) (status result : Status) (text : List ℕ) → MayWrite c status text
     → Finishes c.taken c.taken_after c.write_faults c.write_faults_after text status result → Ends c result
@@ -19,6 +19,7 @@ ends_of_finish c status result text may (inr w) = subst (Ends c) (sym w.0) (writ
 by_answer : (c : Call) (answer : PureAnswer) (text : List ℕ) → IsRead c → Reports c (answer_status answer) text → MayWrite c (answer_status answer) text
 by_answer c clean text read reports = (read, reports)
 by_answer c (bug place value inputs) text read reports = (read, reports)
+by_answer c (undecided query) text read reports = (read, reports)
 by_answer c (returned value) text read reports = (read, reports)
 by_answer c (failed value place) text read reports = (read, reports)
 by_answer c vanished text read reports = (read, reports)
@@ -63,6 +64,7 @@ within_read left bytes most whole few = if_some_weaker left _ _ (λ all e. subst
 no_answer_too_large : (answer : PureAnswer) → answer_status answer ≡ TooLarge → ⊥
 no_answer_too_large clean e = cc
 no_answer_too_large (bug place value inputs) e = cc
+no_answer_too_large (undecided query) e = cc
 no_answer_too_large (returned value) e = cc
 no_answer_too_large (failed value place) e = cc
 no_answer_too_large vanished e = cc

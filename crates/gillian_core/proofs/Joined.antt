@@ -2,8 +2,11 @@
 use Rattle.std.proofs.Common.{◌≡◌, ℕ, List, [], ◌∷◌, ◌++◌, map, refl, sym, ap, ◌∙◌, append_assoc}
 use Rattle.std.specs.List.{join_by, flat_map}
 use Rattle.std.specs.Prelude.{codes}
+use Rattle.pure_terms.specs.declared.atoms.Atom.{Atom}
+use Rattle.pure_terms.specs.View.{atom_view, atoms_view}
 use Rattle.gillian_core.specs.declared.answers.Binding.{Binding}
 use Rattle.gillian_core.specs.Answers.{binding_view}
+use Rattle.gillian_core.specs.Queries.{printed_condition, printed_conditions}
 use Rattle.gillian_core.specs.Reports.{printed_binding, answer_line, sat}
 
 -- what is printed of elements that a function sees so
@@ -24,3 +27,11 @@ sat_added start before mid all bs e f g =
     rw (g, f, e, join_by-seen printed_binding binding_view (codes ", ") bs)
     (append_assoc (start ++ codes "sat [") joined (codes "]\n") ∙ append_assoc start (codes "sat [") (joined ++ codes "]\n")
     ∙ ap (λ text. start ++ (codes "sat [" ++ text)) (sym (append_assoc joined (codes "]") (10 ∷ []))))
+
+-- conditions in brackets, piece by piece
+pub conditions_added : (start before mid all : List ℕ) (atoms : List Atom) → before ≡ start ++ codes "[" → mid ≡ before ++ join_by (λ (a : Atom). printed_condition (atom_view a)) (codes ", ") atoms
+    → all ≡ mid ++ codes "]" → all ≡ start ++ printed_conditions (atoms_view atoms)
+conditions_added start before mid all atoms e f g =
+    let joined : List ℕ = join_by (λ (a : Atom). printed_condition (atom_view a)) (codes ", ") atoms in
+    rw (g, f, e, join_by-seen printed_condition atom_view (codes ", ") atoms)
+    (append_assoc (start ++ codes "[") joined (codes "]") ∙ append_assoc start (codes "[") (joined ++ codes "]"))

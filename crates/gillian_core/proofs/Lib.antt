@@ -1,11 +1,7 @@
 pub mod Cases
 pub mod Ending
 pub mod Joined
-pub mod Paths
 pub mod ProgramTexts
 pub mod Refusing
-pub mod Runs
 pub mod Solutions
-pub mod Spelled
-pub mod Standing
-pub mod WholeRuns
+pub mod Verdicts

@@ -25,18 +25,10 @@ refused_by a mode bytes kind at is never first = record { not_accepted = not_acc
 
 -- ---- languages of modes
 
-of_test : (l : Language) → IsTrue (takes_language Test l) → l ≡ GilRecord
-of_test GilRecord taken = refl
-of_test Atoms taken = cc
-of_test While taken = cc
-
 of_solve : (l : Language) → IsTrue (takes_language Solve l) → l ≡ Atoms
 of_solve GilRecord taken = cc
 of_solve Atoms taken = refl
 of_solve While taken = cc
-
-pub tested : (m : Mode) (l : Language) → m ≡ Test → IsTrue (takes_language m l) → l ≡ GilRecord
-tested m l is taken = of_test l (subst (λ n. IsTrue (takes_language n l)) is taken)
 
 pub solved : (m : Mode) (l : Language) → m ≡ Solve → IsTrue (takes_language m l) → l ≡ Atoms
 solved m l is taken = of_solve l (subst (λ n. IsTrue (takes_language n l)) is taken)
@@ -46,6 +38,11 @@ run_atoms GilRecord taken e = cc
 run_atoms Atoms taken e = cc
 run_atoms While taken e = cc
 
+tested_atoms : (l : Language) → IsTrue (takes_language Test l) → l ≢ Atoms
+tested_atoms GilRecord taken e = cc
+tested_atoms Atoms taken e = cc
+tested_atoms While taken e = cc
+
 compiled_atoms : (l : Language) → IsTrue (takes_language Compile l) → l ≢ Atoms
 compiled_atoms GilRecord taken e = cc
 compiled_atoms Atoms taken e = cc
@@ -53,6 +50,9 @@ compiled_atoms While taken e = cc
 
 pub no_atoms_run : (m : Mode) (l : Language) → m ≡ Run → IsTrue (takes_language m l) → l ≢ Atoms
 no_atoms_run m l is taken = run_atoms l (subst (λ n. IsTrue (takes_language n l)) is taken)
+
+pub no_atoms_tested : (m : Mode) (l : Language) → m ≡ Test → IsTrue (takes_language m l) → l ≢ Atoms
+no_atoms_tested m l is taken = tested_atoms l (subst (λ n. IsTrue (takes_language n l)) is taken)
 
 pub no_atoms_compiled : (m : Mode) (l : Language) → m ≡ Compile → IsTrue (takes_language m l) → l ≢ Atoms
 no_atoms_compiled m l is taken = compiled_atoms l (subst (λ n. IsTrue (takes_language n l)) is taken)
@@ -90,5 +90,14 @@ pub run_refused_at_entry : (a : Asked) (bytes : List ℕ) (p : PureParts) → a.
     → (IsEntry p a.entry → ⊥) → IsRefusal a bytes (record { kind = kinds.Entry; at = length bytes })
 run_refused_at_entry a bytes p is text only never =
     refused_by a Run bytes kinds.Entry (length bytes) is
+    (λ accepted. never (subst (λ q. IsEntry q a.entry) (sym (only accepted.0 accepted.1)) accepted.2))
+    (p, text, never, refl)
+
+-- nor is it tested
+pub test_refused_at_entry : (a : Asked) (bytes : List ℕ) (p : PureParts) → a.mode ≡ Test → IsTextIn a.second bytes p
+    → ((q : PureParts) → IsTextIn a.second bytes q → p ≡ q)
+    → (IsEntry p a.entry → ⊥) → IsRefusal a bytes (record { kind = kinds.Entry; at = length bytes })
+test_refused_at_entry a bytes p is text only never =
+    refused_by a Test bytes kinds.Entry (length bytes) is
     (λ accepted. never (subst (λ q. IsEntry q a.entry) (sym (only accepted.0 accepted.1)) accepted.2))
     (p, text, never, refl)

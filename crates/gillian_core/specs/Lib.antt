@@ -1,13 +1,9 @@
 pub mod Accepted
 pub mod Answers
 pub mod Codes
-pub mod Control
 pub mod Finishing
-pub mod Grammar
-pub mod Intervals
-pub mod Literals
 pub mod Outcomes
-pub mod Programs
+pub mod Queries
 pub mod Refusals
 pub mod Reports
 pub mod Right

@@ -11,7 +11,7 @@ use Rattle.gillian_core.specs.declared.refusals.Refusal.{Refusal}
 use Rattle.gillian_core.specs.declared.status.Status.{Status}
 use Rattle.gillian_core.specs.declared.status.Status.TheVariants.{Good, Found, Words, Text, ReadFault, WriteFault, Memory, TooLarge}
 use Rattle.gillian_core.specs.Refusals.{IsRefusal, refusal_line}
-use Rattle.gillian_core.specs.Reports.{PureAnswer, clean, bug, returned, failed, vanished, cut, no_input, bad_input, number, sat, unsat, unknown}
+use Rattle.gillian_core.specs.Reports.{PureAnswer, clean, bug, undecided, returned, failed, vanished, cut, no_input, bad_input, number, sat, unsat, unknown}
 use Rattle.gillian_core.specs.Reports.{Report, line, report_text}
 use Rattle.gillian_core.specs.Right.{IsCompiled, IsRightAnswer}
 use Rattle.gillian_core.specs.Words.{WordsFit, head_of}
@@ -82,6 +82,7 @@ output_text (a_program p) = printed_program p
 abbrev pub answer_status : PureAnswer → Status
 answer_status clean = Good
 answer_status (bug place value inputs) = Found
+answer_status (undecided query) = Found
 answer_status (returned value) = Good
 answer_status (failed value place) = Found
 answer_status vanished = Good

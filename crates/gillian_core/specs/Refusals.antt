@@ -18,7 +18,7 @@ use Rattle.gillian_words.specs.Asked.{Asked}
 use Rattle.gillian_core.specs.declared.refusals.Refusal.{Refusal}
 use Rattle.gillian_core.specs.declared.refusals.RefusalKind.{RefusalKind}
 use Rattle.gillian_core.specs.declared.refusals.RefusalKind.TheVariants.{Lex, Nesting, Syntax, Duplicate, Label, NoEnd, UnknownName}
-use Rattle.gillian_core.specs.declared.refusals.RefusalKind.TheVariants.{Arity, TooMany, Limit, Entry, Modes, Form}
+use Rattle.gillian_core.specs.declared.refusals.RefusalKind.TheVariants.{Arity, TooMany, Limit, Entry, Modes}
 use Rattle.gillian_core.specs.Accepted.{IsAccepted, IsTextIn}
 use Rattle.gillian_core.specs.Reports.{line}
 
@@ -35,7 +35,6 @@ kind_word TooMany = codes "too-many"
 kind_word Limit = codes "limit"
 kind_word Entry = codes "entry"
 kind_word Modes = codes "modes"
-kind_word Form = codes "form"
 
 -- `refused label at 0`
 abbrev pub refusal_line : Refusal → List ℕ
@@ -56,7 +55,7 @@ IsTooLong While bytes at = (s : PureSource) × SpellSource bytes s × IsValidSou
 
 -- The kind is the first that applies, at this byte. Those up to `too-many` are the reader's, by the text alone. `limit` is that of a
 -- function that gives too many commands. `entry` is that of a program without the procedure that is asked for, or with parameters of
--- it, at the text's length. `form`, at 0, is that of a program of a form that isn't built.
+-- it, at the text's length.
 abbrev pub IsFirstKind : Asked → List ℕ → ℕ → RefusalKind → Type 0
 IsFirstKind a bytes at Lex = IsUnreadBy a.second bytes at reader.Lex
 IsFirstKind a bytes at Nesting = IsUnreadBy a.second bytes at reader.Nesting
@@ -70,7 +69,6 @@ IsFirstKind a bytes at TooMany = IsUnreadBy a.second bytes at (reader.Invalid fa
 IsFirstKind a bytes at Limit = IsTooLong a.second bytes at
 IsFirstKind a bytes at Entry = (p : PureParts) × IsTextIn a.second bytes p × (IsEntry p a.entry → ⊥) × (at ≡ length bytes)
 IsFirstKind a bytes at Modes = ⊥
-IsFirstKind a bytes at Form = (p : PureParts) × IsTextIn a.second bytes p × IsEntry p a.entry × (at ≡ 0)
 
 -- the refusal of a text where this is asked: it isn't accepted, and the kind is the first that applies
 pub record IsRefusal (a : Asked) (bytes : List ℕ) (r : Refusal) : Type 0 where

@@ -6,7 +6,9 @@ use Rattle.gil_values.specs.Printed.{numeral, printed_value}
 use Rattle.gil_values.specs.declared.places.Place.{Place}
 use Rattle.solver_proof.specs.Pure.{PureProof}
 use Rattle.solver_print.specs.Proofs.{printed_proof}
+use Rattle.sym_test.specs.View.{PureQuery}
 use Rattle.value_print.specs.Pieces.{printed_place, printed_list}
+use Rattle.gillian_core.specs.Queries.{printed_query}
 
 -- What a report is about: of a mode and a language, one procedure and a bound, or the whole text.
 pub data Head : Type 0 where
@@ -18,12 +20,13 @@ pub record PureBinding : Type 0 where
   pub name : List ℕ
   pub value : PureValue
 
--- A verdict of `test` is `clean` or a bug. A solution of `solve` is `sat` with the values of the variables, `unsat` with a
+-- A verdict of `test` is `clean`, a bug, or undecided, with what isn't decided. A solution of `solve` is `sat` with the values of the variables, `unsat` with a
 -- proof and the names of the variables 0, 1, 2 and so on, or `unknown` with the place of an atom. The others are how a run
 -- ends: draws are numbered from 1, and `number` has the place of the first result that leaves 128 bits.
 pub data PureAnswer : Type 0 where
   clean : PureAnswer
   bug : Place → PureValue → List PureValue → PureAnswer
+  undecided : PureQuery → PureAnswer
   returned : PureValue → PureAnswer
   failed : PureValue → Place → PureAnswer
   vanished : PureAnswer
@@ -60,6 +63,7 @@ abbrev pub answer_line : PureAnswer → List ℕ
 answer_line clean = line (codes "clean")
 answer_line (bug place value inputs) =
     line (codes "bug " ++ printed_place place ++ codes " " ++ printed_value value ++ codes " inputs " ++ printed_list inputs)
+answer_line (undecided q) = line (codes "unknown " ++ printed_query q)
 answer_line (returned value) = line (codes "returned " ++ printed_value value)
 answer_line (failed value place) = line (codes "failed " ++ printed_value value ++ codes " " ++ printed_place place)
 answer_line vanished = line (codes "vanished")

@@ -1,8 +1,8 @@
 -- Which answers are right, by the mode that is asked for.
-use Rattle.std.specs.Prelude.{◌≡◌, ℕ, List, [], Some, map}
+use Rattle.std.specs.Prelude.{◌≡◌, ℕ, List, [], Some, map, ⊤}
 use Rattle.std.specs.FinMap.{empty}
 use Rattle.gil_syntax.specs.Pure.{PureParts}
-use Rattle.mem_model.specs.Actions.{Actions}
+use Rattle.gil_values.specs.Pure.{PureValue}
 use Rattle.record_heap.specs.Table.{record_actions}
 use Rattle.gil_machine.specs.Held.{HeldEnd, ended as held_end, number as held_number, held_run_of}
 use Rattle.gil_machine.specs.Run.{IsBug, IsClean, IsEntry}
@@ -13,6 +13,8 @@ use Rattle.pure_terms.specs.Meaning.{IsUnsatisfiable}
 use Rattle.pure_terms.specs.declared.deciders.Reason.{Reason}
 use Rattle.solver_proof.specs.Closing.{Closes}
 use Rattle.atom_text.specs.Accepted.{PureAtomText, SpellAtoms}
+use Rattle.record_sym.specs.Plain.{record_stands, record_terms, record_asked}
+use Rattle.sym_test.specs.Undecided.{IsUndecided, FailsSimply}
 use Rattle.while_syntax.specs.Pure.{PureSource}
 use Rattle.while_syntax.specs.Meaning.{source_end}
 use Rattle.while_grammar.specs.Texts.{SpellSource}
@@ -22,10 +24,8 @@ use Rattle.gillian_words.specs.declared.options.Language.TheVariants.{GilRecord,
 use Rattle.gillian_words.specs.declared.options.Mode.{Mode}
 use Rattle.gillian_words.specs.declared.options.Mode.TheVariants.{Run, Test, Compile, Solve}
 use Rattle.gillian_words.specs.Asked.{Asked}
-use Rattle.gillian_core.specs.declared.programs.Command.{Command}
-use Rattle.gillian_core.specs.Accepted.{IsTextIn, Spell}
-use Rattle.gillian_core.specs.Programs.{program_of}
-use Rattle.gillian_core.specs.Reports.{PureAnswer, clean, bug, returned, failed, vanished, cut, no_input, bad_input, number, sat, unsat, unknown}
+use Rattle.gillian_core.specs.Accepted.{IsTextIn}
+use Rattle.gillian_core.specs.Reports.{PureAnswer, clean, bug, undecided, returned, failed, vanished, cut, no_input, bad_input, number, sat, unsat, unknown}
 
 -- ---- run
 
@@ -43,18 +43,19 @@ abbrev pub end_answer : HeldEnd → PureAnswer
 end_answer (held_end e) = ending_answer e.ending
 end_answer (held_number place h) = number place
 
--- The source ends so by the meaning of its statements, from the empty heap of records and the counter 0 and on the inputs that are
--- asked for. Of the two answers that are no ends nothing is said.
-abbrev pub IsEndOfSource : Asked → PureSource → PureAnswer → Type 0
-IsEndOfSource a s cut = Unit {0}
-IsEndOfSource a s (number place) = Unit {0}
-IsEndOfSource a s answer = (n : ℕ) × (e : End) × (source_end s record_actions a.entry [] empty 0 a.inputs n ≡ Some e) × (answer ≡ ending_answer e.ending)
+-- The source ends so by the meaning of its statements, from the empty heap of records and the counter 0 and on these inputs. Of the
+-- two answers that are no ends nothing is said.
+abbrev pub IsEndOfSource : List ℕ → List PureValue → PureSource → PureAnswer → Type 0
+IsEndOfSource entry inputs s cut = Unit {0}
+IsEndOfSource entry inputs s (number place) = Unit {0}
+IsEndOfSource entry inputs s answer =
+    (n : ℕ) × (e : End) × (source_end s record_actions entry [] empty 0 inputs n ≡ Some e) × (answer ≡ ending_answer e.ending)
 
--- what the answer says of the text itself, where its language is compiled
-abbrev pub IsMeant : Language → Asked → List ℕ → PureAnswer → Type 0
-IsMeant GilRecord a bytes answer = Unit {0}
-IsMeant Atoms a bytes answer = Unit {0}
-IsMeant While a bytes answer = (s : PureSource) × SpellSource bytes s × IsEndOfSource a s answer
+-- what the answer of a run on these inputs says of the text itself, where its language is compiled
+abbrev pub IsMeant : Language → List ℕ → List PureValue → List ℕ → PureAnswer → Type 0
+IsMeant GilRecord entry inputs bytes answer = Unit {0}
+IsMeant Atoms entry inputs bytes answer = Unit {0}
+IsMeant While entry inputs bytes answer = (s : PureSource) × SpellSource bytes s × IsEndOfSource entry inputs s answer
 
 -- The bytes are a text with a program, and the answer is how the run of the entry ends, from the empty heap of records and the
 -- counter 0, on the inputs and within the bound that are asked for. A text that is compiled ends so itself.
@@ -63,22 +64,35 @@ pub record IsRightRun (a : Asked) (bytes : List ℕ) (answer : PureAnswer) : Typ
   pub text : IsTextIn a.second bytes program
   pub entry : IsEntry program a.entry
   pub ends : answer ≡ end_answer (held_run_of program record_actions a.entry [] empty 0 a.inputs a.bound)
-  pub meant : IsMeant a.second a bytes answer
+  pub meant : IsMeant a.second a.entry a.inputs bytes answer
 
 -- ---- test
 
--- `clean` is right where no run fails within the bound; `bug` where the run with these inputs fails with this value at
--- this place within the bound, and draws each of them. This is so whatever the actions of the memory do.
+-- no inputs make a run fail within the bound by commands of simple form alone
+abbrev pub NoneFailsSimply : PureParts → List ℕ → ℕ → Type 0
+NoneFailsSimply p entry bound = (inputs : List PureValue) → ¬ FailsSimply p record_actions entry inputs bound
+
+-- `clean` is right where no run over records fails within the bound; `bug` where the run with these inputs fails with this value at
+-- this place within the bound, and draws each of them; `unknown` where the query isn't decided, and none fails by simple commands.
 abbrev pub IsRightVerdict : PureParts → List ℕ → ℕ → PureAnswer → Type 0
-IsRightVerdict p entry bound clean = (memory : Actions) → IsClean p memory entry bound
-IsRightVerdict p entry bound (bug place value inputs) = (memory : Actions) → IsBug p memory entry bound inputs value place
+IsRightVerdict p entry bound clean = IsClean p record_actions entry bound
+IsRightVerdict p entry bound (bug place value inputs) = IsBug p record_actions entry bound inputs value place
+IsRightVerdict p entry bound (undecided query) =
+    IsUndecided p record_actions record_stands record_terms record_asked ⊤ entry bound query × NoneFailsSimply p entry bound
 IsRightVerdict p entry bound _ = ⊥
 
--- the bytes are a text of a forward program, and the verdict is right for it
+-- where a text is compiled, it fails so itself on the inputs of a bug
+abbrev pub IsMeantVerdict : Asked → List ℕ → PureAnswer → Type 0
+IsMeantVerdict a bytes (bug place value inputs) = IsMeant a.second a.entry inputs bytes (failed value place)
+IsMeantVerdict a bytes _ = Unit {0}
+
+-- The bytes are a text with a program, and the verdict is right for it and for the text itself.
 pub record IsRightTest (a : Asked) (bytes : List ℕ) (answer : PureAnswer) : Type 0 where
-  pub commands : List Command
-  pub text : Spell bytes commands
-  pub verdict : IsRightVerdict (program_of commands) a.entry a.bound answer
+  pub program : PureParts
+  pub text : IsTextIn a.second bytes program
+  pub entry : IsEntry program a.entry
+  pub verdict : IsRightVerdict program a.entry a.bound answer
+  pub meant : IsMeantVerdict a bytes answer
 
 -- ---- solve
 

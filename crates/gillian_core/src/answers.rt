@@ -1,5 +1,6 @@
 //! The answers that reports give.
 use gil_values::{Place, Text, Value, Values};
+use pure_terms::Query;
 use sequence::Sequence;
 use solver_print::Names;
 use solver_proof::Proof;
@@ -24,6 +25,8 @@ pub enum Answer {
         value: Value,
         inputs: Values,
     },
+    /// The conditions of a path aren't decided.
+    Undecided(Query),
     Returned(Value),
     Failed(Value, Place),
     Vanished,

@@ -3,12 +3,7 @@
 
 mod answers;
 mod compiling;
-mod decision;
-mod forward;
-mod intervals;
-mod laws;
-mod programs;
-mod reading;
+mod queries;
 mod refusals;
 mod reports;
 mod running;
@@ -18,6 +13,5 @@ mod status;
 mod testing;
 mod top;
 
-pub use laws::one_program;
 pub use status::Status;
 pub use top::gillian;

@@ -38,8 +38,6 @@ pub enum RefusalKind {
     Entry,
     /// An assertion reads what isn't known. No mode asks for that yet.
     Modes,
-    /// The program's form isn't one that the mode takes yet.
-    Form,
 }
 
 /// A refusal, and the byte that it names.
@@ -133,7 +131,6 @@ fn word_of(kind: RefusalKind) -> &'static str
         RefusalKind::Limit => "limit",
         RefusalKind::Entry => "entry",
         RefusalKind::Modes => "modes",
-        RefusalKind::Form => "form",
     }
 }
 

@@ -5,16 +5,19 @@ ghost use Rattle.gil_values.specs.View.{value_view, values_view};
 ghost use Rattle.gillian_words.specs.Asked.{mode_word, language_word};
 ghost use Rattle.gillian_words.specs.View.{words_view};
 ghost use Rattle.solver_proof.specs.View.{proof_view};
+ghost use Rattle.sym_test.specs.View.{query_view};
 ghost use Rattle.gillian_core.specs.Answers.{answer_view, binding_view};
 ghost use Rattle.gillian_core.specs.Outcomes.{answer_status};
 ghost use Rattle.gillian_core.specs.Reports.{head_line, of_entry, of_text, answer_line, report_text, printed_binding};
-ghost use Rattle.gillian_core.specs.Reports.{bug, returned, failed, no_input, bad_input, number, sat, unsat, unknown};
+ghost use Rattle.gillian_core.specs.Reports.{bug, undecided, returned, failed, no_input, bad_input, number, sat, unsat, unknown};
 ghost use Rattle.gillian_core.specs.Words.{head_of};
 
 use crate::answers::{Answer, Binding, Bindings};
+use crate::queries::push_query;
 use crate::status::Status;
 use gil_values::{Place, Value, Values};
 use gillian_words::{Language, Mode, Words};
+use pure_terms::Query;
 use solver_print::{Names, push_proof};
 use solver_proof::Proof;
 use std::alloc::{AllocError, Global};
@@ -27,7 +30,7 @@ pub fn report_of(alloc: Global, words: &Words, answer: &Answer) -> Result<String
 {
     let mut out = String::new(alloc);
     push_head(&mut out, words)?;
-    push_answer(&mut out, answer)?;
+    push_answer(alloc, &mut out, answer)?;
     Ok(out)
 }
 
@@ -95,7 +98,7 @@ fn word_of_language(language: Language) -> &'static str
 }
 
 /// Adds the line of an answer.
-fn push_answer(out: &mut String, answer: &Answer) -> Result<(), AllocError>
+fn push_answer(alloc: Global, out: &mut String, answer: &Answer) -> Result<(), AllocError>
     ensures { OnOk result (string_bytes out.new ≡ string_bytes out.old ++ answer_line (answer_view answer.now)) }
 {
     match answer {
@@ -105,6 +108,7 @@ fn push_answer(out: &mut String, answer: &Answer) -> Result<(), AllocError>
             value,
             inputs,
         } => push_bug(out, place, value, inputs),
+        Answer::Undecided(query) => push_undecided(alloc, out, query),
         Answer::Returned(value) => push_returned(out, value),
         Answer::Failed(value, place) => push_failed(out, value, place),
         Answer::Vanished => out.push_str("vanished\n"),
@@ -134,6 +138,16 @@ fn push_bug(
     push_value(out, value)?;
     out.push_str(" inputs ")?;
     push_values(out, inputs)?;
+    out.push_str("\n")?;
+    Ok(())
+}
+
+/// Adds the line of what a test can't decide.
+fn push_undecided(alloc: Global, out: &mut String, query: &Query) -> Result<(), AllocError>
+    ensures { OnOk result (string_bytes out.new ≡ string_bytes out.old ++ answer_line (undecided (query_view query.now))) }
+{
+    out.push_str("unknown ")?;
+    push_query(alloc, out, query)?;
     out.push_str("\n")?;
     Ok(())
 }
@@ -252,6 +266,7 @@ pub fn status_of(answer: &Answer) -> Status
         | Answer::Sat(_)
         | Answer::Unsat(_, _) => Status::Good,
         Answer::Bug { .. }
+        | Answer::Undecided(_)
         | Answer::Failed(_, _)
         | Answer::Cut
         | Answer::NoInput(_)

@@ -190,7 +190,7 @@ fn work(alloc: Global, words: &Words, rules: &RuleBook, bytes: &[u8]) -> Result<
 {
     match words.mode {
         Mode::Run => run_response(alloc, words, bytes),
-        Mode::Test => test_response(alloc, words, bytes),
+        Mode::Test => test_response(alloc, words, rules, bytes),
         Mode::Compile => compile_response(alloc, words, bytes),
         Mode::Solve => solve_response(alloc, words, rules, bytes),
     }
@@ -208,12 +208,18 @@ fn run_response(alloc: Global, words: &Words, bytes: &[u8]) -> Result<Response, 
 }
 
 /// The report of a verdict.
-fn test_response(alloc: Global, words: &Words, bytes: &[u8]) -> Result<Response, Stop>
-    requires { words.now.mode ≡ Mode.Test }
+fn test_response(
+    alloc: Global,
+    words: &Words,
+    rules: &RuleBook,
+    bytes: &[u8],
+) -> Result<Response, Stop>
+    requires mode { words.now.mode ≡ Mode.Test }
+    requires bound { words.now.bound ≤ 10000 }
     ensures response { IfOk result (λ response. IsResponse (words_view words.now) bytes.now response.status response.text.items) }
     ensures stop { IfErr result (IsStop (words_view words.now) bytes.now) }
 {
-    let answer = test(alloc, words, bytes)?;
+    let answer = test(alloc, words, rules, bytes)?;
     Ok(report(alloc, words, &answer)?)
 }
 

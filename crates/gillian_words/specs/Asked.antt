@@ -31,7 +31,7 @@ language_word GilRecord = codes "gil-record"
 language_word Atoms = codes "atoms"
 language_word While = codes "while"
 
--- which sources a mode works on: `solve` on atoms, the others on programs, of which those in While aren't tested
+-- which sources a mode works on: `solve` on atoms, the others on programs
 abbrev pub takes_language : Mode → Language → Bool
 takes_language Run GilRecord = true
 takes_language Test GilRecord = true
@@ -42,7 +42,7 @@ takes_language Test Atoms = false
 takes_language Compile Atoms = false
 takes_language Solve Atoms = true
 takes_language Run While = true
-takes_language Test While = false
+takes_language Test While = true
 takes_language Compile While = true
 takes_language Solve While = false
 

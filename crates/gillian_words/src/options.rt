@@ -59,9 +59,8 @@ impl Mode {
         ensures { result ≡ takes_language self language }
     {
         match language {
-            Language::GilRecord => !matches!(self, Mode::Solve),
+            Language::GilRecord | Language::While => !matches!(self, Mode::Solve),
             Language::Atoms => matches!(self, Mode::Solve),
-            Language::While => matches!(self, Mode::Run | Mode::Compile),
         }
     }
 

@@ -54,7 +54,7 @@ fn words_fit_or_are_refused(rt: HostRuntime) -> Result<(), Fail> {
         ("gillian test", false),
         ("gillian test gil-record more", false),
         ("gillian check gil-record", false),
-        ("gillian test while", false),
+        ("gillian test while", true),
         ("gillian test gil-record --inputs 1", false),
         ("gillian compile gil-record --bound 1", false),
         ("gillian compile gil-record --entry main", false),
