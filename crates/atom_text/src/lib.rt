@@ -8,8 +8,6 @@ mod reading;
 mod resolving;
 mod sources;
 mod terms;
-#[cfg(test)]
-mod tests;
 mod texts;
 
 pub use laws::{one_text_has_one_reading, one_text_spells_one_list};

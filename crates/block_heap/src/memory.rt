@@ -55,6 +55,3 @@ impl LocalMemory for BlockHeap {
         }
     }
 }
-
-#[cfg(test)]
-mod tests;

@@ -24,6 +24,3 @@ pub use distinct::distinct_values;
 pub use forms::{Solved, SolvedForm};
 pub use solving::equal;
 pub use values::Kinds;
-
-#[cfg(test)]
-mod tests;

@@ -32,6 +32,3 @@ pub use std_source::StdSource;
 pub use sure_sink::SureSink;
 pub use sure_source::SureSource;
 pub use writing::{WriteFault, write_all};
-
-#[cfg(test)]
-mod tests;

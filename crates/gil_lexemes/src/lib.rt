@@ -4,8 +4,6 @@
 mod cursor;
 mod standing;
 mod stops;
-#[cfg(test)]
-mod tests;
 
 pub use cursor::Cursor;
 pub use standing::{Lexeme, lexemes};

@@ -11,8 +11,6 @@ mod literals;
 mod names;
 mod numbers;
 mod signs;
-#[cfg(test)]
-mod tests;
 mod token_list;
 mod words;
 

@@ -28,6 +28,3 @@ pub use laws::{
     tests_start_properly, the_counter_is_new,
 };
 pub use running::{End, run, run_entry};
-
-#[cfg(test)]
-mod tests;

@@ -6,6 +6,3 @@ mod printing;
 
 pub use laws::{printed_again, printed_texts_spell, printing_tells_programs};
 pub use printing::print_prog;
-
-#[cfg(test)]
-mod tests;

@@ -22,6 +22,3 @@ pub use program::Prog;
 pub use simple::is_simple;
 pub use uncounted::check_but_length;
 pub use well_made::is_well_made;
-
-#[cfg(test)]
-mod tests;

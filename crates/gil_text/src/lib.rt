@@ -12,8 +12,6 @@ mod places;
 mod programs;
 mod reading;
 mod refused;
-#[cfg(test)]
-mod tests;
 mod texts;
 mod vocabulary;
 

@@ -22,6 +22,3 @@ pub use operators::{BinOp, UnOp};
 pub use places::Place;
 pub use texts::Text;
 pub use tree::{Value, Values};
-
-#[cfg(test)]
-mod tests;

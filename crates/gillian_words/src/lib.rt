@@ -7,8 +7,6 @@ mod laws;
 mod line;
 mod options;
 mod scan;
-#[cfg(test)]
-mod tests;
 mod words;
 
 pub use asked::{WordsFault, read_words};

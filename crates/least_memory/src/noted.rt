@@ -87,6 +87,3 @@ impl SymMemory for Noted {
         Ok(branches)
     }
 }
-
-#[cfg(test)]
-mod tests;

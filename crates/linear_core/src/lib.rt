@@ -18,6 +18,3 @@ pub use answers::Linear;
 pub use deciding::linear;
 pub use rows::{Coefficient, Coefficients, Relation, Row, Rows};
 pub use tables::are_over;
-
-#[cfg(test)]
-mod tests;

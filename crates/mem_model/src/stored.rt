@@ -104,6 +104,3 @@ impl StoredHeap {
         Ok(())
     }
 }
-
-#[cfg(test)]
-mod tests;

@@ -59,6 +59,3 @@ impl LocalMemory for ObjectHeap {
         }
     }
 }
-
-#[cfg(test)]
-mod tests;

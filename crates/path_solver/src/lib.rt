@@ -15,6 +15,3 @@ mod testing;
 pub use solutions::Solution;
 pub use solvers::PathSolver;
 pub use solving::solve;
-
-#[cfg(test)]
-mod tests;

@@ -37,6 +37,3 @@ pub use queries::{Choices, Query};
 pub use terms::{Term, Terms};
 pub use truth::{HoldsFault, holds};
 pub use variables::{Sort, Valuation, Var, VarTable};
-
-#[cfg(test)]
-mod tests;

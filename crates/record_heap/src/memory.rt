@@ -55,6 +55,3 @@ impl LocalMemory for RecordHeap {
         }
     }
 }
-
-#[cfg(test)]
-mod tests;

@@ -57,6 +57,3 @@ impl SymMemory for RecordSym {
         branches(alloc, action, fresh, args, &self.chunks)
     }
 }
-
-#[cfg(test)]
-mod tests;

@@ -15,6 +15,3 @@ pub use lists::{len_list, nth_list};
 pub use numbers::{minus_zero, neg_neg, plus_zero, times_one, times_zero};
 pub use rules::{Head, Rule, Simplifier};
 pub use simplifying::simplify;
-
-#[cfg(test)]
-mod tests;

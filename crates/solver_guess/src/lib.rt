@@ -15,6 +15,3 @@ mod testing;
 mod values;
 
 pub use guessing::{Guess, guess_at};
-
-#[cfg(test)]
-mod tests;

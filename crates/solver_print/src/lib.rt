@@ -10,6 +10,3 @@ pub use atoms::push_atom;
 pub use laws::terms_print_as_expressions;
 pub use proofs::push_proof;
 pub use terms::{Names, push_term};
-
-#[cfg(test)]
-mod tests;

@@ -17,6 +17,3 @@ pub use checking::accepts;
 pub use laws::closed_lists_have_no_solution;
 pub use proofs::{ChainEnd, Factor, Factors, Places, Proof, Proofs};
 pub use refuters::Refuter;
-
-#[cfg(test)]
-mod tests;

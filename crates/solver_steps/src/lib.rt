@@ -13,6 +13,3 @@ mod trying;
 
 pub use plain::are_plain;
 pub use steps::next_step;
-
-#[cfg(test)]
-mod tests;

@@ -8,6 +8,3 @@ mod items;
 pub use assertions::{copy_assertion, copy_params, copy_use};
 pub use expressions::{copy_of_expression, copy_of_expressions, copy_texts};
 pub use items::{copy_preds, copy_specs};
-
-#[cfg(test)]
-mod tests;

@@ -7,6 +7,3 @@ mod values;
 
 pub use pieces::{kind_name, push_integer, push_literal, push_number, push_place, push_separator};
 pub use values::{push_value, push_values};
-
-#[cfg(test)]
-mod tests;

@@ -17,6 +17,3 @@ pub use compiling::compile;
 pub use examples::{a_return_stands_last, statements_have_their_commands};
 pub use limits::TooMany;
 pub use source::Source;
-
-#[cfg(test)]
-mod tests;

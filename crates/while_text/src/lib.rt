@@ -9,8 +9,6 @@ mod located;
 mod naming;
 mod pieces;
 mod reading;
-#[cfg(test)]
-mod tests;
 mod texts;
 mod worded;
 
