@@ -78,24 +78,3 @@ impl Exprs {
         self.items.iter()
     }
 }
-
-#[cfg(test)]
-mod tests {
-    use super::*;
-    use gil_values::Kind;
-    use std::test::Fail;
-
-    #[test]
-    fn expressions_stand_in_order(rt: HostRuntime) -> Result<(), Fail> {
-        let mut list = Exprs::new(rt.alloc());
-        assert_eq!(rt; list.len(), 0);
-        list.push(Expr::Lit(Value::Int(5)))?;
-        list.push(Expr::Lit(Value::Kind(Kind::Null)))?;
-        assert_eq!(rt; list.len(), 2);
-        assert!(rt; matches!(list.get(0), Some(Expr::Lit(Value::Int(5)))));
-        assert!(rt; list.get(2).is_none());
-        assert!(rt; matches!(list.iter().last(), Some(Expr::Lit(Value::Kind(Kind::Null)))));
-        assert_eq!(rt; list.as_slice().len(), 2);
-        Ok(())
-    }
-}

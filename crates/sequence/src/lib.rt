@@ -1,7 +1,7 @@
 //! A list type for every plural of the project: a `Vec` that contracts see as the list of its items.
 #![tactic(auto)]
 
-ghost use Rattle.std.specs.Prelude.{◌≡◌, [], ◌∷◌, ◌++◌, length, slice_get, OnOk, OnErr};
+ghost use Rattle.std.specs.Prelude.{◌≡◌, [], ◌∷◌, ◌++◌, length, slice_get, MatchOption, OnOk, OnErr};
 ghost use Rattle.std.specs.Option.{option_map};
 ghost use Rattle.std.specs.Slice.Iter.{iter_rest};
 
@@ -54,6 +54,13 @@ impl<T> Sequence<T> {
         self.items.as_slice()
     }
 
+    /// Takes the last item away.
+    pub fn pop(&mut self) -> Option<T>
+        ensures { MatchOption result ((self.old ≡ []) × (self.new ≡ [])) (λ last. self.old ≡ self.new ++ last ∷ []) }
+    {
+        self.items.pop()
+    }
+
     /// The items as a `Vec`, which can be taken apart.
     pub fn into_vec(self) -> Vec<T>
         ensures { result.items ≡ self }
@@ -77,27 +84,6 @@ impl<T: Drop> Sequence<T> {
         ensures err { OnErr result (self.new ≡ self.old) }
     {
         self.items.push(item)?;
-        Ok(())
-    }
-}
-
-#[cfg(test)]
-mod tests {
-    use super::*;
-    use std::test::Fail;
-
-    #[test]
-    fn items_stand_in_order(rt: HostRuntime) -> Result<(), Fail> {
-        let mut numbers: Sequence<u32> = Sequence::new(rt.alloc());
-        assert_eq!(rt; numbers.len(), 0);
-        numbers.push(5)?;
-        numbers.push(7)?;
-        assert_eq!(rt; numbers.len(), 2);
-        assert_eq!(rt; numbers.get(1).copied(), Some(7));
-        assert_eq!(rt; numbers.get(2).copied(), None);
-        assert_eq!(rt; numbers.iter().copied().last(), Some(7));
-        assert_eq!(rt; numbers.as_slice(), [5, 7].as_slice());
-        assert_eq!(rt; numbers.into_vec().pop(), Some(7));
         Ok(())
     }
 }

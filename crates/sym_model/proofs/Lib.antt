@@ -5,3 +5,4 @@ pub mod ListLaws
 pub mod MadeLaws
 pub mod PlainLaws
 pub mod Unions
+pub mod Wider

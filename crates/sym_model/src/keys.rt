@@ -25,10 +25,17 @@ pub enum SymSub {
 }
 
 /// A key whose location is a term's value. Contracts see it as its pure data, by `key_view`.
-#[derive(Debug, Drop)]
+#[derive(Debug)]
 pub struct SymKey {
     pub loc: Term,
     pub sub: SymSub,
+}
+
+// Written out, so that code which may drop a key calls this, and isn't made longer by it.
+impl Drop for SymKey {
+    fn drop(self) {
+        let SymKey { loc: _, sub: _ } = self;
+    }
 }
 
 impl SymSub {

@@ -14,6 +14,3 @@ pub use keys::{SymKey, SymSub};
 pub use laws::{chunks_have_a_meaning, serving_valuations_may_act, unions_change};
 pub use memory::SymMemory;
 pub use path_conditions::PathCond;
-
-#[cfg(test)]
-mod tests;
