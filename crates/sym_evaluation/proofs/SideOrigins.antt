@@ -12,7 +12,7 @@ use Rattle.pure_terms.specs.Pure.{PureTerm, literal, variable, list_of, unary_of
 use Rattle.sym_model.specs.Lists.{Each, OneOf}
 use Rattle.sym_model.proofs.ListLaws.{each_append, each_to, one_left, one_right}
 use Rattle.sym_evaluation.specs.Checks.{is_of_kind}
-use Rattle.sym_evaluation.specs.Questions.{IsAbout, boolean_parts, IsCompared, IsGuardCondition, OnSide, SidesComeFrom}
+use Rattle.sym_evaluation.specs.Questions.{IsAbout, boolean_parts, IsCompared, AsksBoolean, IsGuardCondition, OnSide, SidesComeFrom}
 use Rattle.sym_evaluation.specs.Sides.{said, variable_said, conditions_of, no_boolean, both_sides, sides_by_kind, literal_sides, sides_of}
 
 abbrev IsOfPart : PureAtom → PureTerm → Type 0
@@ -71,7 +71,7 @@ conditions_of_parts b (binary_of BinOp.Nth s t) = of_itself b (binary_of BinOp.N
 on_guard : (b : Bool) (t : PureTerm) → Each (IsGuardCondition t) (conditions_of b t)
 on_guard b t = each_to (λ a. OneOf (IsOfPart a) (boolean_parts t)) (IsGuardCondition t) (conditions_of b t) (λ a one. inl one) (conditions_of_parts b t)
 
-on_both : (t : PureTerm) (otherwise : Option (List PureAtom)) → OnSide (IsGuardCondition t) otherwise → SidesComeFrom t (both_sides t otherwise)
+on_both : (t : PureTerm) (otherwise : Option (List PureAtom)) → OnSide (AsksBoolean t) otherwise → SidesComeFrom t (both_sides t otherwise)
 on_both t otherwise on = (on_guard true t, on_guard false t, on)
 
 by_test : (b : Bool) (t : PureTerm) → SidesComeFrom t (if b then both_sides t None else no_boolean)
@@ -80,7 +80,7 @@ by_test false t = (tt, tt, tt)
 
 by_kind : (o : Option Kind) (t : PureTerm) → known_kind t ≡ o → SidesComeFrom t (sides_by_kind o t)
 by_kind (Some k) t known = by_test (same_kind k Kind.Bool) t
-by_kind None t known = on_both t (Some (negative (is_of_kind t Kind.Bool) ∷ [])) (inr (known, refl), tt)
+by_kind None t known = on_both t (Some (negative (is_of_kind t Kind.Bool) ∷ [])) ((known, refl), tt)
 
 of_literal : (t : PureTerm) (l : Literal) → SidesComeFrom t (literal_sides l)
 of_literal t (Literal.Bool true) = (tt, tt, tt)

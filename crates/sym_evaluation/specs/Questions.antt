@@ -134,10 +134,14 @@ boolean_parts (binary_of op s t) = binary_of op s t ∷ []
 abbrev pub IsCompared : PureTerm → PureAtom → Type 0
 IsCompared u a = (x : Var) × ((b : Bool) × ((u ≡ variable x) × (x.sort ≡ Sort.Any) × (a ≡ positive (is_boolean u b))))
 
+-- the atom asks whether the guard is a boolean, where its kind is open
+abbrev pub AsksBoolean : PureTerm → PureAtom → Type 0
+AsksBoolean t a = (known_kind t ≡ None) × IsAbout (is_of_kind t Kind.Bool) a
+
 -- The condition says that the guard or a part of it is true or false, or asks whether the guard is a boolean where its kind is open.
 abbrev pub IsGuardCondition : PureTerm → PureAtom → Type 0
 IsGuardCondition t a =
-    OneOf (λ u. IsAbout u a ⊎ IsCompared u a) (boolean_parts t) ⊎ ((known_kind t ≡ None) × IsAbout (is_of_kind t Kind.Bool) a)
+    OneOf (λ u. IsAbout u a ⊎ IsCompared u a) (boolean_parts t) ⊎ AsksBoolean t a
 
 abbrev pub OnSide : (PureAtom → Type 0) → Option (List PureAtom) → Type 0
 OnSide P None = Unit {0}
@@ -147,5 +151,8 @@ OnSide P (Some conds) = Each P conds
 abbrev pub EachSide : (PureAtom → Type 0) → PureSides → Type 0
 EachSide P sides = OnSide P sides.when_true × OnSide P sides.when_false × OnSide P sides.when_no_boolean
 
+-- The sides on which a guard is true or false have its conditions. The side on which it is no boolean only asks whether it is one.
 abbrev pub SidesComeFrom : PureTerm → PureSides → Type 0
-SidesComeFrom t sides = EachSide (IsGuardCondition t) sides
+SidesComeFrom t sides =
+    OnSide (IsGuardCondition t) sides.when_true × OnSide (IsGuardCondition t) sides.when_false
+    × OnSide (AsksBoolean t) sides.when_no_boolean

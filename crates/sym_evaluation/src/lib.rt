@@ -15,6 +15,3 @@ pub use evaluation::{evaluate, evaluate_all};
 pub use faults::Fault;
 pub use guards::{Sides, guard_sides};
 pub use store::{Binding, SymStore};
-
-#[cfg(test)]
-mod tests;

@@ -1,11 +1,13 @@
+pub mod Assuming
 pub mod Binding
 pub mod Drawing
+pub mod FirstFrame
 pub mod Growing
 pub mod Moving
+pub mod Origins
 pub mod Recording
 pub mod Settled
 pub mod Silent
 pub mod Starting
 pub mod Valuations
 pub mod Valued
-pub mod Wider

@@ -11,7 +11,7 @@ use Rattle.gil_values.proofs.OperatorSymbols.{none_contained}
 use Rattle.gil_syntax.specs.Evaluation.{Store, bind}
 use Rattle.gil_syntax.specs.Pure.{PureParts, PureCommand, assign, call, act, usym, isym, ifgoto, return, fail, vanish, fold_use, unfold_use, assert_that, loop_invariant, PureNumberedCommand}
 use Rattle.gil_machine.specs.Choices.{choice_of}
-use Rattle.gil_machine.specs.State.{Frame, State, Step, end_at}
+use Rattle.gil_machine.specs.State.{Frame, State, end_at}
 use Rattle.gil_machine.specs.State as machine
 use Rattle.gil_machine.specs.Step.{command_at, step, do_command, to_next}
 use Rattle.mem_model.specs.declared.keys.MemoryName.{MemoryName}
@@ -35,6 +35,7 @@ use Rattle.sym_paths.specs.Steps.{HasInput, IsUnknown, AreNext, IsNext, symbols_
 use Rattle.sym_paths.proofs.Binding.{agree_bound, each_bound}
 use Rattle.sym_paths.proofs.Drawing.{drawn_is, new_sort, none_fresh, drawn_next, next_drawn, not_fresh, some_fits, fits_kind, kind_fits, no_symbols, no_symbol_below, draws_this, input_there}
 use Rattle.sym_paths.proofs.Growing.{path_stands, path_over}
+use Rattle.sym_paths.proofs.Origins.{advanced_moved, logic_moves, follows_ended, follows_going}
 use Rattle.sym_paths.proofs.Recording.{records_by, same_records, ended_records}
 use Rattle.sym_paths.proofs.Silent.{stands_at, step-is, choice-is, same_and_none, silent_step}
 use Rattle.sym_paths.proofs.Valuations.{below_higher, below_next, next_fresh, later_variables_are_proper}
@@ -193,10 +194,11 @@ module _ {S : Type 0} (memory : MemoryName) (stands : S → List PureValue → H
         (record {
           leads = λ inputs v ws s is in_turn proper. vanished_leads command inputs v ws s is (none_next inputs s.counter s.draws ws in_turn);
           exists = λ inputs v s is has. ([], (tt, proper_as_it_is path.vars v is.proper));
-          records = ended_records p m path (vanishing path) vanished refl;
+          records = ended_records p m path (vanishing path) refl vanished refl;
           chooses_nothing = λ v s is. choice-is p m [] s c vanish (standing v s is) command;
           may_follow = λ v proper. ([], proper_as_it_is path.vars v proper);
         })
+        (follows_ended p m terms path (vanishing path) vanished refl refl)
 
     -- ---- logic commands
 
@@ -244,6 +246,7 @@ module _ {S : Type 0} (memory : MemoryName) (stands : S → List PureValue → H
           chooses_nothing = λ v s is. choice-is p m [] s c c.command (standing v s is) refl ∙ logic_chooses_nothing p m c.command s logic;
           may_follow = λ v proper. ([], proper_as_it_is path.vars v proper);
         })
+        (follows_going p m terms path (passing path) c at c.command refl no_end (logic_moves p m terms path (passing path) c.command logic refl (advanced_moved path.stack)))
 
     -- ---- new symbols
 
@@ -311,10 +314,11 @@ module _ {S : Type 0} (memory : MemoryName) (stands : S → List PureValue → H
           (record {
             leads = symbol_leads command;
             exists = λ inputs v s is has. (symbol s.counter ∷ [], ((refl, tt), (next_fresh path.vars v s.counter is.proper is.symbols_below).0));
-            records = records_by p m path (with_fresh path bs) c at (Sort.Fresh ∷ []) None refl (sym (ap (symbols_taken m) command)) (same_and_none path.choices path.choices refl) (sym (ap makes_choice command));
+            records = records_by p m path (with_fresh path bs) c at (Sort.Fresh ∷ []) None refl (sym (ap (symbols_taken m) command)) (same_and_none path.choices path.choices refl) (λ n none. not_none none) (sym (ap makes_choice command));
             chooses_nothing = λ v s is. choice-is p m [] s c (usym x) (standing v s is) command;
             may_follow = λ v proper. let (n, below) = above (symbols_of_all v) in (symbol n ∷ [], (next_fresh path.vars v n proper below).0);
           })
+          (follows_going p m terms path (with_fresh path bs) c at (usym x) command no_end (refl, (bs, (bound, refl))))
 
     -- ---- draws
 
@@ -394,10 +398,11 @@ module _ {S : Type 0} (memory : MemoryName) (stands : S → List PureValue → H
           (record {
             leads = draw_leads command;
             exists = draw_exists command;
-            records = records_by p m path (with_draw path sort bs) c at (sort ∷ []) None refl (none_fresh k sort drawable ∙ sym (ap (symbols_taken m) command)) (same_and_none path.choices path.choices refl) (sym (ap makes_choice command));
+            records = records_by p m path (with_draw path sort bs) c at (sort ∷ []) None refl (none_fresh k sort drawable ∙ sym (ap (symbols_taken m) command)) (same_and_none path.choices path.choices refl) (λ n none. not_none none) (sym (ap makes_choice command));
             chooses_nothing = λ v s is. choice-is p m [] s c (isym x k) (standing v s is) command;
             may_follow = λ v proper. let (w, fits) = some_fits k sort drawable in (w ∷ [], later_variables_are_proper.drawn path.vars v sort w proper (not_fresh k sort drawable) fits);
           })
+          (follows_going p m terms path (with_draw path sort bs) c at (isym x k) command no_end (refl, (sort, (drawable, (bs, (bound, refl))))))
 
   pub ask_nothing : AskNothing stands terms
   ask_nothing = record {

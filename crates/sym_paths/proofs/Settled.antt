@@ -14,12 +14,13 @@ use Rattle.pure_terms.specs.Pure.{PureAtom, term_of}
 use Rattle.sym_model.specs.Lists.{Each, OneOf, IsAmong}
 use Rattle.sym_model.specs.Meaning.{has_open}
 use Rattle.sym_model.specs.Terms.{StateTerms}
-use Rattle.sym_model.proofs.ListLaws.{each_append, each_to, one_with}
+use Rattle.sym_model.proofs.ListLaws.{not_none, each_append, each_to, one_with}
 use Rattle.sym_paths.specs.Meaning.{StandsForStep}
+use Rattle.sym_paths.specs.Origins.{Follows}
 use Rattle.sym_paths.specs.Pure.{unknown, PurePath}
-use Rattle.sym_paths.specs.Settling.{Candidate, ended_unknown, IsLeftUnknown, Stays, AreSettled, AreCandidates}
-use Rattle.sym_paths.specs.Steps.{Extends, IsUnknown, IsRightlyUnknown, Grows, IsRecorded, AddsOwn, IsExact, ChoosesAlike, HoldsAlong, StaysSatisfiable, AreNextPaths}
-use Rattle.sym_paths.proofs.Recording.{ended_records}
+use Rattle.sym_paths.specs.Settling.{Candidate, ended_unknown, IsLeftUnknown, Stays, AreSettled, AssumesRightly, AreCandidates}
+use Rattle.sym_paths.specs.Steps.{Extends, IsUnknown, IsRightlyUnknown, Grows, IsRecorded, AddsOwn, Assumes, IsExact, ChoosesAlike, HoldsAlong, NeedsNoForm, StaysSatisfiable, AreNextPaths}
+use Rattle.sym_paths.proofs.Origins.{follows_ended}
 use Rattle.sym_paths.proofs.Silent.{rightly}
 
 each_both : {A : Type 0} (P Q : A → Type 0) (xs : List A) → Each P xs → Each Q xs → Each (λ x. P x × Q x) xs
@@ -82,7 +83,11 @@ module _ {S : Type 0} (p : PureParts) (m : Actions) (stands : S → List PureVal
 
   recorded_on : (c : Candidate S) (next : PurePath S) → IsRecorded p m path c.path → Stays p path c next → IsRecorded p m path next
   recorded_on c next recorded (inl kept) = subst (IsRecorded p m path) (sym kept.is) recorded
-  recorded_on c next recorded (inr left) = subst (IsRecorded p m path) (sym left.is) (ended_records p m path (ended_unknown c left.place left.reason) (unknown left.place left.reason) refl)
+  recorded_on c next recorded (inr left) =
+      subst (IsRecorded p m path) (sym left.is) (record {
+        symbols = λ d there going. not_none (sym going);
+        choice = λ d there. let (chosen, (choices, may, made)) = recorded.choice d there in (chosen, (choices, may, λ going. not_none (sym going)));
+      })
 
   abbrev Covered : List PureValue → List PureValue → State → Candidate S → Type 0
   Covered inputs v s c =
@@ -126,6 +131,19 @@ module _ {S : Type 0} (p : PureParts) (m : Actions) (stands : S → List PureVal
   own_on c next adds (inl kept) = subst (AddsOwn own path) (sym kept.is) adds
   own_on c next adds (inr left) = subst (AddsOwn own path) (sym left.is) (record { added = adds.added; conds = adds.conds; each = adds.each })
 
+  assumes_on : (c : Candidate S) (next : PurePath S) → AssumesRightly p own path c → Stays p path c next → Assumes p own path next
+  assumes_on c next (assumes, besides) (inl kept) = subst (Assumes p own path) (sym kept.is) assumes
+  assumes_on c next (assumes, besides) (inr left) = subst (Assumes p own path) (sym left.is) (besides left.place left.reason)
+
+  origin_on : (c : Candidate S) (next : PurePath S) → (has_open c.path.conds ≡ false → Follows p m terms path c.path) → Stays p path c next → Follows p m terms path next
+  origin_on c next follows (inl kept) = subst (Follows p m terms path) (sym kept.is) (follows kept.no_form)
+  origin_on c next follows (inr left) =
+      subst (Follows p m terms path) (sym left.is) (follows_ended p m terms path (ended_unknown c left.place left.reason) (unknown left.place left.reason) refl refl)
+
+  no_form_on : (c : Candidate S) (next : PurePath S) → ¬ IsUnknown c.path.ending → Stays p path c next → NeedsNoForm path next
+  no_form_on c next known (inl kept) = λ none still. subst (λ (n : PurePath S). has_open n.conds ≡ false) (sym kept.is) kept.no_form
+  no_form_on c next known (inr left) = λ none still. absurd (still (unknown_ends c next left))
+
   satisfiable_on : (c : Candidate S) (next : PurePath S) → ¬ IsUnknown c.path.ending → Stays p path c next → StaysSatisfiable path next
   satisfiable_on c next known (inl kept) = λ v meets still. subst (λ (n : PurePath S). (w : List PureValue) × Satisfies n.vars w n.conds) (sym kept.is) (kept.met v meets)
   satisfiable_on c next known (inr left) = λ v meets still. absurd (still (unknown_ends c next left))
@@ -144,6 +162,9 @@ module _ {S : Type 0} (p : PureParts) (m : Actions) (stands : S → List PureVal
         (each_both (λ c. has_open c.path.conds ≡ false → IsExact p m stands path c.path) (λ c. ¬ IsUnknown c.path.ending) cs laws.exact laws.known) settled;
     along = each_settled p path (λ c. HoldsAlong p m stands path c.path × ((place : Place) (reason : Reason) → HoldsAlong p m stands path (ended_unknown c place reason))) (HoldsAlong p m stands path) along_on cs nexts laws.along settled;
     own_conditions = each_settled p path (λ c. AddsOwn own path c.path) (AddsOwn own path) own_on cs nexts laws.own_conditions settled;
+    assumes = each_settled p path (AssumesRightly p own path) (Assumes p own path) assumes_on cs nexts laws.assumes settled;
+    origin = each_settled p path (λ c. has_open c.path.conds ≡ false → Follows p m terms path c.path) (Follows p m terms path) origin_on cs nexts laws.origin settled;
+    no_form = each_settled p path (λ c. ¬ IsUnknown c.path.ending) (NeedsNoForm path) no_form_on cs nexts laws.known settled;
     satisfiable = each_settled p path (λ c. ¬ IsUnknown c.path.ending) (StaysSatisfiable path) satisfiable_on cs nexts laws.known settled;
     unknown_rightly = each_settled p path (λ c. ¬ IsUnknown c.path.ending) (λ next. IsRightlyUnknown p path next next.ending) rightly_on cs nexts laws.known settled;
   }

@@ -13,11 +13,14 @@ use Rattle.mem_model.specs.Heaps.{Heap}
 use Rattle.pure_terms.specs.declared.variables.Sort.{Sort}
 use Rattle.pure_terms.specs.Meaning.{all_true, IsProper}
 use Rattle.sym_model.specs.Lists.{Each}
+use Rattle.sym_model.specs.Meaning.{has_open}
 use Rattle.sym_model.specs.Terms.{StateTerms}
 use Rattle.sym_paths.specs.Meaning.{AreFrames, frames_of, Stands, StandsForStep, IsOverTable, command_of_frames}
 use Rattle.sym_paths.specs.Moves.{NoOwn}
+use Rattle.sym_paths.specs.Origins.{Follows}
 use Rattle.sym_paths.specs.Pure.{PureFrame, PureEnd, returned, failed, missed, vanished, cut, unknown, PurePath}
 use Rattle.sym_paths.specs.Steps.{AreNext, drawn_from, Extends, HasInput, IsUnknown, IsChosen, IsNewSort, IsRightlyUnknown, Grows, IsRecorded, Covers, IsExact, ChoosesAlike, HoldsAlong, StaysSatisfiable, AreNextPaths}
+use Rattle.sym_paths.proofs.Assuming.{assumes_nothing}
 use Rattle.sym_paths.proofs.Growing.{all_true-more}
 
 -- ---- where a state stands
@@ -78,7 +81,7 @@ pub same_and_none : {A : Type 0} (xs ys : List A) → xs ≡ ys → xs ≡ ys ++
 same_and_none xs ys same = same ∙ sym (append-nil ys)
 
 module _ {S : Type 0} (p : PureParts) (m : Actions) (stands : S → List PureValue → Heap → Type 0) (terms : S → StateTerms) (path next : PurePath S) (sorts : List Sort)
-    (over : IsOverTable terms path) (unasked : IsUnasked terms path next sorts) (silent : IsSilent p m stands path next sorts) where
+    (over : IsOverTable terms path) (unasked : IsUnasked terms path next sorts) (silent : IsSilent p m stands path next sorts) (origin : Follows p m terms path next) where
   grows : Grows terms path next
   grows = record {
     new_vars = sorts;
@@ -136,6 +139,9 @@ module _ {S : Type 0} (p : PureParts) (m : Actions) (stands : S → List PureVal
     choices = (chooses_alike, tt);
     along = (along, tt);
     own_conditions = (record { added = []; conds = same_and_none next.conds path.conds unasked.conds; each = tt }, tt);
+    assumes = (assumes_nothing p NoOwn path next unasked.given, tt);
+    origin = (origin, tt);
+    no_form = (λ none known. ap has_open unasked.conds ∙ none, tt);
     satisfiable = (satisfiable, tt);
     unknown_rightly = (rightly p path next next.ending unasked.known, tt);
   }

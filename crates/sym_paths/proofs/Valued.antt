@@ -10,7 +10,7 @@ use Rattle.gil_values.proofs.OperatorSymbols.{none_contained}
 use Rattle.gil_syntax.specs.Evaluation.{evaluate, bind}
 use Rattle.gil_syntax.specs.Pure.{PureParts, PureExpr, PureCommand, PureNumberedCommand, assign, fail}
 use Rattle.gil_machine.specs.Choices.{choice_at, choice_of}
-use Rattle.gil_machine.specs.State.{Frame, State, Step, goes_on, ends, end_at}
+use Rattle.gil_machine.specs.State.{State, Step}
 use Rattle.gil_machine.specs.State as machine
 use Rattle.gil_machine.specs.Step.{command_at, do_command, step, fails_with, with_value}
 use Rattle.gil_machine.specs.Step as machine_step
@@ -23,7 +23,7 @@ use Rattle.pure_terms.specs.declared.literals.Literal.{Literal}
 use Rattle.pure_terms.specs.Pure.{PureTerm, literal, PureAtom, term_of}
 use Rattle.sym_evaluation.specs.Meaning.{IsTaken, IsClosed, IsGood, SayOutcome, HasValue}
 use Rattle.sym_evaluation.specs.Pure.{PureStore, term_at, PureFaultCase, PureGoodCase, PureCases}
-use Rattle.sym_evaluation.specs.Questions.{IsAsked, OnConditions, OnResult}
+use Rattle.sym_evaluation.specs.Questions.{IsAsked, IsFrom, OnConditions, OnResult}
 use Rattle.sym_model.specs.Lists.{Each, OneOf, IsAmong}
 use Rattle.sym_model.specs.Meaning.{has_open}
 use Rattle.sym_model.specs.Terms.{StateTerms}
@@ -32,12 +32,15 @@ use Rattle.sym_paths.specs.Valued.{place_at, faulted, assigned, failing, Assigns
 use Rattle.sym_paths.specs.Laws.{IsBound}
 use Rattle.sym_paths.specs.Meaning.{AreFrames, Stands, StandsForStep, IsOverTable, command_of_path}
 use Rattle.sym_paths.specs.Moves.{running_store}
+use Rattle.sym_paths.specs.Origins.{Follows}
 use Rattle.sym_paths.specs.Pure.{PureFrame, failed, PurePath}
-use Rattle.sym_paths.specs.Settling.{Candidate, ended_unknown, AreCandidates}
-use Rattle.sym_paths.specs.Steps.{Extends, IsUnknown, IsChosen, GoesOnAs, Grows, IsRecorded, symbols_taken, makes_choice, AddsOwn, IsExact, HoldsAlong}
+use Rattle.sym_paths.specs.Settling.{Candidate, ended_unknown, AssumesRightly, AreCandidates}
+use Rattle.sym_paths.specs.Steps.{Extends, IsUnknown, IsChosen, GoesOnAs, Grows, IsRecorded, symbols_taken, makes_choice, AddsOwn, MayAssume, IsExact, HoldsAlong}
+use Rattle.sym_paths.proofs.Assuming.{assumes_rightly}
 use Rattle.sym_paths.proofs.Binding.{agree_bound, each_bound}
 use Rattle.sym_paths.proofs.Growing.{later_among}
 use Rattle.sym_paths.proofs.Moving.{nothing_more, none_next, advanced_frames, running_stands, running_each, advanced_each, open_is_known}
+use Rattle.sym_paths.proofs.Origins.{follows_going, follows_failing}
 use Rattle.sym_paths.proofs.Recording.{same_records, ended_records}
 use Rattle.sym_paths.proofs.Silent.{stands_at, step-is, choice-is, extended_by, same_and_none}
 
@@ -94,11 +97,13 @@ record GoodLaws {S : Type 0} (stands : S → List PureValue → Heap → Type 0)
   exact : IsExact p m stands path d.path
   along : HoldsAlong p m stands path d.path × ((place : Place) (reason : Reason) → HoldsAlong p m stands path (ended_unknown d place reason))
   own_conditions : AddsOwn own path d.path
+  assumes : AssumesRightly p own path d
+  origin : Follows p m terms path d.path
 
 module _ {S : Type 0} (stands : S → List PureValue → Heap → Type 0) (terms : S → StateTerms) (p : PureParts) (m : Actions) (path : PurePath S) (c : PureNumberedCommand) (e : PureExpr) (cases : PureCases PureTerm)
     (over : IsOverTable terms path) (no_end : path.ending ≡ None) (at : command_of_path p path ≡ Some c) (k : PureCommand) (go_on : Place → State → PureValue → Step) (command : c.command ≡ k)
     (does : (inputs : List PureValue) (here : Place) (s : State) → do_command p m inputs k here s ≡ with_value (evaluate e s.current.store) here s (go_on here s)) (chooses : (s : State) → choice_of p m k s ≡ None)
-    (evaluated : IsEvaluated (running_store path.stack) e cases) where
+    (evaluated : IsEvaluated (running_store path.stack) e cases) (may : (a : PureAtom) → IsAsked (running_store path.stack) e a → MayAssume (IsAsked (running_store path.stack) e) (running_store path.stack) k a) where
   abbrev here : Place
   here = place_at path.stack c
 
@@ -135,6 +140,12 @@ module _ {S : Type 0} (stands : S → List PureValue → Heap → Type 0) (terms
 
   met_at : (v w : List PureValue) (s : State) (more : List PureAtom) → Stands stands path v s → w ≡ v → IsTrue (all_true w more) → IsTrue (all_true w (path.conds ++ more))
   met_at v w s more is same met = both_true w path.conds more (subst (λ u. IsTrue (all_true u path.conds)) (sym same) is.meets) met
+
+  abbrev Own : PureAtom → Type 0
+  Own = IsAsked (running_store path.stack) e
+
+  may_each : (atoms : List PureAtom) → Each Own atoms → Each (MayAssume Own (running_store path.stack) c.command) atoms
+  may_each atoms all = subst (λ j. Each (MayAssume Own (running_store path.stack) j) atoms) (sym command) (each_to Own (MayAssume Own (running_store path.stack) k) atoms may all)
 
   abbrev OverTable : PureAtom → Type 0
   OverTable a = IsOver path.vars (term_of a)
@@ -215,10 +226,25 @@ module _ {S : Type 0} (stands : S → List PureValue → Heap → Type 0) (terms
           (each_at (λ (d : PureFaultCase). Each (IsAsked (running_store path.stack) e) d.conds) cases.faults i fc evaluated.origin.0.0 which);
     }
 
+  fault_assumes : (i : ℕ) (fc : PureFaultCase) → slice_get cases.faults i ≡ Some fc → AssumesRightly p Own path (faulted path here fc)
+  fault_assumes i fc which =
+      assumes_rightly p Own path c at (faulted path here fc) fc.conds refl (may_each fc.conds (each_at (λ (d : PureFaultCase). Each Own d.conds) cases.faults i fc evaluated.origin.0.0 which)) tt
+
+  good_asked : (g : PureGoodCase PureTerm) → cases.good ≡ Some g → Each Own g.conds
+  good_asked g is_good = subst (OnConditions Own) is_good evaluated.origin.0.1
+
+  fault_follows : (i : ℕ) (fc : PureFaultCase) → slice_get cases.faults i ≡ Some fc → Follows p m terms path (faulted path here fc).path
+  fault_follows i fc which =
+      follows_failing p m terms path (faulted path here fc).path c at k command (literal (Literal.Str (fault_text fc.fault))) here refl
+      (inl (fault_text fc.fault, refl))
+
+  result_from : (g : PureGoodCase PureTerm) → cases.good ≡ Some g → IsFrom (running_store path.stack) e g.result
+  result_from g is_good = subst (OnResult (IsFrom (running_store path.stack) e)) is_good evaluated.origin.1
+
   -- ---- the result
 
   module _ (x : List ℕ) (goes_to : (here : Place) (s : State) (a : PureValue) → go_on here s a ≡ machine_step.assigned x a s) (g : PureGoodCase PureTerm) (bs : PureStore) (is_good : cases.good ≡ Some g) (bound : IsBound (running_store path.stack) x g.result bs)
-      (quiet : (symbols_taken m k ≡ 0) × (makes_choice k ≡ false)) where
+      (quiet : (symbols_taken m k ≡ 0) × (makes_choice k ≡ false)) (kind : k ≡ assign x e) where
     abbrev gp : PurePath S
     gp = (assigned path bs g).path
 
@@ -304,11 +330,13 @@ module _ {S : Type 0} (stands : S → List PureValue → Heap → Type 0) (terms
       exact = good_exact;
       along = (good_along, good_along_unknown);
       own_conditions = good_own;
+      assumes = assumes_rightly p Own path c at (assigned path bs g) [] (same_and_none path.given path.given refl) tt (may_each g.conds (good_asked g is_good));
+      origin = follows_going p m terms path gp c at (assign x e) (command ∙ kind) no_end (refl, (g.result, (result_from g is_good, (bs, (bound, refl)))));
     }
 
   -- ---- failing with the result
 
-  module _ (fails_to : (here : Place) (s : State) (a : PureValue) → go_on here s a ≡ fails_with a here s) (g : PureGoodCase PureTerm) (is_good : cases.good ≡ Some g) where
+  module _ (fails_to : (here : Place) (s : State) (a : PureValue) → go_on here s a ≡ fails_with a here s) (g : PureGoodCase PureTerm) (is_good : cases.good ≡ Some g) (kind : k ≡ fail e) where
     abbrev tp : PurePath S
     tp = (failing path here g).path
 
@@ -373,7 +401,7 @@ module _ {S : Type 0} (stands : S → List PureValue → Heap → Type 0) (terms
         },
         tt,
       );
-      recorded = ended_records p m path tp (failed g.result here) refl;
+      recorded = ended_records p m path tp refl (failed g.result here) refl;
       known = λ unknown. unknown;
       vars = refl;
       conds = refl;
@@ -386,6 +414,8 @@ module _ {S : Type 0} (stands : S → List PureValue → Heap → Type 0) (terms
         each = each_to (IsAsked (running_store path.stack) e) (λ a. InFragment (a ∷ []) ⊎ IsAsked (running_store path.stack) e a) g.conds (λ a asked. inr asked)
             (subst (OnConditions (IsAsked (running_store path.stack) e)) is_good evaluated.origin.0.1);
       };
+      assumes = assumes_rightly p Own path c at (failing path here g) g.conds refl (may_each g.conds (good_asked g is_good)) tt;
+      origin = follows_failing p m terms path tp c at (fail e) (command ∙ kind) g.result here refl (inr (result_from g is_good));
     }
 
   -- ---- all of them
@@ -393,9 +423,6 @@ module _ {S : Type 0} (stands : S → List PureValue → Heap → Type 0) (terms
   one_of_each : {A : Type 0} (P Q : A → Type 0) (xs : List A) → Each (λ y. P y → Q y) xs → OneOf P xs → OneOf Q xs
   one_of_each P Q [] all one = absurd one
   one_of_each P Q (y ∷ xs) all one = ⊎_elim (λ here. inl (all.0 here)) (λ later. inr (one_of_each P Q xs all.1 later)) one
-
-  abbrev Own : PureAtom → Type 0
-  Own = IsAsked (running_store path.stack) e
 
   module _ (Makes : PureGoodCase PureTerm → Candidate S → Type 0) (good_laws : (g : PureGoodCase PureTerm) (d : Candidate S) → cases.good ≡ Some g → Makes g d → GoodLaws stands terms p m Own path g d) where
     each_result : (P : Candidate S → Type 0) → ((g : PureGoodCase PureTerm) (d : Candidate S) → GoodLaws stands terms p m Own path g d → P d)
@@ -446,23 +473,25 @@ module _ {S : Type 0} (stands : S → List PureValue → Heap → Type 0) (terms
     are_candidates : (cs : List (Candidate S)) → AreForCases path here Makes cases cs → AreCandidates p m stands terms Own path cs
     are_candidates cs are = record {
       growth = each_candidate (λ d. Grows terms path d.path × Each (λ a. IsAmong a d.path.conds) d.no_fault) (λ i fc which. (fault_grows i fc which, tt)) (λ g d laws. laws.growth) cs are;
-      recorded = each_candidate (λ d. IsRecorded p m path d.path) (λ i fc which. ended_records p m path (fp i fc which) (failed (literal (Literal.Str (fault_text fc.fault))) here) refl) (λ g d laws. laws.recorded) cs are;
+      recorded = each_candidate (λ d. IsRecorded p m path d.path) (λ i fc which. ended_records p m path (fp i fc which) refl (failed (literal (Literal.Str (fault_text fc.fault))) here) refl) (λ g d laws. laws.recorded) cs are;
       known = each_candidate (λ d. ¬ IsUnknown d.path.ending) (λ i fc which unknown. unknown) (λ g d laws. laws.known) cs are;
       cover = λ inputs v s is has. subst (OneOf (Covered inputs v s is)) (sym are.1.0) (covers_by inputs v s is (evaluate e s.current.store) (says v s is) are.0 are.1.1);
       exact = each_candidate (λ d. has_open d.path.conds ≡ false → IsExact p m stands path d.path) (λ i fc which no_form. fault_exact i fc which) (λ g d laws no_form. laws.exact) cs are;
       along = each_candidate (λ d. HoldsAlong p m stands path d.path × ((place : Place) (reason : Reason) → HoldsAlong p m stands path (ended_unknown d place reason)))
           (λ i fc which. (fault_along i fc which, fault_along_unknown i fc which)) (λ g d laws. laws.along) cs are;
       own_conditions = each_candidate (λ d. AddsOwn Own path d.path) fault_own (λ g d laws. laws.own_conditions) cs are;
+      assumes = each_candidate (AssumesRightly p Own path) fault_assumes (λ g d laws. laws.assumes) cs are;
+      origin = each_candidate (λ d. has_open d.path.conds ≡ false → Follows p m terms path d.path) (λ i fc which no_form. fault_follows i fc which) (λ g d laws no_form. laws.origin) cs are;
     }
 
 pub valued_candidates : {S : Type 0} (stands : S → List PureValue → Heap → Type 0) (terms : S → StateTerms) → ValuedCandidates stands terms
 valued_candidates {S} stands terms = record {
   of_assignment = λ p m path c x e cases cs over no_end at command evaluated.
-      are_candidates stands terms p m path c e cases over no_end at (assign x e) (λ here s a. machine_step.assigned x a s) command (λ inputs here s. refl) (λ s. refl) evaluated (Assigns path x)
+      are_candidates stands terms p m path c e cases over no_end at (assign x e) (λ here s a. machine_step.assigned x a s) command (λ inputs here s. refl) (λ s. refl) evaluated (λ a is. is) (Assigns path x)
       (λ g d is_good (made : Assigns path x g d). subst (GoodLaws stands terms p m (IsAsked (running_store path.stack) e) path g) (sym made.1.1)
-      (assigned_keeps stands terms p m path c e cases over no_end at (assign x e) (λ here s a. machine_step.assigned x a s) command (λ inputs here s. refl) (λ s. refl) evaluated x (λ here s a. refl) g made.0 is_good made.1.0 (refl, refl))) cs;
+      (assigned_keeps stands terms p m path c e cases over no_end at (assign x e) (λ here s a. machine_step.assigned x a s) command (λ inputs here s. refl) (λ s. refl) evaluated (λ a is. is) x (λ here s a. refl) g made.0 is_good made.1.0 (refl, refl) refl)) cs;
   of_failure = λ p m path c e cases cs over no_end at command evaluated.
-      are_candidates stands terms p m path c e cases over no_end at (fail e) (λ here s a. fails_with a here s) command (λ inputs here s. refl) (λ s. refl) evaluated (Fails path (place_at path.stack c))
+      are_candidates stands terms p m path c e cases over no_end at (fail e) (λ here s a. fails_with a here s) command (λ inputs here s. refl) (λ s. refl) evaluated (λ a is. is) (Fails path (place_at path.stack c))
       (λ g d is_good (made : Fails path (place_at path.stack c) g d). subst (GoodLaws stands terms p m (IsAsked (running_store path.stack) e) path g) (sym made)
-      (failing_keeps stands terms p m path c e cases over no_end at (fail e) (λ here s a. fails_with a here s) command (λ inputs here s. refl) (λ s. refl) evaluated (λ here s a. refl) g is_good)) cs;
+      (failing_keeps stands terms p m path c e cases over no_end at (fail e) (λ here s a. fails_with a here s) command (λ inputs here s. refl) (λ s. refl) evaluated (λ a is. is) (λ here s a. refl) g is_good refl)) cs;
 }

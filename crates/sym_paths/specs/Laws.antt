@@ -1,6 +1,5 @@
 -- What holds of every path and every valuation.
-use Rattle.std.specs.Prelude.{◌≡◌, ℕ, suc, ◌≤◌, ℤ, List, [], ◌∷◌, ◌++◌, if◌then◌else◌, Some, IsTrue}
-use Rattle.std.specs.Str.{bytes_eq}
+use Rattle.std.specs.Prelude.{◌≡◌, ℕ, suc, ◌≤◌, ℤ, List, [], ◌∷◌, ◌++◌, Some, IsTrue}
 use Rattle.gil_values.specs.Pure.{PureValue, symbol}
 use Rattle.gil_values.specs.Symbols.{AreBelow}
 use Rattle.gil_syntax.specs.Evaluation.{Store, bind}
@@ -13,9 +12,10 @@ use Rattle.pure_terms.specs.Kinds.{has_sort}
 use Rattle.pure_terms.specs.Meaning.{value, IsProper, IsOver}
 use Rattle.pure_terms.specs.Pure.{PureTerm}
 use Rattle.sym_evaluation.specs.Meaning.{StandsFor}
-use Rattle.sym_evaluation.specs.Pure.{PureStore, term_at}
+use Rattle.sym_evaluation.specs.Pure.{PureStore}
 use Rattle.sym_model.specs.Laws.{IsPlainWithin}
 use Rattle.sym_model.specs.Terms.{StateTerms}
+pub use Rattle.sym_paths.specs.Frames.{IsBound}
 use Rattle.sym_paths.specs.Meaning.{AreFrames, frames_of, Stands, command_of_frames, OfEachName, IsOverTable}
 use Rattle.sym_paths.specs.Pure.{PureFrame, PurePath}
 use Rattle.sym_paths.specs.Steps.{AreNext, counter_past, draws_past}
@@ -36,10 +36,6 @@ abbrev pub PathsStandAtCommands : Type 0
 PathsStandAtCommands =
     (p : PureParts) (v : List PureValue) (fs : List PureFrame) (s : State) → AreFrames v fs (frames_of s)
     → command_of_frames p fs ≡ command_at p s.current
-
--- the store cs gives a name this term, and to every other name what bs gives it
-abbrev pub IsBound : PureStore → List ℕ → PureTerm → PureStore → Type 0
-IsBound bs x t cs = (y : List ℕ) → term_at cs y ≡ (if bytes_eq x y then Some t else term_at bs y)
 
 -- Where a name gets a term on the one side and the term's value on the other, the stores still agree. Where the new term names only
 -- variables of the table, or is plain within bounds, so it is of all terms that it was of before.

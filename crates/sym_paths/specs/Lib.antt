@@ -1,6 +1,8 @@
+pub mod Frames
 pub mod Laws
 pub mod Meaning
 pub mod Moves
+pub mod Origins
 pub mod Pure
 pub mod Settling
 pub mod Steps

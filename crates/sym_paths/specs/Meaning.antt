@@ -1,5 +1,6 @@
 -- What a path stands for under a valuation: states of the machine, and ends of its runs. Paths and what they stand for are those of
 -- Gillian, Part I (PLDI 2020).
+use Rattle.std.specs.FinMap.{empty}
 use Rattle.std.specs.Prelude.{◌≡◌, ℕ, List, [], ◌∷◌, length, Option, Some, None, IsTrue, codes, ⊤}
 use Rattle.gil_values.specs.Pure.{PureValue, text}
 use Rattle.gil_values.specs.Symbols.{AreBelow}
@@ -19,8 +20,8 @@ use Rattle.sym_evaluation.specs.Pure.{PureStore, term_at}
 use Rattle.sym_model.specs.Lists.{Each}
 use Rattle.sym_model.specs.Meaning.{key_value}
 use Rattle.sym_model.specs.Pure.{sub_terms}
-use Rattle.sym_model.specs.Terms.{StateTerms, all_of, AreEachOver}
-use Rattle.sym_paths.specs.Pure.{PureFrame, PureEnd, returned, failed, missed, vanished, cut, unknown, PurePath}
+use Rattle.sym_model.specs.Terms.{StateTerms, no_state_terms, all_of, AreEachOver}
+use Rattle.sym_paths.specs.Pure.{PureFrame, entry_frame, PureEnd, returned, failed, missed, vanished, cut, unknown, PurePath}
 
 -- ---- states
 
@@ -108,3 +109,20 @@ pub record IsOverTable {S : Type 0} (terms : S → StateTerms) (path : PurePath 
   pub memory : AreEachOver path.vars (all_of (terms path.memory))
   pub drawn : AreEachOver path.vars path.drawn
   pub ending : AreEachOver path.vars (end_terms path.ending)
+
+-- ---- the first path
+
+-- The path on which a procedure without parameters begins: at its first command, with nothing drawn, asked, assumed or chosen, over a memory
+-- without terms, whose heap is empty.
+pub record IsFirstPath {S : Type 0} (stands : S → List PureValue → Heap → Type 0) (terms : S → StateTerms) (f : List ℕ)
+    (path : PurePath S) : Type 0 where
+  pub stack : path.stack ≡ entry_frame f ∷ []
+  pub vars : path.vars ≡ []
+  pub drawn : path.drawn ≡ []
+  pub conds : path.conds ≡ []
+  pub given : path.given ≡ []
+  pub choices : path.choices ≡ []
+  pub steps : path.steps ≡ 0
+  pub going : path.ending ≡ None
+  pub heap : stands path.memory [] empty
+  pub no_terms : terms path.memory ≡ no_state_terms

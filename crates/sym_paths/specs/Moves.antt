@@ -1,18 +1,18 @@
 -- The commands that ask nothing, and what they make of a path: new symbols, draws, the end of a path without an answer, and the
 -- commands that do nothing in a run.
-use Rattle.std.specs.Prelude.{◌≡◌, ℕ, ◌+◌, List, [], ◌∷◌, ◌++◌, length, Option, Some, None, ⊤}
+use Rattle.std.specs.Prelude.{◌≡◌, ℕ, ◌+◌, List, [], ◌∷◌, ◌++◌, Some, None, ⊤}
 use Rattle.gil_syntax.specs.Pure.{PureParts, PureCommand, PureNumberedCommand, usym, isym, vanish, fold_use, unfold_use, assert_that, loop_invariant}
 use Rattle.gil_values.specs.declared.kinds.Kind.{Kind}
 use Rattle.gil_values.specs.Pure.{PureValue}
 use Rattle.mem_model.specs.Actions.{Actions}
 use Rattle.mem_model.specs.Heaps.{Heap}
 use Rattle.pure_terms.specs.declared.variables.Sort.{Sort}
-use Rattle.pure_terms.specs.Pure.{PureTerm, variable, PureAtom}
+use Rattle.pure_terms.specs.Pure.{PureAtom}
 use Rattle.sym_evaluation.specs.Pure.{PureStore}
 use Rattle.sym_model.specs.Terms.{StateTerms}
-use Rattle.sym_paths.specs.Laws.{IsBound}
+pub use Rattle.sym_paths.specs.Frames.{running_store, advanced, IsBound, draw_sort, next_variable}
 use Rattle.sym_paths.specs.Meaning.{IsOverTable, command_of_path}
-use Rattle.sym_paths.specs.Pure.{PureFrame, vanished, PurePath}
+use Rattle.sym_paths.specs.Pure.{vanished, PurePath}
 use Rattle.sym_paths.specs.Steps.{AreNextPaths}
 
 -- the commands that do nothing in a run
@@ -23,33 +23,12 @@ IsLogic (assert_that items) = ⊤
 IsLogic (loop_invariant xs ps items) = ⊤
 IsLogic _ = ⊥
 
--- the store of the frame that runs
-abbrev pub running_store : List PureFrame → PureStore
-running_store [] = []
-running_store (f ∷ fs) = f.store
-
--- the frame that runs goes to the next command with this store
-abbrev pub advanced : PureStore → List PureFrame → List PureFrame
-advanced bs [] = []
-advanced bs (f ∷ fs) = record f { next = f.next + 1; store = bs } ∷ fs
-
--- the sort of the draws of a kind
-abbrev pub draw_sort : Kind → Option Sort
-draw_sort Kind.Int = Some Sort.Int
-draw_sort Kind.Bool = Some Sort.Bool
-draw_sort Kind.Str = Some Sort.Str
-draw_sort _ = None
-
 module _ {S : Type 0} (path : PurePath S) where
   abbrev pub vanishing : PurePath S
   vanishing = record path { steps = path.steps + 1; ending = Some vanished }
 
   abbrev pub passing : PurePath S
   passing = record path { stack = advanced (running_store path.stack) path.stack; steps = path.steps + 1 }
-
-  -- the variable that is the next one
-  abbrev pub next_variable : Sort → PureTerm
-  next_variable sort = variable (record { number = length path.vars; sort = sort })
 
   -- with a variable more, and a store in which it may stand
   abbrev pub with_fresh : PureStore → PurePath S
@@ -59,7 +38,7 @@ module _ {S : Type 0} (path : PurePath S) where
   with_draw sort bs = record path {
     vars = path.vars ++ sort ∷ [];
     stack = advanced bs path.stack;
-    drawn = path.drawn ++ next_variable sort ∷ [];
+    drawn = path.drawn ++ next_variable path sort ∷ [];
     steps = path.steps + 1;
   }
 

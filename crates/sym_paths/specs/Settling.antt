@@ -16,8 +16,9 @@ use Rattle.sym_model.specs.Lists.{Each, OneOf, IsAmong}
 use Rattle.sym_model.specs.Meaning.{has_open}
 use Rattle.sym_model.specs.Terms.{StateTerms}
 use Rattle.sym_paths.specs.Meaning.{StandsForStep, Stands}
+use Rattle.sym_paths.specs.Origins.{Follows}
 use Rattle.sym_paths.specs.Pure.{unknown, PurePath}
-use Rattle.sym_paths.specs.Steps.{Extends, HasInput, IsUnknown, IsFirstOutside, IsPlaceOf, Grows, IsRecorded, AddsOwn, IsExact, HoldsAlong, AreNextPaths}
+use Rattle.sym_paths.specs.Steps.{Extends, HasInput, IsUnknown, IsFirstOutside, IsPlaceOf, Grows, IsRecorded, AddsOwn, Assumes, IsExact, HoldsAlong, AreNextPaths}
 
 -- a path that may come next, and what is assumed besides where it ends as unknown: that there is no fault at its command
 pub record Candidate (S : Type 0) : Type 0 where
@@ -65,6 +66,11 @@ module _ {S : Type 0} (p : PureParts) (m : Actions) (stands : S → List PureVal
       → OneOf (λ c. (w : List PureValue) × (Extends inputs s path c.path v w × Satisfies c.path.vars w c.path.conds
       × (StandsForStep p m stands c.path w s c.path.ending (step p m inputs s) ⊎ IsTrue (has_open c.path.conds)))) cs
 
+-- What a candidate assumes may be assumed at its command, and so may what it assumes besides where it ends as unknown.
+abbrev pub AssumesRightly : {S : Type 0} → PureParts → (PureAtom → Type 0) → PurePath S → Candidate S → Type 0
+AssumesRightly p own path c =
+    Assumes p own path c.path × ((place : Place) (reason : Reason) → Assumes p own path (ended_unknown c place reason))
+
 -- The laws of the paths of a step, before a decider is asked.
 pub record AreCandidates {S : Type 0} (p : PureParts) (m : Actions) (stands : S → List PureValue → Heap → Type 0) (terms : S → StateTerms)
     (own : PureAtom → Type 0) (path : PurePath S) (cs : List (Candidate S)) : Type 0 where
@@ -76,6 +82,8 @@ pub record AreCandidates {S : Type 0} (p : PureParts) (m : Actions) (stands : S 
   pub along : Each (λ c. HoldsAlong p m stands path c.path
       × ((place : Place) (reason : Reason) → HoldsAlong p m stands path (ended_unknown c place reason))) cs
   pub own_conditions : Each (λ c. AddsOwn own path c.path) cs
+  pub assumes : Each (AssumesRightly p own path) cs
+  pub origin : Each (λ c. has_open c.path.conds ≡ false → Follows p m terms path c.path) cs
 
 -- What becomes of candidates are the paths of the step. `asked` are any conditions that the command may ask.
 abbrev pub CandidatesSettle : {S : Type 0} → (S → List PureValue → Heap → Type 0) → (S → StateTerms) → Type 0

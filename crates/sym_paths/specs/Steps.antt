@@ -3,7 +3,7 @@ use Rattle.std.specs.Prelude.{◌≡◌, ◌⊎◌, ℕ, suc, ◌+◌, ◌<◌, 
 use Rattle.std.specs.Option.{is_some}
 use Rattle.gil_values.specs.declared.places.Place.{Place}
 use Rattle.gil_values.specs.Pure.{PureValue, symbol}
-use Rattle.gil_syntax.specs.Pure.{PureParts, PureCommand, act, usym, ifgoto, PureNumberedCommand}
+use Rattle.gil_syntax.specs.Pure.{PureParts, PureCommand, call, act, usym, ifgoto, PureNumberedCommand}
 use Rattle.gil_machine.specs.Choices.{choice_at, with_choice}
 use Rattle.gil_machine.specs.State.{State, Ending, no_input, bad_input, Step, goes_on, ends}
 use Rattle.gil_machine.specs.Step.{step}
@@ -15,11 +15,15 @@ use Rattle.pure_terms.specs.Deciding.{IsReason}
 use Rattle.pure_terms.specs.Fragment.{InFragment}
 use Rattle.pure_terms.specs.Meaning.{all_true, Satisfies}
 use Rattle.pure_terms.specs.Pure.{PureTerm, variable, PureAtom}
+use Rattle.sym_evaluation.specs.Pure.{PureStore}
+use Rattle.sym_evaluation.specs.Questions.{IsAsked, IsFrom, AsksBoolean}
 use Rattle.sym_model.specs.Laws.{IsPlainWithin, IsDecidedWithin}
 use Rattle.sym_model.specs.Lists.{Each, OneOf, IsAmong}
 use Rattle.sym_model.specs.Meaning.{has_open}
 use Rattle.sym_model.specs.Terms.{StateTerms}
 use Rattle.sym_paths.specs.Meaning.{StandsForStep, Stands, OfEachName, IsOverTable, end_terms, command_of_frames, command_of_path}
+use Rattle.sym_paths.specs.Frames.{running_store}
+use Rattle.sym_paths.specs.Origins.{Follows}
 use Rattle.sym_paths.specs.Pure.{PureFrame, PureEnd, unknown, PurePath}
 
 -- ---- new variables
@@ -121,6 +125,16 @@ makes_choice (ifgoto e i) = true
 makes_choice (act x a es) = true
 makes_choice _ = false
 
+-- how many choices a command has: a guard is false or true, and an action is done, fails, or misses a key
+abbrev pub choice_count : PureCommand → ℕ
+choice_count (ifgoto e i) = 2
+choice_count (act x a es) = 3
+choice_count _ = 0
+
+-- no choice, or one of the command's
+abbrev pub MayChoose : PureCommand → Option ℕ → Type 0
+MayChoose k chosen = (n : ℕ) → chosen ≡ Some n → n < choice_count k
+
 abbrev pub place_of : Reason → ℕ
 place_of (Reason.Atom i) = i
 place_of (Reason.Number i) = i
@@ -170,18 +184,33 @@ pub record Grows {S : Type 0} (terms : S → StateTerms) (path next : PurePath S
   pub over : IsOverTable terms next
 
 -- Record: a path that goes on has a fresh variable more for each symbol that the command takes, and a choice more exactly where the
--- command makes one.
+-- command makes one. A path that ends has at most one choice more, and that is one of the command's.
 pub record IsRecorded {S : Type 0} (p : PureParts) (m : Actions) (path next : PurePath S) : Type 0 where
   pub symbols : (c : PureNumberedCommand) → command_of_path p path ≡ Some c → next.ending ≡ None
       → fresh_count next.vars ≡ fresh_count path.vars + symbols_taken m c.command
-  pub choice : (c : PureNumberedCommand) → command_of_path p path ≡ Some c → next.ending ≡ None
-      → (chosen : Option ℕ) × (IsChosen path next chosen × (is_some chosen ≡ makes_choice c.command))
+  pub choice : (c : PureNumberedCommand) → command_of_path p path ≡ Some c
+      → (chosen : Option ℕ) × (IsChosen path next chosen × MayChoose c.command chosen
+      × (next.ending ≡ None → is_some chosen ≡ makes_choice c.command))
 
 -- Own: each new condition is by itself in the fragment, or one that is the command's own.
 pub record AddsOwn {S : Type 0} (own : PureAtom → Type 0) (path next : PurePath S) : Type 0 where
   pub added : List PureAtom
   pub conds : next.conds ≡ path.conds ++ added
   pub each : Each (λ a. InFragment (a ∷ []) ⊎ own a) added
+
+-- What may be assumed at a command, where `own` are the conditions that are its own: at a guard what its expression asks, or that it is a
+-- boolean, but never which way it goes; at a call what its expressions ask, but not that its callee has a literal form.
+abbrev pub MayAssume : (PureAtom → Type 0) → PureStore → PureCommand → PureAtom → Type 0
+MayAssume own bs (ifgoto e i) a = IsAsked bs e a ⊎ ((t : PureTerm) × (IsFrom bs e t × AsksBoolean t a))
+MayAssume own bs (call x e es) a = IsAsked bs e a ⊎ OneOf (λ d. IsAsked bs d a) es
+MayAssume own bs _ a = own a
+
+-- Assumed: what is newly assumed is what may be assumed at the command.
+pub record Assumes {S : Type 0} (p : PureParts) (own : PureAtom → Type 0) (path next : PurePath S) : Type 0 where
+  pub added : List PureAtom
+  pub given : next.given ≡ path.given ++ added
+  pub each : (c : PureNumberedCommand) → command_of_path p path ≡ Some c
+      → Each (MayAssume own (running_store path.stack) c.command) added
 
 module _ {S : Type 0} (p : PureParts) (m : Actions) (stands : S → List PureValue → Heap → Type 0) where
   -- Cover: what a state comes to that the path stands for, but for want of input, some answered path stands for, or is unknown with
@@ -218,6 +247,10 @@ module _ {S : Type 0} (p : PureParts) (m : Actions) (stands : S → List PureVal
       → Satisfies next.vars w next.given → IsChosen path next (choice_at p m s) → GoesOnAs next.ending (step p m inputs s)
       → IsTrue (all_true w next.conds)
 
+-- Known: a next path that isn't unknown needs no literal form, where the old one needs none.
+abbrev pub NeedsNoForm : {S : Type 0} → PurePath S → PurePath S → Type 0
+NeedsNoForm path next = has_open path.conds ≡ false → ¬ IsUnknown next.ending → has_open next.conds ≡ false
+
 -- Satisfiable: where some valuation met the old conditions, some meets the new ones.
 abbrev pub StaysSatisfiable : {S : Type 0} → PurePath S → PurePath S → Type 0
 StaysSatisfiable path next =
@@ -234,6 +267,9 @@ pub record AreNextPaths {S : Type 0} (p : PureParts) (m : Actions) (stands : S �
   pub choices : Each (ChoosesAlike p m stands path) nexts
   pub along : Each (HoldsAlong p m stands path) nexts
   pub own_conditions : Each (AddsOwn own path) nexts
+  pub assumes : Each (Assumes p own path) nexts
+  pub origin : Each (Follows p m terms path) nexts
+  pub no_form : Each (NeedsNoForm path) nexts
   pub satisfiable : Each (StaysSatisfiable path) nexts
   pub unknown_rightly : Each (λ next. IsRightlyUnknown p path next next.ending) nexts
 

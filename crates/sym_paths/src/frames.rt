@@ -1,6 +1,6 @@
 //! Calls in progress.
-ghost use Rattle.std.specs.Prelude.{◌≡◌, [], ◌∷◌, IfOk};
-ghost use Rattle.sym_paths.specs.Pure.{entry_frame};
+ghost use Rattle.std.specs.Prelude.{◌≡◌, List, [], ◌∷◌, IfOk, MatchOption};
+ghost use Rattle.sym_paths.specs.Pure.{entry_frame, PureFrame};
 ghost use Rattle.sym_paths.specs.View.{frame_view, frames_view};
 
 use gil_values::Text;
@@ -46,6 +46,17 @@ fn copy_name(alloc: Global, name: &Option<Text>) -> Result<Option<Text>, AllocEr
     match name {
         Some(name) => Ok(Some(name.copy(alloc)?)),
         None => Ok(None),
+    }
+}
+
+/// The call that runs.
+pub fn running(frames: &Frames) -> Option<&Frame>
+    ensures { MatchOption result (frames_view frames.now ≡ [])
+        (λ f. (waiting : List PureFrame) × (frames_view frames.now ≡ frame_view f.now ∷ waiting)) }
+{
+    match frames.as_slice() {
+        [.., running] => Some(running),
+        [] => None,
     }
 }
 

@@ -8,13 +8,10 @@ mod laws;
 mod path;
 
 pub use ends::PathEnd;
-pub use frames::{Frame, Frames};
+pub use frames::{Frame, Frames, running};
 pub use laws::{
     bindings_keep_stores, candidates_settle, later_variables_are_proper, paths_may_grow,
     paths_stand_at_commands, some_commands_ask_nothing, valued_candidates_keep_the_laws,
     variables_follow_in_turn,
 };
-pub use path::{Path, Paths};
-
-#[cfg(test)]
-mod tests;
+pub use path::{Ended, Path, Paths};

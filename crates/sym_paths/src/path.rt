@@ -1,13 +1,15 @@
 //! Paths: what symbolic execution has come to.
-ghost use Rattle.std.specs.Prelude.{◌≡◌, ℕ, [], None, IfOk};
+ghost use Rattle.std.specs.Prelude.{◌≡◌, ℕ, [], Some, IfOk};
 ghost use Rattle.std.specs.FinMap.{empty};
+ghost use Rattle.std.specs.Option.{option_map};
 ghost use Rattle.gil_machine.specs.Run.{start as start_state};
 ghost use Rattle.gil_syntax.specs.Pure.{PureParts};
+ghost use Rattle.pure_terms.specs.View.{atoms_view};
 ghost use Rattle.sym_model.specs.Laws.{IsCopy};
-ghost use Rattle.sym_paths.specs.Meaning.{Stands, IsOverTable};
+ghost use Rattle.sym_paths.specs.Meaning.{Stands, IsOverTable, IsFirstPath};
 ghost use Rattle.sym_paths.specs.Pure.{PurePath};
 ghost use Rattle.sym_paths.specs.Steps.{IsPlainPath};
-ghost use Rattle.sym_paths.specs.View.{path_view};
+ghost use Rattle.sym_paths.specs.View.{end_view, path_view};
 
 use crate::copying::{copy_choices, copy_path_condition, copy_table};
 use crate::ends::{PathEnd, copy_end};
@@ -20,7 +22,7 @@ use sym_conditions::copy_conditions;
 use sym_model::{PathCond, SymMemory};
 
 /// A path of symbolic execution. Contracts see it as its pure data over the memory's states, by `path_view`.
-#[derive(Debug, Drop)]
+#[derive(Debug)]
 pub struct Path<M> {
     pub vars: VarTable,
     /// The conditions under which the path is taken.
@@ -36,19 +38,79 @@ pub struct Path<M> {
     pub end: Option<PathEnd>,
 }
 
+// Written out, so that code which may drop a path calls this, and isn't made longer by it.
+impl<M: Drop> Drop for Path<M> {
+    fn drop(self) {
+        let Path {
+            vars: _,
+            conds: _,
+            given: _,
+            choices: _,
+            stack: _,
+            memory: _,
+            drawn: _,
+            steps: _,
+            end: _,
+        } = self;
+    }
+}
+
 /// A list of paths.
 pub type Paths<M> = Sequence<Path<M>>;
+
+/// What a path that has ended says of the runs along it. Contracts see it field by field.
+#[derive(Debug, Drop)]
+pub struct Ended {
+    pub vars: VarTable,
+    pub conds: Atoms,
+    pub given: Atoms,
+    pub choices: Choices,
+    pub end: Option<PathEnd>,
+}
+
+impl<M: Drop> Path<M> {
+    /// The path ends so.
+    pub fn end_as(&mut self, end: PathEnd)
+        ensures { path_view self.new ≡ record (path_view self.old) { ending = Some (end_view end) } }
+    {
+        self.end = Some(end);
+    }
+
+    /// What the path says of the runs along it.
+    pub fn into_ended(self) -> Ended
+        ensures vars { result.vars ≡ self.vars }
+        ensures conds { atoms_view result.conds ≡ (path_view self).conds }
+        ensures given { atoms_view result.given ≡ (path_view self).given }
+        ensures choices { result.choices ≡ self.choices }
+        ensures end { option_map end_view result.end ≡ (path_view self).ending }
+    {
+        let Path {
+            vars,
+            conds,
+            given,
+            choices,
+            stack: _,
+            memory: _,
+            drawn: _,
+            steps: _,
+            end,
+        } = self;
+        Ended {
+            vars,
+            conds: conds.into_atoms(),
+            given,
+            choices,
+            end,
+        }
+    }
+}
 
 impl<M: SymMemory> Path<M> {
     /// The path on which a procedure without parameters begins, with the empty memory.
     pub fn start(alloc: Global, proc: &Text) -> Result<Path<M>, AllocError>
         ensures stands { IfOk result (λ path. (p : PureParts) → Stands M.stands (path_view path) [] (start_state p proc.now [] empty 0)) }
         ensures over { IfOk result (λ path. IsOverTable M.terms (path_view path)) }
-        ensures first { IfOk result (λ path. path.steps ≡ 0) }
-        ensures open { IfOk result (λ path. path.end ≡ None) }
-        ensures nothing_chosen { IfOk result (λ path. path.choices ≡ []) }
-        ensures no_condition { IfOk result (λ path. (path_view path).conds ≡ []) }
-        ensures nothing_assumed { IfOk result (λ path. (path_view path).given ≡ []) }
+        ensures first { IfOk result (λ path. IsFirstPath M.stands M.terms proc.now (path_view path)) }
         ensures plain { IfOk result (λ path. (b : ℕ) → IsPlainPath M.plain b (path_view path)) }
     {
         let stack = first_frames(alloc, proc)?;

@@ -1,5 +1,5 @@
 -- The candidates of an action keep the laws.
-use Rattle.std.proofs.Common.{◌≡◌, ◌⊎◌, ⊎_elim, inl, inr, ℕ, suc, ◌+◌, List, [], ◌∷◌, ◌++◌, length, Bool, true, false, if◌then◌else◌, slice_get, Option, Some, None, Ok, Err, IsTrue, codes, zero, refl, sym, ap, subst, ◌∙◌, arith}
+use Rattle.std.proofs.Common.{◌≡◌, ◌⊎◌, ⊎_elim, inl, inr, ℕ, suc, ◌+◌, ◌<◌, List, [], ◌∷◌, ◌++◌, length, Bool, true, false, if◌then◌else◌, slice_get, Option, Some, None, Ok, Err, IsTrue, codes, zero, refl, sym, ap, subst, ◌∙◌, arith}
 use Rattle.std.specs.Option.{option_and_then, option_map}
 use Rattle.std.proofs.lemmas.List.{append-nil}
 use Rattle.std.proofs.lemmas.List.Elements.{Contains-push_cases}
@@ -10,7 +10,7 @@ use Rattle.gil_values.proofs.OperatorSymbols.{none_contained}
 use Rattle.gil_syntax.specs.Evaluation.{Outcomes, bind, evaluate_all}
 use Rattle.gil_syntax.specs.Pure.{PureParts, PureExpr, PureNumberedCommand, act}
 use Rattle.gil_machine.specs.Choices.{choice_of, of_values, outcome_choice, missed_key, result_of, miss_at}
-use Rattle.gil_machine.specs.State.{Frame, State, Step}
+use Rattle.gil_machine.specs.State.{State, Step}
 use Rattle.gil_machine.specs.State as machine
 use Rattle.gil_machine.specs.Step.{do_command, after_action, action_result, counted, do_action}
 use Rattle.mem_model.specs.declared.keys.MemoryName.{MemoryName}
@@ -26,24 +26,27 @@ use Rattle.pure_terms.specs.Pure.{PureTerm, from_list, PureAtom, term_of}
 use Rattle.pure_terms.proofs.VariableLaws.{stay_when_tables_grow}
 use Rattle.sym_evaluation.specs.Meaning.{HaveValues}
 use Rattle.sym_evaluation.specs.Pure.{PureStore, PureGoodCase, PureCases}
-use Rattle.sym_evaluation.specs.Questions.{IsAsked, OnResult, AreEachFrom, AreEachOver, OnConditions}
+use Rattle.sym_evaluation.specs.Questions.{IsAsked, OnResult, AreEachFrom, AreEachOver, EachCondition, OnConditions}
 use Rattle.sym_model.specs.Laws.{IsMeaning, ActLaw, Serves, EachTerm}
 use Rattle.sym_model.specs.Lists.{Each, OneOf, IsAmong}
 use Rattle.sym_model.specs.Meaning.{location_of, fresh_symbol, has_open, IsOutcome, IsBranchFor}
 use Rattle.sym_model.specs.Pure.{PureKey, PureResult, done, failed, missed, PureBranch, result_terms}
-use Rattle.sym_model.specs.Terms.{StateTerms, all_of, IsFreshOver, asked_of, IsOwnCondition}
-use Rattle.sym_model.proofs.ListLaws.{each_append, each_at, each_to, each_by_place, each_right}
+use Rattle.sym_model.specs.Terms.{StateTerms, all_of, IsFreshOver, IsMadeOf, asked_of, IsOwnCondition}
+use Rattle.sym_model.proofs.ListLaws.{same_some, each_append, each_at, each_to, each_by_place, each_right}
 use Rattle.sym_paths.specs.Valued.{place_at}
 use Rattle.sym_paths.specs.Laws.{with_more, IsBound}
 use Rattle.sym_paths.specs.Meaning.{Stands, StandsForStep, OfEachName, IsOverTable, end_terms, command_of_path}
 use Rattle.sym_paths.specs.Moves.{running_store, advanced}
+use Rattle.sym_paths.specs.Origins.{Follows}
 use Rattle.sym_paths.specs.Pure.{PureFrame, PureEnd, PurePath}
 use Rattle.sym_paths.specs.Pure as path_end
 use Rattle.sym_paths.specs.Settling.{Candidate, AreCandidates}
-use Rattle.sym_paths.specs.Steps.{AreNext, drawn_from, IsNewSort, fresh_count, symbols_taken, makes_choice, IsUnknown, IsChosen}
+use Rattle.sym_paths.specs.Steps.{AreNext, drawn_from, IsNewSort, fresh_count, symbols_taken, makes_choice, IsUnknown, IsChosen, MayChoose, MayAssume}
+use Rattle.sym_paths.proofs.Assuming.{assumes_rightly}
 use Rattle.sym_paths.proofs.Binding.{agree_bound, each_bound}
 use Rattle.sym_paths.proofs.Growing.{path_stands, path_over, later_among}
 use Rattle.sym_paths.proofs.Moving.{none_next, advanced_frames, running_stands, running_each, advanced_each}
+use Rattle.sym_paths.proofs.Origins.{follows_ended, follows_going, follows_failing}
 use Rattle.sym_paths.proofs.Recording.{records_by}
 use Rattle.sym_paths.proofs.Silent.{same_and_none}
 use Rattle.sym_paths.proofs.Valuations.{next_fresh, below_higher, below_next}
@@ -134,10 +137,14 @@ module _ {S : Type 0} (memory : MemoryName) (stands : S → List PureValue → H
   own_good None is = tt
   own_good (Some g) is = each_to Asked Own g.conds (λ a one. inl one) is
 
-  evaluation : IsEvaluation (running_store path.stack) HaveValues AreEachOver (evaluate_all es) Own cases
+  own_conditions : EachCondition Own cases
+  own_conditions = (each_to (λ d. Each Asked d.conds) (λ d. Each Own d.conds) cases.faults (λ d. each_to Asked Own d.conds (λ a one. inl one)) evaluated.origin.0.0, own_good cases.good evaluated.origin.0.1)
+
+  evaluation : IsEvaluation (running_store path.stack) HaveValues AreEachOver (evaluate_all es) Own c.command cases
   evaluation = record {
     says = evaluated.are_cases;
-    origin = (each_to (λ d. Each Asked d.conds) (λ d. Each Own d.conds) cases.faults (λ d. each_to Asked Own d.conds (λ a one. inl one)) evaluated.origin.0.0, own_good cases.good evaluated.origin.0.1);
+    origin = own_conditions;
+    assumed = subst (λ k. EachCondition (MayAssume Own (running_store path.stack) k) cases) (sym command) own_conditions;
     names = evaluated.names;
   }
 
@@ -213,22 +220,30 @@ module _ {S : Type 0} (memory : MemoryName) (stands : S → List PureValue → H
       has_heap = subst (stands path.memory (v ++ ws)) (same_heap takes s) (grown takes inputs v ws s is in_turn proper).memory;
     }
 
+    abbrev Answered : PureTerm → Type 0
+    Answered = IsMadeOf (g.result ++ all_of (terms path.memory)) fresh
+
     -- what the laws of the action say of one branch
     record IsLawful (b : PureBranch S) : Type 0 where
       exact : (w args : List PureValue) (h : Heap) → Serves stands terms vars' w fresh g.result path.memory args h → IsTrue (all_true w b.conds) → has_open b.conds ≡ false → IsBranchFor stands w (m.act action (fresh_symbol w fresh) args h) b
       own : Each (IsOwnCondition (asked_of (asked action g.result) (terms path.memory))) b.conds
       names : Each OverMore b.conds × EachTerm terms (IsOver vars') b
+      made : EachTerm terms Answered b
 
     each_lawful : (bs : List (PureBranch S)) → ActLaw stands terms m action fresh g.result (asked action g.result) path.memory bs → Each IsLawful bs
     each_lawful bs law = each_by_place IsLawful bs (λ i b place. record {
       exact = λ w args h served. each_at (λ d. IsTrue (all_true w d.conds) → has_open d.conds ≡ false → IsBranchFor stands w (m.act action (fresh_symbol w fresh) args h) d) bs i b (law.exact vars' w args h served) place;
       own = each_at (λ d. Each (IsOwnCondition (asked_of (asked action g.result) (terms path.memory))) d.conds) bs i b law.own place;
       names = each_at (λ d. Each OverMore d.conds × EachTerm terms (IsOver vars') d) bs i b (law.variables vars' asks_over (fresh_is_over takes path.vars)) place;
+      made = each_at (EachTerm terms Answered) bs i b law.made place;
     })
 
     module _ (b : PureBranch S) (lawful : IsLawful b) where
+      own_branch : Each Own b.conds
+      own_branch = each_to (IsOwnCondition (asked_of (asked action g.result) (terms path.memory))) Own b.conds (λ a own. inr (g.result, (from, own))) lawful.own
+
       -- a candidate for the branch: what its path stands for is what the action's result leads to
-      module _ (k : ℕ) (fs : List PureFrame) (how : Option PureEnd) (stores : Each (λ f. OfEachName (IsOver vars') f.store) fs) (end_over : Each (IsOver vars') (end_terms how)) (known : ¬ IsUnknown how)
+      module _ (k : ℕ) (small : k < 3) (fs : List PureFrame) (how : Option PureEnd) (stores : Each (λ f. OfEachName (IsOver vars') f.store) fs) (end_over : Each (IsOver vars') (end_terms how)) (known : ¬ IsUnknown how) (origin : Follows p m terms path (branched path x (place_at path.stack c) takes g b k fs how).path)
           (leads : (w : List PureValue) (s s1 : State) (r : ActionResult) → Stands stands (with_more path (taken takes)) w s1 → IsBranchFor stands w r b → IsTrue (all_true w (path.conds ++ (g.conds ++ b.conds)))
           → there s ≡ place_at path.stack c → ((q : Key) → r.outcome ≡ outcome.miss q → miss_at p m s ≡ Some q)
           → (outcome_choice r.outcome ≡ k) × StandsForStep p m stands (branched path x (place_at path.stack c) takes g b k fs how).path w s how (after_action r.outcome x (there s) (record s1 { heap = r.heap }))) where
@@ -244,6 +259,9 @@ module _ {S : Type 0} (memory : MemoryName) (stands : S → List PureValue → H
             (lawful.exact (v ++ ws) args s.heap (serves inputs v ws s args is in_turn proper val) (second_true (v ++ ws) g.conds b.conds (second_true (v ++ ws) path.conds (g.conds ++ b.conds) met)) closed) in
             let (which, step) = leads (v ++ ws) s (counted takes s) r (grown takes inputs v ws s is in_turn proper) branch met (same_place stands terms p m path c over at v path.stack s is.frames) (λ q misses. missed_there v s args q is ok misses) in
             (ap (λ n. path.choices ++ n ∷ []) (sym which), step)
+
+        may_choose : MayChoose c.command (Some k)
+        may_choose = subst (λ j. MayChoose j (Some k)) (sym command) (λ n is. subst (λ i. i < 3) (same_some is) small)
 
         branched_makes : Makes g b.conds d
         branched_makes = record {
@@ -272,11 +290,13 @@ module _ {S : Type 0} (memory : MemoryName) (stands : S → List PureValue → H
             },
             tt,
           );
-          recorded = records_by p m path d.path c at (taken takes) (Some k) refl (as_many_taken takes ∙ sym (ap (symbols_taken m) command)) refl (sym (ap makes_choice command));
+          recorded = records_by p m path d.path c at (taken takes) (Some k) refl (as_many_taken takes ∙ sym (ap (symbols_taken m) command)) refl may_choose (sym (ap makes_choice command));
           known = known;
           vars = refl;
           conds = refl;
-          own_more = each_to (IsOwnCondition (asked_of (asked action g.result) (terms path.memory))) Own b.conds (λ a own. inr (g.result, (from, own))) lawful.own;
+          own_more = own_branch;
+          assumes = assumes_rightly p Own path c at d b.conds refl (subst (λ j. Each (MayAssume Own (running_store path.stack) j) b.conds) (sym command) own_branch) tt;
+          origin = λ no_form. origin;
           exact = acts;
           along = λ inputs v ws s is in_turn given which goes.
               along_chosen stands terms p m path c over at HaveValues AreEachOver (evaluate_all es) go_on chooses Own cases evaluation does choice (taken takes) g is_good b.conds v ws s d.path k refl is which
@@ -288,6 +308,16 @@ module _ {S : Type 0} (memory : MemoryName) (stands : S → List PureValue → H
       module _ (t : PureTerm) (is_done : b.result ≡ done t) (bs : PureStore) (bound : IsBound (running_store path.stack) x t bs) where
         result_is_over : IsOver vars' t
         result_is_over = (subst (λ r. Each (IsOver vars') (result_terms r)) is_done lawful.names.1.1).0
+
+        done_follows : Follows p m terms path (branched path x (place_at path.stack c) takes g b 0 (advanced bs path.stack) None).path
+        done_follows = follows_going p m terms path (branched path x (place_at path.stack c) takes g b 0 (advanced bs path.stack) None).path c at (act x action es) command refl (record {
+          args = g.result;
+          from = from;
+          result = t;
+          made = (subst (λ r. Each Answered (result_terms r)) is_done lawful.made.1).0;
+          has_now = (bs, (bound, refl));
+          memory = lawful.made.0;
+        })
 
         done_leads : (w : List PureValue) (s s1 : State) (r : ActionResult) (o : PureOutcome) → Stands stands (with_more path (taken takes)) w s1 → stands b.state w r.heap → IsOutcome w (done t) o → IsTrue (all_true w (path.conds ++ (g.conds ++ b.conds)))
             → (outcome_choice o ≡ 0) × StandsForStep p m stands (branched path x (place_at path.stack c) takes g b 0 (advanced bs path.stack) None).path w s None (after_action o x (there s) (record s1 { heap = r.heap }))
@@ -308,14 +338,19 @@ module _ {S : Type 0} (memory : MemoryName) (stands : S → List PureValue → H
 
         done_makes : Makes g b.conds (branched path x (place_at path.stack c) takes g b 0 (advanced bs path.stack) None)
         done_makes =
-            branched_makes 0 (advanced bs path.stack) None
+            branched_makes 0 (omega arith) (advanced bs path.stack) None
             (advanced_each (IsOver vars') path.stack bs more_over.stores (each_bound (IsOver vars') (running_store path.stack) bs x t bound result_is_over (running_each (IsOver vars') path.stack more_over.stores)))
-            tt (λ unknown. unknown)
+            tt (λ unknown. unknown) done_follows
             (λ w s s1 r is branch met place misses. done_leads w s s1 r r.outcome is branch.state (subst (λ k. IsOutcome w k r.outcome) is_done branch.result) met)
 
       -- ---- failed
 
       module _ (t : PureTerm) (is_failed : b.result ≡ failed t) where
+        failed_follows : Follows p m terms path (branched path x (place_at path.stack c) takes g b 1 path.stack (Some (path_end.failed t (place_at path.stack c)))).path
+        failed_follows =
+            follows_failing p m terms path (branched path x (place_at path.stack c) takes g b 1 path.stack (Some (path_end.failed t (place_at path.stack c)))).path c at (act x action es) command t (place_at path.stack c) refl
+            (inr (g.result, (from, (subst (λ r. Each Answered (result_terms r)) is_failed lawful.made.1).0)))
+
         failed_leads : (w : List PureValue) (s s1 : State) (r : ActionResult) (o : PureOutcome) → Stands stands (with_more path (taken takes)) w s1 → stands b.state w r.heap → IsOutcome w (failed t) o → IsTrue (all_true w (path.conds ++ (g.conds ++ b.conds)))
             → there s ≡ place_at path.stack c
             → (outcome_choice o ≡ 1) × StandsForStep p m stands (branched path x (place_at path.stack c) takes g b 1 path.stack (Some (path_end.failed t (place_at path.stack c)))).path w s (Some (path_end.failed t (place_at path.stack c))) (after_action o x (there s) (record s1 { heap = r.heap }))
@@ -335,7 +370,7 @@ module _ {S : Type 0} (memory : MemoryName) (stands : S → List PureValue → H
 
         failed_makes : Makes g b.conds (branched path x (place_at path.stack c) takes g b 1 path.stack (Some (path_end.failed t (place_at path.stack c))))
         failed_makes =
-            branched_makes 1 path.stack (Some (path_end.failed t (place_at path.stack c))) more_over.stores (subst (λ r. Each (IsOver vars') (result_terms r)) is_failed lawful.names.1.1) (λ unknown. unknown)
+            branched_makes 1 (omega arith) path.stack (Some (path_end.failed t (place_at path.stack c))) more_over.stores (subst (λ r. Each (IsOver vars') (result_terms r)) is_failed lawful.names.1.1) (λ unknown. unknown) failed_follows
             (λ w s s1 r is branch met place misses. failed_leads w s s1 r r.outcome is branch.state (subst (λ k. IsOutcome w k r.outcome) is_failed branch.result) met place)
 
       -- ---- missed
@@ -360,7 +395,8 @@ module _ {S : Type 0} (memory : MemoryName) (stands : S → List PureValue → H
 
         missed_makes : Makes g b.conds (branched path x (place_at path.stack c) takes g b 2 path.stack (Some (path_end.missed key (place_at path.stack c))))
         missed_makes =
-            branched_makes 2 path.stack (Some (path_end.missed key (place_at path.stack c))) more_over.stores (subst (λ r. Each (IsOver vars') (result_terms r)) is_missed lawful.names.1.1) (λ unknown. unknown)
+            branched_makes 2 (omega arith) path.stack (Some (path_end.missed key (place_at path.stack c))) more_over.stores (subst (λ r. Each (IsOver vars') (result_terms r)) is_missed lawful.names.1.1) (λ unknown. unknown)
+            (follows_ended p m terms path (branched path x (place_at path.stack c) takes g b 2 path.stack (Some (path_end.missed key (place_at path.stack c)))).path (path_end.missed key (place_at path.stack c)) refl refl)
             (λ w s s1 r is branch met place misses. missed_leads w s s1 r r.outcome is branch.state (subst (λ k. IsOutcome w k r.outcome) is_missed branch.result) met place misses)
 
       -- ---- whatever the branch's result is

@@ -23,7 +23,7 @@ use Rattle.pure_terms.proofs.KindLaws.{known_kinds_are_right}
 use Rattle.pure_terms.proofs.VariableLaws.{stay_when_tables_grow}
 use Rattle.sym_evaluation.specs.Meaning.{AreSame}
 use Rattle.sym_evaluation.specs.Pure.{PureStore, term_at, PureGoodCase, PureCases}
-use Rattle.sym_evaluation.specs.Questions.{IsAsked, IsFrom, EachCondition, OnConditions, OnResult, AreEachOver}
+use Rattle.sym_evaluation.specs.Questions.{IsAsked, IsFrom, AreEachFrom, EachCondition, OnConditions, OnResult, AreEachOver}
 use Rattle.sym_model.specs.Lists.{Each, OneOf, IsAmong}
 use Rattle.sym_model.specs.Terms.{StateTerms, is_literal}
 use Rattle.sym_model.proofs.Asking.{both_parts}
@@ -33,15 +33,17 @@ use Rattle.sym_paths.specs.Meaning.{AreFrames, Stands, StandsForStep, OfEachName
 use Rattle.sym_paths.specs.Moves.{running_store}
 use Rattle.sym_paths.specs.Pure.{PureFrame, PurePath}
 use Rattle.sym_paths.specs.Settling.{Candidate, AreCandidates}
-use Rattle.sym_paths.specs.Steps.{symbols_taken, makes_choice, GoesOnAs}
+use Rattle.sym_paths.specs.Steps.{symbols_taken, makes_choice, GoesOnAs, MayAssume}
+use Rattle.sym_paths.proofs.Assuming.{assumes_rightly}
 use Rattle.sym_paths.proofs.Growing.{later_among}
 use Rattle.sym_paths.proofs.Moving.{open_is_known}
-use Rattle.sym_paths.proofs.Recording.{same_records, ended_records}
+use Rattle.sym_paths.proofs.Origins.{follows_going}
+use Rattle.sym_paths.proofs.Recording.{same_records}
 use Rattle.sym_paths.proofs.Silent.{same_and_none}
 use Rattle.sym_steps.specs.Cases.{AreOfCases, AreEvaluated}
 use Rattle.sym_steps.specs.Calls.{Called, call_cases, terms_bound, IsFirstStore, waiting, entering, fails_to_call, needs_callee, EntersFound, CallsOpen, CallsTerm, Calls, IsAskedByCall, CallsKeepTheLaws}
 use Rattle.sym_steps.proofs.CallCases.{both_of, AreCalled, AreCalledOver, each_called, called_from, both_say}
-use Rattle.sym_steps.proofs.Following.{with_outcome, of_outcome, IsEvaluation, good_is_over, store_over, at_command, MakesNext, MakesSame, Covered, same_next, covered_same, along_going, failing_makes, are_candidates}
+use Rattle.sym_steps.proofs.Following.{with_outcome, of_outcome, IsEvaluation, good_is_over, store_over, at_command, good_may, MakesNext, MakesSame, Covered, same_next, covered_same, along_going, failing_makes, are_candidates}
 use Rattle.sym_steps.proofs.Outcomes.{nothing_chosen}
 
 -- ---- stores of calls that begin
@@ -114,10 +116,6 @@ fails_if : (b : Bool) (q : PureProc) (x : List ℕ) (args : List PureValue) (her
 fails_if true q x args here s is = absurd (true≢false is)
 fails_if false q x args here s is = refl
 
-anything : (o : Option (PureGoodCase (List PureTerm))) → OnResult (λ ts. Unit {0}) o
-anything None = tt
-anything (Some h) = tt
-
 -- ---- candidates
 
 module _ {S : Type 0} (stands : S → List PureValue → Heap → Type 0) (terms : S → StateTerms) (p : PureParts) (m : Actions) (path : PurePath S) (c : PureNumberedCommand) (x : List ℕ) (e : PureExpr) (es : List PureExpr)
@@ -141,17 +139,21 @@ module _ {S : Type 0} (stands : S → List PureValue → Heap → Type 0) (terms
   abbrev no_choice : State → PureValue × List PureValue → Option ℕ
   no_choice s a = None
 
-  own_good : {X : Type 0} (P : PureAtom → Type 0) → ((a : PureAtom) → P a → Own a) → (o : Option (PureGoodCase X)) → OnConditions P o → OnConditions Own o
-  own_good P own None asked = tt
-  own_good P own (Some g) asked = each_to P Own g.conds own asked
+  good_so : {X : Type 0} (P Q : PureAtom → Type 0) → ((a : PureAtom) → P a → Q a) → (o : Option (PureGoodCase X)) → OnConditions P o → OnConditions Q o
+  good_so P Q so None asked = tt
+  good_so P Q so (Some g) asked = each_to P Q g.conds so asked
 
-  own_condition : {X : Type 0} (P : PureAtom → Type 0) → ((a : PureAtom) → P a → Own a) → (k : PureCases X) → EachCondition P k → EachCondition Own k
-  own_condition P own k each = (each_to (λ d. Each P d.conds) (λ d. Each Own d.conds) k.faults (λ d. each_to P Own d.conds own) each.0, own_good P own k.good each.1)
+  each_so : {X : Type 0} (P Q : PureAtom → Type 0) → ((a : PureAtom) → P a → Q a) → (k : PureCases X) → EachCondition P k → EachCondition Q k
+  each_so P Q so k each = (each_to (λ d. Each P d.conds) (λ d. Each Q d.conds) k.faults (λ d. each_to P Q d.conds so) each.0, good_so P Q so k.good each.1)
 
-  evaluation : IsEvaluation bs AreCalled AreCalledOver outcome Own cases
+  asked_so : (Q : PureAtom → Type 0) → ((a : PureAtom) → IsAsked bs e a → Q a) → ((a : PureAtom) → OneOf (λ d. IsAsked bs d a) es → Q a) → EachCondition Q cases
+  asked_so Q first second = each_called Q callee args (each_so (IsAsked bs e) Q first callee evaluated.origin.0) (each_so (λ a. OneOf (λ d. IsAsked bs d a) es) Q second args all_evaluated.origin.0)
+
+  evaluation : IsEvaluation bs AreCalled AreCalledOver outcome Own c.command cases
   evaluation = record {
     says = λ vars v s serves. both_say v (evaluate e s) (evaluate_all es s) callee args (evaluated.are_cases vars v s serves) (all_evaluated.are_cases vars v s serves);
-    origin = each_called Own callee args (own_condition (IsAsked bs e) (λ a is. inl is) callee evaluated.origin.0) (own_condition (λ a. OneOf (λ d. IsAsked bs d a) es) (λ a is. inr (inl is)) args all_evaluated.origin.0);
+    origin = asked_so Own (λ a is. inl is) (λ a is. inr (inl is));
+    assumed = subst (λ k. EachCondition (MayAssume Own bs k) cases) (sym command) (asked_so (MayAssume Own bs (call x e es)) (λ a is. inl is) (λ a is. inr is));
     names = λ vars store. (
       each_called (λ a. IsOver vars (term_of a)) callee args (evaluated.names vars store).0 (all_evaluated.names vars store).0,
       called_from (IsOver vars) (AreEachOver vars) callee args (evaluated.names vars store).1 (all_evaluated.names vars store).1,
@@ -188,18 +190,28 @@ module _ {S : Type 0} (stands : S → List PureValue → Heap → Type 0) (terms
     result_over : AreCalledOver path.vars g.result
     result_over = subst (OnResult (AreCalledOver path.vars)) is_good (evaluation.names path.vars (store_over stands terms p m path c over at)).1
 
+    both_from : IsFrom bs e g.result.callee × AreEachFrom bs es g.result.args
+    both_from = subst (OnResult (λ (k : Called). IsFrom bs e k.callee × AreEachFrom bs es k.args)) is_good (called_from (IsFrom bs e) (AreEachFrom bs es) callee args evaluated.origin.1 all_evaluated.origin.1)
+
     from : IsFrom bs e g.result.callee
-    from = (subst (OnResult (λ (k : Called). IsFrom bs e k.callee × Unit {0})) is_good (called_from (IsFrom bs e) (λ ts. Unit {0}) callee args evaluated.origin.1 (anything args.good))).0
+    from = both_from.0
+
+    args_from : AreEachFrom bs es g.result.args
+    args_from = both_from.1
+
+    asked_good : Each (MayAssume Own bs c.command) g.conds
+    asked_good = good_may stands terms p m path c over at AreCalled AreCalledOver outcome go_on no_choice Own cases evaluation does choice g is_good
 
     -- ---- a call that fails
 
     fails_makes : (why : List ℕ) → ((v : List PureValue) (s : State) (a : PureValue × List PureValue) → Stands stands path v s → AreCalled v g.result a → enter_value p a.0 x a.1 (there s) s ≡ fails_with (text why) (there s) s) → Makes g [] (fails_to_call path x here why g)
     fails_makes why fails =
-        failing_makes stands terms p m path c over at AreCalled AreCalledOver outcome go_on no_choice Own cases evaluation does choice g [] why is_good tt tt (λ v s a is val met. (fails v s a is val, refl))
+        failing_makes stands terms p m path c over at AreCalled AreCalledOver outcome go_on no_choice Own cases evaluation does choice g [] why is_good tt tt tt (λ v s a is val met. (fails v s a is val, refl))
 
     -- ---- a call that begins
 
     module _ (q : PureProc) (bs' : PureStore) (first : IsFirstStore q.params g.result.args bs')
+        (name : List ℕ) (named : g.result.callee ≡ literal (Literal.Proc name)) (found : find_proc p.procs name ≡ Some q)
         (enters : (v : List PureValue) (s : State) (a : PureValue × List PureValue) → Stands stands path v s → AreCalled v g.result a → enter_value p a.0 x a.1 (there s) s ≡ enter q x a.1 s) where
       abbrev ep : PurePath S
       ep = (entering path x here q bs' g).path
@@ -256,6 +268,21 @@ module _ {S : Type 0} (stands : S → List PureValue → Heap → Type 0) (terms
         vars = refl;
         conds = ap (λ xs. path.conds ++ xs) (sym (append-nil g.conds));
         own_more = tt;
+        assumes = assumes_rightly p Own path c at (entering path x here q bs' g) [] (same_and_none path.given path.given refl) tt asked_good;
+        origin = λ no_form. follows_going p m terms path ep c at (call x e es) command no_end (
+          refl,
+          record {
+            callee = name;
+            named = subst (IsFrom bs e) named from;
+            procedure = q;
+            found = found;
+            args = g.result.args;
+            from = args_from;
+            store = bs';
+            first = first;
+            stack = refl;
+          },
+        );
         exact = λ inputs v s a is ok val met closed. (same_and_none path.choices path.choices refl, entered v s a is val met);
         along = λ inputs v ws s is given which goes.
             along_going stands terms p m path c over at AreCalled AreCalledOver outcome go_on no_choice Own cases evaluation does choice [] g is_good [] inputs v ws s is (λ a val. refl)
@@ -303,6 +330,8 @@ module _ {S : Type 0} (stands : S → List PureValue → Heap → Type 0) (terms
         vars = refl;
         conds = refl;
         own_more = (inr (inr (g.result.callee, (from, no_literal, may_be, refl))), tt);
+        assumes = assumes_rightly p Own path c at (needs_callee path x here g) [] (same_and_none path.given path.given refl) tt asked_good;
+        origin = λ closed. absurd (true≢false closed);
         exact = λ inputs v s a is ok val met closed. absurd (true≢false closed);
         along = λ inputs v ws s is given which goes.
             along_going stands terms p m path c over at AreCalled AreCalledOver outcome go_on no_choice Own cases evaluation does choice [] g is_good asked inputs v ws s is (λ a val. has_value v ws s a is val)
@@ -325,7 +354,10 @@ module _ {S : Type 0} (stands : S → List PureValue → Heap → Type 0) (terms
     not_procedure w other is_w =
         fails_makes (codes "proc") (λ v s a is val. subst (λ u. enter_value p u x a.1 (there s) s ≡ fails_with (text (codes "proc")) (there s) s) (same_some (sym (is_w v) ∙ val.0)) (no_procedure p w x a.1 (there s) s other))
 
-    module _ (f : List ℕ) (is_f : (v : List PureValue) → value v g.result.callee ≡ Some (procedure f)) where
+    module _ (f : List ℕ) (is_proc : g.result.callee ≡ literal (Literal.Proc f)) where
+      is_f : (v : List PureValue) → value v g.result.callee ≡ Some (procedure f)
+      is_f v = ap (value v) is_proc
+
       called : (v : List PureValue) (s : State) (a : PureValue × List PureValue) → AreCalled v g.result a → enter_value p a.0 x a.1 (there s) s ≡ enter_found (find_proc p.procs f) x a.1 (there s) s
       called v s a val = ap (λ u. enter_value p u x a.1 (there s) s) (same_some (sym val.0 ∙ is_f v))
 
@@ -335,7 +367,7 @@ module _ {S : Type 0} (stands : S → List PureValue → Heap → Type 0) (terms
       made_by_length : (q : PureProc) (b : Bool) → find_proc p.procs f ≡ Some q → (length g.result.args == length q.params) ≡ b → (d : Candidate S)
           → MatchBool b ((ds : PureStore) × (IsFirstStore q.params g.result.args ds × (d ≡ entering path x here q ds g))) (d ≡ fails_to_call path x here (codes "arity") g) → IsMade d
       made_by_length q true found many d (ds, (first, is)) =
-          subst IsMade (sym is) (without_more (entering path x here q ds g) (entering_makes q ds first (λ v s a stands_there val.
+          subst IsMade (sym is) (without_more (entering path x here q ds g) (entering_makes q ds first f is_proc found (λ v s a stands_there val.
           called v s a val ∙ ap (λ o. enter_found o x a.1 (there s) s) found ∙ enters_if (length a.1 == length q.params) q x a.1 (there s) s (same_length q true v a val many))))
       made_by_length q false found many d is =
           subst IsMade (sym is) (without_more (fails_to_call path x here (codes "arity") g) (fails_makes (codes "arity") (λ v s a stands_there val.
@@ -361,7 +393,7 @@ module _ {S : Type 0} (stands : S → List PureValue → Heap → Type 0) (terms
         made_open (allows (known_kind g.result.callee) Kind.Proc) refl (ap is_literal same ∙ no_literal) d (subst (λ u. CallsOpen path x here (known_kind u) g d) (sym same) is)
 
     made : (t : PureTerm) → g.result.callee ≡ t → (d : Candidate S) → CallsTerm path x here p t g d → IsMade d
-    made (literal (Literal.Proc f)) same d is = made_found f (λ v. ap (value v) same) (find_proc p.procs f) refl d is
+    made (literal (Literal.Proc f)) same d is = made_found f same (find_proc p.procs f) refl d is
     made (literal (Literal.Int n)) same d is = subst IsMade (sym is) (without_more (fails_to_call path x here (codes "proc") g) (not_procedure (integer n) refl (λ v. ap (value v) same)))
     made (literal (Literal.Bool b)) same d is = subst IsMade (sym is) (without_more (fails_to_call path x here (codes "proc") g) (not_procedure (boolean b) refl (λ v. ap (value v) same)))
     made (literal (Literal.Str cs)) same d is = subst IsMade (sym is) (without_more (fails_to_call path x here (codes "proc") g) (not_procedure (text cs) refl (λ v. ap (value v) same)))

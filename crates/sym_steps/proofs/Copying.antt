@@ -1,22 +1,23 @@
 -- Copies of candidates are candidates.
-use Rattle.std.proofs.Common.{◌≡◌, ◌⊎◌, ⊎_elim, inl, inr, List, [], ◌∷◌, false, Option, Some, None, IsTrue, ℕ, ℤ, sym, subst}
+use Rattle.std.proofs.Common.{◌≡◌, ◌⊎◌, ⊎_elim, inl, inr, List, [], ◌∷◌, false, Option, Some, None, IsTrue, ℕ, ℤ, sym, subst, ◌∙◌}
 use Rattle.gil_values.specs.declared.places.Place.{Place}
 use Rattle.gil_values.specs.Pure.{PureValue}
-use Rattle.gil_syntax.specs.Pure.{PureParts}
+use Rattle.gil_syntax.specs.Pure.{PureParts, PureCommand, vanish, usym, isym, assign, call, act, ifgoto, return, fail, fold_use, unfold_use, assert_that, loop_invariant}
 use Rattle.gil_machine.specs.State.{State, Step, goes_on, ends}
 use Rattle.gil_machine.specs.Step.{step}
 use Rattle.mem_model.specs.Actions.{Actions}
 use Rattle.mem_model.specs.Heaps.{Heap}
 use Rattle.pure_terms.specs.declared.deciders.Reason.{Reason}
-use Rattle.pure_terms.specs.Meaning.{IsOver, Satisfies}
-use Rattle.pure_terms.specs.Pure.{PureTerm, PureAtom, term_of}
+use Rattle.pure_terms.specs.Meaning.{Satisfies}
+use Rattle.pure_terms.specs.Pure.{PureTerm, PureAtom}
 use Rattle.sym_model.specs.Laws.{IsCopy}
 use Rattle.sym_model.specs.Lists.{Each, OneOf, IsAmong}
 use Rattle.sym_model.specs.Meaning.{has_open}
 use Rattle.sym_model.specs.Terms.{StateTerms, all_of, AreEachOver}
 use Rattle.sym_paths.specs.Meaning.{StandsForStep}
+use Rattle.sym_paths.specs.Origins.{IsAnswered, GoesOnFrom, Follows}
 use Rattle.sym_paths.specs.Pure.{PureEnd, PurePath}
-use Rattle.sym_paths.specs.Settling.{Candidate, ended_unknown, AreCandidates}
+use Rattle.sym_paths.specs.Settling.{Candidate, ended_unknown, AssumesRightly, AreCandidates}
 use Rattle.sym_paths.specs.Steps.{Extends, IsUnknown, Grows, IsRecorded, AddsOwn, IsExact, HoldsAlong}
 use Rattle.sym_steps.specs.Copies.{IsCopied, AreCopied}
 
@@ -130,6 +131,70 @@ module _ {S : Type 0} (stands : S → List PureValue → Heap → Type 0) (terms
     own_copied : (c : Candidate S) (state : S) → IsCopy stands terms depends plain c.path.memory state → AddsOwn own path c.path → AddsOwn own path (with_memory c.path state)
     own_copied c state copy adds = record { added = adds.added; conds = adds.conds; each = adds.each }
 
+    assumes_copied : (c : Candidate S) (state : S) → IsCopy stands terms depends plain c.path.memory state → AssumesRightly p own path c → AssumesRightly p own path (copied c state)
+    assumes_copied c state copy (assumes, unknown) = (
+      record { added = assumes.added; given = assumes.given; each = assumes.each },
+      λ place reason. let besides = unknown place reason in record { added = besides.added; given = besides.given; each = besides.each },
+    )
+
+    -- the terms of a memory are those of its copy
+    going_copied : (c : Candidate S) (state : S) → terms state ≡ terms c.path.memory → (k : PureCommand) → GoesOnFrom p m terms path c.path k → GoesOnFrom p m terms path (with_memory c.path state) k
+    going_copied c state same (assign x e) (keeps, has) = (same ∙ keeps, has)
+    going_copied c state same (usym x) (keeps, has) = (same ∙ keeps, has)
+    going_copied c state same (isym x k) (keeps, has) = (same ∙ keeps, has)
+    going_copied c state same (ifgoto e i) (keeps, has) = (same ∙ keeps, has)
+    going_copied c state same (fold_use u) (keeps, has) = (same ∙ keeps, has)
+    going_copied c state same (unfold_use u) (keeps, has) = (same ∙ keeps, has)
+    going_copied c state same (assert_that items) (keeps, has) = (same ∙ keeps, has)
+    going_copied c state same (loop_invariant xs ps items) (keeps, has) = (same ∙ keeps, has)
+    going_copied c state same (call x e es) (keeps, has) = (
+      same ∙ keeps,
+      record {
+        callee = has.callee;
+        named = has.named;
+        procedure = has.procedure;
+        found = has.found;
+        args = has.args;
+        from = has.from;
+        store = has.store;
+        first = has.first;
+        stack = has.stack;
+      },
+    )
+    going_copied c state same (return e) (keeps, has) = (
+      same ∙ keeps,
+      record {
+        frame = has.frame;
+        caller = has.caller;
+        callers = has.callers;
+        stack = has.stack;
+        term = has.term;
+        from = has.from;
+        resumed = has.resumed;
+        resumes = has.resumes;
+        next_stack = has.next_stack;
+      },
+    )
+    going_copied c state same (act x action es) is = record {
+      args = is.args;
+      from = is.from;
+      result = is.result;
+      made = is.made;
+      has_now = is.has_now;
+      memory = subst (λ ts. Each (IsAnswered m terms path action is.args) (all_of ts)) (sym same) is.memory;
+    }
+    going_copied c state same (fail e) is = absurd is
+    going_copied c state same vanish is = absurd is
+
+    abbrev Origin : Candidate S → Type 0
+    Origin c = has_open c.path.conds ≡ false → Follows p m terms path c.path
+
+    origin_copied : (c : Candidate S) (state : S) → IsCopy stands terms depends plain c.path.memory state → Origin c → Origin (copied c state)
+    origin_copied c state copy origin none = record {
+      going = λ k at still. going_copied c state copy.same_terms k.command ((origin none).going k at still);
+      failing = (origin none).failing;
+    }
+
     pub copies_keep_the_laws : (cs ds : List (Candidate S)) → AreCandidates p m stands terms own path cs → AreCopied stands terms depends plain cs ds → AreCandidates p m stands terms own path ds
     copies_keep_the_laws cs ds laws copies = record {
       growth = each_copied Grown Grown grows_copied cs ds laws.growth copies;
@@ -139,4 +204,6 @@ module _ {S : Type 0} (stands : S → List PureValue → Heap → Type 0) (terms
       exact = each_copied Exact Exact exact_copied cs ds laws.exact copies;
       along = each_copied Along Along along_copied cs ds laws.along copies;
       own_conditions = each_copied (λ c. AddsOwn own path c.path) (λ c. AddsOwn own path c.path) own_copied cs ds laws.own_conditions copies;
+      assumes = each_copied (AssumesRightly p own path) (AssumesRightly p own path) assumes_copied cs ds laws.assumes copies;
+      origin = each_copied Origin Origin origin_copied cs ds laws.origin copies;
     }

@@ -9,9 +9,9 @@ use Rattle.gil_values.specs.Operators.{Fault, fault_text}
 use Rattle.gil_values.specs.Pure.{PureValue, text}
 use Rattle.gil_values.proofs.OperatorSymbols.{none_contained}
 use Rattle.gil_syntax.specs.Evaluation.{Store}
-use Rattle.gil_syntax.specs.Pure.{PureParts, PureNumberedCommand}
+use Rattle.gil_syntax.specs.Pure.{PureParts, PureCommand, PureNumberedCommand}
 use Rattle.gil_machine.specs.Choices.{choice_at, choice_of, with_choice}
-use Rattle.gil_machine.specs.State.{Frame, State, Step}
+use Rattle.gil_machine.specs.State.{State, Step}
 use Rattle.gil_machine.specs.State as machine
 use Rattle.gil_machine.specs.Step.{command_at, do_command, step, fails_with}
 use Rattle.mem_model.specs.Actions.{Actions}
@@ -32,11 +32,14 @@ use Rattle.sym_model.proofs.ListLaws.{not_none, each_append, each_at, each_map, 
 use Rattle.sym_paths.specs.Valued.{place_at, faulted}
 use Rattle.sym_paths.specs.Meaning.{AreFrames, Stands, StandsForStep, IsOverTable, command_of_path}
 use Rattle.sym_paths.specs.Moves.{running_store}
+use Rattle.sym_paths.specs.Origins.{Follows}
 use Rattle.sym_paths.specs.Pure.{PureFrame, failed, PurePath}
-use Rattle.sym_paths.specs.Settling.{Candidate, ended_unknown, AreCandidates}
-use Rattle.sym_paths.specs.Steps.{AreNext, Extends, IsUnknown, IsChosen, GoesOnAs, Grows, IsRecorded, AddsOwn, IsExact, HoldsAlong}
+use Rattle.sym_paths.specs.Settling.{Candidate, ended_unknown, AssumesRightly, AreCandidates}
+use Rattle.sym_paths.specs.Steps.{AreNext, Extends, IsUnknown, IsChosen, GoesOnAs, Grows, IsRecorded, AddsOwn, MayAssume, IsExact, HoldsAlong}
+use Rattle.sym_paths.proofs.Assuming.{assumes_rightly}
 use Rattle.sym_paths.proofs.Growing.{all_true-more, later_among}
 use Rattle.sym_paths.proofs.Moving.{nothing_more, none_next, running_stands, running_each}
+use Rattle.sym_paths.proofs.Origins.{follows_failing}
 use Rattle.sym_paths.proofs.Recording.{ended_records}
 use Rattle.sym_paths.proofs.Silent.{stands_at, step-is, choice-is, extended_by, same_and_none}
 use Rattle.sym_steps.specs.Cases.{AreResults, AreOfCases, failing_with}
@@ -78,10 +81,11 @@ abbrev pub of_outcome : {A B : Type 0} → (A → Option B) → Result A Fault �
 of_outcome f (Ok a) = f a
 of_outcome f (Err fault) = None
 
--- the cases are those of what is evaluated, ask what is own, and name only variables of the store
-pub record IsEvaluation {X A : Type 0} (bs : PureStore) (Is : List PureValue → X → A → Type 0) (Over : List Sort → X → Type 0) (outcome : Store → Result A Fault) (own : PureAtom → Type 0) (cases : PureCases X) : Type 0 where
+-- the cases are those of what is evaluated, ask what is own and may be assumed at the command, and name only variables of the store
+pub record IsEvaluation {X A : Type 0} (bs : PureStore) (Is : List PureValue → X → A → Type 0) (Over : List Sort → X → Type 0) (outcome : Store → Result A Fault) (own : PureAtom → Type 0) (command : PureCommand) (cases : PureCases X) : Type 0 where
   pub says : (vars : List Sort) (v : List PureValue) (s : Store) → Serves vars v bs s → SayOutcome v (Is v) (outcome s) cases
   pub origin : EachCondition own cases
+  pub assumed : EachCondition (MayAssume own bs command) cases
   pub names : NameNoOthers Over bs cases
 
 -- what is said of one fault case
@@ -156,7 +160,7 @@ module _ {S : Type 0} (stands : S → List PureValue → Heap → Type 0) (terms
   }
 
   module _ {X A : Type 0} (Is : List PureValue → X → A → Type 0) (Over : List Sort → X → Type 0) (outcome : Store → Result A Fault) (go_on : Place → State → A → Step) (chooses : State → A → Option ℕ) (own : PureAtom → Type 0) (cases : PureCases X)
-      (evaluated : IsEvaluation (running_store path.stack) Is Over outcome own cases)
+      (evaluated : IsEvaluation (running_store path.stack) Is Over outcome own c.command cases)
       (does : (inputs : List PureValue) (place : Place) (s : State) → do_command p m inputs c.command place s ≡ with_outcome (outcome s.current.store) place s (go_on place s))
       (choice : (s : State) → choice_of p m c.command s ≡ of_outcome (chooses s) (outcome s.current.store)) where
     says : (v : List PureValue) (s : State) → Stands stands path v s → SayOutcome v (Is v) (outcome s.current.store) cases
@@ -168,6 +172,12 @@ module _ {S : Type 0} (stands : S → List PureValue → Heap → Type 0) (terms
     chosen : (v : List PureValue) (s : State) → Stands stands path v s → choice_at p m s ≡ of_outcome (chooses s) (outcome s.current.store)
     chosen v s is = choice-is p m [] s c c.command (standing v s is) refl ∙ choice s
 
+    abbrev pub May : PureAtom → Type 0
+    May = MayAssume own (running_store path.stack) c.command
+
+    pub good_may : (g : PureGoodCase X) → cases.good ≡ Some g → Each May g.conds
+    good_may g is_good = subst (OnConditions May) is_good evaluated.assumed.1
+
     -- what a candidate for the result of a good case must do, with these new variables and further conditions
     pub record MakesNext (sorts : List Sort) (g : PureGoodCase X) (more : List PureAtom) (d : Candidate S) : Type 0 where
       pub growth : Grows terms path d.path × Each (λ a. IsAmong a d.path.conds) d.no_fault
@@ -176,6 +186,8 @@ module _ {S : Type 0} (stands : S → List PureValue → Heap → Type 0) (terms
       pub vars : d.path.vars ≡ path.vars ++ sorts
       pub conds : d.path.conds ≡ path.conds ++ (g.conds ++ more)
       pub own_more : Each own more
+      pub assumes : AssumesRightly p own path d
+      pub origin : has_open more ≡ false → Follows p m terms path d.path
       pub exact : (inputs v ws : List PureValue) (s : State) (a : A) → Stands stands path v s → AreNext inputs s.counter s.draws sorts ws → IsProper (path.vars ++ sorts) (v ++ ws) → outcome s.current.store ≡ Ok a → Is v g.result a
           → IsTrue (all_true (v ++ ws) d.path.conds) → has_open more ≡ false → IsChosen path d.path (chooses s a) × StandsForStep p m stands d.path (v ++ ws) s d.path.ending (go_on (at_command s) s a)
       pub along : (inputs v ws : List PureValue) (s : State) → Stands stands path v s → AreNext inputs s.counter s.draws sorts ws → IsTrue (all_true (v ++ ws) d.path.given)
@@ -342,6 +354,13 @@ module _ {S : Type 0} (stands : S → List PureValue → Heap → Type 0) (terms
             (each_at (λ (d : PureFaultCase). Each own d.conds) cases.faults i fc evaluated.origin.0 which);
       }
 
+      fault_assumes : AssumesRightly p own path (faulted path here fc)
+      fault_assumes = assumes_rightly p own path c at (faulted path here fc) fc.conds refl (each_at (λ (d : PureFaultCase). Each May d.conds) cases.faults i fc evaluated.assumed.0 which) tt
+
+      fault_follows : Follows p m terms path fp
+      fault_follows =
+          follows_failing p m terms path fp c at c.command refl (literal (Literal.Str (fault_text fc.fault))) here refl (inl (fault_text fc.fault, refl))
+
     -- ---- all of them
 
     module _ (sorts : List Sort) (Make : PureGoodCase X → List (Candidate S) → Type 0)
@@ -388,13 +407,15 @@ module _ {S : Type 0} (stands : S → List PureValue → Heap → Type 0) (terms
       pub are_candidates : (cs : List (Candidate S)) → AreOfCases path here Make cases cs → AreCandidates p m stands terms own path cs
       are_candidates cs are = record {
         growth = each_candidate (λ d. Grows terms path d.path × Each (λ a. IsAmong a d.path.conds) d.no_fault) (λ i fc which. (fault_grows i fc which, tt)) (λ g more d is makes. makes.growth) cs are;
-        recorded = each_candidate (λ d. IsRecorded p m path d.path) (λ i fc which. ended_records p m path (fp i fc which) (failed (literal (Literal.Str (fault_text fc.fault))) here) refl) (λ g more d is makes. makes.recorded) cs are;
+        recorded = each_candidate (λ d. IsRecorded p m path d.path) (λ i fc which. ended_records p m path (fp i fc which) refl (failed (literal (Literal.Str (fault_text fc.fault))) here) refl) (λ g more d is makes. makes.recorded) cs are;
         known = each_candidate (λ d. ¬ IsUnknown d.path.ending) (λ i fc which unknown. unknown) (λ g more d is makes. makes.known) cs are;
         cover = λ inputs v s is has. subst (OneOf (Covered inputs v s)) (sym are.1.0) (covers_by inputs v s is (outcome s.current.store) refl (says v s is) are.0 are.1.1);
         exact = each_candidate (λ d. has_open d.path.conds ≡ false → IsExact p m stands path d.path) (λ i fc which no_form. fault_exact i fc which) (λ g more d is makes. good_exact sorts g more d is makes) cs are;
         along = each_candidate (λ d. HoldsAlong p m stands path d.path × ((place : Place) (reason : Reason) → HoldsAlong p m stands path (ended_unknown d place reason)))
             (λ i fc which. (fault_along i fc which, fault_along_unknown i fc which)) (λ g more d is makes. (good_along sorts g more d is makes, good_along_unknown sorts g more d is makes)) cs are;
         own_conditions = each_candidate (λ d. AddsOwn own path d.path) fault_own (λ g more d is makes. good_own sorts g more d is makes) cs are;
+        assumes = each_candidate (AssumesRightly p own path) fault_assumes (λ g more d is makes. makes.assumes) cs are;
+        origin = each_candidate (λ d. has_open d.path.conds ≡ false → Follows p m terms path d.path) (λ i fc which no_form. fault_follows i fc which) (λ g more d is makes no_form. makes.origin (closed_more sorts g more d is makes no_form)) cs are;
       }
 
     -- ---- why all conditions hold along a path
@@ -437,6 +458,8 @@ module _ {S : Type 0} (stands : S → List PureValue → Heap → Type 0) (terms
       pub vars : d.path.vars ≡ path.vars
       pub conds : d.path.conds ≡ path.conds ++ (g.conds ++ more)
       pub own_more : Each own more
+      pub assumes : AssumesRightly p own path d
+      pub origin : has_open more ≡ false → Follows p m terms path d.path
       pub exact : (inputs v : List PureValue) (s : State) (a : A) → Stands stands path v s → outcome s.current.store ≡ Ok a → Is v g.result a
           → IsTrue (all_true v d.path.conds) → has_open more ≡ false → IsChosen path d.path (chooses s a) × StandsForStep p m stands d.path v s d.path.ending (go_on (at_command s) s a)
       pub along : (inputs v ws : List PureValue) (s : State) → Stands stands path v s → IsTrue (all_true (v ++ ws) d.path.given)
@@ -450,6 +473,8 @@ module _ {S : Type 0} (stands : S → List PureValue → Heap → Type 0) (terms
       vars = same_and_none d.path.vars path.vars makes.vars;
       conds = makes.conds;
       own_more = makes.own_more;
+      assumes = makes.assumes;
+      origin = makes.origin;
       exact = λ inputs v ws s a is in_turn proper ok val met closed.
           let same : v ≡ v ++ ws = nothing_more v ws (none_next inputs s.counter s.draws ws in_turn) in
           let (which, there) = makes.exact inputs v s a is ok val (subst (λ u. IsTrue (all_true u d.path.conds)) (sym same) met) closed in
@@ -468,7 +493,7 @@ module _ {S : Type 0} (stands : S → List PureValue → Heap → Type 0) (terms
 
     -- ---- failing with a text
 
-    module _ (g : PureGoodCase X) (more : List PureAtom) (why : List ℕ) (is_good : cases.good ≡ Some g) (own_more : Each own more) (more_over : Each (λ a. IsOver path.vars (term_of a)) more)
+    module _ (g : PureGoodCase X) (more : List PureAtom) (why : List ℕ) (is_good : cases.good ≡ Some g) (own_more : Each own more) (may_more : Each (MayAssume own (running_store path.stack) c.command) more) (more_over : Each (λ a. IsOver path.vars (term_of a)) more)
         (fails : (v : List PureValue) (s : State) (a : A) → Stands stands path v s → Is v g.result a → IsTrue (all_true v more) → (go_on (at_command s) s a ≡ fails_with (text why) (at_command s) s) × (chooses s a ≡ None)) where
       abbrev wp : PurePath S
       wp = (failing_with path here why g more).path
@@ -517,11 +542,13 @@ module _ {S : Type 0} (stands : S → List PureValue → Heap → Type 0) (terms
           },
           tt,
         );
-        recorded = ended_records p m path wp (failed (literal (Literal.Str why)) here) refl;
+        recorded = ended_records p m path wp refl (failed (literal (Literal.Str why)) here) refl;
         known = λ unknown. unknown;
         vars = refl;
         conds = refl;
         own_more = own_more;
+        assumes = assumes_rightly p own path c at (failing_with path here why g more) (g.conds ++ more) refl (each_append May g.conds more (good_may g is_good) may_more) tt;
+        origin = λ no_form. follows_failing p m terms path wp c at c.command refl (literal (Literal.Str why)) here refl (inl (why, refl));
         exact = λ inputs v s a is ok val met closed. fails_there inputs v s a is val met;
         along = λ inputs v ws s is given which goes. second_true (v ++ ws) path.given (g.conds ++ more) given;
       }

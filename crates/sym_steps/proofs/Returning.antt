@@ -14,7 +14,7 @@ use Rattle.pure_terms.specs.Meaning.{value, all_true, IsOver}
 use Rattle.pure_terms.specs.Pure.{PureTerm, PureAtom, term_of}
 use Rattle.sym_evaluation.specs.Meaning.{HasValue}
 use Rattle.sym_evaluation.specs.Pure.{PureGoodCase, PureCases}
-use Rattle.sym_evaluation.specs.Questions.{IsAsked, OnConditions, OnResult}
+use Rattle.sym_evaluation.specs.Questions.{IsAsked, IsFrom, OnConditions, OnResult, EachCondition}
 use Rattle.sym_model.specs.Lists.{Each, OneOf}
 use Rattle.sym_model.specs.Terms.{StateTerms}
 use Rattle.sym_model.proofs.ListLaws.{each_append}
@@ -23,15 +23,17 @@ use Rattle.sym_paths.specs.Meaning.{IsFrame, AreFrames, Stands, StandsForStep, O
 use Rattle.sym_paths.specs.Moves.{running_store}
 use Rattle.sym_paths.specs.Pure.{PureFrame, returned, PurePath}
 use Rattle.sym_paths.specs.Settling.{Candidate, AreCandidates}
-use Rattle.sym_paths.specs.Steps.{symbols_taken, makes_choice, GoesOnAs}
+use Rattle.sym_paths.specs.Steps.{symbols_taken, makes_choice, GoesOnAs, MayAssume}
+use Rattle.sym_paths.proofs.Assuming.{assumes_rightly}
 use Rattle.sym_paths.proofs.Growing.{later_among}
 use Rattle.sym_paths.proofs.Binding.{agree_bound, each_bound}
 use Rattle.sym_paths.proofs.Moving.{open_is_known}
+use Rattle.sym_paths.proofs.Origins.{follows_ended, follows_going}
 use Rattle.sym_paths.proofs.Recording.{same_records, ended_records}
 use Rattle.sym_paths.proofs.Silent.{same_and_none}
 use Rattle.sym_steps.specs.Cases.{AreOfCases}
 use Rattle.sym_steps.specs.Returns.{Resumes, ResumesAt, returning, resuming, Returns, ReturnsKeepTheLaws}
-use Rattle.sym_steps.proofs.Following.{with_outcome, of_outcome, IsEvaluation, second_true, store_over, MakesNext, MakesSame, Covered, same_next, covered_same, along_going, are_candidates}
+use Rattle.sym_steps.proofs.Following.{with_outcome, of_outcome, IsEvaluation, second_true, store_over, good_may, MakesNext, MakesSame, Covered, same_next, covered_same, along_going, are_candidates}
 use Rattle.sym_steps.proofs.Outcomes.{with_value-outcome, nothing_chosen}
 
 -- ---- frames
@@ -77,8 +79,13 @@ module _ {S : Type 0} (stands : S → List PureValue → Heap → Type 0) (terms
   abbrev no_choice : State → PureValue → Option ℕ
   no_choice s a = None
 
-  evaluation : IsEvaluation (running_store path.stack) HasValue IsOver (evaluate e) Own cases
-  evaluation = record { says = evaluated.are_cases; origin = evaluated.origin.0; names = evaluated.names }
+  evaluation : IsEvaluation (running_store path.stack) HasValue IsOver (evaluate e) Own c.command cases
+  evaluation = record {
+    says = evaluated.are_cases;
+    origin = evaluated.origin.0;
+    assumed = subst (λ k. EachCondition (MayAssume Own (running_store path.stack) k) cases) (sym command) evaluated.origin.0;
+    names = evaluated.names;
+  }
 
   does : (inputs : List PureValue) (place : Place) (s : State) → do_command p m inputs c.command place s ≡ with_outcome (evaluate e s.current.store) place s (go_on place s)
   does inputs place s = ap (λ k. do_command p m inputs k place s) command ∙ with_value-outcome (evaluate e s.current.store) place s (go_on place s)
@@ -98,6 +105,9 @@ module _ {S : Type 0} (stands : S → List PureValue → Heap → Type 0) (terms
 
     result_over : IsOver path.vars g.result
     result_over = subst (OnResult (IsOver path.vars)) is_good (evaluated.names path.vars (store_over stands terms p m path c over at)).1
+
+    asked : Each (MayAssume Own (running_store path.stack) c.command) g.conds
+    asked = good_may stands terms p m path c over at HasValue IsOver (evaluate e) go_on no_choice Own cases evaluation does choice g is_good
 
     module _ (f : PureFrame) (only : path.stack ≡ f ∷ []) where
       returns_there : (inputs v : List PureValue) (s : State) (a : PureValue) → Stands stands path v s → value v g.result ≡ Some a → IsTrue (all_true v (path.conds ++ g.conds))
@@ -140,11 +150,13 @@ module _ {S : Type 0} (stands : S → List PureValue → Heap → Type 0) (terms
           },
           tt,
         );
-        recorded = ended_records p m path (returning path g).path (returned g.result) refl;
+        recorded = ended_records p m path (returning path g).path refl (returned g.result) refl;
         known = λ unknown. unknown;
         vars = refl;
         conds = ap (λ xs. path.conds ++ xs) (sym (append-nil g.conds));
         own_more = tt;
+        assumes = assumes_rightly p Own path c at (returning path g) g.conds refl asked tt;
+        origin = λ no_form. follows_ended p m terms path (returning path g).path (returned g.result) refl refl;
         exact = λ inputs v s a is ok val met closed. (same_and_none path.choices path.choices refl, returns_there inputs v s a is val met);
         along = λ inputs v ws s is given which goes. subst (λ xs. IsTrue (all_true (v ++ ws) xs)) (sym (append-nil g.conds)) (second_true (v ++ ws) path.given g.conds given);
       }
@@ -204,6 +216,21 @@ module _ {S : Type 0} (stands : S → List PureValue → Heap → Type 0) (terms
         vars = refl;
         conds = ap (λ xs. path.conds ++ xs) (sym (append-nil g.conds));
         own_more = tt;
+        assumes = assumes_rightly p Own path c at (resuming path (next ∷ callers) g) [] (same_and_none path.given path.given refl) tt asked;
+        origin = λ no_form. follows_going p m terms path rp c at (return e) command no_end (
+          refl,
+          record {
+            frame = f;
+            caller = caller;
+            callers = callers;
+            stack = stack;
+            term = g.result;
+            from = subst (OnResult (IsFrom (running_store path.stack) e)) is_good evaluated.origin.1;
+            resumed = next;
+            resumes = resumes;
+            next_stack = refl;
+          },
+        );
         exact = λ inputs v s a is ok val met closed. (same_and_none path.choices path.choices refl, resumes_there inputs v s a is val met);
         along = λ inputs v ws s is given which goes.
             along_going stands terms p m path c over at HasValue IsOver (evaluate e) go_on no_choice Own cases evaluation does choice [] g is_good [] inputs v ws s is (λ a val. refl)

@@ -1,5 +1,5 @@
 -- The candidates of `ifgoto` keep the laws.
-use Rattle.std.proofs.Common.{◌≡◌, ◌⊎◌, ⊎_elim, inl, inr, ℕ, ℤ, pos, negsuc, List, [], ◌∷◌, ◌++◌, Bool, true, false, Option, Some, None, IsTrue, codes, refl, sym, ap, subst, ◌∙◌, true≢false}
+use Rattle.std.proofs.Common.{◌≡◌, ◌⊎◌, ⊎_elim, inl, inr, ℕ, ◌<◌, ℤ, pos, negsuc, List, [], ◌∷◌, ◌++◌, Bool, true, false, Option, Some, None, IsTrue, codes, refl, sym, ap, subst, ◌∙◌, true≢false, arith}
 use Rattle.gil_values.specs.declared.places.Place.{Place}
 use Rattle.gil_values.specs.Pure.{PureValue, integer, boolean, text, symbol, kind, procedure, list}
 use Rattle.gil_syntax.specs.Evaluation.{evaluate}
@@ -13,18 +13,21 @@ use Rattle.pure_terms.specs.Meaning.{value, all_true, IsOver}
 use Rattle.pure_terms.specs.Pure.{PureTerm, PureAtom, term_of}
 use Rattle.sym_evaluation.specs.Meaning.{HasValue, IsSideWhere, is_true, is_false, is_no_boolean, AreSidesOf}
 use Rattle.sym_evaluation.specs.Pure.{PureGoodCase, PureCases, PureSides}
-use Rattle.sym_evaluation.specs.Questions.{IsAsked, IsFrom, IsGuardCondition, OnConditions, OnResult, OnSide, SidesComeFrom}
+use Rattle.sym_evaluation.specs.Questions.{IsAsked, IsFrom, AsksBoolean, IsGuardCondition, EachCondition, OnConditions, OnResult, OnSide, SidesComeFrom}
 use Rattle.sym_model.specs.Lists.{Each, OneOf}
 use Rattle.sym_model.specs.Terms.{StateTerms}
-use Rattle.sym_model.proofs.ListLaws.{each_append, each_to, one_left, one_right}
+use Rattle.sym_model.proofs.ListLaws.{same_some, each_append, each_to, one_left, one_right}
 use Rattle.sym_paths.specs.Valued.{place_at, IsEvaluated}
+use Rattle.sym_paths.specs.Frames.{AreMoved}
 use Rattle.sym_paths.specs.Meaning.{AreFrames, Stands, StandsForStep, OfEachName, IsOverTable, command_of_path}
 use Rattle.sym_paths.specs.Moves.{running_store, advanced}
 use Rattle.sym_paths.specs.Pure.{PureFrame, PurePath}
 use Rattle.sym_paths.specs.Settling.{Candidate, AreCandidates}
-use Rattle.sym_paths.specs.Steps.{symbols_taken, makes_choice, IsChosen}
+use Rattle.sym_paths.specs.Steps.{symbols_taken, makes_choice, IsChosen, MayChoose, MayAssume}
+use Rattle.sym_paths.proofs.Assuming.{assumes_rightly}
 use Rattle.sym_paths.proofs.Growing.{all_true-more}
 use Rattle.sym_paths.proofs.Moving.{open_is_known, advanced_frames, running_stands, running_each, advanced_each}
+use Rattle.sym_paths.proofs.Origins.{stays_moved, advanced_moved, follows_going}
 use Rattle.sym_paths.proofs.Recording.{records_by}
 use Rattle.sym_paths.proofs.Silent.{same_and_none}
 use Rattle.sym_steps.specs.Cases.{AreOfCases, failing_with}
@@ -93,6 +96,13 @@ some_side (kind k) = inr (inr refl)
 some_side (procedure f) = inr (inr refl)
 some_side (list ws) = inr (inr refl)
 
+-- ---- frames
+
+label_moved : (i : ℤ) (fs : List PureFrame) → AreMoved fs (at_label i fs)
+label_moved (pos n) [] = tt
+label_moved (pos n) (f ∷ fs) = (refl, refl)
+label_moved (negsuc n) fs = stays_moved fs
+
 -- ---- sides
 
 side_taken : (v : List PureValue) (b : Bool) (o : Option (List PureAtom)) (more : List PureAtom) → o ≡ Some more → IsSideWhere v b o → IsTrue (all_true v more) → b ≡ true
@@ -153,17 +163,17 @@ module _ {S : Type 0} (stands : S → List PureValue → Heap → Type 0) (terms
   abbrev Asked : PureAtom → Type 0
   Asked = IsAsked (running_store path.stack) e
 
-  own_good : (o : Option (PureGoodCase PureTerm)) → OnConditions Asked o → OnConditions Own o
-  own_good None asked = tt
-  own_good (Some g) asked = each_to Asked Own g.conds (λ a is. inl is) asked
+  asked_so : (P : PureAtom → Type 0) → ((a : PureAtom) → Asked a → P a) → EachCondition P cases
+  asked_so P so = (each_to (λ d. Each Asked d.conds) (λ d. Each P d.conds) cases.faults (λ d. each_to Asked P d.conds so) evaluated.origin.0.0, good_so cases.good evaluated.origin.0.1) where
+    good_so : (o : Option (PureGoodCase PureTerm)) → OnConditions Asked o → OnConditions P o
+    good_so None asked = tt
+    good_so (Some g) asked = each_to Asked P g.conds so asked
 
-  evaluation : IsEvaluation (running_store path.stack) HasValue IsOver (evaluate e) Own cases
+  evaluation : IsEvaluation (running_store path.stack) HasValue IsOver (evaluate e) Own c.command cases
   evaluation = record {
     says = evaluated.are_cases;
-    origin = (
-      each_to (λ d. Each Asked d.conds) (λ d. Each Own d.conds) cases.faults (λ d. each_to Asked Own d.conds (λ a is. inl is)) evaluated.origin.0.0,
-      own_good cases.good evaluated.origin.0.1,
-    );
+    origin = asked_so Own (λ a is. inl is);
+    assumed = subst (λ k. EachCondition (MayAssume Own (running_store path.stack) k) cases) (sym command) (asked_so (MayAssume Own (running_store path.stack) (ifgoto e label)) (λ a is. inl is));
     names = evaluated.names;
   }
 
@@ -195,17 +205,29 @@ module _ {S : Type 0} (stands : S → List PureValue → Heap → Type 0) (terms
     more_own : (more : List PureAtom) → Each (IsGuardCondition g.result) more → Each Own more
     more_own more = each_to (IsGuardCondition g.result) Own more (λ a is. inr (g.result, (from, is)))
 
+    -- that the guard is a boolean is one of its conditions, and may be assumed
+    as_conditions : (more : List PureAtom) → Each (AsksBoolean g.result) more → Each (IsGuardCondition g.result) more
+    as_conditions more = each_to (AsksBoolean g.result) (IsGuardCondition g.result) more (λ a is. inr is)
+
+    may_more : (more : List PureAtom) → Each (AsksBoolean g.result) more → Each (MayAssume Own (running_store path.stack) c.command) more
+    may_more more asks =
+        subst (λ k. Each (MayAssume Own (running_store path.stack) k) more) (sym command)
+        (each_to (AsksBoolean g.result) (MayAssume Own (running_store path.stack) (ifgoto e label)) more (λ a is. inr (g.result, (from, is))) asks)
+
     says : (v : List PureValue) (s : State) (a : PureValue) → Stands stands path v s → value v g.result ≡ Some a
         → IsSideWhere v (is_true a) sides.when_true × IsSideWhere v (is_false a) sides.when_false × IsSideWhere v (is_no_boolean a) sides.when_no_boolean
     says v s a is val = are path.vars v a is.proper result_over val
 
     -- a side that is taken: the frames and the choice are those of the step
-    module _ (fs : List PureFrame) (side : ℕ) (more : List PureAtom) (from_guard : Each (IsGuardCondition g.result) more) (stores : Each (λ f. OfEachName (IsOver path.vars) f.store) fs)
+    module _ (fs : List PureFrame) (side : ℕ) (small : side < 2) (more : List PureAtom) (from_guard : Each (IsGuardCondition g.result) more) (stores : Each (λ f. OfEachName (IsOver path.vars) f.store) fs) (moved : AreMoved path.stack fs)
         (takes : (v : List PureValue) (s : State) (a : PureValue) → Stands stands path v s → value v g.result ≡ Some a → IsTrue (all_true v (path.conds ++ (g.conds ++ more)))
         → (guard_choice a ≡ Some side) × StandsForStep p m stands (turning path fs side g more).path v s None (branch a label (at_command stands terms p m path c over at s) s))
         (met : (v : List PureValue) (s : State) (a : PureValue) → Stands stands path v s → value v g.result ≡ Some a → guard_choice a ≡ Some side → IsTrue (all_true v more)) where
       abbrev tp : PurePath S
       tp = (turning path fs side g more).path
+
+      may_choose : MayChoose c.command (Some side)
+      may_choose = subst (λ k. MayChoose k (Some side)) (sym command) (λ n is. subst (λ i. i < 2) (same_some is) small)
 
       turning_makes : Makes g more (turning path fs side g more)
       turning_makes = record {
@@ -234,11 +256,13 @@ module _ {S : Type 0} (stands : S → List PureValue → Heap → Type 0) (terms
           },
           tt,
         );
-        recorded = records_by p m path tp c at [] (Some side) (same_and_none path.vars path.vars refl) (sym (ap (symbols_taken m) command)) refl (sym (ap makes_choice command));
+        recorded = records_by p m path tp c at [] (Some side) (same_and_none path.vars path.vars refl) (sym (ap (symbols_taken m) command)) refl may_choose (sym (ap makes_choice command));
         known = open_is_known path.ending no_end;
         vars = refl;
         conds = refl;
         own_more = more_own more from_guard;
+        assumes = assumes_rightly p Own path c at (turning path fs side g more) [] (same_and_none path.given path.given refl) tt tt;
+        origin = λ no_form. follows_going p m terms path tp c at (ifgoto e label) command no_end (refl, moved);
         exact = λ inputs v s a is ok val true_there closed.
             let (which, there) = takes v s a is val true_there in (
               subst (IsChosen path tp) (sym which) refl,
@@ -290,7 +314,7 @@ module _ {S : Type 0} (stands : S → List PureValue → Heap → Type 0) (terms
 
     true_makes : (more : List PureAtom) → sides.when_true ≡ Some more → Makes g more (turning path true_frames 1 g more)
     true_makes more is_side =
-        turning_makes true_frames 1 more (side_each (IsGuardCondition g.result) sides.when_true more is_side come.0) (label_each (IsOver path.vars) label path.stack over.stores)
+        turning_makes true_frames 1 (omega arith) more (side_each (IsGuardCondition g.result) sides.when_true more is_side come.0) (label_each (IsOver path.vars) label path.stack over.stores) (label_moved label path.stack)
         (λ v s a is val met.
         let a_true : a ≡ boolean true = true_value a (side_taken v (is_true a) sides.when_true more is_side (says v s a is val).0 (later_met v more met)) in (
           ap guard_choice a_true,
@@ -300,8 +324,8 @@ module _ {S : Type 0} (stands : S → List PureValue → Heap → Type 0) (terms
 
     false_makes : (more : List PureAtom) → sides.when_false ≡ Some more → Makes g more (turning path false_frames 0 g more)
     false_makes more is_side =
-        turning_makes false_frames 0 more (side_each (IsGuardCondition g.result) sides.when_false more is_side come.1)
-        (advanced_each (IsOver path.vars) path.stack (running_store path.stack) over.stores (running_each (IsOver path.vars) path.stack over.stores))
+        turning_makes false_frames 0 (omega arith) more (side_each (IsGuardCondition g.result) sides.when_false more is_side come.1)
+        (advanced_each (IsOver path.vars) path.stack (running_store path.stack) over.stores (running_each (IsOver path.vars) path.stack over.stores)) (advanced_moved path.stack)
         (λ v s a is val met.
         let a_false : a ≡ boolean false = false_value a (side_taken v (is_false a) sides.when_false more is_side (says v s a is val).1 (later_met v more met)) in (
           ap guard_choice a_false,
@@ -311,8 +335,9 @@ module _ {S : Type 0} (stands : S → List PureValue → Heap → Type 0) (terms
 
     other_makes : (more : List PureAtom) → sides.when_no_boolean ≡ Some more → Makes g more (failing_with path (place_at path.stack c) (codes "type") g more)
     other_makes more is_side =
+        let asks : Each (AsksBoolean g.result) more = side_each (AsksBoolean g.result) sides.when_no_boolean more is_side come.2 in
         failing_makes stands terms p m path c over at HasValue IsOver (evaluate e) go_on chooses Own cases evaluation does choice g more (codes "type") is_good
-        (more_own more (side_each (IsGuardCondition g.result) sides.when_no_boolean more is_side come.2)) (more_over more (side_each (IsGuardCondition g.result) sides.when_no_boolean more is_side come.2))
+        (more_own more (as_conditions more asks)) (may_more more asks) (more_over more (as_conditions more asks))
         (λ v s a is val met. no_branch a label (at_command stands terms p m path c over at s) s (side_taken v (is_no_boolean a) sides.when_no_boolean more is_side (says v s a is val).2 met))
 
     -- ---- all of them

@@ -1,12 +1,11 @@
 -- The candidates of an action: one for each branch of the memory, whose choice is recorded.
-use Rattle.std.specs.Prelude.{◌≡◌, ◌⊎◌, ℕ, ◌+◌, List, [], ◌∷◌, ◌++◌, length, Bool, true, false, Option, Some, None}
+use Rattle.std.specs.Prelude.{◌≡◌, ◌⊎◌, ℕ, ◌+◌, List, [], ◌∷◌, ◌++◌, Bool, true, false, Option, Some, None}
 use Rattle.gil_values.specs.declared.places.Place.{Place}
 use Rattle.gil_values.specs.Pure.{PureValue}
 use Rattle.gil_syntax.specs.Pure.{PureParts, PureExpr, PureNumberedCommand, act}
 use Rattle.mem_model.specs.Actions.{Actions}
 use Rattle.mem_model.specs.Heaps.{Heap}
 use Rattle.pure_terms.specs.declared.variables.Sort.{Sort}
-use Rattle.pure_terms.specs.declared.variables.Var.{Var}
 use Rattle.pure_terms.specs.Pure.{PureTerm, PureAtom}
 use Rattle.sym_evaluation.specs.Pure.{PureStore, PureGoodCase, PureCases}
 use Rattle.sym_evaluation.specs.Questions.{IsAsked, AreEachFrom}
@@ -14,6 +13,7 @@ use Rattle.sym_model.specs.Laws.{ActLaw}
 use Rattle.sym_model.specs.Lists.{OneOf}
 use Rattle.sym_model.specs.Pure.{PureResult, done, failed, missed, PureBranch}
 use Rattle.sym_model.specs.Terms.{StateTerms, asked_of, IsOwnCondition}
+pub use Rattle.sym_paths.specs.Frames.{fresh_where}
 use Rattle.sym_paths.specs.Laws.{IsBound}
 use Rattle.sym_paths.specs.Meaning.{IsOverTable, command_of_path}
 use Rattle.sym_paths.specs.Moves.{running_store, advanced}
@@ -27,10 +27,6 @@ use Rattle.sym_steps.specs.Cases.{AreOfCases, AreEvaluated}
 abbrev pub taken : Bool → List Sort
 taken true = Sort.Fresh ∷ []
 taken false = []
-
-abbrev pub fresh_where : Bool → List Sort → Option Var
-fresh_where true vars = Some (record { number = length vars; sort = Sort.Fresh })
-fresh_where false vars = None
 
 module _ {S : Type 0} (path : PurePath S) (x : List ℕ) (here : Place) (takes : Bool) where
   -- what every branch does: its conditions are assumed, its choice is recorded, and the memory is the branch's

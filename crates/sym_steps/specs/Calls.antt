@@ -12,13 +12,14 @@ use Rattle.mem_model.specs.Heaps.{Heap}
 use Rattle.pure_terms.specs.declared.literals.Literal.{Literal}
 use Rattle.pure_terms.specs.Kinds.{allows, known_kind}
 use Rattle.pure_terms.specs.Pure.{PureTerm, literal, PureAtom, opening}
-use Rattle.sym_evaluation.specs.Pure.{PureStore, term_at, PureFaultCase, PureGoodCase, PureCases}
+use Rattle.sym_evaluation.specs.Pure.{PureStore, PureFaultCase, PureGoodCase, PureCases}
 use Rattle.sym_evaluation.specs.Questions.{IsAsked, IsFrom}
 use Rattle.sym_model.specs.Lists.{OneOf}
 use Rattle.sym_model.specs.Terms.{StateTerms, is_literal}
+pub use Rattle.sym_paths.specs.Frames.{terms_bound, IsFirstStore, waiting, called_frame}
 use Rattle.sym_paths.specs.Meaning.{IsOverTable, command_of_path}
 use Rattle.sym_paths.specs.Moves.{running_store}
-use Rattle.sym_paths.specs.Pure.{PureFrame, PurePath}
+use Rattle.sym_paths.specs.Pure.{PurePath}
 use Rattle.sym_paths.specs.Settling.{Candidate, AreCandidates}
 use Rattle.sym_paths.specs.Valued.{place_at, IsEvaluated}
 use Rattle.sym_steps.specs.Cases.{AreOfCases, failing_with, AreEvaluated}
@@ -46,23 +47,7 @@ call_cases_by faults (Some g) args = record {
 abbrev pub call_cases : PureCases PureTerm → PureCases (List PureTerm) → PureCases Called
 call_cases callee args = call_cases_by callee.faults callee.good args
 
--- ---- the frame of a call that begins
-
--- the parameters with their arguments
-abbrev pub terms_bound : List (List ℕ) → List PureTerm → PureStore
-terms_bound (x ∷ xs) (t ∷ ts) = record { name = x; term = t } ∷ terms_bound xs ts
-terms_bound _ _ = []
-
--- the store gives each parameter its argument, and no other name a term
-abbrev pub IsFirstStore : List (List ℕ) → List PureTerm → PureStore → Type 0
-IsFirstStore params args bs = (x : List ℕ) → term_at bs x ≡ term_at (terms_bound params args) x
-
-abbrev pub waiting : List ℕ → List PureFrame → List PureFrame
-waiting x [] = []
-waiting x (f ∷ fs) = record f { next = f.next + 1; waits = Some x } ∷ fs
-
-abbrev pub called_frame : PureProc → PureStore → PureFrame
-called_frame q bs = record { procedure = q.name; next = 0; store = bs; waits = None }
+-- ---- the candidates
 
 module _ {S : Type 0} (path : PurePath S) (x : List ℕ) (here : Place) where
   -- the path goes on in the procedure

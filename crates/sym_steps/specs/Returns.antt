@@ -1,28 +1,20 @@
 -- The candidates of `return`: the entry ends with the value, and any other call hands it to the frame that waits.
-use Rattle.std.specs.Prelude.{◌≡◌, ℕ, ◌+◌, List, [], ◌∷◌, ◌++◌, Option, Some, None}
+use Rattle.std.specs.Prelude.{◌≡◌, ◌+◌, List, [], ◌∷◌, ◌++◌, Some, None}
 use Rattle.gil_syntax.specs.Pure.{PureParts, PureExpr, PureNumberedCommand, return}
 use Rattle.gil_values.specs.Pure.{PureValue}
 use Rattle.mem_model.specs.Actions.{Actions}
 use Rattle.mem_model.specs.Heaps.{Heap}
 use Rattle.pure_terms.specs.Pure.{PureTerm}
-use Rattle.sym_evaluation.specs.Pure.{PureStore, PureGoodCase, PureCases}
+use Rattle.sym_evaluation.specs.Pure.{PureGoodCase, PureCases}
 use Rattle.sym_evaluation.specs.Questions.{IsAsked}
 use Rattle.sym_model.specs.Terms.{StateTerms}
-use Rattle.sym_paths.specs.Laws.{IsBound}
+pub use Rattle.sym_paths.specs.Frames.{ResumesAt, Resumes}
 use Rattle.sym_paths.specs.Meaning.{IsOverTable, command_of_path}
 use Rattle.sym_paths.specs.Moves.{running_store}
 use Rattle.sym_paths.specs.Pure.{PureFrame, returned, PurePath}
 use Rattle.sym_paths.specs.Settling.{Candidate, AreCandidates}
 use Rattle.sym_paths.specs.Valued.{place_at, IsEvaluated}
 use Rattle.sym_steps.specs.Cases.{AreOfCases}
-
--- the frame goes on, and the variable that waits, if any, gets the term
-abbrev pub ResumesAt : Option (List ℕ) → PureTerm → PureFrame → PureFrame → Type 0
-ResumesAt (Some x) t f next = (bs : PureStore) × (IsBound f.store x t bs × (next ≡ record f { store = bs; waits = None }))
-ResumesAt None t f next = next ≡ f
-
-abbrev pub Resumes : PureTerm → PureFrame → PureFrame → Type 0
-Resumes t f next = ResumesAt f.waits t f next
 
 module _ {S : Type 0} (path : PurePath S) where
   -- the entry returns the result

@@ -1,0 +1,58 @@
+-- What is newly assumed may be assumed at the command.
+use Rattle.std.proofs.Common.{◌≡◌, List, [], ◌++◌, Some, sym, ap, subst, ◌∙◌, append_assoc}
+use Rattle.std.proofs.lemmas.List.{append-nil}
+use Rattle.gil_syntax.specs.Pure.{PureParts, PureCommand, PureNumberedCommand, vanish, usym, isym, assign, call, act, ifgoto, return, fail, fold_use, unfold_use, assert_that, loop_invariant}
+use Rattle.pure_terms.specs.Pure.{PureAtom}
+use Rattle.sym_evaluation.specs.Pure.{PureStore}
+use Rattle.sym_model.specs.Lists.{Each}
+use Rattle.sym_model.proofs.ListLaws.{same_some, each_append, each_to}
+use Rattle.sym_paths.specs.Frames.{running_store}
+use Rattle.sym_paths.specs.Meaning.{command_of_path}
+use Rattle.sym_paths.specs.Pure.{PurePath}
+use Rattle.sym_paths.specs.Settling.{Candidate, ended_unknown, AssumesRightly}
+use Rattle.sym_paths.specs.Steps.{MayAssume, Assumes}
+
+-- where more is own, more may be assumed
+may_wider : (own more : PureAtom → Type 0) → ((a : PureAtom) → own a → more a) → (bs : PureStore) (k : PureCommand) (a : PureAtom) → MayAssume own bs k a → MayAssume more bs k a
+may_wider own more wider bs (ifgoto e i) a may = may
+may_wider own more wider bs (call x e es) a may = may
+may_wider own more wider bs vanish a may = wider a may
+may_wider own more wider bs (usym x) a may = wider a may
+may_wider own more wider bs (isym x k) a may = wider a may
+may_wider own more wider bs (assign x e) a may = wider a may
+may_wider own more wider bs (act x action es) a may = wider a may
+may_wider own more wider bs (return e) a may = wider a may
+may_wider own more wider bs (fail e) a may = wider a may
+may_wider own more wider bs (fold_use u) a may = wider a may
+may_wider own more wider bs (unfold_use u) a may = wider a may
+may_wider own more wider bs (assert_that items) a may = wider a may
+may_wider own more wider bs (loop_invariant xs ps items) a may = wider a may
+
+pub assumes_wider : {S : Type 0} (p : PureParts) (own more : PureAtom → Type 0) → ((a : PureAtom) → own a → more a) → (path next : PurePath S) → Assumes p own path next → Assumes p more path next
+assumes_wider p own more wider path next assumes = record {
+  added = assumes.added;
+  given = assumes.given;
+  each = λ c at. each_to (MayAssume own (running_store path.stack) c.command) (MayAssume more (running_store path.stack) c.command) assumes.added
+      (may_wider own more wider (running_store path.stack) c.command) (assumes.each c at);
+}
+
+module _ {S : Type 0} (p : PureParts) (own : PureAtom → Type 0) (path : PurePath S) where
+  pub assumes_nothing : (next : PurePath S) → next.given ≡ path.given → Assumes p own path next
+  assumes_nothing next same = record { added = []; given = same ∙ sym (append-nil path.given); each = λ c at. tt }
+
+  module _ (c : PureNumberedCommand) (at : command_of_path p path ≡ Some c) where
+    abbrev May : PureAtom → Type 0
+    May = MayAssume own (running_store path.stack) c.command
+
+    assumes_these : (next : PurePath S) (added : List PureAtom) → next.given ≡ path.given ++ added → Each May added → Assumes p own path next
+    assumes_these next added given all = record {
+      added = added;
+      given = given;
+      each = λ d there. subst (λ (k : PureNumberedCommand). Each (MayAssume own (running_store path.stack) k.command) added) (same_some (sym at ∙ there)) all;
+    }
+
+    pub assumes_rightly : (d : Candidate S) (added : List PureAtom) → d.path.given ≡ path.given ++ added → Each May added → Each May d.no_fault → AssumesRightly p own path d
+    assumes_rightly d added given all besides = (
+      assumes_these d.path added given all,
+      λ place reason. assumes_these (ended_unknown d place reason) (added ++ d.no_fault) (ap (λ xs. xs ++ d.no_fault) given ∙ append_assoc path.given added d.no_fault) (each_append May added d.no_fault all besides),
+    )

@@ -1,0 +1,76 @@
+-- The frames of a path and their stores, and how a step changes them.
+use Rattle.std.specs.Prelude.{◌≡◌, ℕ, ◌+◌, List, [], ◌∷◌, length, Bool, true, false, if◌then◌else◌, Option, Some, None, ⊤}
+use Rattle.std.specs.Str.{bytes_eq}
+use Rattle.gil_values.specs.declared.kinds.Kind.{Kind}
+use Rattle.gil_syntax.specs.Pure.{PureProc}
+use Rattle.pure_terms.specs.declared.variables.Sort.{Sort}
+use Rattle.pure_terms.specs.declared.variables.Var.{Var}
+use Rattle.pure_terms.specs.Pure.{PureTerm, variable}
+use Rattle.sym_evaluation.specs.Pure.{PureStore, term_at}
+use Rattle.sym_paths.specs.Pure.{PureFrame, PurePath}
+
+-- ---- the frame that runs
+
+-- the store of the frame that runs
+abbrev pub running_store : List PureFrame → PureStore
+running_store [] = []
+running_store (f ∷ fs) = f.store
+
+-- the frame that runs goes to the next command with this store
+abbrev pub advanced : PureStore → List PureFrame → List PureFrame
+advanced bs [] = []
+advanced bs (f ∷ fs) = record f { next = f.next + 1; store = bs } ∷ fs
+
+-- the frame that runs may stand at another command, and all else is the same
+abbrev pub AreMoved : List PureFrame → List PureFrame → Type 0
+AreMoved [] [] = ⊤
+AreMoved (f ∷ fs) (g ∷ gs) = (g ≡ record f { next = g.next }) × (gs ≡ fs)
+AreMoved _ _ = ⊥
+
+-- the store cs gives a name this term, and to every other name what bs gives it
+abbrev pub IsBound : PureStore → List ℕ → PureTerm → PureStore → Type 0
+IsBound bs x t cs = (y : List ℕ) → term_at cs y ≡ (if bytes_eq x y then Some t else term_at bs y)
+
+-- ---- calls
+
+-- the parameters with their arguments
+abbrev pub terms_bound : List (List ℕ) → List PureTerm → PureStore
+terms_bound (x ∷ xs) (t ∷ ts) = record { name = x; term = t } ∷ terms_bound xs ts
+terms_bound _ _ = []
+
+-- the store gives each parameter its argument, and no other name a term
+abbrev pub IsFirstStore : List (List ℕ) → List PureTerm → PureStore → Type 0
+IsFirstStore params args bs = (x : List ℕ) → term_at bs x ≡ term_at (terms_bound params args) x
+
+abbrev pub waiting : List ℕ → List PureFrame → List PureFrame
+waiting x [] = []
+waiting x (f ∷ fs) = record f { next = f.next + 1; waits = Some x } ∷ fs
+
+abbrev pub called_frame : PureProc → PureStore → PureFrame
+called_frame q bs = record { procedure = q.name; next = 0; store = bs; waits = None }
+
+-- the frame goes on, and the variable that waits, if any, gets the term
+abbrev pub ResumesAt : Option (List ℕ) → PureTerm → PureFrame → PureFrame → Type 0
+ResumesAt (Some x) t f next = (bs : PureStore) × (IsBound f.store x t bs × (next ≡ record f { store = bs; waits = None }))
+ResumesAt None t f next = next ≡ f
+
+abbrev pub Resumes : PureTerm → PureFrame → PureFrame → Type 0
+Resumes t f next = ResumesAt f.waits t f next
+
+-- ---- new variables
+
+-- the sort of the draws of a kind
+abbrev pub draw_sort : Kind → Option Sort
+draw_sort Kind.Int = Some Sort.Int
+draw_sort Kind.Bool = Some Sort.Bool
+draw_sort Kind.Str = Some Sort.Str
+draw_sort _ = None
+
+-- the variable that is the next one
+abbrev pub next_variable : {S : Type 0} → PurePath S → Sort → PureTerm
+next_variable path sort = variable (record { number = length path.vars; sort = sort })
+
+-- the fresh variable of an action that takes a new symbol
+abbrev pub fresh_where : Bool → List Sort → Option Var
+fresh_where true vars = Some (record { number = length vars; sort = Sort.Fresh })
+fresh_where false vars = None
