@@ -15,7 +15,7 @@ use Rattle.pure_terms.specs.View.{atoms_view}
 use Rattle.sym_engine.specs.Lawful.{AddsCopies, AreLawful, AreLawfulIn}
 use Rattle.sym_engine.proofs.Copied.{each_itself, joined}
 use Rattle.sym_engine.proofs.Placing.{all_placed, turns_placed, calls_placed, acts_placed}
-use Rattle.sym_evaluation.specs.Pure.{PureFaultCase, PureCases}
+use Rattle.sym_evaluation.specs.Pure.{PureCases}
 use Rattle.sym_model.specs.Laws.{IsMeaning, IsCopy}
 use Rattle.sym_model.specs.Terms.{StateTerms}
 use Rattle.sym_paths.specs.Moves.{running_store}

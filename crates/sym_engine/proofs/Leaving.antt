@@ -1,15 +1,13 @@
 -- The frames of a path: the one that runs, what an assignment makes of it, and what `return` does.
-use Rattle.std.proofs.Common.{◌≡◌, ℕ, suc, zero, ◌+◌, ◌-◌, ◌<◌, ◌≤◌, List, [], ◌∷◌, ◌++◌, length, map, reverse, slice_get, Some, Result, Ok, Err, IfOk, sym, ap, subst, ◌∙◌, arith}
-use Rattle.std.proofs.lemmas.List.{length-map, length-reverse, map-append, reverse-append}
+use Rattle.std.proofs.Common.{◌≡◌, ℕ, suc, ◌+◌, ◌<◌, ◌≤◌, List, [], ◌∷◌, length, map, Result, Ok, Err, IfOk, OnOk, sym, ap, subst, ◌∙◌, arith}
+use Rattle.std.proofs.lemmas.List.{length-map, length-reverse}
 use Rattle.gil_syntax.specs.Pure.{PureExpr}
 use Rattle.pure_terms.specs.Meaning.{IsOver}
 use Rattle.pure_terms.specs.Pure.{PureTerm}
 use Rattle.sym_engine.specs.Lawful.{MayAdvance}
-use Rattle.sym_model.proofs.ListLaws.{same_some, not_none}
 use Rattle.sym_evaluation.specs.Meaning.{AreCasesOf}
 use Rattle.sym_evaluation.specs.Pure.{PureStore, PureGoodCase, PureCases}
 use Rattle.sym_evaluation.specs.Questions.{ComesFrom, NameNoOthers}
-use Rattle.sym_evaluation.specs.View.{store_view}
 use Rattle.sym_paths.specs.Laws.{IsBound}
 use Rattle.sym_paths.specs.Moves.{running_store, advanced}
 use Rattle.sym_paths.specs.Valued.{IsEvaluated}
@@ -21,13 +19,6 @@ use Rattle.sym_steps.specs.Returns.{Resumes, returning, resuming, Returns}
 
 pub frames_count : (fs : List Frame) → length (frames_view fs) ≡ length fs
 frames_count fs = length-reverse (map frame_view fs) ∙ length-map fs frame_view
-
--- the store of the last frame is that of the one that runs
-pub last_runs : (fs front : List Frame) (f : Frame) → fs ≡ front ++ f ∷ [] → running_store (frames_view fs) ≡ store_view f.store
-last_runs fs front f is =
-    ap (λ gs. running_store (frames_view gs)) is
-    ∙ ap (λ gs. running_store (reverse gs)) (map-append frame_view front (f ∷ []))
-    ∙ ap running_store (reverse-append (map frame_view front) (frame_view f ∷ []))
 
 pub evaluated_in : (bs cs : PureStore) (e : PureExpr) (cases : PureCases PureTerm) → bs ≡ cs → AreCasesOf cs e cases → ComesFrom cs e cases → NameNoOthers IsOver cs cases → IsEvaluated bs e cases
 evaluated_in bs cs e cases same are come name = subst (λ ds. IsEvaluated ds e cases) (sym same) (record { are_cases = are; origin = come; names = name })
@@ -61,19 +52,10 @@ module _ {X E : Type 0} where
   if_ok_map P Q (Ok x) go is = go x is
   if_ok_map P Q (Err e) go is = tt
 
+  pub on_ok_map : (P Q : Type 0) (r : Result X E) → (P → Q) → OnOk r P → OnOk r Q
+  on_ok_map P Q (Ok x) go is = go is
+  on_ok_map P Q (Err e) go is = tt
+
   pub if_ok_three : (P Q R T : X → Type 0) (r : Result X E) → ((x : X) → P x → Q x → R x → T x) → IfOk r P → IfOk r Q → IfOk r R → IfOk r T
   if_ok_three P Q R T (Ok x) go p q s = go x p q s
   if_ok_three P Q R T (Err e) go p q s = tt
-
--- ---- the last frame
-
-last_part : (fs : List Frame) (n : ℕ) (f : Frame) → slice_get fs n ≡ Some f → suc n ≡ length fs → (front : List Frame) × (fs ≡ front ++ f ∷ [])
-last_part [] n f at is = not_none at
-last_part (g ∷ []) zero f at is = ([], ap (λ x. x ∷ []) (same_some at))
-last_part (g ∷ h ∷ fs) zero f at is = let no : 1 ≡ suc (suc (length fs)) = is in absurd (omega (arith, no))
-last_part (g ∷ fs) (suc n) f at is =
-    let same : suc (suc n) ≡ suc (length fs) = is in
-    let (front, whole) = last_part fs n f at (omega (arith, same)) in (g ∷ front, ap (λ xs. g ∷ xs) whole)
-
-pub last_read : (fs : List Frame) (f : Frame) → 1 ≤ length fs → slice_get fs (length fs - 1) ≡ Some f → running_store (frames_view fs) ≡ store_view f.store
-last_read fs f some at = let (front, whole) = last_part fs (length fs - 1) f at (omega (arith, some)) in last_runs fs front f whole

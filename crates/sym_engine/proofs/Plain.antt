@@ -29,7 +29,7 @@ use Rattle.sym_paths.specs.Steps.{step_growth, narrow_bound, IsPlainPath}
 use Rattle.sym_paths.specs.Valued.{faulted, failing, assigned, Assigns, Fails, IsResult}
 use Rattle.sym_paths.proofs.Binding.{each_bound}
 use Rattle.sym_paths.proofs.Moving.{running_each, advanced_each}
-use Rattle.sym_paths.proofs.Wider.{plain_wider, decided_wider, lower_bound, higher_bound}
+use Rattle.sym_model.proofs.Wider.{plain_wider, decided_wider, lower_bound, higher_bound}
 use Rattle.sym_steps.specs.Acting.{taken, branched, ActsTo, ActsAsEach}
 use Rattle.sym_steps.specs.Calls.{Called, call_cases, terms_bound, IsFirstStore, waiting, entering, fails_to_call, EntersFound, CallsTerm, Calls}
 use Rattle.sym_steps.specs.Cases.{AreResults, failing_with}

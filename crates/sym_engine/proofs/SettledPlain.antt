@@ -22,7 +22,7 @@ use Rattle.sym_paths.specs.Meaning.{command_of_path}
 use Rattle.sym_paths.specs.Pure.{PurePath}
 use Rattle.sym_paths.specs.Settling.{Candidate, Stays, AreSettled, AreCandidates}
 use Rattle.sym_paths.specs.Steps.{Grows, IsUnknown, IsPlainPath, StaysWithin, step_growth, narrow_bound}
-use Rattle.sym_paths.proofs.Wider.{term_wider, lower_bound, higher_bound}
+use Rattle.sym_model.proofs.Wider.{term_wider, lower_bound, higher_bound}
 
 module _ (b : ℕ) (narrow : b ≤ narrow_bound) where
   abbrev Decided : PureAtom → Type 0

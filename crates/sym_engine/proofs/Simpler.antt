@@ -8,7 +8,7 @@ use Rattle.gil_values.specs.declared.operators.BinOp.{BinOp}
 use Rattle.gil_values.specs.Equality.{same_kind}
 use Rattle.gil_values.specs.Operators.{Outcome}
 use Rattle.gil_values.specs.Pure.{PureValue}
-use Rattle.gil_syntax.specs.Evaluation.{Store, evaluate}
+use Rattle.gil_syntax.specs.Evaluation.{evaluate}
 use Rattle.gil_syntax.specs.Pure.{PureExpr}
 use Rattle.pure_terms.specs.declared.variables.Sort.{Sort}
 use Rattle.pure_terms.specs.declared.variables.Var.{Var}
@@ -22,7 +22,7 @@ use Rattle.pure_terms.specs.Rewriting.{Replaces}
 use Rattle.pure_terms.specs.View.{term_view, atoms_view}
 use Rattle.sym_evaluation.specs.declared.cases.GoodCase.{GoodCase}
 use Rattle.sym_evaluation.specs.Meaning.{HasValue, SayOutcome}
-use Rattle.sym_engine.specs.Plain.{connects, negates, stands_as_it_is}
+use Rattle.sym_engine.specs.Guards.{connects, negates, stands_as_it_is}
 use Rattle.sym_evaluation.specs.Plainly.{is_plain_comparison, is_plain_guard, IsPlainGuard}
 use Rattle.sym_evaluation.specs.Pure.{PureStore, PureFaultCase, PureGoodCase, PureCases}
 use Rattle.sym_evaluation.specs.View.{good_view}

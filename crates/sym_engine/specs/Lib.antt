@@ -1,3 +1,4 @@
+pub mod Guards
 pub mod Lawful
 pub mod Placed
 pub mod Plain

@@ -1,33 +1,13 @@
 -- Simple commands: from a plain path they lead to plain candidates.
-use Rattle.std.specs.Prelude.{◌≡◌, ℕ, ◌+◌, ◌≤◌, ℤ, List, Bool, true, false, not, ◌||◌, Some, IsTrue}
-use Rattle.gil_values.specs.declared.kinds.Kind.{Kind}
-use Rattle.gil_values.specs.declared.operators.UnOp.{UnOp}
-use Rattle.gil_values.specs.declared.operators.BinOp.{BinOp}
+use Rattle.std.specs.Prelude.{◌≡◌, ℕ, ◌+◌, ◌≤◌, ℤ, List, Some, IsTrue}
 use Rattle.gil_syntax.specs.Pure.{PureParts, PureCommand, PureNumberedCommand}
 use Rattle.gil_syntax.specs.Simple.{is_simple_command}
 use Rattle.gil_syntax.specs.Valid.{IsValid}
-use Rattle.pure_terms.specs.Fragment.{has_fragment_form}
-use Rattle.pure_terms.specs.Kinds.{allows, known_kind}
-use Rattle.pure_terms.specs.Pure.{PureTerm, positive}
 use Rattle.sym_model.specs.Lists.{Each}
 use Rattle.sym_paths.specs.Meaning.{command_of_path}
 use Rattle.sym_paths.specs.Pure.{PurePath}
 use Rattle.sym_paths.specs.Settling.{Candidate}
 use Rattle.sym_paths.specs.Steps.{IsPlainPath, step_growth, narrow_bound}
-
--- The term by itself is an atom of the fragment, or no boolean: so the rules aren't asked to simplify it.
-abbrev pub stands_as_it_is : PureTerm → Bool
-stands_as_it_is t = has_fragment_form (positive t) || not (allows (known_kind t) Kind.Bool)
-
--- `and` and `or`
-abbrev pub connects : BinOp → Bool
-connects BinOp.And = true
-connects BinOp.Or = true
-connects op = false
-
-abbrev pub negates : UnOp → Bool
-negates UnOp.Not = true
-negates op = false
 
 module _ {S : Type 0} (plain : S → ℤ → ℤ → Type 0) where
   -- each candidate's path is plain with numbers from -b to b

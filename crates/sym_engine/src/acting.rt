@@ -1,5 +1,5 @@
 //! The candidates of actions.
-ghost use Rattle.std.specs.Prelude.{◌≡◌, ◌+◌, ◌<◌, ◌^◌, ◌++◌, ◌∷◌, [], List, Some, None, IfOk, IsTrue};
+ghost use Rattle.std.specs.Prelude.{◌≡◌, ◌+◌, ◌<◌, ◌^◌, ◌++◌, ◌∷◌, [], List, Some, None, IfOk, IsTrue, OnOk};
 ghost use Rattle.std.specs.List.{list_all};
 ghost use Rattle.gil_syntax.specs.Pure.{act as pure_act};
 ghost use Rattle.gil_syntax.specs.Subexpressions.{literals_of};
@@ -20,16 +20,15 @@ ghost use Rattle.sym_paths.specs.View.{end_view, frames_view, path_view};
 ghost use Rattle.sym_steps.specs.Acting.{taken, fresh_where, ActsTo, ActsAsEach};
 
 use crate::calling::evaluate_all_in;
-use crate::candidates::{Candidate, Candidates, assume, copy_place, require};
+use crate::candidates::{Candidate, Candidates, assume, copy_place, require_both};
 use crate::frames::assign;
 use crate::valued::fail_each;
 use gil_syntax::Exprs;
 use gil_values::{Place, Text};
 use mem_model::LocalMemory;
-use pure_terms::{Sort, Term, Terms, Var, VarTable};
+use pure_terms::{Atoms, Sort, Term, Terms, Var, VarTable};
 use sequence::Sequence;
 use std::alloc::{AllocError, Global};
-use std::mem;
 use sym_evaluation::{Cases, GoodCase};
 use sym_model::{Branch, Branches, SymMemory, SymResult};
 use sym_paths::{Path, PathEnd};
@@ -47,16 +46,14 @@ fn fresh_variable(vars: &VarTable, takes: bool) -> Option<Var>
     None
 }
 
-/// The table with that variable.
-fn with_taken(vars: VarTable, takes: bool) -> Result<VarTable, AllocError>
-    ensures { IfOk result (λ all. all ≡ vars ++ taken takes) }
+/// Adds that variable to the table.
+fn take_variable(vars: &mut VarTable, takes: bool) -> Result<(), AllocError>
+    ensures { OnOk result (vars.new ≡ vars.old ++ taken takes) }
 {
-    let mut vars = vars;
     if takes {
         vars.push(Sort::Fresh)?;
-        return Ok(vars);
     }
-    Ok(vars)
+    Ok(())
 }
 
 /// The path as a branch leaves it, without its choice.
@@ -65,32 +62,25 @@ fn follow<M: Drop>(
     path: Path<M>,
     takes: bool,
     good: &GoodCase<Terms>,
-    branch: Branch<M>,
-) -> Result<(Path<M>, SymResult), AllocError>
+    conds: &Atoms,
+    state: M,
+) -> Result<Path<M>, AllocError>
     requires { path.steps + 1 < 2 ^ 32 }
-    ensures path { IfOk result (λ r. path_view r.0 ≡ record (path_view path) {
+    ensures { IfOk result (λ next. path_view next ≡ record (path_view path) {
       vars = path.vars ++ taken takes;
-      conds = (path_view path).conds ++ (atoms_view good.now.conds ++ atoms_view branch.conds);
-      given = (path_view path).given ++ atoms_view branch.conds;
-      memory = branch.state;
+      conds = (path_view path).conds ++ (atoms_view good.now.conds ++ atoms_view conds.now);
+      given = (path_view path).given ++ atoms_view conds.now;
+      memory = state;
       steps = path.steps + 1;
     }) }
-    ensures result { IfOk result (λ r. r.1 ≡ branch.result) }
 {
-    let Branch {
-        conds,
-        state,
-        result,
-    } = branch;
     let mut path = path;
-    let required = assume(alloc, Sequence::new(alloc), &good.conds)?;
-    let required = assume(alloc, required, &conds)?;
-    path.conds = require(alloc, path.conds, &required)?;
-    path.given = assume(alloc, path.given, &conds)?;
-    path.vars = with_taken(path.vars, takes)?;
+    require_both(alloc, &mut path.conds, &good.conds, conds)?;
+    assume(alloc, &mut path.given, conds)?;
+    take_variable(&mut path.vars, takes)?;
     path.memory = state;
     path.steps += 1;
-    Ok((path, result))
+    Ok(path)
 }
 
 /// The action is done: the variable gets the result, and the path goes on.
@@ -112,10 +102,9 @@ fn finish<M: Drop>(
         }))) }
 {
     let mut path = path;
-    path.end = None;
+    assign(alloc, &mut path.stack, name, term)?;
     path.choices.push(0)?;
-    let stack = mem::replace(&mut path.stack, Sequence::new(alloc));
-    path.stack = assign(alloc, stack, name, term)?;
+    path.end = None;
     Ok(Candidate {
         path,
         no_fault: Sequence::new(alloc),
@@ -136,7 +125,7 @@ fn end<M: Drop>(
 {
     let mut path = path;
     path.choices.push(choice)?;
-    path.end = Some(end);
+    path.end_as(end);
     Ok(Candidate {
         path,
         no_fault: Sequence::new(alloc),
@@ -158,7 +147,12 @@ fn act_to<M: Drop>(
     ensures { IfOk result (λ c. ActsTo (path_view path) name.now here.now takes (good_view terms_view good.now) (branch_view branch)
         (result_view branch.result) (candidate_view c)) }
 {
-    let (path, result) = follow(alloc, path, takes, good, branch)?;
+    let Branch {
+        conds,
+        state,
+        result,
+    } = branch;
+    let path = follow(alloc, path, takes, good, &conds, state)?;
     match result {
         SymResult::Done(term) => finish(alloc, path, name, term),
         SymResult::Failed(term) => {

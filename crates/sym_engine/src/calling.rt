@@ -1,5 +1,5 @@
 //! The candidates of calls.
-ghost use Rattle.std.specs.Prelude.{◌≡◌, ◌+◌, ◌<◌, ◌^◌, ◌++◌, ◌∷◌, [], length, map, codes, IfOk, IsTrue};
+ghost use Rattle.std.specs.Prelude.{◌≡◌, ◌+◌, ◌<◌, ◌^◌, ◌++◌, ◌∷◌, [], length, map, codes, IfOk, IsTrue, OnOk};
 ghost use Rattle.std.specs.List.{list_all};
 ghost use Rattle.gil_values.specs.Characters.{IsText};
 ghost use Rattle.gil_values.specs.declared.kinds.Kind.{Kind};
@@ -19,12 +19,12 @@ ghost use Rattle.sym_evaluation.specs.Plainly.{AllAnswerPlainly};
 ghost use Rattle.sym_evaluation.specs.Pure.{PureStore};
 ghost use Rattle.sym_evaluation.specs.View.{store_view, faults_view, cases_by, cases_view, all_cases_view, good_view};
 ghost use Rattle.sym_paths.specs.Moves.{running_store};
-ghost use Rattle.sym_paths.specs.View.{frames_view, path_view};
-ghost use Rattle.sym_steps.specs.Calls.{fault_under, call_cases, CallsTerm, EntersFound, IsFirstStore, entering};
+ghost use Rattle.sym_paths.specs.View.{frame_view, frames_view, path_view};
+ghost use Rattle.sym_steps.specs.Calls.{fault_under, call_cases, CallsTerm, EntersFound, IsFirstStore, called_frame, entering};
 ghost use Rattle.sym_steps.specs.Cases.{AreEvaluated, failing_with};
 
 use crate::candidates::{Candidate, Candidates, assume, fail_with, proceed, require};
-use crate::frames::{run_in, wait};
+use crate::frames::{run_in, store_in, wait};
 use crate::valued::{evaluate_in, fail_each};
 use gil_program::Prog;
 use gil_syntax::{Expr, Exprs, Proc};
@@ -32,7 +32,6 @@ use gil_values::{Kind, Place, Text};
 use pure_terms::{Atom, Atoms, Literal, Term, Terms};
 use sequence::Sequence;
 use std::alloc::{AllocError, Global};
-use std::mem;
 use sym_evaluation::{Cases, FaultCase, FaultCases, GoodCase, SymStore, evaluate_all};
 use sym_model::SymMemory;
 use sym_paths::{Frame, Frames, Path};
@@ -56,31 +55,30 @@ pub(crate) fn evaluate_all_in(
     ensures plain { IfOk result
         (λ c. AllAnswerPlainly (running_store (frames_view frames.now)) (exprs_view expressions.now) (all_cases_view c)) }
 {
-    match frames.as_slice() {
-        [.., running] => evaluate_all(alloc, &running.store, expressions),
-        [] => evaluate_all(alloc, &SymStore::new(alloc), expressions),
-    }
+    let empty = SymStore::new(alloc);
+    evaluate_all(alloc, store_in(frames, &empty), expressions)
 }
 
 /// Adds the faults of the arguments, which come where the callee has none.
 fn add_under(
     alloc: Global,
-    faults: FaultCases,
+    faults: &mut FaultCases,
     conds: &Atoms,
     more: &FaultCases,
-) -> Result<FaultCases, AllocError>
-    ensures { IfOk result
-        (λ all. faults_view all ≡ faults_view faults ++ map (fault_under (atoms_view conds.now)) (faults_view more.now)) }
+) -> Result<(), AllocError>
+    ensures { OnOk result
+        (faults_view faults.new ≡ faults_view faults.old ++ map (fault_under (atoms_view conds.now)) (faults_view more.now)) }
 {
-    let mut all = faults;
     for fault in more.as_slice() {
-        let under = assume(alloc, Sequence::new(alloc), conds)?;
-        all.push(FaultCase {
-            conds: assume(alloc, under, &fault.conds)?,
+        let mut under = Sequence::new(alloc);
+        assume(alloc, &mut under, conds)?;
+        assume(alloc, &mut under, &fault.conds)?;
+        faults.push(FaultCase {
+            conds: under,
             fault: fault.fault,
         })?;
     }
-    Ok(all)
+    Ok(())
 }
 
 /// The cases of a callee and of the arguments after it.
@@ -99,10 +97,12 @@ fn both_cases(
         faults: more,
         good: arguments,
     } = arguments;
-    let faults = add_under(alloc, faults, &conds, &more)?;
+    let mut faults = faults;
+    add_under(alloc, &mut faults, &conds, &more)?;
     match arguments {
         Some(arguments) => {
-            let conds = assume(alloc, conds, &arguments.conds)?;
+            let mut conds = conds;
+            assume(alloc, &mut conds, &arguments.conds)?;
             let called = Called {
                 callee: result,
                 args: arguments.result,
@@ -132,6 +132,20 @@ fn first_store(alloc: Global, params: &[Text], args: &[Term]) -> Result<SymStore
     Ok(store)
 }
 
+/// The frame of a call that begins.
+fn first_frame(alloc: Global, proc: &Proc, args: &[Term]) -> Result<Frame, AllocError>
+    requires { length args.now ≡ length (proc_view proc.now).params }
+    ensures { IfOk result (λ f. (bs : PureStore) × (IsFirstStore (proc_view proc.now).params (map term_view args.now) bs
+        × (frame_view f ≡ called_frame (proc_view proc.now) bs))) }
+{
+    Ok(Frame {
+        proc: proc.name.copy(alloc)?,
+        next: 0,
+        store: first_store(alloc, proc.params.as_slice(), args)?,
+        waits: None,
+    })
+}
+
 /// The path goes on in the procedure.
 fn enter<M: Drop>(
     alloc: Global,
@@ -148,16 +162,13 @@ fn enter<M: Drop>(
         × (candidate_view c ≡ entering (path_view path) name.now here.now (proc_view proc.now) bs (good_view called_view good)))) }
 {
     let GoodCase { conds, result } = good;
-    let frame = Frame {
-        proc: proc.name.copy(alloc)?,
-        next: 0,
-        store: first_store(alloc, proc.params.as_slice(), result.args.as_slice())?,
-        waits: None,
-    };
     let mut path = path;
-    let stack = mem::replace(&mut path.stack, Sequence::new(alloc));
-    let callers = wait(alloc, stack, name)?;
-    proceed(alloc, path, run_in(frame, callers)?, conds)
+    wait(alloc, &mut path.stack, name)?;
+    run_in(
+        &mut path.stack,
+        first_frame(alloc, proc, result.args.as_slice())?,
+    )?;
+    proceed(alloc, path, conds)
 }
 
 /// The call fails with a text.
@@ -201,10 +212,11 @@ fn need_callee<M: Drop>(
     }) }
 {
     let GoodCase { conds, result } = good;
-    let mut path = path;
-    let mut needed = assume(alloc, Sequence::new(alloc), &conds)?;
+    let mut needed = Sequence::new(alloc);
+    assume(alloc, &mut needed, &conds)?;
     needed.push(Atom::Open(result.callee))?;
-    path.conds = require(alloc, path.conds, &needed)?;
+    let mut path = path;
+    require(alloc, &mut path.conds, &needed)?;
     path.steps += 1;
     Ok(Candidate {
         path,

@@ -1,5 +1,5 @@
 //! Candidates for the next paths of a step.
-ghost use Rattle.std.specs.Prelude.{◌≡◌, ◌+◌, ◌++◌, ◌<◌, ◌^◌, IfOk};
+ghost use Rattle.std.specs.Prelude.{◌≡◌, ◌+◌, ◌++◌, ◌<◌, ◌^◌, IfOk, OnOk};
 ghost use Rattle.pure_terms.specs.View.{term_view, atoms_view};
 ghost use Rattle.sym_engine.specs.Lawful.{proceeding};
 ghost use Rattle.sym_engine.specs.View.{candidate_view};
@@ -12,7 +12,7 @@ use pure_terms::{Atoms, Term};
 use sequence::Sequence;
 use std::alloc::{AllocError, Global};
 use sym_model::PathCond;
-use sym_paths::{Frames, Path, PathEnd};
+use sym_paths::{Path, PathEnd};
 
 /// A path that may come next. Contracts see it as its pure data, by `candidate_view`.
 #[derive(Debug, Drop)]
@@ -24,26 +24,38 @@ pub struct Candidate<M> {
 
 pub type Candidates<M> = Sequence<Candidate<M>>;
 
-/// The conditions with more at the end.
-pub(crate) fn require(alloc: Global, conds: PathCond, more: &Atoms) -> Result<PathCond, AllocError>
-    ensures { IfOk result (λ all. conditions_view all ≡ conditions_view conds ++ atoms_view more.now) }
+/// Adds conditions at the end.
+pub(crate) fn require(alloc: Global, conds: &mut PathCond, more: &Atoms) -> Result<(), AllocError>
+    ensures { OnOk result (conditions_view conds.new ≡ conditions_view conds.old ++ atoms_view more.now) }
 {
-    let mut all = conds;
     for atom in more.as_slice() {
-        all.add(atom.copy(alloc)?)?;
+        conds.add(atom.copy(alloc)?)?;
     }
-    Ok(all)
+    Ok(())
 }
 
-/// What is assumed, with more at the end.
-pub(crate) fn assume(alloc: Global, given: Atoms, more: &Atoms) -> Result<Atoms, AllocError>
-    ensures { IfOk result (λ all. atoms_view all ≡ atoms_view given ++ atoms_view more.now) }
+/// Adds conditions, and more of them, at the end.
+pub(crate) fn require_both(
+    alloc: Global,
+    conds: &mut PathCond,
+    first: &Atoms,
+    more: &Atoms,
+) -> Result<(), AllocError>
+    ensures { OnOk result
+        (conditions_view conds.new ≡ conditions_view conds.old ++ (atoms_view first.now ++ atoms_view more.now)) }
 {
-    let mut all = given;
+    require(alloc, conds, first)?;
+    require(alloc, conds, more)
+}
+
+/// Adds atoms at the end.
+pub(crate) fn assume(alloc: Global, given: &mut Atoms, more: &Atoms) -> Result<(), AllocError>
+    ensures { OnOk result (atoms_view given.new ≡ atoms_view given.old ++ atoms_view more.now) }
+{
     for atom in more.as_slice() {
-        all.push(atom.copy(alloc)?)?;
+        given.push(atom.copy(alloc)?)?;
     }
-    Ok(all)
+    Ok(())
 }
 
 pub(crate) fn copy_place(alloc: Global, place: &Place) -> Result<Place, AllocError>
@@ -65,30 +77,29 @@ pub(crate) fn fail_with<M: Drop>(
     ensures { IfOk result (λ c. candidate_view c ≡ failing (path_view path) here.now
         (record { conds = atoms_view conds.now; result = term_view term })) }
 {
+    let here = copy_place(alloc, here)?;
     let mut path = path;
-    path.conds = require(alloc, path.conds, conds)?;
-    path.given = assume(alloc, path.given, conds)?;
+    require(alloc, &mut path.conds, conds)?;
+    assume(alloc, &mut path.given, conds)?;
     path.steps += 1;
-    path.end = Some(PathEnd::Failed(term, copy_place(alloc, here)?));
+    path.end_as(PathEnd::Failed(term, here));
     Ok(Candidate {
         path,
         no_fault: Sequence::new(alloc),
     })
 }
 
-/// The path goes on with these frames under these conditions.
+/// The path goes on under these conditions.
 pub(crate) fn proceed<M: Drop>(
     alloc: Global,
     path: Path<M>,
-    stack: Frames,
     conds: Atoms,
 ) -> Result<Candidate<M>, AllocError>
     requires { path.steps + 1 < 2 ^ 32 }
-    ensures { IfOk result (λ c. candidate_view c ≡ proceeding (path_view path) (frames_view stack) (atoms_view conds)) }
+    ensures { IfOk result (λ c. candidate_view c ≡ proceeding (path_view path) (frames_view path.stack) (atoms_view conds)) }
 {
     let mut path = path;
-    path.conds = require(alloc, path.conds, &conds)?;
-    path.stack = stack;
+    require(alloc, &mut path.conds, &conds)?;
     path.steps += 1;
     Ok(Candidate {
         path,

@@ -11,7 +11,8 @@ ghost use Rattle.pure_terms.specs.Kinds.{allows, known_kind};
 ghost use Rattle.pure_terms.specs.Rewriting.{Replaces};
 ghost use Rattle.pure_terms.specs.View.{term_view, atoms_view};
 ghost use Rattle.sym_engine.specs.Lawful.{AddsCopies, AreLawful, MayAdvance};
-ghost use Rattle.sym_engine.specs.Plain.{StayPlain, connects, negates, stands_as_it_is};
+ghost use Rattle.sym_engine.specs.Guards.{connects, negates, stands_as_it_is};
+ghost use Rattle.sym_engine.specs.Plain.{StayPlain};
 ghost use Rattle.sym_engine.specs.View.{candidate_view, candidates_view};
 ghost use Rattle.sym_evaluation.specs.Plainly.{IsPlainGuard};
 ghost use Rattle.sym_evaluation.specs.View.{good_view, sides_view};
@@ -20,7 +21,7 @@ ghost use Rattle.sym_paths.specs.View.{frames_view, path_view};
 ghost use Rattle.sym_steps.specs.Cases.{failing_with};
 ghost use Rattle.sym_steps.specs.Guards.{at_label, for_side, turning, turns};
 
-use crate::candidates::{Candidate, Candidates, assume, fail_with, require};
+use crate::candidates::{Candidate, Candidates, assume, fail_with, require_both};
 use crate::frames::{advance, go_to};
 use crate::valued::{evaluate_in, fail_each};
 use gil_syntax::Expr;
@@ -29,10 +30,9 @@ use pure_terms::{Atom, Atoms, Literal, Term};
 use rewrite_book::{RuleBook, simplify};
 use sequence::Sequence;
 use std::alloc::{AllocError, Global};
-use std::mem;
 use sym_evaluation::{Cases, GoodCase, Sides, guard_sides};
 use sym_model::SymMemory;
-use sym_paths::{Frames, Path};
+use sym_paths::Path;
 
 /// Whether the term's value may be a boolean, by the term's form and its variables' sorts.
 fn may_be_boolean(term: &Term) -> bool
@@ -96,25 +96,21 @@ fn simpler(alloc: Global, rules: &RuleBook, term: &Term) -> Result<Term, AllocEr
     }
 }
 
-/// The path takes a side of the guard, and goes on with these frames.
+/// The path takes a side of the guard.
 fn turn<M: Drop>(
     alloc: Global,
     path: Path<M>,
-    stack: Frames,
     side: u64,
     guard: &GoodCase<Term>,
     more: &Atoms,
 ) -> Result<Candidate<M>, AllocError>
     requires { path.steps + 1 < 2 ^ 32 }
-    ensures { IfOk result (λ c. candidate_view c ≡ turning (path_view path) (frames_view stack) side
+    ensures { IfOk result (λ c. candidate_view c ≡ turning (path_view path) (frames_view path.stack) side
         (good_view term_view guard.now) (atoms_view more.now)) }
 {
     let mut path = path;
-    let conds = assume(alloc, Sequence::new(alloc), &guard.conds)?;
-    let conds = assume(alloc, conds, more)?;
-    path.conds = require(alloc, path.conds, &conds)?;
+    require_both(alloc, &mut path.conds, &guard.conds, more)?;
     path.choices.push(side)?;
-    path.stack = stack;
     path.steps += 1;
     Ok(Candidate {
         path,
@@ -135,9 +131,8 @@ fn turn_to_label<M: Drop>(
         (good_view term_view guard.now) (atoms_view more.now)) }
 {
     let mut path = path;
-    let stack = mem::replace(&mut path.stack, Sequence::new(alloc));
-    let stack = go_to(alloc, stack, label)?;
-    turn(alloc, path, stack, 1, guard, more)
+    go_to(&mut path.stack, label)?;
+    turn(alloc, path, 1, guard, more)
 }
 
 /// The path goes to the next command.
@@ -154,9 +149,8 @@ fn turn_to_next<M: Drop>(
         (atoms_view more.now)) }
 {
     let mut path = path;
-    let stack = mem::replace(&mut path.stack, Sequence::new(alloc));
-    let stack = advance(alloc, stack)?;
-    turn(alloc, path, stack, 0, guard, more)
+    advance(&mut path.stack)?;
+    turn(alloc, path, 0, guard, more)
 }
 
 /// The guard is no boolean.
@@ -171,8 +165,9 @@ fn fail_guard<M: Drop>(
     ensures { IfOk result (λ c. candidate_view c ≡ failing_with (path_view path) here.now (codes "type")
         (good_view term_view guard.now) (atoms_view more.now)) }
 {
-    let conds = assume(alloc, Sequence::new(alloc), &guard.conds)?;
-    let conds = assume(alloc, conds, more)?;
+    let mut conds = Sequence::new(alloc);
+    assume(alloc, &mut conds, &guard.conds)?;
+    assume(alloc, &mut conds, more)?;
     match Text::from_str(alloc, "type")? {
         Some(text) => fail_with(alloc, path, here, &conds, Term::Lit(Literal::Str(text))),
         None => unreachable!(),

@@ -96,9 +96,10 @@ fn leave_unknown<M: Drop>(
     ensures { IfOk result (λ next. path_view next ≡ ended_unknown (candidate_view candidate) here.now reason) }
 {
     let Candidate { path, no_fault } = candidate;
+    let here = copy_place(alloc, here)?;
     let mut path = path;
-    path.given = assume(alloc, path.given, &no_fault)?;
-    path.end = Some(PathEnd::Unknown(copy_place(alloc, here)?, reason));
+    assume(alloc, &mut path.given, &no_fault)?;
+    path.end_as(PathEnd::Unknown(here, reason));
     Ok(path)
 }
 

@@ -10,9 +10,7 @@ ghost use Rattle.sym_paths.specs.View.{frames_view, path_view};
 use crate::frames::{advance, assign};
 use gil_values::Text;
 use pure_terms::{Sort, Term, Var};
-use sequence::Sequence;
 use std::alloc::{AllocError, Global};
-use std::mem;
 use sym_paths::{Path, PathEnd};
 
 /// The path at `vanish`.
@@ -22,19 +20,18 @@ pub fn vanish<M: Drop>(path: Path<M>) -> Path<M>
 {
     let mut path = path;
     path.steps += 1;
-    path.end = Some(PathEnd::Vanished);
+    path.end_as(PathEnd::Vanished);
     path
 }
 
 /// The path at a command that does nothing in a run.
-pub fn pass<M: Drop>(alloc: Global, path: Path<M>) -> Result<Path<M>, AllocError>
+pub fn pass<M: Drop>(path: Path<M>) -> Result<Path<M>, AllocError>
     requires steps { path.steps + 1 < 2 ^ 32 }
     requires next { MayAdvance (frames_view path.stack) }
     ensures { IfOk result (λ next. path_view next ≡ passing (path_view path)) }
 {
     let mut path = path;
-    let stack = mem::replace(&mut path.stack, Sequence::new(alloc));
-    path.stack = advance(alloc, stack)?;
+    advance(&mut path.stack)?;
     path.steps += 1;
     Ok(path)
 }
@@ -53,8 +50,12 @@ pub fn take_symbol<M: Drop>(
     let mut path = path;
     let number = path.vars.len() as u64;
     let sort = Sort::Fresh;
-    let stack = mem::replace(&mut path.stack, Sequence::new(alloc));
-    path.stack = assign(alloc, stack, name, Term::Var(Var { number, sort }))?;
+    assign(
+        alloc,
+        &mut path.stack,
+        name,
+        Term::Var(Var { number, sort }),
+    )?;
     path.vars.push(sort)?;
     path.steps += 1;
     Ok(path)
@@ -74,8 +75,12 @@ pub fn draw<M: Drop>(
 {
     let mut path = path;
     let number = path.vars.len() as u64;
-    let stack = mem::replace(&mut path.stack, Sequence::new(alloc));
-    path.stack = assign(alloc, stack, name, Term::Var(Var { number, sort }))?;
+    assign(
+        alloc,
+        &mut path.stack,
+        name,
+        Term::Var(Var { number, sort }),
+    )?;
     path.drawn.push(Term::Var(Var { number, sort }))?;
     path.vars.push(sort)?;
     path.steps += 1;

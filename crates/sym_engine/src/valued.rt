@@ -19,13 +19,12 @@ ghost use Rattle.sym_steps.specs.Copies.{AreCopied};
 ghost use Rattle.sym_steps.specs.Returns.{Resumes, Returns, resuming, returning};
 
 use crate::candidates::{Candidate, Candidates, assume, fail_with, proceed, require};
-use crate::frames::{Calls, assign, resume, run_in, split};
+use crate::frames::{assign, resume, run_in, store_in, take};
 use gil_syntax::Expr;
 use gil_values::{Place, Text};
 use pure_terms::Term;
 use sequence::Sequence;
 use std::alloc::{AllocError, Global};
-use std::mem;
 use sym_evaluation::{Cases, FaultCases, GoodCase, SymStore, evaluate};
 use sym_model::SymMemory;
 use sym_paths::{Frame, Frames, Path, PathEnd};
@@ -41,10 +40,8 @@ pub(crate) fn evaluate_in(
     ensures plain { IfOk result (λ c. AnswersPlainly (running_store (frames_view frames.now)) (expr_view expression.now) (cases_view c)) }
     ensures guard { IfOk result (λ c. GuardsPlainly (running_store (frames_view frames.now)) (expr_view expression.now) (cases_view c)) }
 {
-    match frames.as_slice() {
-        [.., running] => evaluate(alloc, &running.store, expression),
-        [] => evaluate(alloc, &SymStore::new(alloc), expression),
-    }
+    let empty = SymStore::new(alloc);
+    evaluate(alloc, store_in(frames, &empty), expression)
 }
 
 /// A failing candidate for each fault, on copies of the path.
@@ -80,9 +77,8 @@ fn assign_result<M: Drop>(
 {
     let GoodCase { conds, result } = good;
     let mut path = path;
-    let stack = mem::replace(&mut path.stack, Sequence::new(alloc));
-    let stack = assign(alloc, stack, name, result)?;
-    proceed(alloc, path, stack, conds)
+    assign(alloc, &mut path.stack, name, result)?;
+    proceed(alloc, path, conds)
 }
 
 /// The candidates of `x := e`.
@@ -162,10 +158,10 @@ fn return_result<M: Drop>(
 {
     let GoodCase { conds, result } = good;
     let mut path = path;
-    path.conds = require(alloc, path.conds, &conds)?;
-    path.given = assume(alloc, path.given, &conds)?;
+    require(alloc, &mut path.conds, &conds)?;
+    assume(alloc, &mut path.given, &conds)?;
     path.steps += 1;
-    path.end = Some(PathEnd::Returned(result));
+    path.end_as(PathEnd::Returned(result));
     Ok(Candidate {
         path,
         no_fault: Sequence::new(alloc),
@@ -177,16 +173,16 @@ fn resume_caller<M: Drop>(
     alloc: Global,
     path: Path<M>,
     caller: Frame,
-    callers: Frames,
     good: GoodCase<Term>,
 ) -> Result<Candidate<M>, AllocError>
     requires { path.steps + 1 < 2 ^ 32 }
     ensures { IfOk result (λ c. (next : PureFrame) × (Resumes (term_view good.result) (frame_view caller) next
-        × (candidate_view c ≡ resuming (path_view path) (next ∷ frames_view callers) (good_view term_view good)))) }
+        × (candidate_view c ≡ resuming (path_view path) (next ∷ frames_view path.stack) (good_view term_view good)))) }
 {
     let GoodCase { conds, result } = good;
-    let next = resume(caller, result)?;
-    proceed(alloc, path, run_in(next, callers)?, conds)
+    let mut path = path;
+    run_in(&mut path.stack, resume(caller, result)?)?;
+    proceed(alloc, path, conds)
 }
 
 /// The entry returns the result, or the frame that waits goes on with it.
@@ -203,14 +199,13 @@ fn leave<M: Drop>(
     if path.stack.len() <= 1 {
         return return_result(alloc, path, good);
     }
-    let stack = mem::replace(&mut path.stack, Sequence::new(alloc));
-    let Some(Calls { callers, .. }) = split(alloc, stack)? else {
+    let Some(_) = take(&mut path.stack) else {
         unreachable!();
     };
-    let Some(Calls { running, callers }) = split(alloc, callers)? else {
+    let Some(caller) = take(&mut path.stack) else {
         unreachable!();
     };
-    resume_caller(alloc, path, running, callers, good)
+    resume_caller(alloc, path, caller, good)
 }
 
 /// The candidates of `return e`.

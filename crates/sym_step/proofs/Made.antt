@@ -13,7 +13,7 @@ use Rattle.sym_paths.specs.Meaning.{command_of_frames}
 use Rattle.sym_paths.specs.Moves.{draw_sort}
 use Rattle.sym_paths.specs.Pure.{PureFrame}
 
-pub made_at : (p : PureParts) (fs : List PureFrame) (c : PureNumberedCommand) → is_well_made p ≡ true → command_of_frames p fs ≡ Some c → is_well_made_command c.command ≡ true
+made_at : (p : PureParts) (fs : List PureFrame) (c : PureNumberedCommand) → is_well_made p ≡ true → command_of_frames p fs ≡ Some c → is_well_made_command c.command ≡ true
 made_at p [] c made at = not_none at
 made_at p (f ∷ fs) c made at = subst MadeCommand at (command_made (find_proc p.procs f.procedure) f.next (find_made p.procs f.procedure (procs_made p made)))
 
@@ -29,16 +29,16 @@ spelled_nodes (list_of ds ∷ es) made = spelled_nodes es (and_parts (is_well_ma
 spelled_nodes (unary_of op d ∷ es) made = spelled_nodes es (and_parts (is_well_made_node (unary_of op d)) (list_all is_well_made_node es) made).1
 spelled_nodes (binary_of op d e ∷ es) made = spelled_nodes es (and_parts (is_well_made_node (binary_of op d e)) (list_all is_well_made_node es) made).1
 
-pub spelled : (e : PureExpr) → is_well_made_expr e ≡ true → list_all is_spellable (literals_of e) ≡ true
+spelled : (e : PureExpr) → is_well_made_expr e ≡ true → list_all is_spellable (literals_of e) ≡ true
 spelled e made = spelled_nodes (subexpressions e) made
 
-pub all_spelled : (es : List PureExpr) → list_all is_well_made_expr es ≡ true → list_all (λ e. list_all is_spellable (literals_of e)) es ≡ true
+all_spelled : (es : List PureExpr) → list_all is_well_made_expr es ≡ true → list_all (λ e. list_all is_spellable (literals_of e)) es ≡ true
 all_spelled [] made = refl
 all_spelled (e ∷ es) made =
     let (first, rest) = and_parts (is_well_made_expr e) (list_all is_well_made_expr es) made in
     both_true (list_all is_spellable (literals_of e)) (list_all (λ d. list_all is_spellable (literals_of d)) es) (spelled e first) (all_spelled es rest)
 
-pub drawable : (k : Kind) → is_drawable k ≡ true → draw_sort k ≡ None → ⊥
+drawable : (k : Kind) → is_drawable k ≡ true → draw_sort k ≡ None → ⊥
 drawable Kind.Int fine none = not_none (sym none)
 drawable Kind.Bool fine none = not_none (sym none)
 drawable Kind.Str fine none = not_none (sym none)
@@ -49,21 +49,25 @@ drawable Kind.Kind fine none = true≢false (sym fine)
 drawable Kind.Proc fine none = true≢false (sym fine)
 drawable Kind.List fine none = true≢false (sym fine)
 
--- ---- what a well-made command has
+-- ---- what the command has at which frames of a well-made program stand
 
-all_made : (k : PureCommand) → is_well_made_command k ≡ true → list_all is_well_made_expr (exprs_of k) ≡ true
-all_made k made = (and_parts (has_well_made_names k) (list_all is_well_made_expr (exprs_of k)) made).1
+module _ (p : PureParts) (fs : List PureFrame) (c : PureNumberedCommand) (well_made : is_well_made p ≡ true) (at : command_of_frames p fs ≡ Some c) where
+  made : is_well_made_command c.command ≡ true
+  made = made_at p fs c well_made at
 
-pub spelled_exprs : (k : PureCommand) (es : List PureExpr) → exprs_of k ≡ es → is_well_made_command k ≡ true → list_all (λ e. list_all is_spellable (literals_of e)) es ≡ true
-spelled_exprs k es is made = all_spelled es (subst (λ ds. list_all is_well_made_expr ds ≡ true) is (all_made k made))
+  pub spelled_exprs : (es : List PureExpr) → exprs_of c.command ≡ es → list_all (λ e. list_all is_spellable (literals_of e)) es ≡ true
+  spelled_exprs es is =
+      all_spelled es (subst (λ ds. list_all is_well_made_expr ds ≡ true) is (and_parts (has_well_made_names c.command) (list_all is_well_made_expr (exprs_of c.command)) made).1)
 
-pub spelled_first : (k : PureCommand) (e : PureExpr) (es : List PureExpr) → exprs_of k ≡ e ∷ es → is_well_made_command k ≡ true → list_all is_spellable (literals_of e) ≡ true
-spelled_first k e es is made = (and_parts (list_all is_spellable (literals_of e)) (list_all (λ d. list_all is_spellable (literals_of d)) es) (spelled_exprs k (e ∷ es) is made)).0
+  pub spelled_first : (e : PureExpr) (es : List PureExpr) → exprs_of c.command ≡ e ∷ es → list_all is_spellable (literals_of e) ≡ true
+  spelled_first e es is = (and_parts (list_all is_spellable (literals_of e)) (list_all (λ d. list_all is_spellable (literals_of d)) es) (spelled_exprs (e ∷ es) is)).0
 
-pub spelled_later : (k : PureCommand) (e : PureExpr) (es : List PureExpr) → exprs_of k ≡ e ∷ es → is_well_made_command k ≡ true → list_all (λ d. list_all is_spellable (literals_of d)) es ≡ true
-spelled_later k e es is made = (and_parts (list_all is_spellable (literals_of e)) (list_all (λ d. list_all is_spellable (literals_of d)) es) (spelled_exprs k (e ∷ es) is made)).1
+  pub spelled_later : (e : PureExpr) (es : List PureExpr) → exprs_of c.command ≡ e ∷ es → list_all (λ d. list_all is_spellable (literals_of d)) es ≡ true
+  spelled_later e es is = (and_parts (list_all is_spellable (literals_of e)) (list_all (λ d. list_all is_spellable (literals_of d)) es) (spelled_exprs (e ∷ es) is)).1
 
-pub drawable_at : (k : PureCommand) (x : List ℕ) (kind : Kind) → k ≡ isym x kind → is_well_made_command k ≡ true → is_drawable kind ≡ true
-drawable_at k x kind is made =
-    (and_parts (is_program_name x) (is_drawable kind)
-    (and_parts (has_well_made_names (isym x kind)) (list_all is_well_made_expr (exprs_of (isym x kind))) (ap is_well_made_command (sym is) ∙ made)).0).1
+  pub drawn_kind : (x : List ℕ) (kind : Kind) → c.command ≡ isym x kind → draw_sort kind ≡ None → ⊥
+  drawn_kind x kind is none =
+      drawable kind
+      (and_parts (is_program_name x) (is_drawable kind)
+      (and_parts (has_well_made_names (isym x kind)) (list_all is_well_made_expr (exprs_of (isym x kind))) (ap is_well_made_command (sym is) ∙ made)).0).1
+      none

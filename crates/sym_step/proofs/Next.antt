@@ -24,8 +24,9 @@ use Rattle.sym_paths.specs.Meaning.{IsOverTable, command_of_frames, command_of_p
 use Rattle.sym_paths.specs.Moves.{NoOwn}
 use Rattle.sym_paths.specs.Pure.{PureFrame, PurePath}
 use Rattle.sym_paths.specs.Settling.{Candidate, AreCandidates, Stays, AreSettled}
-use Rattle.sym_paths.specs.Steps.{Grows, AddsOwn, IsPlaceOf, IsUnknown, IsPlainPath, StaysWithin, step_growth, AreNextPaths}
+use Rattle.sym_paths.specs.Steps.{Grows, AddsOwn, Assumes, IsPlaceOf, IsUnknown, IsPlainPath, StaysWithin, step_growth, AreNextPaths}
 use Rattle.sym_paths.specs.Valued.{place_at}
+use Rattle.sym_paths.proofs.Assuming.{assumes_wider}
 use Rattle.sym_paths.proofs.Settled.{settled_are_next}
 use Rattle.sym_step.specs.Stepping.{MayStep}
 use Rattle.sym_step.specs.Next.{AreStepped, IsNext}
@@ -50,6 +51,9 @@ module _ {S : Type 0} (p : PureParts) (m : Actions) (stands : S → List PureVal
     choices = laws.choices;
     along = laws.along;
     own_conditions = each_to (AddsOwn own path) (AddsOwn more path) nexts (own_more own more wider path) laws.own_conditions;
+    assumes = each_to (Assumes p own path) (Assumes p more path) nexts (assumes_wider p own more wider path) laws.assumes;
+    origin = laws.origin;
+    no_form = laws.no_form;
     satisfiable = laws.satisfiable;
     unknown_rightly = laws.unknown_rightly;
   }

@@ -1,30 +1,18 @@
 //! The command at which a path stands, and its place.
-ghost use Rattle.std.specs.Prelude.{◌≡◌, List, [], ◌∷◌, MatchOption, IfSome, IfOk};
+ghost use Rattle.std.specs.Prelude.{◌≡◌, IfSome, IfOk};
 ghost use Rattle.std.specs.Option.{option_map};
 ghost use Rattle.gil_program.specs.Program.{prog_view};
 ghost use Rattle.gil_syntax.specs.View.{numbered_command_view};
 ghost use Rattle.sym_engine.specs.Lawful.{MayAdvance};
 ghost use Rattle.sym_paths.specs.Meaning.{command_of_frames};
-ghost use Rattle.sym_paths.specs.Pure.{PureFrame};
 ghost use Rattle.sym_paths.specs.Valued.{place_at};
-ghost use Rattle.sym_paths.specs.View.{frame_view, frames_view};
+ghost use Rattle.sym_paths.specs.View.{frames_view};
 
 use gil_program::Prog;
 use gil_syntax::NumberedCommand;
 use gil_values::Place;
 use std::alloc::{AllocError, Global};
-use sym_paths::{Frame, Frames};
-
-/// The frame that runs.
-fn running(frames: &Frames) -> Option<&Frame>
-    ensures { MatchOption result (frames_view frames.now ≡ [])
-        (λ f. (waiting : List PureFrame) × (frames_view frames.now ≡ frame_view f.now ∷ waiting)) }
-{
-    match frames.as_slice() {
-        [.., running] => Some(running),
-        [] => None,
-    }
-}
+use sym_paths::{Frames, running};
 
 /// The command at which the frames stand.
 pub(crate) fn command_of<'p>(prog: &'p Prog, frames: &Frames) -> Option<&'p NumberedCommand>

@@ -64,7 +64,7 @@ pub(crate) fn next_of<M: SymMemory>(
         Command::Fold(_)
         | Command::Unfold(_)
         | Command::AssertThat(_)
-        | Command::LoopInvariant(_, _, _) => Ok(Next::Alone(pass(alloc, path)?)),
+        | Command::LoopInvariant(_, _, _) => Ok(Next::Alone(pass(path)?)),
         Command::Usym(name) => Ok(Next::Alone(take_symbol(alloc, path, name)?)),
         Command::Isym(name, kind) => match sort_of_draw(*kind) {
             Some(sort) => Ok(Next::Alone(draw(alloc, path, name, sort)?)),

@@ -6,4 +6,4 @@ use Rattle.sym_engine.proofs.calling.add_under.Given as goal
 
 abbrev pub invariant-loop-fault : goal.invariant-loop-fault
 invariant-loop-fault l =
-    faults_view l.all ≡ faults_view l.fn.faults ++ map (fault_under (atoms_view l.conds)) (faults_view (take l.fault-index l.fault-items))
+    faults_view l.faults ≡ faults_view l.fn.faults ++ map (fault_under (atoms_view l.conds)) (faults_view (take l.fault-index l.fault-items))

@@ -1,4 +1,4 @@
-use Rattle.std.proofs.Common.{◌≡◌, ◌∷◌, ◌++◌, [], map, refl, ap, sym, subst, ◌∙◌}
+use Rattle.std.proofs.Common.{◌∷◌, [], map, refl, ap, sym, subst, ◌∙◌}
 use Rattle.std.proofs.lemmas.List.{append-nil, map-append}
 use Rattle.gil_program.specs.Program.{prog_view}
 use Rattle.gil_syntax.specs.Pure.{call as pure_call}
@@ -13,7 +13,7 @@ use Rattle.sym_engine.proofs.calling.call_candidates.Goals as goal
 use Rattle.sym_evaluation.specs.View.{cases_view, all_cases_view}
 use Rattle.sym_paths.specs.Valued.{faulted}
 use Rattle.sym_paths.specs.View.{path_view}
-use Rattle.sym_steps.specs.Calls.{Calls, call_cases}
+use Rattle.sym_steps.specs.Calls.{Calls}
 use Rattle.sym_steps.specs.Cases.{AreResults}
 use Rattle.sym_steps.specs.Copies.{AreCopied}
 

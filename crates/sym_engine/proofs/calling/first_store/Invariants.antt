@@ -1,4 +1,4 @@
-use Rattle.std.proofs.Common.{◌≡◌, ℕ, List, drop, map}
+use Rattle.std.proofs.Common.{drop, map}
 use Rattle.pure_terms.specs.View.{term_view}
 use Rattle.sym_evaluation.specs.View.{store_view}
 use Rattle.sym_steps.specs.Calls.{IsFirstStore}

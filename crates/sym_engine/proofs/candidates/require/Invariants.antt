@@ -4,4 +4,4 @@ use Rattle.sym_model.specs.View.{path_view}
 use Rattle.sym_engine.proofs.candidates.require.Given as goal
 
 abbrev pub invariant-loop-atom : goal.invariant-loop-atom
-invariant-loop-atom l = path_view l.all ≡ path_view l.fn.conds ++ atoms_view (take l.atom-index l.atom-items)
+invariant-loop-atom l = path_view l.conds ≡ path_view l.fn.conds ++ atoms_view (take l.atom-index l.atom-items)

@@ -8,7 +8,7 @@ use Rattle.pure_terms.specs.View.{term_view}
 use Rattle.sym_engine.proofs.Leaving.{if_ok_map}
 use Rattle.sym_engine.proofs.Simpler.{is_parted, guard_stands, operand_guard, no_connective, is_not}
 use Rattle.sym_engine.proofs.guarded.+simpler.Goals as goal
-use Rattle.sym_engine.specs.Plain.{stands_as_it_is}
+use Rattle.sym_engine.specs.Guards.{stands_as_it_is}
 use Rattle.sym_evaluation.specs.Plainly.{IsPlainGuard}
 use Rattle.sym_evaluation.proofs.Replacing.{replaces_operand, replaces_operands}
 

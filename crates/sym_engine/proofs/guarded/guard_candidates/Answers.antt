@@ -1,6 +1,5 @@
-use Rattle.std.proofs.Common.{◌≡◌, ◌∷◌, ◌++◌, [], map, Some, refl, ap, sym, subst, ◌∙◌}
+use Rattle.std.proofs.Common.{[], Some, refl, ap, subst}
 use Rattle.std.specs.Option.{option_map}
-use Rattle.std.proofs.lemmas.List.{append-nil}
 use Rattle.gil_syntax.specs.Pure.{ifgoto as pure_ifgoto}
 use Rattle.gil_syntax.specs.View.{expr_view}
 use Rattle.pure_terms.specs.View.{term_view}

@@ -1,64 +1,55 @@
-use Rattle.std.proofs.Common.{◌≡◌, [], true, inl, inr, sym, ap, subst, ◌∙◌}
+use Rattle.std.proofs.Common.{[], inl, inr, sym, ap, subst, ◌∙◌}
 use Rattle.gil_program.specs.Program.{prog_view}
-use Rattle.gil_syntax.specs.Pure.{PureCommand, assign, call, act, ifgoto, return, fail}
+use Rattle.gil_syntax.specs.Pure.{assign, call, act, ifgoto, return, fail}
 use Rattle.gil_syntax.specs.Subexpressions.{exprs_of}
 use Rattle.gil_syntax.specs.View.{command_view, expr_view, exprs_view, numbered_command_view}
-use Rattle.gil_syntax.specs.WellMade.{is_well_made_command}
 use Rattle.sym_engine.specs.View.{candidates_view}
 use Rattle.sym_paths.specs.Moves.{IsLogic}
 use Rattle.sym_paths.specs.View.{frames_view, path_view}
-use Rattle.sym_step.proofs.Made.{made_at, spelled_first, spelled_later, spelled_exprs, drawable_at, drawable}
+use Rattle.sym_step.proofs.Made.{spelled_first, spelled_later, spelled_exprs, drawn_kind}
 use Rattle.sym_step.proofs.Next.{asked_at}
 use Rattle.sym_step.proofs.Silent.{vanish_steps, pass_steps, fresh_steps, draw_steps}
 use Rattle.sym_step.proofs.following.next_of.Goals as goal
 
 pub unreachable-requires : goal.unreachable-requires
 unreachable-requires g c =
-    let command : PureCommand = command_view c.args.numbered.now.command in
-    let made : is_well_made_command command ≡ true = made_at (prog_view c.args.prog.now) (frames_view c.args.path.stack) (numbered_command_view c.args.numbered.now) c.args.prog.now.well_made c.requires.at in
-    drawable c.in-Isym.kind (drawable_at command c.in-Isym.name c.in-Isym.kind (ap command_view c.in-Isym.is) made) (sym c.sort_of_draw.ensures ∙ c.in-None.is)
+    drawn_kind (prog_view c.args.prog.now) (frames_view c.args.path.stack) (numbered_command_view c.args.numbered.now) c.args.prog.now.well_made c.requires.at
+    c.in-Isym.name c.in-Isym.kind (ap command_view c.in-Isym.is) (sym c.sort_of_draw.ensures ∙ c.in-None.is)
 
 pub assign_candidates-requires-clause-spellable : goal.assign_candidates-requires-clause-spellable
 assign_candidates-requires-clause-spellable g c =
-    let command : PureCommand = command_view c.args.numbered.now.command in
-    let made : is_well_made_command command ≡ true = made_at (prog_view c.args.prog.now) (frames_view c.args.path.stack) (numbered_command_view c.args.numbered.now) c.args.prog.now.well_made c.requires.at in
-    spelled_first command (expr_view c.in-Assign.value) [] (ap exprs_of (ap command_view c.in-Assign.is)) made
+    spelled_first (prog_view c.args.prog.now) (frames_view c.args.path.stack) (numbered_command_view c.args.numbered.now) c.args.prog.now.well_made c.requires.at
+    (expr_view c.in-Assign.value) [] (ap exprs_of (ap command_view c.in-Assign.is))
 
 pub call_candidates-requires-clause-callee : goal.call_candidates-requires-clause-callee
 call_candidates-requires-clause-callee g c =
-    let command : PureCommand = command_view c.args.numbered.now.command in
-    let made : is_well_made_command command ≡ true = made_at (prog_view c.args.prog.now) (frames_view c.args.path.stack) (numbered_command_view c.args.numbered.now) c.args.prog.now.well_made c.requires.at in
-    spelled_first command (expr_view c.in-Call.callee) (exprs_view c.in-Call.arguments) (ap exprs_of (ap command_view c.in-Call.is)) made
+    spelled_first (prog_view c.args.prog.now) (frames_view c.args.path.stack) (numbered_command_view c.args.numbered.now) c.args.prog.now.well_made c.requires.at
+    (expr_view c.in-Call.callee) (exprs_view c.in-Call.arguments) (ap exprs_of (ap command_view c.in-Call.is))
 
 pub call_candidates-requires-clause-arguments : goal.call_candidates-requires-clause-arguments
 call_candidates-requires-clause-arguments g c =
-    let command : PureCommand = command_view c.args.numbered.now.command in
-    let made : is_well_made_command command ≡ true = made_at (prog_view c.args.prog.now) (frames_view c.args.path.stack) (numbered_command_view c.args.numbered.now) c.args.prog.now.well_made c.requires.at in
-    spelled_later command (expr_view c.in-Call.callee) (exprs_view c.in-Call.arguments) (ap exprs_of (ap command_view c.in-Call.is)) made
+    spelled_later (prog_view c.args.prog.now) (frames_view c.args.path.stack) (numbered_command_view c.args.numbered.now) c.args.prog.now.well_made c.requires.at
+    (expr_view c.in-Call.callee) (exprs_view c.in-Call.arguments) (ap exprs_of (ap command_view c.in-Call.is))
 
 pub act_candidates-requires-clause-spellable : goal.act_candidates-requires-clause-spellable
 act_candidates-requires-clause-spellable g c =
-    let command : PureCommand = command_view c.args.numbered.now.command in
-    let made : is_well_made_command command ≡ true = made_at (prog_view c.args.prog.now) (frames_view c.args.path.stack) (numbered_command_view c.args.numbered.now) c.args.prog.now.well_made c.requires.at in
-    spelled_exprs command (exprs_view c.in-Act.arguments) (ap exprs_of (ap command_view c.in-Act.is)) made
+    spelled_exprs (prog_view c.args.prog.now) (frames_view c.args.path.stack) (numbered_command_view c.args.numbered.now) c.args.prog.now.well_made c.requires.at
+    (exprs_view c.in-Act.arguments) (ap exprs_of (ap command_view c.in-Act.is))
 
 pub guard_candidates-requires-clause-spellable : goal.guard_candidates-requires-clause-spellable
 guard_candidates-requires-clause-spellable g c =
-    let command : PureCommand = command_view c.args.numbered.now.command in
-    let made : is_well_made_command command ≡ true = made_at (prog_view c.args.prog.now) (frames_view c.args.path.stack) (numbered_command_view c.args.numbered.now) c.args.prog.now.well_made c.requires.at in
-    spelled_first command (expr_view c.in-IfGoto.guard) [] (ap exprs_of (ap command_view c.in-IfGoto.is)) made
+    spelled_first (prog_view c.args.prog.now) (frames_view c.args.path.stack) (numbered_command_view c.args.numbered.now) c.args.prog.now.well_made c.requires.at
+    (expr_view c.in-IfGoto.guard) [] (ap exprs_of (ap command_view c.in-IfGoto.is))
 
 pub return_candidates-requires-clause-spellable : goal.return_candidates-requires-clause-spellable
 return_candidates-requires-clause-spellable g c =
-    let command : PureCommand = command_view c.args.numbered.now.command in
-    let made : is_well_made_command command ≡ true = made_at (prog_view c.args.prog.now) (frames_view c.args.path.stack) (numbered_command_view c.args.numbered.now) c.args.prog.now.well_made c.requires.at in
-    spelled_first command (expr_view c.in-Return.value) [] (ap exprs_of (ap command_view c.in-Return.is)) made
+    spelled_first (prog_view c.args.prog.now) (frames_view c.args.path.stack) (numbered_command_view c.args.numbered.now) c.args.prog.now.well_made c.requires.at
+    (expr_view c.in-Return.value) [] (ap exprs_of (ap command_view c.in-Return.is))
 
 pub fail_candidates-requires-clause-spellable : goal.fail_candidates-requires-clause-spellable
 fail_candidates-requires-clause-spellable g c =
-    let command : PureCommand = command_view c.args.numbered.now.command in
-    let made : is_well_made_command command ≡ true = made_at (prog_view c.args.prog.now) (frames_view c.args.path.stack) (numbered_command_view c.args.numbered.now) c.args.prog.now.well_made c.requires.at in
-    spelled_first command (expr_view c.in-Fail.value) [] (ap exprs_of (ap command_view c.in-Fail.is)) made
+    spelled_first (prog_view c.args.prog.now) (frames_view c.args.path.stack) (numbered_command_view c.args.numbered.now) c.args.prog.now.well_made c.requires.at
+    (expr_view c.in-Fail.value) [] (ap exprs_of (ap command_view c.in-Fail.is))
 
 pub returns-in-Vanish : goal.returns-in-Vanish
 returns-in-Vanish g c =
