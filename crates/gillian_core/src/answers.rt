@@ -15,7 +15,7 @@ pub struct Binding {
 pub type Bindings = Sequence<Binding>;
 
 /// An answer: the verdict of a test, how a run ended, or the solution of a list of atoms.
-#[derive(Debug, Drop)]
+#[derive(Debug)]
 pub enum Answer {
     /// No run fails.
     Clean,
@@ -44,4 +44,25 @@ pub enum Answer {
     Unsat(Names, Proof),
     /// The list isn't in the fragment. The place of an atom that keeps it out.
     Unknown(usize),
+}
+
+// Written out, so that code which may drop an answer calls this, and isn't made longer by it.
+impl Drop for Answer {
+    fn drop(self) {
+        match self {
+            Answer::Bug {
+                place: _,
+                value: _,
+                inputs: _,
+            } => {}
+            Answer::Undecided(_) => {}
+            Answer::Returned(_) => {}
+            Answer::Failed(_, _) => {}
+            Answer::Sat(_) => {}
+            Answer::Unsat(_, _) => {}
+            Answer::Number(_) => {}
+            Answer::NoInput(_) | Answer::BadInput(_) | Answer::Unknown(_) => {}
+            Answer::Clean | Answer::Vanished | Answer::Cut => {}
+        }
+    }
 }

@@ -16,7 +16,7 @@ use Rattle.pure_terms.specs.Meaning.{Satisfies}
 use Rattle.pure_terms.specs.Pure.{PureTerm, PureAtom}
 use Rattle.sym_engine.specs.Lawful.{IsOwnAt}
 use Rattle.sym_explore.specs.Exploring.{MayGoOn, cut_off, IsFrom, IsEndedFrom, KeepTrails, KeepAccounts, CoverRuns}
-use Rattle.sym_explore.specs.Plain.{EachStep, StaysPlain, IsAtSimple}
+use Rattle.sym_explore.specs.Plain.{StaysPlain}
 use Rattle.sym_explore.specs.Runs.{StandsAt, StandsAfter, AccountsFor}
 use Rattle.sym_explore.specs.Trails.{IsNextPath}
 use Rattle.sym_explore.proofs.Following.{counter_at, draws_at, both_extend}
@@ -24,10 +24,11 @@ use Rattle.sym_explore.proofs.RunSteps.{ends_stay}
 use Rattle.sym_explore.proofs.Trails.{stands_next}
 use Rattle.sym_model.specs.Lists.{Each, OneOf}
 use Rattle.sym_model.specs.Terms.{StateTerms}
-use Rattle.sym_model.proofs.ListLaws.{each_append, each_left, each_right, each_to, one_left, one_right, one_parts}
+use Rattle.sym_model.proofs.ListLaws.{each_append, each_at, each_by_place, each_left, each_right, one_left, one_right, one_parts}
 use Rattle.sym_paths.specs.Meaning.{Stands, StandsForStep, command_of_frames, command_of_path}
+use Rattle.sym_paths.specs.Origins.{Follows}
 use Rattle.sym_paths.specs.Pure.{PureFrame, PurePath}
-use Rattle.sym_paths.specs.Steps.{Extends, HasInput, IsInputFault, IsUnknown, IsPlainPath, StaysWithin, Grows, IsRecorded, IsExact, ChoosesAlike, HoldsAlong, AddsOwn, StaysSatisfiable, IsRightlyUnknown, AreNextPaths}
+use Rattle.sym_paths.specs.Steps.{Extends, HasInput, IsInputFault, IsUnknown, IsPlainPath, StaysWithin, Grows, IsRecorded, IsExact, ChoosesAlike, HoldsAlong, AddsOwn, Assumes, NeedsNoForm, StaysSatisfiable, IsRightlyUnknown, AreNextPaths}
 use Rattle.sym_step.specs.Stepping.{AreAtCommands}
 
 -- an end that is for want of input is over
@@ -50,25 +51,23 @@ module _ {S : Type 0} (p : PureParts) (m : Actions) (stands : S → List PureVal
   IsNext = IsNextPath p m stands terms asked
 
   -- the paths of a step are next paths
-  pub are_next : (path : PurePath S) (nexts : List (PurePath S)) → path.ending ≡ None → (c : PureNumberedCommand) → command_of_path p path ≡ Some c → Each (Grows terms path) nexts → Each (IsExact p m stands path) nexts
-      → Each (HoldsAlong p m stands path) nexts → Each (AddsOwn (IsOwnAt stands terms asked m p path) path) nexts → Each (StaysSatisfiable path) nexts
-      → Each (λ next. IsRightlyUnknown p path next next.ending) nexts → Each (IsRecorded p m path) nexts → Each (ChoosesAlike p m stands path) nexts → Each (IsNext path) nexts
-  are_next path [] still c at grows exact along own satisfiable rightly recorded chosen = tt
-  are_next path (next ∷ nexts) still c at grows exact along own satisfiable rightly recorded chosen = (
-    record {
-      going = still;
-      at_command = (c, at);
-      growth = grows.0;
-      exact = exact.0;
-      along = along.0;
-      own_conditions = own.0;
-      satisfiable = satisfiable.0;
-      unknown_rightly = rightly.0;
-      recorded = recorded.0;
-      choices = chosen.0;
-    },
-    are_next path nexts still c at grows.1 exact.1 along.1 own.1 satisfiable.1 rightly.1 recorded.1 chosen.1,
-  )
+  pub are_next : (path : PurePath S) (nexts : List (PurePath S)) → path.ending ≡ None → (c : PureNumberedCommand) → command_of_path p path ≡ Some c
+      → AreNextPaths p m stands terms (IsOwnAt stands terms asked m p path) path nexts → Each (IsNext path) nexts
+  are_next path nexts still c at laws = each_by_place (IsNext path) nexts (λ i next place. record {
+    going = still;
+    at_command = (c, at);
+    growth = each_at (Grows terms path) nexts i next laws.growth place;
+    recorded = each_at (IsRecorded p m path) nexts i next laws.recorded place;
+    exact = each_at (IsExact p m stands path) nexts i next laws.exact place;
+    choices = each_at (ChoosesAlike p m stands path) nexts i next laws.choices place;
+    along = each_at (HoldsAlong p m stands path) nexts i next laws.along place;
+    own_conditions = each_at (AddsOwn (IsOwnAt stands terms asked m p path) path) nexts i next laws.own_conditions place;
+    assumes = each_at (Assumes p (IsOwnAt stands terms asked m p path) path) nexts i next laws.assumes place;
+    origin = each_at (Follows p m terms path) nexts i next laws.origin place;
+    no_form = each_at (NeedsNoForm path) nexts i next laws.no_form place;
+    satisfiable = each_at (StaysSatisfiable path) nexts i next laws.satisfiable place;
+    unknown_rightly = each_at (λ q. IsRightlyUnknown p path q q.ending) nexts i next laws.unknown_rightly place;
+  })
 
   -- ---- accounts
 
@@ -256,7 +255,7 @@ module _ {S : Type 0} (p : PureParts) (m : Actions) (stands : S → List PureVal
       → Each (MayGoOn p terms) left × KeepTrails p m stands terms asked plain keeps_plain bound old [] left × KeepAccounts p m stands bound old left
   stepped nexts left same going below early laws placed stays may trails cover =
       let (command, at) = at_a_command p path.stack (placed_last may going early).placed in
-      let each = are_next p m stands terms asked path nexts going command at laws.growth laws.exact laws.along laws.own_conditions laws.satisfiable laws.unknown_rightly laws.recorded laws.choices in (
+      let each = are_next p m stands terms asked path nexts going command at laws in (
         subst (Each (MayGoOn p terms)) (sym same) (placed_more nexts (nexts_go_on p m stands terms asked path nexts each placed) may),
         subst (KeepTrails p m stands terms asked plain keeps_plain bound old []) (sym same) (trails_more nexts (nexts_from p m stands terms asked bound plain keeps_plain path nexts below each stays) trails),
         subst (KeepAccounts p m stands bound old) (sym same) (cover_more nexts (accounts_next p m stands terms asked bound path nexts (IsOwnAt stands terms asked m p path) going below each laws) cover),

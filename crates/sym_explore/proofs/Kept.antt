@@ -9,14 +9,15 @@ use Rattle.pure_terms.specs.Meaning.{Satisfies}
 use Rattle.pure_terms.specs.Pure.{PureTerm, PureAtom}
 use Rattle.sym_engine.specs.Lawful.{IsOwnAt}
 use Rattle.sym_explore.specs.Laws.{EndsAreOfRuns, IsTraced, TrailsReplay, TrailsHoldAlong, TrailsMayEndBefore, TrailsKeep}
-use Rattle.sym_explore.specs.Trails.{IsNextPath, IsTrail}
+use Rattle.sym_explore.specs.Trails.{IsNextPath, IsTrail, MayBeAssumedAt}
 use Rattle.sym_explore.proofs.RunSteps.{ends_are_of_runs, ends_stay}
 use Rattle.sym_explore.proofs.Trails.{trail_over, replay, replay_choices, never_cut, along, back}
-use Rattle.sym_model.specs.Lists.{Each, IsAmong}
+use Rattle.sym_model.specs.Lists.{Each, OneOf, IsAmong}
 use Rattle.sym_model.specs.Terms.{StateTerms}
 use Rattle.sym_model.proofs.ListLaws.{each_append, each_to, each_is_among, one_left}
+use Rattle.sym_paths.specs.Frames.{running_store}
 use Rattle.sym_paths.specs.Pure.{PurePath}
-use Rattle.sym_paths.specs.Steps.{IsUnknown}
+use Rattle.sym_paths.specs.Steps.{IsUnknown, MayAssume}
 
 pub ends_of_runs : EndsAreOfRuns
 ends_of_runs p m inputs s0 s n e after = (ends_are_of_runs p m inputs s0 s n e after, ends_stay p m inputs s0 s n e after)
@@ -65,6 +66,19 @@ module _ {S : Type 0} (p : PureParts) (m : Actions) (stands : S → List PureVal
       (each_append (λ a. IsAmong a path.conds) before.given next.growth.new_given
       (each_to (λ a. IsAmong a before.conds) (λ a. IsAmong a path.conds) before.given (among_more before path next) (all_assumed start before earlier trail had)) next.growth.assumed)
 
+  abbrev Allowed : List (PurePath S) → PureAtom → Type 0
+  Allowed earlier a = OneOf (λ before. MayBeAssumedAt p m stands terms asked before a) earlier
+
+  all_allowed : (start path : PurePath S) (earlier : List (PurePath S)) → IsTrailOf start earlier path → start.given ≡ [] → Each (Allowed earlier) path.given
+  all_allowed start path [] trail none = subst (λ (q : PurePath S). Each (Allowed []) q.given) (sym trail) (subst (Each (Allowed [])) (sym none) tt)
+  all_allowed start path (before ∷ earlier) (next, trail) none =
+      let (c, at) = next.at_command in
+      let new = next.assumes in
+      subst (Each (Allowed (before ∷ earlier))) (sym new.given)
+      (each_append (Allowed (before ∷ earlier)) before.given new.added
+      (each_to (Allowed earlier) (Allowed (before ∷ earlier)) before.given (λ a later. inr later) (all_allowed start before earlier trail none))
+      (each_to (MayAssume (IsOwnAt stands terms asked m p before) (running_store before.stack) c.command) (Allowed (before ∷ earlier)) new.added (λ a may. inl (c, (at, may))) (new.each c at)))
+
   abbrev IsMet : PurePath S → Type 0
   IsMet path = (w : List PureValue) × Satisfies path.vars w path.conds
 
@@ -80,6 +94,7 @@ module _ {S : Type 0} (p : PureParts) (m : Actions) (stands : S → List PureVal
     over = λ start path earlier trail over. trail_over p m stands terms asked start earlier path trail over;
     traced = all_traced;
     assumed = all_assumed;
+    allowed = all_allowed;
     satisfiable = all_met;
   }
 

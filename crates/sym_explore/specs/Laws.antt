@@ -11,7 +11,7 @@ use Rattle.pure_terms.specs.Meaning.{all_true, Satisfies}
 use Rattle.pure_terms.specs.Pure.{PureTerm, PureAtom}
 use Rattle.sym_engine.specs.Lawful.{IsOwnAt}
 use Rattle.sym_explore.specs.Runs.{EndsAfter, ComesTo, MakesChoices, StandsAfter}
-use Rattle.sym_explore.specs.Trails.{IsTrail}
+use Rattle.sym_explore.specs.Trails.{IsTrail, MayBeAssumedAt}
 use Rattle.sym_model.specs.Lists.{Each, OneOf, IsAmong}
 use Rattle.sym_model.specs.Meaning.{has_open}
 use Rattle.sym_model.specs.Terms.{StateTerms}
@@ -81,6 +81,8 @@ module _ {S : Type 0} (p : PureParts) (m : Actions) (stands : S → List PureVal
         → Each (IsTraced start earlier) path.conds
     pub assumed : (start path : PurePath S) (earlier : List (PurePath S)) → IsTrail p m stands terms asked start earlier path
         → Each (λ a. IsAmong a start.conds) start.given → Each (λ a. IsAmong a path.conds) path.given
+    pub allowed : (start path : PurePath S) (earlier : List (PurePath S)) → IsTrail p m stands terms asked start earlier path
+        → start.given ≡ [] → Each (λ a. OneOf (λ before. MayBeAssumedAt p m stands terms asked before a) earlier) path.given
     pub satisfiable : (start path : PurePath S) (earlier : List (PurePath S)) (v : List PureValue)
         → IsTrail p m stands terms asked start earlier path → Satisfies start.vars v start.conds → ¬ IsUnknown path.ending
         → (w : List PureValue) × Satisfies path.vars w path.conds

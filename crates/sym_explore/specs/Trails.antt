@@ -4,12 +4,14 @@ use Rattle.gil_values.specs.Pure.{PureValue}
 use Rattle.gil_syntax.specs.Pure.{PureParts, PureNumberedCommand}
 use Rattle.mem_model.specs.Actions.{Actions}
 use Rattle.mem_model.specs.Heaps.{Heap}
-use Rattle.pure_terms.specs.Pure.{PureTerm}
+use Rattle.pure_terms.specs.Pure.{PureTerm, PureAtom}
 use Rattle.sym_engine.specs.Lawful.{IsOwnAt}
 use Rattle.sym_model.specs.Terms.{StateTerms}
+use Rattle.sym_paths.specs.Frames.{running_store}
 use Rattle.sym_paths.specs.Meaning.{command_of_path}
+use Rattle.sym_paths.specs.Origins.{Follows}
 use Rattle.sym_paths.specs.Pure.{PurePath}
-use Rattle.sym_paths.specs.Steps.{Grows, IsRecorded, IsExact, ChoosesAlike, HoldsAlong, AddsOwn, StaysSatisfiable, IsRightlyUnknown}
+use Rattle.sym_paths.specs.Steps.{Grows, IsRecorded, IsExact, ChoosesAlike, HoldsAlong, AddsOwn, MayAssume, Assumes, NeedsNoForm, StaysSatisfiable, IsRightlyUnknown}
 
 module _ {S : Type 0} (p : PureParts) (m : Actions) (stands : S → List PureValue → Heap → Type 0) (terms : S → StateTerms)
     (asked : List ℕ → List PureTerm → List PureTerm) where
@@ -23,6 +25,9 @@ module _ {S : Type 0} (p : PureParts) (m : Actions) (stands : S → List PureVal
     pub choices : ChoosesAlike p m stands path next
     pub along : HoldsAlong p m stands path next
     pub own_conditions : AddsOwn (IsOwnAt stands terms asked m p path) path next
+    pub assumes : Assumes p (IsOwnAt stands terms asked m p path) path next
+    pub origin : Follows p m terms path next
+    pub no_form : NeedsNoForm path next
     pub satisfiable : StaysSatisfiable path next
     pub unknown_rightly : IsRightlyUnknown p path next next.ending
 
@@ -30,3 +35,9 @@ module _ {S : Type 0} (p : PureParts) (m : Actions) (stands : S → List PureVal
   abbrev pub IsTrail : PurePath S → List (PurePath S) → PurePath S → Type 0
   IsTrail start [] path = path ≡ start
   IsTrail start (before ∷ earlier) path = IsNextPath before path × IsTrail start earlier before
+
+  -- the atom may be assumed at the command at which the path stands
+  abbrev pub MayBeAssumedAt : PurePath S → PureAtom → Type 0
+  MayBeAssumedAt path a =
+      (c : PureNumberedCommand) × ((command_of_path p path ≡ Some c)
+      × MayAssume (IsOwnAt stands terms asked m p path) (running_store path.stack) c.command a)

@@ -73,7 +73,7 @@ fn cut_off<M: Drop>(path: Path<M>) -> Path<M>
     ensures { path_view result ≡ pure_cut_off (path_view path) }
 {
     let mut path = path;
-    path.end = Some(PathEnd::Cut);
+    path.end_as(PathEnd::Cut);
     path
 }
 

@@ -27,7 +27,7 @@ use Rattle.sym_model.proofs.ListLaws.{not_none}
 use Rattle.sym_paths.specs.Meaning.{command_of_path}
 use Rattle.sym_paths.specs.Pure.{PurePath}
 use Rattle.sym_paths.specs.Steps.{IsUnknown}
-use Rattle.sym_paths.proofs.Wider.{term_wider, lower_bound, higher_bound}
+use Rattle.sym_model.proofs.Wider.{term_wider, lower_bound, higher_bound}
 use Rattle.sym_paths.proofs.Silent.{stands_at}
 use Rattle.sym_test.specs.Undecided.{first_state, MeetsOther, keeps_out, is_narrow_term}
 use Rattle.sym_test.proofs.Trailing.{TrailLaws}

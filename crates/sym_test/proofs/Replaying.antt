@@ -1,17 +1,15 @@
 -- What is said of an ended path is right: bugs replay, and what is left undecided is.
-use Rattle.std.proofs.Common.{◌≡◌, ℤ, ◌⊎◌, ⊎_elim, inl, inr, ℕ, suc, ◌≤◌, List, [], ◌∷◌, ◌++◌, length, Bool, true, false, ◌||◌, Some, None, IsTrue, refl, sym, ap, subst, ◌∙◌, arith, codes}
-use Rattle.std.proofs.lemmas.List.{append_assoc}
+use Rattle.std.proofs.Common.{◌≡◌, ℤ, ◌⊎◌, inl, inr, ℕ, suc, ◌≤◌, List, [], ◌∷◌, ◌++◌, length, Bool, true, false, ◌||◌, Some, IsTrue, refl, sym, ap, subst, ◌∙◌, arith, codes}
 use Rattle.std.proofs.lemmas.List.Folds.{list_any-append}
 use Rattle.gil_values.specs.declared.places.Place.{Place}
 use Rattle.gil_values.specs.Pure.{PureValue, text}
 use Rattle.gil_syntax.specs.Pure.{PureParts, PureNumberedCommand}
-use Rattle.gil_machine.specs.Choices.{with_choice}
 use Rattle.gil_machine.specs.Run.{reached, run, IsEntry, IsBug}
 use Rattle.gil_machine.specs.State.{State, End, IsOver, cut, failed}
 use Rattle.gil_machine.specs.Step.{command_at, step}
 use Rattle.mem_model.specs.Actions.{Actions}
 use Rattle.mem_model.specs.Heaps.{Heap}
-use Rattle.pure_terms.specs.declared.variables.Sort.{Sort}
+use Rattle.pure_terms.specs.Fragment.{InFragment}
 use Rattle.pure_terms.specs.Meaning.{value, all_true, Satisfies}
 use Rattle.pure_terms.specs.Pure.{PureTerm, PureAtom}
 use Rattle.sym_engine.specs.Lawful.{IsOwnAt}
@@ -23,7 +21,7 @@ use Rattle.sym_model.specs.Lists.{Each, OneOf, IsAmong}
 use Rattle.sym_model.specs.Meaning.{is_open, has_open}
 use Rattle.sym_model.specs.Pure.{PureKey}
 use Rattle.sym_model.specs.Terms.{StateTerms}
-use Rattle.sym_model.proofs.ListLaws.{same_some, each_append, each_to, one_with}
+use Rattle.sym_model.proofs.ListLaws.{same_some, each_to}
 use Rattle.sym_paths.specs.Meaning.{AreFrames, frames_of, StandsForEnd}
 use Rattle.sym_paths.specs.Pure.{PureFrame, PureEnd, PurePath}
 use Rattle.sym_paths.specs.Pure as path_end
@@ -32,11 +30,11 @@ use Rattle.sym_paths.proofs.Silent.{stands_at}
 use Rattle.sym_steps.proofs.Following.{both_true, first_true}
 use Rattle.sym_test.specs.Canonical.{HaveValuation, draws_among, IsCanonical}
 use Rattle.sym_test.specs.Judged.{Begins}
-use Rattle.sym_test.specs.Undecided.{first_state, ComesAlong, MeetsOther, Describes, IsOnTheWay, IsTraced as IsAskedOnTheWay, IsOutsideAt, IsUndecided}
+use Rattle.sym_test.specs.Undecided.{first_state, ComesAlong, MeetsOther, IsWay, AsksAlong, IsOutsideAt, IsUndecided}
 use Rattle.sym_test.specs.View.{PureQuery}
 use Rattle.sym_test.proofs.Failing.{fails_here}
 use Rattle.sym_test.proofs.Plainly.{simple_or_other}
-use Rattle.sym_test.proofs.Trailing.{TrailLaws, inputs_counted, steps_counted, is_met, has_canonical, beside, replayed, come_by, given_meets, leads_along}
+use Rattle.sym_test.proofs.Trailing.{TrailLaws, inputs_counted, steps_counted, has_canonical, beside, replayed, come_by, given_meets, leads_along}
 
 first_false : (a b : Bool) → (a || b) ≡ false → a ≡ false
 first_false true b none = none
@@ -116,115 +114,6 @@ module _ {S : Type 0} (p : PureParts) (m : Actions) (stands : S → List PureVal
       let (q, (is_key, misses, is)) = stood.ending in
       is_bug n entry earlier path trail within v canonical (path_end.missed key place) ending (λ no. no) s e (text (codes "missing")) place after stood is
 
-  -- ---- paths on the way
-
-  -- a path of the trail, with its own trail, and what the later path has more
-  pub record IsPart (k : ℕ) (path part : PurePath S) : Type 0 where
-    earlier : List (PurePath S)
-    trail : IsTrailOf earlier part
-    going : part.ending ≡ None
-    short : part.steps ≤ k
-    more_vars : List Sort
-    vars : path.vars ≡ part.vars ++ more_vars
-    more_choices : List ℕ
-    choices_are : path.choices ≡ part.choices ++ more_choices
-    more_conds : List PureAtom
-    conds : path.conds ≡ part.conds ++ more_conds
-
-  abbrev Own : PureAtom → PurePath S → Type 0
-  Own a part = IsOwnAt stands terms asked m p part a
-
-  part_of : (k : ℕ) (earlier : List (PurePath S)) (path : PurePath S) → IsTrailOf earlier path → length earlier ≤ suc k → (a : PureAtom) → OneOf (Own a) earlier → (part : PurePath S) × (IsPart k path part × Own a part)
-  part_of k [] path trail short a own = absurd own
-  part_of k (before ∷ rest) path (next, trail) short a own =
-      ⊎_elim
-      (λ here.
-      let steps : before.steps ≡ length rest = steps_counted p m stands terms asked plain laws f start begins rest before trail in (
-        before,
-        (
-          record {
-            earlier = rest;
-            trail = trail;
-            going = next.going;
-            short = omega (arith, steps, short);
-            more_vars = next.growth.new_vars;
-            vars = next.growth.vars;
-            more_choices = with_choice next.growth.chosen [];
-            choices_are = next.growth.choices;
-            more_conds = next.growth.new_conds;
-            conds = next.growth.conds;
-          },
-          here,
-        ),
-      ))
-      (λ later.
-      let (part, (is, has)) = part_of k rest before trail (omega (arith, short)) a later in (
-        part,
-        (
-          record {
-            earlier = is.earlier;
-            trail = is.trail;
-            going = is.going;
-            short = is.short;
-            more_vars = is.more_vars ++ next.growth.new_vars;
-            vars = next.growth.vars ∙ ap (λ xs. xs ++ next.growth.new_vars) is.vars ∙ append_assoc part.vars is.more_vars next.growth.new_vars;
-            more_choices = is.more_choices ++ with_choice next.growth.chosen [];
-            choices_are = next.growth.choices ∙ ap (λ xs. xs ++ with_choice next.growth.chosen []) is.choices_are ∙ append_assoc part.choices is.more_choices (with_choice next.growth.chosen []);
-            more_conds = is.more_conds ++ next.growth.new_conds;
-            conds = next.growth.conds ∙ ap (λ xs. xs ++ next.growth.new_conds) is.conds ∙ append_assoc part.conds is.more_conds next.growth.new_conds;
-          },
-          has,
-        ),
-      ))
-      own
-
-  describes : (k : ℕ) (path part : PurePath S) → IsPart k path part → Describes p m stands terms asked f part
-  describes k path part is =
-      let known : ¬ IsUnknown part.ending = λ unknown. subst IsUnknown is.going unknown in
-      record {
-        met = is_met p m stands terms asked plain laws f start begins is.earlier part is.trail known;
-        comes = λ inputs v has meets.
-            let (s, at) = subst (StandsAfter p m stands inputs s0 start part v (length is.earlier)) is.going (replayed p m stands terms asked plain laws f start begins inputs is.earlier part v is.trail has meets known) in
-            (s, (subst (λ n. reached p m inputs n s0 ≡ Some s) (sym (steps_counted p m stands terms asked plain laws f start begins is.earlier part is.trail)) at.comes_to, at.stands_for));
-      }
-
-  -- the list of a query is that of the path, and maybe more
-  pub record IsQueryOf (path : PurePath S) (q : PureQuery) : Type 0 where
-    pub vars : q.vars ≡ path.vars
-    pub choices_are : q.path ≡ path.choices
-    pub more : List PureAtom
-    pub query : q.query ≡ path.conds ++ more
-
-  module _ (k : ℕ) (earlier : List (PurePath S)) (path : PurePath S) (trail : IsTrailOf earlier path) (short : length earlier ≤ suc k) (q : PureQuery) (of_path : IsQueryOf path q) where
-    on_the_way : (part : PurePath S) → IsPart k path part → IsOnTheWay p m stands terms asked f q k part
-    on_the_way part is = record {
-      within = is.short;
-      more_vars = is.more_vars;
-      vars = of_path.vars ∙ is.vars;
-      more_choices = is.more_choices;
-      choices = of_path.choices_are ∙ is.choices_are;
-      more_conds = is.more_conds ++ of_path.more;
-      conds = of_path.query ∙ ap (λ xs. xs ++ of_path.more) is.conds ∙ append_assoc part.conds is.more_conds of_path.more;
-    }
-
-    asked_there : (a : PureAtom) → IsTraced p m stands terms asked start earlier a → IsAskedOnTheWay p m stands terms asked f q k a
-    asked_there a (inl first) = absurd (subst (IsAmong a) begins.conds first)
-    asked_there a (inr (inl inside)) = inl inside
-    asked_there a (inr (inr own)) =
-        let (part, (is, has)) = part_of k earlier path trail short a own in
-        inr (inl (record { path = part; on_the_way = on_the_way part is; describes = describes k path part is; own = has }))
-
-    pub conds_traced : Each (IsAskedOnTheWay p m stands terms asked f q k) path.conds
-    conds_traced = each_to (IsTraced p m stands terms asked start earlier) (IsAskedOnTheWay p m stands terms asked f q k) path.conds asked_there (laws.keep.traced start path earlier trail)
-
-    start_assumes : Each (λ a. IsAmong a start.conds) start.given
-    start_assumes = subst (Each (λ a. IsAmong a start.conds)) (sym begins.given) tt
-
-    pub given_traced : Each (IsAskedOnTheWay p m stands terms asked f q k) path.given
-    given_traced = each_to (λ a. IsAmong a path.conds) (IsAskedOnTheWay p m stands terms asked f q k) path.given
-        (λ a among. one_with (IsAskedOnTheWay p m stands terms asked f q k) (λ b. b ≡ a) path.conds conds_traced among (λ b is same. subst (IsAskedOnTheWay p m stands terms asked f q k) same is))
-        (laws.keep.assumed start path earlier trail start_assumes)
-
   -- ---- undecided
 
   closed_first : (a b : List PureAtom) → has_open (a ++ b) ≡ false → has_open a ≡ false
@@ -238,17 +127,31 @@ module _ {S : Type 0} (p : PureParts) (m : Actions) (stands : S → List PureVal
     abbrev query_of : Place → List PureAtom → ℕ → PureQuery
     query_of place atoms i = record { place = place; path = path.choices; vars = path.vars; given = path.given; query = atoms; outside = i }
 
+    abbrev pub way_of : (place : Place) (atoms : List PureAtom) (i : ℕ) → IsWay p m stands terms asked f (query_of place atoms i) (length rest)
+    way_of place atoms i = record {
+      start = start;
+      first = begins.first;
+      earlier = rest;
+      last = before;
+      trail = trail;
+      steps = refl;
+      next = path;
+      leads = next;
+      vars = refl;
+      choices = refl;
+      given = refl;
+    }
+
+    -- the start has no condition, so each one is in the fragment or own to a command
+    traced_there : (a : PureAtom) → IsTraced p m stands terms asked start (before ∷ rest) a → InFragment (a ∷ []) ⊎ OneOf (λ part. IsOwnAt stands terms asked m p part a) (before ∷ rest)
+    traced_there a (inl first) = absurd (subst (IsAmong a) begins.first.conds first)
+    traced_there a (inr either) = either
+
     module _ (place : Place) (more : List PureAtom) (i : ℕ) (inputs : List PureValue) (come : ComesAlong p m f inputs (length rest) place path.choices)
         (more_holds : (us v : List PureValue) → HaveValuation path.vars us v → IsTrue (all_true v path.conds) → IsTrue (all_true v more))
-        (more_traced : Each (IsAskedOnTheWay p m stands terms asked f (query_of place (path.conds ++ more) i) (length rest)) more) (outside : IsOutsideAt (path.conds ++ more) i) where
+        (asks : AsksAlong p m stands terms asked f (query_of place (path.conds ++ more) i) (length rest) (way_of place (path.conds ++ more) i)) (outside : IsOutsideAt (path.conds ++ more) i) where
       abbrev q : PureQuery
       q = query_of place (path.conds ++ more) i
-
-      of_path : IsQueryOf path q
-      of_path = record { vars = refl; choices_are = refl; more = more; query = refl }
-
-      short : length (before ∷ rest) ≤ suc (length rest)
-      short = omega arith
 
       pub is_undecided : (keeps_plain : Type 0) → (keeps_plain → MeetsOther p m f inputs (length rest)) → IsUndecided p m stands terms asked keeps_plain f n q
       is_undecided keeps_plain others = record {
@@ -263,8 +166,11 @@ module _ {S : Type 0} (p : PureParts) (m : Actions) (stands : S → List PureVal
             both_true v path.conds more meets (more_holds us v has meets);
         leads = λ closed us v has given whole.
             leads_along p m stands terms asked plain laws f start begins before rest path next trail how ending us v has (first_true v path.conds more whole) (inr (closed_first path.conds more closed));
-        query_traced = each_append (IsAskedOnTheWay p m stands terms asked f q (length rest)) path.conds more (conds_traced (length rest) (before ∷ rest) path (next, trail) short q of_path) more_traced;
-        given_traced = given_traced (length rest) (before ∷ rest) path (next, trail) short q of_path;
+        way = way_of place (path.conds ++ more) i;
+        asks = asks;
+        conds_traced = each_to (IsTraced p m stands terms asked start (before ∷ rest)) (λ a. InFragment (a ∷ []) ⊎ OneOf (λ part. IsOwnAt stands terms asked m p part a) (before ∷ rest)) path.conds traced_there
+            (laws.keep.traced start path (before ∷ rest) (next, trail));
+        given_allowed = laws.keep.allowed start path (before ∷ rest) (next, trail) begins.first.given;
         outside = outside;
       }
 

@@ -8,7 +8,7 @@ use Rattle.gil_values.specs.declared.places.Place.{Place}
 use Rattle.gil_values.specs.Pure.{PureValue, text}
 use Rattle.gil_syntax.specs.Pure.{PureParts}
 use Rattle.gil_machine.specs.Run.{reached, run, test_run, IsEntry, IsBug}
-use Rattle.gil_machine.specs.State.{State, Ending, End, IsOver, IsFailed, Step, goes_on, ends}
+use Rattle.gil_machine.specs.State.{State, Ending, End, IsOver, IsFailed, ends}
 use Rattle.gil_machine.specs.State as machine
 use Rattle.gil_machine.specs.Step.{step}
 use Rattle.mem_model.specs.Actions.{Actions}
@@ -29,6 +29,7 @@ use Rattle.sym_model.specs.Lists.{Each}
 use Rattle.sym_model.specs.Terms.{StateTerms, AreEachOver}
 use Rattle.sym_model.proofs.ListLaws.{same_some, not_none, each_at}
 use Rattle.sym_paths.specs.Meaning.{StandsForEnd, end_terms}
+use Rattle.sym_paths.specs.Origins.{IsText}
 use Rattle.sym_paths.specs.Pure.{PureEnd, returned, failed, missed, vanished, cut, unknown, PurePath}
 use Rattle.sym_paths.specs.Steps.{Extends, IsUnknown, IsRightlyUnknown, place_of, IsPlainPath}
 use Rattle.sym_test.specs.Canonical.{HaveValuation, draws_among}
@@ -112,7 +113,7 @@ module _ {S : Type 0} (p : PureParts) (m : Actions) (stands : S → List PureVal
         no_cut_there (inl stands_after) =
             let (t, (d, (ends_there, stood_there))) = subst (StandsAfter p m stands inputs s0 start path u path.steps) ending stands_after in
             laws.replay.never_cut inputs [] u s0 start from.earlier path
-            (record { trail = from.trail; going = begins.going; over = begins.over; stands_for = begins.stands_for; follows = ext })
+            (record { trail = from.trail; going = begins.first.going; over = begins.over; stands_for = begins.stands_for; follows = ext })
             (record { proper = stood_there.proper; true_there = stood_there.meets }) ending
   cut_is_no_failure path (inr (last, (from, going, steps, same))) ending inputs v s e accounts after is stood fails_there =
       let at_bound : path.steps ≡ n = ap (λ (q : PurePath S). q.steps) same ∙ steps in
@@ -184,7 +185,7 @@ module _ {S : Type 0} (p : PureParts) (m : Actions) (stands : S → List PureVal
     trail : IsTrail p m stands terms asked start rest before
 
   last_step : (path : PurePath S) (how : PureEnd) (earlier : List (PurePath S)) → IsTrail p m stands terms asked start earlier path → path.ending ≡ Some how → LastStep path earlier
-  last_step path how [] same ending = not_none (sym begins.going ∙ ap (λ (q : PurePath S). q.ending) (sym same) ∙ ending)
+  last_step path how [] same ending = not_none (sym begins.first.going ∙ ap (λ (q : PurePath S). q.ending) (sym same) ∙ ending)
   last_step path how (before ∷ rest) (next, trail) ending = record { before = before; rest = rest; is = refl; next = next; trail = trail }
 
   -- ---- where every command on the way has a simple form
@@ -201,7 +202,7 @@ module _ {S : Type 0} (p : PureParts) (m : Actions) (stands : S → List PureVal
   -- no path is unknown, no condition is outside, and no failing term has another form
   refutes_unknown : (path : PurePath S) (from : From path) → keeps_plain → Each (IsAtSimple p) from.earlier → IsUnknown path.ending → ⊥
   refutes_unknown path from keeps simple =
-      stays.known start path from.earlier 0 from.trail (from.simple keeps) simple (narrow_there path from) begins.starts_plain (λ holds. subst IsUnknown begins.going holds)
+      stays.known start path from.earlier 0 from.trail (from.simple keeps) simple (narrow_there path from) begins.starts_plain (λ holds. subst IsUnknown begins.first.going holds)
 
   refutes_list : (path : PurePath S) (from : From path) → keeps_plain → Each (IsAtSimple p) from.earlier → (q : PureQuery) → IsListOutside (lists_of path) q → ⊥
   refutes_list path from keeps simple q list =
@@ -220,7 +221,7 @@ module _ {S : Type 0} (p : PureParts) (m : Actions) (stands : S → List PureVal
       → (keeps_plain → MeetsOther p m f us (length last.rest)) → IsOutsideAt path.conds i → Undecided (about path place path.conds i)
   own_list path how from ending last place i us come others outside =
       subst (λ atoms. Undecided (about path place atoms i)) (append-nil path.conds)
-      (is_undecided p m stands terms asked plain laws f start begins n entry last.before last.rest path last.next last.trail how ending from.within place [] i us come (λ vs v has meets. refl) tt
+      (is_undecided p m stands terms asked plain laws f start begins n entry last.before last.rest path last.next last.trail how ending from.within place [] i us come (λ vs v has meets. refl) (inl (append-nil path.conds))
       (subst (λ atoms. IsOutsideAt atoms i) (sym (append-nil path.conds)) outside) keeps_plain others)
 
   -- a run meets a command of another form, where simple commands alone are impossible
@@ -277,6 +278,11 @@ module _ {S : Type 0} (p : PureParts) (m : Actions) (stands : S → List PureVal
         let (w, (val, is)) = stood.ending in
         (s, (e, (w, (after, val, is))))
 
+    -- a text is narrow
+    not_text : is_narrow_term t ≡ false → {X : Type 0} → IsText t ⊎ X → X
+    not_text wide_one (inl (why, is)) = absurd (true≢false (sym (ap is_narrow_term is) ∙ wide_one))
+    not_text wide_one (inr from) = from
+
     has_value : (us v : List PureValue) → HaveValuation path.vars us v → IsTrue (all_true v path.conds) → IsTrue (all_true v (opening t ∷ []))
     has_value us v has meets =
         let (s, (e, (w, (after, val, is)))) = fails_with us v has meets in
@@ -307,21 +313,29 @@ module _ {S : Type 0} (p : PureParts) (m : Actions) (stands : S → List PureVal
         let not_narrow : is_narrow_term t ≡ false = not_narrow_by (is_narrow_term t) refl wide.leaves.wide in
         is_about path place q atoms (length path.conds) is wide.query wide.outside
         (is_undecided p m stands terms asked plain laws f start begins n entry last.before last.rest path last.next last.trail (failed t place) ending from.within place (opening t ∷ []) (length path.conds) us come
-        has_value (
-          inr (inr (record {
-            term = t;
-            asks = refl;
-            fails = λ us v s has whole reach.
-                let meets : IsTrue (all_true v path.conds) = (and_parts (all_true v path.conds) (all_true v (opening t ∷ [])) (sym (list_all-append (truth v) path.conds (opening t ∷ [])) ∙ whole)).0 in
-                let (r, (e, (w, (after, val, fails_so)))) = fails_with us v has meets in
-                (w, (e, (val, at_last us s r e w reach after fails_so, fails_so)));
-            not_narrow = not_narrow;
-            met = wide.leaves.valuation;
-            meets = met;
-            wide = wide.leaves.wide;
-          })),
-          tt,
-        )
+        has_value
+        (inr (
+          opening t,
+          (
+            refl,
+            record {
+              term = t;
+              asks = refl;
+              ending = ending;
+              command = last.next.at_command.0;
+              at = last.next.at_command.1;
+              from = not_text not_narrow (last.next.origin.failing last.next.at_command.0 t place last.next.at_command.1 ending);
+              fails = λ us v s has whole reach.
+                  let meets : IsTrue (all_true v path.conds) = (and_parts (all_true v path.conds) (all_true v (opening t ∷ [])) (sym (list_all-append (truth v) path.conds (opening t ∷ [])) ∙ whole)).0 in
+                  let (r, (e, (w, (after, val, fails_so)))) = fails_with us v has meets in
+                  (w, (e, (val, at_last us s r e w reach after fails_so, fails_so)));
+              not_narrow = not_narrow;
+              met = wide.leaves.valuation;
+              meets = met;
+              wide = wide.leaves.wide;
+            },
+          ),
+        ))
         (open_is_outside path.conds t wide.inside) keeps_plain
         (others_of path from last us either (λ keeps simple. true≢false (sym (refutes_term path from keeps simple t place ending) ∙ not_narrow)))) where
           not_narrow_by : (b : Bool) → is_narrow_term t ≡ b → IsTrue (has_wide_part wide.leaves.valuation t) → is_narrow_term t ≡ false
@@ -392,7 +406,7 @@ module _ {S : Type 0} (p : PureParts) (m : Actions) (stands : S → List PureVal
       let (v, (ext, sat)) = met_by path how ending inputs accounts in
       let last = last_step path how from.earlier from.trail ending in
       let along : IsBeside p m stands terms asked inputs [] v s0 start (last.before ∷ last.rest) path =
-      record { trail = (last.next, last.trail); going = begins.going; over = begins.over; stands_for = begins.stands_for; follows = ext } in
+      record { trail = (last.next, last.trail); going = begins.first.going; over = begins.over; stands_for = begins.stands_for; follows = ext } in
       let (w, (along_before, sat_before)) = laws.end_before inputs [] v s0 start last.before path last.rest along sat in
       ⊎_elim
       (λ simple. subst (Each (IsAtSimple p)) (sym last.is) simple)

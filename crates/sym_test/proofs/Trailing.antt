@@ -31,10 +31,6 @@ use Rattle.sym_test.specs.Judged.{Begins}
 use Rattle.sym_test.specs.Undecided.{first_state, ComesAlong, IsAlong}
 use Rattle.sym_test.proofs.Canonicals.{as_many_draws, some_canonical}
 
-none_of : {X : Type 0} (xs : List X) → 0 ≡ length xs → xs ≡ []
-none_of [] is = refl
-none_of (x ∷ xs) is = absurd (omega (arith, is))
-
 is_some_of : {X : Type 0} (o : Option X) (x : X) → o ≡ Some x → IsSome o
 is_some_of o x is = ap is_some is
 
@@ -103,21 +99,15 @@ module _ {S : Type 0} (p : PureParts) (m : Actions) (stands : S → List PureVal
   abbrev IsTrailOf : List (PurePath S) → PurePath S → Type 0
   IsTrailOf = IsTrail p m stands terms asked start
 
-  no_vars : start.vars ≡ []
-  no_vars = none_of start.vars begins.stands_for.proper.one_each
-
-  no_draws : start.drawn ≡ []
-  no_draws = none_of start.drawn begins.stands_for.draws
-
   -- ---- what holds by the trail alone
 
   pub new_sorts : (earlier : List (PurePath S)) (path : PurePath S) → IsTrailOf earlier path → Each IsNewSort path.vars
-  new_sorts [] path trail = subst (λ (q : PurePath S). Each IsNewSort q.vars) (sym trail) (subst (Each IsNewSort) (sym no_vars) tt)
+  new_sorts [] path trail = subst (λ (q : PurePath S). Each IsNewSort q.vars) (sym trail) (subst (Each IsNewSort) (sym begins.first.vars) tt)
   new_sorts (before ∷ earlier) path (next, trail) =
       subst (Each IsNewSort) (sym next.growth.vars) (each_append IsNewSort before.vars next.growth.new_vars (new_sorts earlier before trail) next.growth.sorts)
 
   draws_counted : (earlier : List (PurePath S)) (path : PurePath S) → IsTrailOf earlier path → length path.drawn ≡ draw_count path.vars
-  draws_counted [] path trail = subst (λ (q : PurePath S). length q.drawn ≡ draw_count q.vars) (sym trail) (ap length no_draws ∙ ap draw_count (sym no_vars))
+  draws_counted [] path trail = subst (λ (q : PurePath S). length q.drawn ≡ draw_count q.vars) (sym trail) (ap length begins.first.drawn ∙ ap draw_count (sym begins.first.vars))
   draws_counted (before ∷ earlier) path (next, trail) =
       let had : length before.drawn ≡ draw_count before.vars = draws_counted earlier before trail in
       let drawn : length path.drawn ≡ length before.drawn + length (drawn_from (length before.vars) next.growth.new_vars) =
@@ -131,7 +121,7 @@ module _ {S : Type 0} (p : PureParts) (m : Actions) (stands : S → List PureVal
   inputs_counted earlier path v trail same = draws_counted earlier path trail ∙ sym (drawn_length 0 path.vars) ∙ sym (as_many_draws 0 path.vars v same)
 
   pub steps_counted : (earlier : List (PurePath S)) (path : PurePath S) → IsTrailOf earlier path → path.steps ≡ length earlier
-  steps_counted earlier path trail = laws.keep.steps start path earlier trail ∙ ap (λ n. n + length earlier) begins.steps ∙ zero-plus (length earlier) where
+  steps_counted earlier path trail = laws.keep.steps start path earlier trail ∙ ap (λ n. n + length earlier) begins.first.steps ∙ zero-plus (length earlier) where
     zero-plus : (n : ℕ) → 0 + n ≡ n
     zero-plus n = omega arith
 
@@ -158,13 +148,13 @@ module _ {S : Type 0} (p : PureParts) (m : Actions) (stands : S → List PureVal
       → IsBeside p m stands terms asked inputs [] v (first_state p f) start earlier path
   beside inputs earlier path v trail has = record {
     trail = trail;
-    going = begins.going;
+    going = begins.first.going;
     over = begins.over;
     stands_for = begins.stands_for;
     follows = record {
       new_vars = path.vars;
       new_values = v;
-      vars = ap (λ xs. xs ++ path.vars) (sym no_vars);
+      vars = ap (λ xs. xs ++ path.vars) (sym begins.first.vars);
       values = refl;
       in_turn = has.in_turn;
     };
@@ -177,7 +167,7 @@ module _ {S : Type 0} (p : PureParts) (m : Actions) (stands : S → List PureVal
 
   -- its choices are those that the run makes
   chosen_of : (inputs : List PureValue) (n : ℕ) (path : PurePath S) → MakesChoices p m inputs (first_state p f) start n path → path.choices ≡ choices p m inputs n (first_state p f)
-  chosen_of inputs n path made = made ∙ ap (λ xs. xs ++ choices p m inputs n (first_state p f)) begins.choices
+  chosen_of inputs n path made = made ∙ ap (λ xs. xs ++ choices p m inputs n (first_state p f)) begins.first.choices
 
   -- ---- the last step of a path that has an end
 
@@ -194,14 +184,16 @@ module _ {S : Type 0} (p : PureParts) (m : Actions) (stands : S → List PureVal
         let (s, at) = subst (StandsAfter p m stands inputs (first_state p f) start before v k) next.going (laws.replay.stands_after inputs [] v (first_state p f) start rest before along sat known) in
         let made = (laws.replay.chooses inputs [] v (first_state p f) start rest before along sat (inl known)).0 in
         let (c, at_c) = next.at_command in
+        let (last, (chosen, may, goes)) = next.recorded.choice c at_c in
         let stands_there : command_at p s.current ≡ Some c = sym (stands_at p v before.stack s at.stands_for.frames) ∙ at_c in
         record {
           state = s;
           command = c;
           stands = record { comes = at.comes_to; at = stands_there };
           at_place = placed s c at.stands_for at.comes_to stands_there;
-          last = next.growth.chosen;
-          chosen = next.growth.choices ∙ ap (λ xs. xs ++ with_choice next.growth.chosen []) (chosen_of inputs k before made);
+          last = last;
+          may = may;
+          chosen = chosen ∙ ap (λ xs. xs ++ with_choice last []) (chosen_of inputs k before made);
         }
 
     comes_to_last : (inputs : List PureValue) (s : State) → reached p m inputs k (first_state p f) ≡ Some s → ComesTo p m inputs (first_state p f) (suc k) path.ending
@@ -210,7 +202,7 @@ module _ {S : Type 0} (p : PureParts) (m : Actions) (stands : S → List PureVal
     pub given_meets : (inputs v : List PureValue) → HaveValuation path.vars inputs v → IsAlong p m f inputs k path.choices → IsTrue (all_true v path.given) → IsTrue (all_true v path.conds)
     given_meets inputs v has along given =
         laws.hold_along inputs [] v (first_state p f) start (before ∷ rest) path (beside inputs (before ∷ rest) path v (next, trail) has) (record { proper = has.proper; true_there = given })
-        (sym along.chosen ∙ ap (λ xs. xs ++ choices p m inputs (suc k) (first_state p f)) (sym begins.choices)) (comes_to_last inputs along.state along.comes)
+        (sym along.chosen ∙ ap (λ xs. xs ++ choices p m inputs (suc k) (first_state p f)) (sym begins.first.choices)) (comes_to_last inputs along.state along.comes)
 
     pub leads_along : (inputs v : List PureValue) → HaveValuation path.vars inputs v → IsTrue (all_true v path.conds) → (¬ IsUnknown path.ending) ⊎ (has_open path.conds ≡ false) → IsAlong p m f inputs k path.choices
     leads_along inputs v has meets either =

@@ -68,8 +68,8 @@ module _ {S : Type 0} (p : PureParts) (m : Actions) (stands : S → List PureVal
     [],
     (
       record { new_vars = []; new_values = []; vars = sym (append-nil start.vars); values = refl; in_turn = tt },
-      inl (subst (λ k. StandsAfter p m stands inputs s0 start start [] k start.ending) (sym begins.steps)
-          (subst (StandsAfter p m stands inputs s0 start start [] 0) (sym begins.going)
+      inl (subst (λ k. StandsAfter p m stands inputs s0 start start [] k start.ending) (sym begins.first.steps)
+          (subst (StandsAfter p m stands inputs s0 start start [] 0) (sym begins.first.going)
           (s0, record { comes_to = refl; stands_for = begins.stands_for; symbols = refl; draws = refl }))),
     ),
   )
@@ -79,7 +79,7 @@ module _ {S : Type 0} (p : PureParts) (m : Actions) (stands : S → List PureVal
     start = start;
     begins = begins;
     may = (may, tt);
-    from = (record { earlier = []; trail = refl; within = (let none : start.steps ≡ 0 = begins.steps in omega (arith, none)); simple = λ keeps. tt }, tt);
+    from = (record { earlier = []; trail = refl; within = (let none : start.steps ≡ 0 = begins.first.steps in omega (arith, none)); simple = λ keeps. tt }, tt);
     cover = λ none inputs fails_there. inl (start_accounts start begins inputs);
     simple_cover = λ keeps inputs fails_so. inl (start_accounts start begins inputs);
     asks = tt;

@@ -18,7 +18,7 @@ use Rattle.pure_terms.specs.Wide.{has_wide_part}
 use Rattle.sym_explore.specs.Runs.{AccountsFor}
 use Rattle.sym_model.specs.Lists.{Each}
 use Rattle.sym_model.specs.Terms.{StateTerms}
-use Rattle.sym_paths.specs.Meaning.{Stands, IsOverTable}
+use Rattle.sym_paths.specs.Meaning.{Stands, IsOverTable, IsFirstPath}
 use Rattle.sym_paths.specs.Pure.{PureEnd, failed, missed, unknown, PurePath}
 use Rattle.sym_paths.specs.Steps.{IsNewSort, IsUnknown, place_of, IsPlainPath}
 use Rattle.pure_terms.specs.View.{atoms_view}
@@ -34,11 +34,7 @@ pub record Begins {S : Type 0} (p : PureParts) (stands : S → List PureValue �
     (plain : S → ℤ → ℤ → Type 0) (f : List ℕ) (path : PurePath S) : Type 0 where
   pub stands_for : Stands stands path [] (first_state p f)
   pub over : IsOverTable terms path
-  pub steps : path.steps ≡ 0
-  pub going : path.ending ≡ None
-  pub choices : path.choices ≡ []
-  pub conds : path.conds ≡ []
-  pub given : path.given ≡ []
+  pub first : IsFirstPath stands terms f path
   pub starts_plain : IsPlainPath plain 0 path
 
 -- ---- what is said of a path

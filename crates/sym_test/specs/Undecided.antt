@@ -1,5 +1,5 @@
 -- What a verdict promises: a bug, clean, or undecided. Bugs and clean are those of Gillian, Part I (PLDI 2020).
-use Rattle.std.specs.Prelude.{◌≡◌, ◌⊎◌, ℕ, suc, ◌<◌, ◌≤◌, ◌^◌, pos, neg_ℤ, List, [], ◌∷◌, ◌++◌, Bool, false, not, ◌&&◌, ◌||◌, Option, Some, IsTrue, ⊤}
+use Rattle.std.specs.Prelude.{◌≡◌, ◌⊎◌, ℕ, suc, ◌<◌, ◌≤◌, ◌^◌, pos, neg_ℤ, List, [], ◌∷◌, ◌++◌, length, Bool, false, not, ◌&&◌, ◌||◌, Option, Some, IsTrue, ⊤}
 use Rattle.std.specs.FinMap.{empty}
 use Rattle.gil_values.specs.declared.places.Place.{Place}
 use Rattle.gil_values.specs.Pure.{PureValue}
@@ -12,18 +12,20 @@ use Rattle.gil_machine.specs.Step.{command_at, step}
 use Rattle.mem_model.specs.Actions.{Actions}
 use Rattle.mem_model.specs.Heaps.{Heap}
 use Rattle.pure_terms.specs.declared.deciders.Reason.{Reason}
-use Rattle.pure_terms.specs.declared.variables.Sort.{Sort}
 use Rattle.pure_terms.specs.Fragment.{is_simple, has_literals_between, has_fragment_form, has_narrow_literals, InFragment}
 use Rattle.pure_terms.specs.Meaning.{value, all_true, Satisfies}
 use Rattle.pure_terms.specs.Pure.{PureTerm, PureAtom, opening}
 use Rattle.pure_terms.specs.Wide.{has_wide_part}
 use Rattle.sym_engine.specs.Lawful.{IsOwnAt}
-use Rattle.sym_model.specs.Lists.{Each}
+use Rattle.sym_explore.specs.Trails.{IsNextPath, IsTrail, MayBeAssumedAt}
+use Rattle.sym_model.specs.Lists.{Each, OneOf}
 use Rattle.sym_model.specs.Meaning.{has_open}
 use Rattle.sym_model.specs.Terms.{StateTerms}
-use Rattle.sym_paths.specs.Meaning.{Stands}
+use Rattle.sym_paths.specs.Meaning.{command_of_path, IsFirstPath}
+use Rattle.sym_paths.specs.Origins.{IsFailing}
 use Rattle.sym_paths.specs.Pure.{PurePath}
-use Rattle.sym_paths.specs.Steps.{place_of, IsFirstOutside}
+use Rattle.sym_paths.specs.Pure as path_end
+use Rattle.sym_paths.specs.Steps.{place_of, IsFirstOutside, MayChoose}
 use Rattle.sym_test.specs.Canonical.{HaveValuation}
 use Rattle.sym_test.specs.View.{PureQuery, PureVerdict, bug, clean, unknown}
 
@@ -39,13 +41,15 @@ module _ (p : PureParts) (m : Actions) (f : List ℕ) where
     pub comes : reached p m inputs k (first_state p f) ≡ Some state
     pub at : command_at p state.current ≡ Some c
 
-  -- After exactly k steps the run stands at the command of the place, and has made the choices, or all of them but the last.
+  -- After exactly k steps the run stands at the command of the place, and has made the choices, or all of them but the last, which is one
+  -- that the command has.
   pub record ComesAlong (inputs : List PureValue) (k : ℕ) (place : Place) (path : List ℕ) : Type 0 where
     pub state : State
     pub command : PureNumberedCommand
     pub stands : StandsAtCommand inputs k state command
     pub at_place : place ≡ record { proc = state.current.procedure; at = command.at }
     pub last : Option ℕ
+    pub may : MayChoose command.command last
     pub chosen : path ≡ choices p m inputs k (first_state p f) ++ with_choice last []
 
   -- the run does k steps, and with the choice of the command at which it stands then, if it makes one, these are its choices
@@ -76,46 +80,53 @@ is_narrow_term t = is_simple t && has_literals_between (neg_ℤ (pos (2 ^ 80))) 
 
 module _ {S : Type 0} (p : PureParts) (m : Actions) (stands : S → List PureValue → Heap → Type 0) (terms : S → StateTerms)
     (asked : List ℕ → List PureTerm → List PureTerm) (f : List ℕ) where
-  -- The path says what runs come to: with inputs whose valuation meets its conditions, of which there are some, a run comes after its
-  -- steps to a state for which it stands.
-  pub record Describes (path : PurePath S) : Type 0 where
-    pub met : (v : List PureValue) × Satisfies path.vars v path.conds
-    pub comes : (inputs v : List PureValue) → HaveValuation path.vars inputs v → IsTrue (all_true v path.conds)
-        → (s : State) × ((reached p m inputs path.steps (first_state p f) ≡ Some s) × Stands stands path v s)
+  -- The way of a query: k steps from the first path of the test lead to a path, and one more to the next path, whose variables and choices
+  -- are the query's, as is what it assumes.
+  pub record IsWay (q : PureQuery) (k : ℕ) : Type 0 where
+    pub start : PurePath S
+    pub first : IsFirstPath stands terms f start
+    pub earlier : List (PurePath S)
+    pub last : PurePath S
+    pub trail : IsTrail p m stands terms asked start earlier last
+    pub steps : length earlier ≡ k
+    pub next : PurePath S
+    pub leads : IsNextPath p m stands terms asked last next
+    pub vars : q.vars ≡ next.vars
+    pub choices : q.path ≡ next.choices
+    pub given : q.given ≡ next.given
 
-  -- The path lies on the way to the query: it has the first ones of the variables, of the choices and of the conditions, and at most k steps.
-  pub record IsOnTheWay (q : PureQuery) (k : ℕ) (path : PurePath S) : Type 0 where
-    pub within : path.steps ≤ k
-    pub more_vars : List Sort
-    pub vars : q.vars ≡ path.vars ++ more_vars
-    pub more_choices : List ℕ
-    pub choices : q.path ≡ path.choices ++ more_choices
-    pub more_conds : List PureAtom
-    pub conds : q.query ≡ path.conds ++ more_conds
+  module _ (q : PureQuery) (k : ℕ) (way : IsWay q k) where
+    -- Traced: the atom is in the fragment by itself, or own to a command of the way.
+    abbrev pub IsTraced : PureAtom → Type 0
+    IsTraced a = InFragment (a ∷ []) ⊎ OneOf (λ path. IsOwnAt stands terms asked m p path a) (way.last ∷ way.earlier)
 
-  -- Own to a command: the atom is one that the command asks at which a path on the way stands.
-  pub record IsOwnOnTheWay (q : PureQuery) (k : ℕ) (a : PureAtom) : Type 0 where
-    pub path : PurePath S
-    pub on_the_way : IsOnTheWay q k path
-    pub describes : Describes path
-    pub own : IsOwnAt stands terms asked m p path a
+    -- a command of the way may assume the atom
+    abbrev pub IsAssumed : PureAtom → Type 0
+    IsAssumed a = OneOf (λ path. MayBeAssumedAt p m stands terms asked path a) (way.last ∷ way.earlier)
 
-  -- The atom is that a failing value has its literal form: runs along the path fail at the place with the value of a term that isn't simple
-  -- with narrow literals, and that has a part which leaves 128 bits under a valuation that meets the other conditions.
-  pub record IsWideFailure (q : PureQuery) (k : ℕ) (a : PureAtom) : Type 0 where
-    pub term : PureTerm
-    pub asks : a ≡ opening term
-    pub fails : (inputs v : List PureValue) (s : State) → HaveValuation q.vars inputs v → IsTrue (all_true v q.query)
-        → (reached p m inputs k (first_state p f) ≡ Some s)
-        → (w : PureValue) × ((e : End) × ((value v term ≡ Some w) × (step p m inputs s ≡ ends e) × (e.ending ≡ failed w q.place)))
-    pub not_narrow : is_narrow_term term ≡ false
-    pub met : List PureValue
-    pub meets : Satisfies q.vars met q.query
-    pub wide : IsTrue (has_wide_part met term)
+    -- The atom is that a failing value has its literal form. The next path fails at the place with a term that is from the expression of
+    -- `fail`, or an action's answer; runs along the path fail there with its value; it isn't simple with narrow literals, and has a part
+    -- which leaves 128 bits under a valuation that meets the other conditions.
+    pub record IsWideFailure (a : PureAtom) : Type 0 where
+      pub term : PureTerm
+      pub asks : a ≡ opening term
+      pub ending : way.next.ending ≡ Some (path_end.failed term q.place)
+      pub command : PureNumberedCommand
+      pub at : command_of_path p way.last ≡ Some command
+      pub from : IsFailing m terms way.last command.command term
+      pub fails : (inputs v : List PureValue) (s : State) → HaveValuation q.vars inputs v → IsTrue (all_true v q.query)
+          → (reached p m inputs k (first_state p f) ≡ Some s)
+          → (w : PureValue) × ((e : End) × ((value v term ≡ Some w) × (step p m inputs s ≡ ends e) × (e.ending ≡ failed w q.place)))
+      pub not_narrow : is_narrow_term term ≡ false
+      pub met : List PureValue
+      pub meets : Satisfies q.vars met q.query
+      pub wide : IsTrue (has_wide_part met term)
 
-  -- Traced: the atom is in the fragment by itself, or own to a command of the way.
-  abbrev pub IsTraced : PureQuery → ℕ → PureAtom → Type 0
-  IsTraced q k a = InFragment (a ∷ []) ⊎ (IsOwnOnTheWay q k a ⊎ IsWideFailure q k a)
+    -- what is asked are the conditions of the next path, and maybe that a failing value has its literal form
+    abbrev pub AsksAlong : Type 0
+    AsksAlong =
+        (q.query ≡ way.next.conds)
+        ⊎ ((a : PureAtom) × ((q.query ≡ way.next.conds ++ a ∷ []) × IsWideFailure a))
 
 -- the atom has no form of the fragment, or a literal outside its range
 abbrev pub keeps_out : PureAtom → Bool
@@ -131,7 +142,9 @@ IsOutsideAt atoms i = (¬ InFragment atoms) × ((reason : Reason) × (IsFirstOut
 --   come: so no place or path is invented;
 --   not_simple: so no program is left undecided whose commands are all of simple form;
 --   given_suffices and leads: what is asked is what decides whether the run goes along the path, no more and no less;
---   traced: so no atom is asked that no command asks;
+--   way: so each term comes from the commands on the way, and not from another one with the same values;
+--   asks and conds_traced: so no atom is asked that no command asks;
+--   given_allowed: so nothing is assumed but what the commands ask of their operands and the memory of its chunks;
 --   outside: so no list is handed out that a decider would have decided.
 pub record IsUndecided {S : Type 0} (p : PureParts) (m : Actions) (stands : S → List PureValue → Heap → Type 0) (terms : S → StateTerms)
     (asked : List ℕ → List PureTerm → List PureTerm) (keeps_plain : Type 0) (f : List ℕ) (n : ℕ) (q : PureQuery) : Type 0 where
@@ -145,8 +158,10 @@ pub record IsUndecided {S : Type 0} (p : PureParts) (m : Actions) (stands : S �
       → IsTrue (all_true v q.given) → IsTrue (all_true v q.query)
   pub leads : has_open q.query ≡ false → (inputs v : List PureValue) → HaveValuation q.vars inputs v → IsTrue (all_true v q.given)
       → IsTrue (all_true v q.query) → IsAlong p m f inputs k q.path
-  pub query_traced : Each (IsTraced p m stands terms asked f q k) q.query
-  pub given_traced : Each (IsTraced p m stands terms asked f q k) q.given
+  pub way : IsWay p m stands terms asked f q k
+  pub asks : AsksAlong p m stands terms asked f q k way
+  pub conds_traced : Each (IsTraced p m stands terms asked f q k way) way.next.conds
+  pub given_allowed : Each (IsAssumed p m stands terms asked f q k way) q.given
   pub outside : IsOutsideAt q.query q.outside
 
 -- ---- verdicts

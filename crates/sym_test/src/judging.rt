@@ -27,7 +27,7 @@ use pure_terms::{
 };
 use std::alloc::{AllocError, Global};
 use sym_model::SymMemory;
-use sym_paths::{Path, PathEnd};
+use sym_paths::{Ended, Path, PathEnd};
 
 /// What is said of a path that has ended.
 #[derive(Debug, Drop)]
@@ -219,62 +219,25 @@ pub(crate) fn judge<M: SymMemory, D: Decider>(
     requires { MayBeJudged M.terms (path_view path) }
     ensures { IfOk result (λ j. IsJudgedEnd (path_view path) (option_map end_view path.end) (judgement_view j)) }
 {
-    let Path {
+    let Ended {
         vars,
         conds,
         given,
         choices,
         end,
-        stack: _,
-        memory: _,
-        drawn: _,
-        steps: _,
-    } = path;
+    } = path.into_ended();
+    let lists = Lists {
+        vars,
+        choices,
+        given,
+        conds,
+    };
     match end {
         None | Some(PathEnd::Returned(_) | PathEnd::Vanished | PathEnd::Cut) => Ok(
             Judgement::Harmless,
         ),
-        Some(PathEnd::Failed(term, place)) => {
-            let conds = conds.into_atoms();
-            judge_failure(
-                alloc,
-                decider,
-                Lists {
-                    vars,
-                    choices,
-                    given,
-                    conds,
-                },
-                term,
-                place,
-            )
-        }
-        Some(PathEnd::Missed(_, place)) => {
-            let conds = conds.into_atoms();
-            judge_miss(
-                alloc,
-                decider,
-                Lists {
-                    vars,
-                    choices,
-                    given,
-                    conds,
-                },
-                place,
-            )
-        }
-        Some(PathEnd::Unknown(place, reason)) => {
-            let conds = conds.into_atoms();
-            Ok(ask(
-                Lists {
-                    vars,
-                    choices,
-                    given,
-                    conds,
-                },
-                place,
-                number_of(reason),
-            ))
-        }
+        Some(PathEnd::Failed(term, place)) => judge_failure(alloc, decider, lists, term, place),
+        Some(PathEnd::Missed(_, place)) => judge_miss(alloc, decider, lists, place),
+        Some(PathEnd::Unknown(place, reason)) => Ok(ask(lists, place, number_of(reason))),
     }
 }

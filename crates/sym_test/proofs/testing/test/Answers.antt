@@ -27,14 +27,10 @@ loop-turn-init g c =
     let begins : Begins p stands terms plain c.args.proc.now start = record {
       stands_for = is.stands p;
       over = is.over;
-      steps = is.first;
-      going = ap (option_map _) is.open;
-      choices = is.nothing_chosen;
-      conds = is.no_condition;
-      given = is.nothing_assumed;
+      first = is.first;
       starts_plain = is.plain 0;
     } in
-    let may : MayGoOn p terms start = λ going few. c.starts_may_step.ensures p c.args.proc.now start c.args.prog.now.valid c.requires.entry begins.stands_for begins.over begins.steps going in
+    let may : MayGoOn p terms start = λ going few. c.starts_may_step.ensures p c.args.proc.now start c.args.prog.now.valid c.requires.entry begins.stands_for begins.over begins.first.steps going in
     subst (λ left. IsUnderWay p m stands terms asked plain keeps c.args.proc.now c.args.bound left None) (sym c.in_ok-exploration.ensures)
     (begins_so p m stands terms asked plain (trail_laws p m stands terms asked) keeps (plain_laws p m stands terms asked plain) c.args.proc.now c.args.bound c.requires.entry c.requires.bound start begins may)
 
