@@ -2,6 +2,7 @@ pub mod Assuming
 pub mod Binding
 pub mod Drawing
 pub mod FirstFrame
+pub mod Forms
 pub mod Growing
 pub mod Moving
 pub mod Origins

@@ -31,7 +31,7 @@ over_among : (vars : List Sort) (a : PureAtom) (atoms : List PureAtom) → Each 
 over_among vars a atoms over among = one_with (λ b. IsOver vars (term_of b)) (λ b. b ≡ a) atoms over among (λ b is_over is. subst (λ c. IsOver vars (term_of c)) is is_over)
 
 module _ {S : Type 0} (p : PureParts) (path : PurePath S) where
-  each_settled : (P : Candidate S → Type 0) (Q : PurePath S → Type 0) → ((c : Candidate S) (next : PurePath S) → P c → Stays p path c next → Q next)
+  pub each_settled : (P : Candidate S → Type 0) (Q : PurePath S → Type 0) → ((c : Candidate S) (next : PurePath S) → P c → Stays p path c next → Q next)
       → (cs : List (Candidate S)) (nexts : List (PurePath S)) → Each P cs → AreSettled p path cs nexts → Each Q nexts
   each_settled P Q go [] nexts all none = subst (Each Q) (sym none) tt
   each_settled P Q go (c ∷ cs) nexts all (inl dropped) = each_settled P Q go cs nexts all.1 dropped.1
