@@ -210,7 +210,7 @@ module _ {S : Type 0} (memory : MemoryName) (stands : S → List PureValue → H
     from : AreEachFrom (running_store path.stack) es g.result
     from = subst (OnResult (AreEachFrom (running_store path.stack) es)) is_good evaluated.origin.1
 
-    serves : (inputs v ws : List PureValue) (s : State) (args : List PureValue) → Stands stands path v s → AreNext inputs s.counter s.draws (taken takes) ws → IsProper vars' (v ++ ws) → HaveValues v g.result args
+    pub serves : (inputs v ws : List PureValue) (s : State) (args : List PureValue) → Stands stands path v s → AreNext inputs s.counter s.draws (taken takes) ws → IsProper vars' (v ++ ws) → HaveValues v g.result args
         → Serves stands terms vars' (v ++ ws) fresh g.result path.memory args s.heap
     serves inputs v ws s args is in_turn proper val = record {
       proper = proper;

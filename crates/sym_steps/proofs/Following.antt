@@ -114,7 +114,7 @@ module _ {X A : Type 0} where
   fault_says v Is (Ok a) cases i fc says at = each_at (λ c. all_true v c.conds ≡ false) cases.faults i fc says.1 at
   fault_says v Is (Err f) cases i fc says at = each_at (λ c. IsTaken v c → c.fault ≡ f) cases.faults i fc says.2 at
 
-  good_leads : (v : List PureValue) (Is : X → A → Type 0) (o : Result A Fault) (cases : PureCases X) (g : PureGoodCase X) → SayOutcome v Is o cases → cases.good ≡ Some g → IsTrue (all_true v g.conds)
+  pub good_leads : (v : List PureValue) (Is : X → A → Type 0) (o : Result A Fault) (cases : PureCases X) (g : PureGoodCase X) → SayOutcome v Is o cases → cases.good ≡ Some g → IsTrue (all_true v g.conds)
       → (a : A) × ((o ≡ Ok a) × Is g.result a)
   good_leads v Is (Ok a) cases g says is met = (a, (refl, (subst (IsGood v (λ t. Is t a)) is says.0).1))
   good_leads v Is (Err f) cases g says is met = absurd (true≢false (sym met ∙ closed_false v cases.good g is says.0))

@@ -3,6 +3,7 @@ pub mod CallCases
 pub mod Calling
 pub mod Copying
 pub mod Following
+pub mod Forms
 pub mod Naming
 pub mod Outcomes
 pub mod Returning

@@ -9,6 +9,7 @@ use Rattle.pure_terms.specs.declared.variables.Sort.{Sort}
 use Rattle.pure_terms.specs.Pure.{PureTerm, PureAtom}
 use Rattle.sym_evaluation.specs.Pure.{PureStore, PureGoodCase, PureCases}
 use Rattle.sym_evaluation.specs.Questions.{IsAsked, AreEachFrom}
+use Rattle.sym_model.specs.Forms.{OpenWhatMatters}
 use Rattle.sym_model.specs.Laws.{ActLaw}
 use Rattle.sym_model.specs.Lists.{OneOf}
 use Rattle.sym_model.specs.Pure.{PureResult, done, failed, missed, PureBranch}
@@ -64,6 +65,14 @@ abbrev pub Acts : {S : Type 0} → (S → List PureValue → Heap → Type 0) �
 Acts {S} stands terms m asked path x action here g ds =
     (bs : List (PureBranch S)) × (ActLaw stands terms m action (fresh_where (m.takes_symbol action) path.vars) g.result
     (asked action g.result) path.memory bs × ActsAsEach path x here (m.takes_symbol action) g bs ds)
+
+-- the branches need only literal forms on which the memory's action depends
+abbrev pub ActsByForms : {S : Type 0} → (S → List PureValue → Heap → Type 0) → (S → StateTerms)
+    → (S → List ℕ → List PureTerm → List PureValue → Heap → PureTerm → Type 0) → Actions → PurePath S → List ℕ → List ℕ → Place
+    → PureGoodCase (List PureTerm) → List (Candidate S) → Type 0
+ActsByForms {S} stands terms depends m path x action here g ds =
+    (bs : List (PureBranch S)) × (OpenWhatMatters stands terms depends action (fresh_where (m.takes_symbol action) path.vars) g.result
+    path.memory bs × ActsAsEach path x here (m.takes_symbol action) g bs ds)
 
 -- what an action may ask: what its arguments ask, and what the memory asks of their terms and of its own
 abbrev pub IsAskedByAction : {S : Type 0} → (S → StateTerms) → (List ℕ → List PureTerm → List PureTerm) → PurePath S → List ℕ
