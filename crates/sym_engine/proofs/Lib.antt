@@ -2,6 +2,7 @@ pub mod Adding
 pub mod Arguments
 pub mod Asked
 pub mod Copied
+pub mod Forms
 pub mod Fragments
 pub mod Leaving
 pub mod Literal

@@ -1,3 +1,4 @@
+pub mod Forms
 pub mod Guards
 pub mod Lawful
 pub mod Placed

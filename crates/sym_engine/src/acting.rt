@@ -6,6 +6,7 @@ ghost use Rattle.gil_syntax.specs.Subexpressions.{literals_of};
 ghost use Rattle.gil_syntax.specs.View.{exprs_view};
 ghost use Rattle.gil_syntax.specs.WellMade.{is_spellable};
 ghost use Rattle.pure_terms.specs.View.{term_view, terms_view, atoms_view};
+ghost use Rattle.sym_engine.specs.Forms.{NeedWhatMatters};
 ghost use Rattle.sym_engine.specs.Lawful.{AreLawful, MayAdvance};
 ghost use Rattle.sym_engine.specs.Plain.{StayPlain};
 ghost use Rattle.sym_engine.specs.View.{candidate_view, candidates_view};
@@ -241,6 +242,8 @@ pub fn act_candidates<M: SymMemory>(
     requires steps { path.steps + 1 < 2 ^ 32 }
     requires next { MayAdvance (frames_view path.stack) }
     ensures lawful { IfOk result (λ cs. AreLawful M.stands M.terms M.asked M.Local.actions (path_view path) here.now
+        (pure_act name.now action.now (exprs_view arguments.now)) (candidates_view cs)) }
+    ensures forms { IfOk result (λ cs. NeedWhatMatters M.stands M.terms M.depends (path_view path)
         (pure_act name.now action.now (exprs_view arguments.now)) (candidates_view cs)) }
     ensures plain { M.keeps_plain → IfOk result (λ cs. StayPlain M.plain (path_view path)
         (pure_act name.now action.now (exprs_view arguments.now)) (candidates_view cs)) }
