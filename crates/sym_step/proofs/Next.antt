@@ -10,6 +10,7 @@ use Rattle.mem_model.specs.Heaps.{Heap}
 use Rattle.pure_terms.specs.Fragment.{InFragment}
 use Rattle.pure_terms.specs.Meaning.{AreOver}
 use Rattle.pure_terms.specs.Pure.{PureTerm, PureAtom}
+use Rattle.sym_engine.specs.Forms.{NeedWhatMattersIn}
 use Rattle.sym_engine.specs.Lawful.{IsOwnOf, IsOwnAt, AreLawfulIn}
 use Rattle.sym_engine.specs.Placed.{AreAtCommands, GoesOnAtCommands}
 use Rattle.sym_engine.specs.Plain.{StayPlainIn}
@@ -20,6 +21,7 @@ use Rattle.sym_engine.proofs.SettledPlain.{settled_within}
 use Rattle.sym_model.specs.Lists.{Each, IsAmong}
 use Rattle.sym_model.specs.Terms.{StateTerms}
 use Rattle.sym_model.proofs.ListLaws.{not_none, each_to}
+use Rattle.sym_paths.specs.Forms.{NeedsAt, NeedsWhatMatters}
 use Rattle.sym_paths.specs.Meaning.{IsOverTable, command_of_frames, command_of_path}
 use Rattle.sym_paths.specs.Moves.{NoOwn}
 use Rattle.sym_paths.specs.Pure.{PureFrame, PurePath}
@@ -27,6 +29,7 @@ use Rattle.sym_paths.specs.Settling.{Candidate, AreCandidates, Stays, AreSettled
 use Rattle.sym_paths.specs.Steps.{Grows, AddsOwn, Assumes, IsPlaceOf, IsUnknown, IsPlainPath, StaysWithin, step_growth, AreNextPaths}
 use Rattle.sym_paths.specs.Valued.{place_at}
 use Rattle.sym_paths.proofs.Assuming.{assumes_wider}
+use Rattle.sym_paths.proofs.Forms.{needs_at, settled_needs}
 use Rattle.sym_paths.proofs.Settled.{settled_are_next}
 use Rattle.sym_step.specs.Stepping.{MayStep}
 use Rattle.sym_step.specs.Next.{AreStepped, IsNext}
@@ -132,20 +135,32 @@ module _ {S : Type 0} (p : PureParts) (path : PurePath S) where
       pub asked_within : (plain : S → ℤ → ℤ → Type 0) → path.steps < 10000 → IsValid p → StayPlainIn plain p path c.command cs → StaysWithin p (λ d. IsTrue (is_simple_command d)) (IsPlainPath plain) path nexts
       asked_within plain few valid stays = settled_within plain p m stands terms (IsOwnOf stands terms asked m path c.command) path few c.command c cs nexts valid at refl laws stays are_settled
 
+-- ---- literal forms
+
+every : {A : Type 0} (P : A → Type 0) → ((x : A) → P x) → (xs : List A) → Each P xs
+every P holds [] = tt
+every P holds (x ∷ xs) = (holds x, every P holds xs)
+
+-- a command that is no action needs none of them
+pub no_action : {S : Type 0} (p : PureParts) (stands : S → List PureValue → Heap → Type 0) (terms : S → StateTerms) (depends : S → List ℕ → List PureTerm → List PureValue → Heap → PureTerm → Type 0) (path : PurePath S) (k : PureCommand)
+    → ((next : PurePath S) → NeedsAt p stands depends path next k) → (cs : List (Candidate S)) → NeedWhatMattersIn stands terms depends p path k cs
+no_action p stands terms depends path k none cs c over at is = every (λ d. NeedsWhatMatters p stands depends path d.path) (λ d. needs_at p stands depends path c k at is d.path (none d.path)) cs
+
 -- ---- the paths of a step at a command that asks something
 
-module _ {S : Type 0} (p : PureParts) (m : Actions) (stands : S → List PureValue → Heap → Type 0) (terms : S → StateTerms) (asked : List ℕ → List PureTerm → List PureTerm) (plain : S → ℤ → ℤ → Type 0) (keeps_plain : Type 0) (path : PurePath S)
-    (c : PureNumberedCommand) (here : Place) where
+module _ {S : Type 0} (p : PureParts) (m : Actions) (stands : S → List PureValue → Heap → Type 0) (terms : S → StateTerms) (asked : List ℕ → List PureTerm → List PureTerm) (depends : S → List ℕ → List PureTerm → List PureValue → Heap → PureTerm → Type 0)
+    (plain : S → ℤ → ℤ → Type 0) (keeps_plain : Type 0) (path : PurePath S) (c : PureNumberedCommand) (here : Place) where
   pub asked_steps : (cs : List (Candidate S)) (count : ℕ) (nexts : List (PurePath S)) → MayStep p terms path → command_of_path p path ≡ Some c → here ≡ place_at path.stack c → IsValid p
-      → AreLawfulIn stands terms asked m p path here c.command cs × (keeps_plain → StayPlainIn plain p path c.command cs) → length path.conds ≡ count → SettledSoFar count here cs nexts
-      → AreStepped p m stands terms asked plain keeps_plain path nexts
+      → AreLawfulIn stands terms asked m p path here c.command cs × (keeps_plain → StayPlainIn plain p path c.command cs) × NeedWhatMattersIn stands terms depends p path c.command cs → length path.conds ≡ count → SettledSoFar count here cs nexts
+      → AreStepped p m stands terms asked depends plain keeps_plain path nexts
   asked_steps cs count nexts may at is valid next counted settled = record {
     next = asked_next p path m stands terms asked c here cs may.over may.no_end at is next.0 count counted nexts settled;
     placed = asked_placed p path m stands terms asked c here cs may.over may.no_end at is next.0 count counted nexts settled valid may.placed;
     simple = λ keeps. asked_within p path m stands terms asked c here cs may.over may.no_end at is next.0 count counted nexts settled plain may.steps valid (next.1 keeps);
+    forms = settled_needs p stands depends path cs nexts (next.2 c may.over at refl) (are_settled p path m stands terms asked c here cs may.over may.no_end at is next.0 count counted nexts settled);
   }
 
   -- candidates of the command at which the path stands
-  pub asked_at : (k command : PureCommand) (cs : List (Candidate S)) → k ≡ command → AreLawfulIn stands terms asked m p path here command cs → (keeps_plain → StayPlainIn plain p path command cs)
-      → IsNext p m stands terms asked plain keeps_plain path here k (are_asked cs)
-  asked_at k command cs is lawful stays = subst (λ j. IsNext p m stands terms asked plain keeps_plain path here j (are_asked cs)) (sym is) (lawful, stays)
+  pub asked_at : (k command : PureCommand) (cs : List (Candidate S)) → k ≡ command → AreLawfulIn stands terms asked m p path here command cs → (keeps_plain → StayPlainIn plain p path command cs) → NeedWhatMattersIn stands terms depends p path command cs
+      → IsNext p m stands terms asked depends plain keeps_plain path here k (are_asked cs)
+  asked_at k command cs is lawful stays needs = subst (λ j. IsNext p m stands terms asked depends plain keeps_plain path here j (are_asked cs)) (sym is) (lawful, stays, needs)

@@ -10,7 +10,7 @@ use Rattle.sym_step.proofs.stepping.step.Goals as goal
 pub returns-clause-simple : goal.returns-clause-simple
 returns-clause-simple g c = λ keeps.
     IfOk-weaker c.step_at.result
-    (λ ps. AreStepped (prog_view c.args.prog.now) g.M.Local.LocalMemory.actions g.M.SymMemory.stands g.M.SymMemory.terms g.M.SymMemory.asked g.M.SymMemory.plain g.M.SymMemory.keeps_plain (path_view c.args.path) (paths_view ps))
+    (λ ps. AreStepped (prog_view c.args.prog.now) g.M.Local.LocalMemory.actions g.M.SymMemory.stands g.M.SymMemory.terms g.M.SymMemory.asked g.M.SymMemory.depends g.M.SymMemory.plain g.M.SymMemory.keeps_plain (path_view c.args.path) (paths_view ps))
     (λ ps. StaysWithin (prog_view c.args.prog.now) (λ k. IsTrue (is_simple_command k)) (IsPlainPath g.M.SymMemory.plain) (path_view c.args.path) (paths_view ps))
     (λ ps stepped. stepped.simple keeps)
     c.step_at.ensures
