@@ -25,6 +25,7 @@ use Rattle.sym_explore.proofs.Trails.{stands_next}
 use Rattle.sym_model.specs.Lists.{Each, OneOf}
 use Rattle.sym_model.specs.Terms.{StateTerms}
 use Rattle.sym_model.proofs.ListLaws.{each_append, each_at, each_by_place, each_left, each_right, one_left, one_right, one_parts}
+use Rattle.sym_paths.specs.Forms.{NeedsWhatMatters}
 use Rattle.sym_paths.specs.Meaning.{Stands, StandsForStep, command_of_frames, command_of_path}
 use Rattle.sym_paths.specs.Origins.{Follows}
 use Rattle.sym_paths.specs.Pure.{PureFrame, PurePath}
@@ -152,27 +153,28 @@ module _ {S : Type 0} (p : PureParts) (m : Actions) (stands : S → List PureVal
 
     -- ---- trails
 
-    module _ (plain : S → ℤ → ℤ → Type 0) (keeps_plain : Type 0) where
+    module _ (depends : S → List ℕ → List PureTerm → List PureValue → Heap → PureTerm → Type 0) (plain : S → ℤ → ℤ → Type 0) (keeps_plain : Type 0) where
       abbrev From : PurePath S → PurePath S → Type 0
-      From = IsFrom p m stands terms asked plain keeps_plain bound
+      From = IsFrom p m stands terms asked depends plain keeps_plain bound
 
-      next_from : (start path : PurePath S) → From start path → path.steps < bound → (next : PurePath S) → IsNext path next → (keeps_plain → StaysPlain p plain path next) → From start next
-      next_from start path from below next nx stays = record {
+      next_from : (start path : PurePath S) → From start path → path.steps < bound → (next : PurePath S) → IsNext path next → (keeps_plain → StaysPlain p plain path next) → NeedsWhatMatters p stands depends path next → From start next
+      next_from start path from below next nx stays needs = record {
         earlier = path ∷ from.earlier;
         trail = (nx, from.trail);
         within = let more : next.steps ≡ path.steps + 1 = nx.growth.steps in omega (arith, more, below);
         simple = λ keeps. (stays keeps, from.simple keeps);
+        forms = (needs, from.forms);
       }
 
       pub nexts_from : (path : PurePath S) (nexts : List (PurePath S)) → path.steps < bound → Each (IsNext path) nexts → (keeps_plain → StaysWithin p (λ c. IsTrue (is_simple_command c)) (IsPlainPath plain) path nexts)
-          → (start : PurePath S) → From start path → Each (From start) nexts
-      nexts_from path [] below each stays start from = tt
-      nexts_from path (next ∷ nexts) below each stays start from = (
-        next_from start path from below next each.0 (λ keeps b (c, (at, simple)) narrow is. (stays keeps c b at simple narrow is).0),
-        nexts_from path nexts below each.1 (λ keeps c b at simple narrow is. (stays keeps c b at simple narrow is).1) start from,
+          → Each (NeedsWhatMatters p stands depends path) nexts → (start : PurePath S) → From start path → Each (From start) nexts
+      nexts_from path [] below each stays needs start from = tt
+      nexts_from path (next ∷ nexts) below each stays needs start from = (
+        next_from start path from below next each.0 (λ keeps b (c, (at, simple)) narrow is. (stays keeps c b at simple narrow is).0) needs.0,
+        nexts_from path nexts below each.1 (λ keeps c b at simple narrow is. (stays keeps c b at simple narrow is).1) needs.1 start from,
       )
 
-      pub cut_from : (start path : PurePath S) → path.ending ≡ None → bound ≤ path.steps → From start path → IsEndedFrom p m stands terms asked plain keeps_plain bound start (cut_off path)
+      pub cut_from : (start path : PurePath S) → path.ending ≡ None → bound ≤ path.steps → From start path → IsEndedFrom p m stands terms asked depends plain keeps_plain bound start (cut_off path)
       cut_from start path still past from = let within : path.steps ≤ bound = from.within in inr (path, (from, still, omega (arith, within, past), refl))
 
   -- ---- steps that may be done
@@ -212,12 +214,12 @@ pub each_replaced : {A : Type 0} (P : A → Type 0) (all rest more : List A) (x 
 each_replaced P all rest more x is f each = let (before, last) = rest_keeps P all rest x is each in each_append P rest more before (f last)
 
 module _ {S : Type 0} (p : PureParts) (m : Actions) (stands : S → List PureValue → Heap → Type 0) (terms : S → StateTerms)
-    (asked : List ℕ → List PureTerm → List PureTerm) (plain : S → ℤ → ℤ → Type 0) (keeps_plain : Type 0) (bound : ℕ) (old all rest : List (PurePath S)) (path : PurePath S) (is : all ≡ rest ++ path ∷ []) where
+    (asked : List ℕ → List PureTerm → List PureTerm) (depends : S → List ℕ → List PureTerm → List PureValue → Heap → PureTerm → Type 0) (plain : S → ℤ → ℤ → Type 0) (keeps_plain : Type 0) (bound : ℕ) (old all rest : List (PurePath S)) (path : PurePath S) (is : all ≡ rest ++ path ∷ []) where
   abbrev Comes : PurePath S → PurePath S → Type 0
-  Comes = IsFrom p m stands terms asked plain keeps_plain bound
+  Comes = IsFrom p m stands terms asked depends plain keeps_plain bound
 
   abbrev Ended : PurePath S → PurePath S → Type 0
-  Ended = IsEndedFrom p m stands terms asked plain keeps_plain bound
+  Ended = IsEndedFrom p m stands terms asked depends plain keeps_plain bound
 
   abbrev For : PurePath S → List PureValue → List PureValue → State → PurePath S → Type 0
   For start inputs v0 s0 = AccountsFor p m stands inputs s0 start v0
@@ -231,12 +233,12 @@ module _ {S : Type 0} (p : PureParts) (m : Actions) (stands : S → List PureVal
   pub placed_more : (nexts : List (PurePath S)) → Each (MayGoOn p terms) nexts → Each (MayGoOn p terms) all → Each (MayGoOn p terms) (rest ++ nexts)
   placed_more nexts new placed = each_replaced (MayGoOn p terms) all rest nexts path is (λ before. new) placed
 
-  pub trails_handed : (ended : PurePath S) → ((start : PurePath S) → Comes start path → Ended start ended) → KeepTrails p m stands terms asked plain keeps_plain bound old [] all → KeepTrails p m stands terms asked plain keeps_plain bound old (ended ∷ []) rest
+  pub trails_handed : (ended : PurePath S) → ((start : PurePath S) → Comes start path → Ended start ended) → KeepTrails p m stands terms asked depends plain keeps_plain bound old [] all → KeepTrails p m stands terms asked depends plain keeps_plain bound old (ended ∷ []) rest
   trails_handed ended become trails start from =
       let (before, last) = rest_keeps (Comes start) all rest path is (trails start from).1 in
       ((become start last, tt), before)
 
-  pub trails_more : (nexts : List (PurePath S)) → ((start : PurePath S) → Comes start path → Each (Comes start) nexts) → KeepTrails p m stands terms asked plain keeps_plain bound old [] all → KeepTrails p m stands terms asked plain keeps_plain bound old [] (rest ++ nexts)
+  pub trails_more : (nexts : List (PurePath S)) → ((start : PurePath S) → Comes start path → Each (Comes start) nexts) → KeepTrails p m stands terms asked depends plain keeps_plain bound old [] all → KeepTrails p m stands terms asked depends plain keeps_plain bound old [] (rest ++ nexts)
   trails_more nexts go trails start from = (tt, each_replaced (Comes start) all rest nexts path is (go start) (trails start from).1)
 
   pub cover_handed : (ended : PurePath S) → ((start : PurePath S) (inputs v0 : List PureValue) (s0 : State) → For start inputs v0 s0 path → For start inputs v0 s0 ended) → KeepAccounts p m stands bound old all
@@ -250,14 +252,14 @@ module _ {S : Type 0} (p : PureParts) (m : Actions) (stands : S → List PureVal
   -- a step of the path
   pub stepped : (nexts left : List (PurePath S)) → left ≡ rest ++ nexts → path.ending ≡ None → path.steps < bound → path.steps < 10000
       → AreNextPaths p m stands terms (IsOwnAt stands terms asked m p path) path nexts → Each (λ next. next.ending ≡ None → AreAtCommands p next.stack) nexts
-      → (keeps_plain → StaysWithin p (λ c. IsTrue (is_simple_command c)) (IsPlainPath plain) path nexts) → Each (MayGoOn p terms) all
-      → KeepTrails p m stands terms asked plain keeps_plain bound old [] all → KeepAccounts p m stands bound old all
-      → Each (MayGoOn p terms) left × KeepTrails p m stands terms asked plain keeps_plain bound old [] left × KeepAccounts p m stands bound old left
-  stepped nexts left same going below early laws placed stays may trails cover =
+      → (keeps_plain → StaysWithin p (λ c. IsTrue (is_simple_command c)) (IsPlainPath plain) path nexts) → Each (NeedsWhatMatters p stands depends path) nexts → Each (MayGoOn p terms) all
+      → KeepTrails p m stands terms asked depends plain keeps_plain bound old [] all → KeepAccounts p m stands bound old all
+      → Each (MayGoOn p terms) left × KeepTrails p m stands terms asked depends plain keeps_plain bound old [] left × KeepAccounts p m stands bound old left
+  stepped nexts left same going below early laws placed stays needs may trails cover =
       let (command, at) = at_a_command p path.stack (placed_last may going early).placed in
       let each = are_next p m stands terms asked path nexts going command at laws in (
         subst (Each (MayGoOn p terms)) (sym same) (placed_more nexts (nexts_go_on p m stands terms asked path nexts each placed) may),
-        subst (KeepTrails p m stands terms asked plain keeps_plain bound old []) (sym same) (trails_more nexts (nexts_from p m stands terms asked bound plain keeps_plain path nexts below each stays) trails),
+        subst (KeepTrails p m stands terms asked depends plain keeps_plain bound old []) (sym same) (trails_more nexts (nexts_from p m stands terms asked bound depends plain keeps_plain path nexts below each stays needs) trails),
         subst (KeepAccounts p m stands bound old) (sym same) (cover_more nexts (accounts_next p m stands terms asked bound path nexts (IsOwnAt stands terms asked m p path) going below each laws) cover),
       )
 

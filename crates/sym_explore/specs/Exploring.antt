@@ -12,6 +12,7 @@ use Rattle.sym_explore.specs.Runs.{AccountsFor}
 use Rattle.sym_explore.specs.Trails.{IsTrail}
 use Rattle.sym_model.specs.Lists.{Each, OneOf}
 use Rattle.sym_model.specs.Terms.{StateTerms}
+use Rattle.sym_paths.specs.Forms.{NeedsWhatMatters}
 use Rattle.sym_paths.specs.Meaning.{Stands}
 use Rattle.sym_paths.specs.Pure.{cut, PurePath}
 use Rattle.sym_paths.specs.Steps.{IsInputFault}
@@ -30,14 +31,16 @@ or_none None = []
 or_none (Some x) = x ∷ []
 
 module _ {S : Type 0} (p : PureParts) (m : Actions) (stands : S → List PureValue → Heap → Type 0) (terms : S → StateTerms)
-    (asked : List ℕ → List PureTerm → List PureTerm) (plain : S → ℤ → ℤ → Type 0) (keeps_plain : Type 0) (bound : ℕ) where
+    (asked : List ℕ → List PureTerm → List PureTerm) (depends : S → List ℕ → List PureTerm → List PureValue → Heap → PureTerm → Type 0)
+    (plain : S → ℤ → ℤ → Type 0) (keeps_plain : Type 0) (bound : ℕ) where
   -- the path has a trail from the start, and did no more steps than the bound; at commands of simple form it stays plain, where the
-  -- memory does
+  -- memory does, and at actions it needs only literal forms that matter
   pub record IsFrom (start path : PurePath S) : Type 0 where
     pub earlier : List (PurePath S)
     pub trail : IsTrail p m stands terms asked start earlier path
     pub within : path.steps ≤ bound
     pub simple : keeps_plain → EachStep (StaysPlain p plain) earlier path
+    pub forms : EachStep (NeedsWhatMatters p stands depends) earlier path
 
   -- the path has an end and comes from the start; or a path without an end does, with as many steps as the bound, and it is that one,
   -- cut

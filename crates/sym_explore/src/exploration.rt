@@ -45,7 +45,7 @@ impl<M: SymMemory> Exploration<M> {
         requires bounded { bound ≤ 10000 }
         requires placed { Each (MayGoOn (prog_view prog.now) M.terms) (paths_left self.old) }
         ensures placed { IfOk result (λ ended. Each (MayGoOn (prog_view prog.now) M.terms) (paths_left self.new)) }
-        ensures trails { IfOk result (λ ended. KeepTrails (prog_view prog.now) M.Local.actions M.stands M.terms M.asked M.plain M.keeps_plain bound
+        ensures trails { IfOk result (λ ended. KeepTrails (prog_view prog.now) M.Local.actions M.stands M.terms M.asked M.depends M.plain M.keeps_plain bound
             (paths_left self.old) (or_none (option_map path_view ended)) (paths_left self.new)) }
         ensures cover { IfOk result (λ ended. KeepAccounts (prog_view prog.now) M.Local.actions M.stands bound (paths_left self.old)
             (or_none (option_map path_view ended) ++ paths_left self.new)) }
@@ -91,7 +91,7 @@ pub fn explore<M: SymMemory, D: Decider>(
     requires going { start.end ≡ None }
     requires first { start.steps ≡ 0 }
     ensures cover { IfOk result (λ ps. CoverRuns (prog_view prog.now) M.Local.actions M.stands bound (path_view start) (paths_view ps)) }
-    ensures trails { IfOk result (λ ps. Each (IsEndedFrom (prog_view prog.now) M.Local.actions M.stands M.terms M.asked M.plain M.keeps_plain bound
+    ensures trails { IfOk result (λ ps. Each (IsEndedFrom (prog_view prog.now) M.Local.actions M.stands M.terms M.asked M.depends M.plain M.keeps_plain bound
         (path_view start)) (paths_view ps)) }
 {
     let mut exploration = Exploration::new(alloc, start)?;

@@ -20,8 +20,8 @@ loop-turn-init g c =
     let ended : paths_view c.new-ended.result ≡ [] = ap paths_view c.new-ended.ensures in
     record {
       placed = subst (Each (MayGoOn p M.terms)) (sym left) (c.requires.placed, tt);
-      left = subst (Each (IsFrom p m M.stands M.terms M.asked M.plain M.keeps_plain c.args.bound start)) (sym left) (record { earlier = []; trail = refl; within = omega (arith, c.requires.first); simple = λ keeps. tt }, tt);
-      ended = subst (Each (IsEndedFrom p m M.stands M.terms M.asked M.plain M.keeps_plain c.args.bound start)) (sym ended) tt;
+      left = subst (Each (IsFrom p m M.stands M.terms M.asked M.depends M.plain M.keeps_plain c.args.bound start)) (sym left) (record { earlier = []; trail = refl; within = omega (arith, c.requires.first); simple = λ keeps. tt; forms = tt }, tt);
+      ended = subst (Each (IsEndedFrom p m M.stands M.terms M.asked M.depends M.plain M.keeps_plain c.args.bound start)) (sym ended) tt;
       cover = subst (λ xs. CoverRuns p m M.stands c.args.bound start (xs ++ paths_left c.in_ok-exploration.exploration)) (sym ended)
           (subst (CoverRuns p m M.stands c.args.bound start) (sym left)
           (λ inputs v0 s0 is fine. inl (accounts_first p m M.stands M.terms M.asked c.args.bound start inputs v0 s0 (ap (option_map end_view) c.requires.going) c.requires.first is)));
@@ -48,14 +48,14 @@ loop-turn-preserved g c =
     let old = paths_left c.loop-turn.exploration in
     let now = paths_left c.next_ended.new.self in
     let keep = subst (λ o. KeepAccounts p m M.stands c.args.bound old (or_none (option_map path_view o) ++ now)) c.in-Some.is c.in_ok-path.ensures.cover in
-    let trails = subst (λ o. KeepTrails p m M.stands M.terms M.asked M.plain M.keeps_plain c.args.bound old (or_none (option_map path_view o)) now) c.in-Some.is c.in_ok-path.ensures.trails in
+    let trails = subst (λ o. KeepTrails p m M.stands M.terms M.asked M.depends M.plain M.keeps_plain c.args.bound old (or_none (option_map path_view o)) now) c.in-Some.is c.in_ok-path.ensures.trails in
     let pushed : paths_view c.push.new.self ≡ paths_view c.loop-turn.ended ++ path ∷ [] = ap paths_view c.in_ok-push-in-Some.ensures.ok ∙ map-append path_view c.loop-turn.ended (c.in-Some.path ∷ []) in
     let come = trails start c.loop-turn.invariant.left in
     record {
       placed = c.in_ok-path.ensures.placed;
       left = come.1;
-      ended = subst (Each (IsEndedFrom p m M.stands M.terms M.asked M.plain M.keeps_plain c.args.bound start)) (sym pushed)
-          (each_append (IsEndedFrom p m M.stands M.terms M.asked M.plain M.keeps_plain c.args.bound start) (paths_view c.loop-turn.ended) (path ∷ []) c.loop-turn.invariant.ended come.0);
+      ended = subst (Each (IsEndedFrom p m M.stands M.terms M.asked M.depends M.plain M.keeps_plain c.args.bound start)) (sym pushed)
+          (each_append (IsEndedFrom p m M.stands M.terms M.asked M.depends M.plain M.keeps_plain c.args.bound start) (paths_view c.loop-turn.ended) (path ∷ []) c.loop-turn.invariant.ended come.0);
       cover = subst (λ xs. CoverRuns p m M.stands c.args.bound start (xs ++ now)) (sym pushed)
           (cover_pushed p m M.stands c.args.bound start (paths_view c.loop-turn.ended) old (path ∷ []) now c.loop-turn.invariant.cover keep);
     }

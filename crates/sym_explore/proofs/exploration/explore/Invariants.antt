@@ -9,7 +9,7 @@ use Rattle.sym_explore.proofs.exploration.explore.Given as goal
 abbrev pub invariant-loop-turn : goal.invariant-loop-turn
 invariant-loop-turn g l = record {
   placed : Each (MayGoOn (prog_view l.prog) g.M.SymMemory.terms) (paths_left l.exploration);
-  left : Each (IsFrom (prog_view l.prog) g.M.Local.LocalMemory.actions g.M.SymMemory.stands g.M.SymMemory.terms g.M.SymMemory.asked g.M.SymMemory.plain g.M.SymMemory.keeps_plain l.bound (path_view l.fn.start)) (paths_left l.exploration);
-  ended : Each (IsEndedFrom (prog_view l.prog) g.M.Local.LocalMemory.actions g.M.SymMemory.stands g.M.SymMemory.terms g.M.SymMemory.asked g.M.SymMemory.plain g.M.SymMemory.keeps_plain l.bound (path_view l.fn.start)) (paths_view l.ended);
+  left : Each (IsFrom (prog_view l.prog) g.M.Local.LocalMemory.actions g.M.SymMemory.stands g.M.SymMemory.terms g.M.SymMemory.asked g.M.SymMemory.depends g.M.SymMemory.plain g.M.SymMemory.keeps_plain l.bound (path_view l.fn.start)) (paths_left l.exploration);
+  ended : Each (IsEndedFrom (prog_view l.prog) g.M.Local.LocalMemory.actions g.M.SymMemory.stands g.M.SymMemory.terms g.M.SymMemory.asked g.M.SymMemory.depends g.M.SymMemory.plain g.M.SymMemory.keeps_plain l.bound (path_view l.fn.start)) (paths_view l.ended);
   cover : CoverRuns (prog_view l.prog) g.M.Local.LocalMemory.actions g.M.SymMemory.stands l.bound (path_view l.fn.start) (paths_view l.ended ++ paths_left l.exploration);
 }

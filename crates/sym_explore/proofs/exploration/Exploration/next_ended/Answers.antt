@@ -33,9 +33,9 @@ returns-then-is_some g c =
     let is : all ≡ rest ++ path_view path ∷ [] = ap paths_view c.in-Some.ensures.items ∙ map-append path_view c.pop.new.self.items (path ∷ []) in
     let some : is_some path.end ≡ true = search (rules, c.if-is_some.true) in
     record {
-      placed = placed_rest p m M.stands M.terms M.asked M.plain M.keeps_plain c.args.bound old all rest (path_view path) is c.loop-turn.invariant.placed;
-      trails = trails_handed p m M.stands M.terms M.asked M.plain M.keeps_plain c.args.bound old all rest (path_view path) is (path_view path) (λ start from. inl (from, has_end end_view path.end some)) c.loop-turn.invariant.trails;
-      cover = cover_handed p m M.stands M.terms M.asked M.plain M.keeps_plain c.args.bound old all rest (path_view path) is (path_view path) (λ start inputs v0 s0 accounts. accounts) c.loop-turn.invariant.cover;
+      placed = placed_rest p m M.stands M.terms M.asked M.depends M.plain M.keeps_plain c.args.bound old all rest (path_view path) is c.loop-turn.invariant.placed;
+      trails = trails_handed p m M.stands M.terms M.asked M.depends M.plain M.keeps_plain c.args.bound old all rest (path_view path) is (path_view path) (λ start from. inl (from, has_end end_view path.end some)) c.loop-turn.invariant.trails;
+      cover = cover_handed p m M.stands M.terms M.asked M.depends M.plain M.keeps_plain c.args.bound old all rest (path_view path) is (path_view path) (λ start inputs v0 s0 accounts. accounts) c.loop-turn.invariant.cover;
       last = tt;
     }
 
@@ -52,11 +52,11 @@ returns-then-path-bound g c =
     let none : is_some path.end ≡ false = search (rules, c.if-is_some.false) in
     let going = has_no_end end_view path.end none in
     record {
-      placed = placed_rest p m M.stands M.terms M.asked M.plain M.keeps_plain c.args.bound old all rest (path_view path) is c.loop-turn.invariant.placed;
-      trails = trails_handed p m M.stands M.terms M.asked M.plain M.keeps_plain c.args.bound old all rest (path_view path) is (path_view c.cut_off.result)
-          (λ start from. subst (IsEndedFrom p m M.stands M.terms M.asked M.plain M.keeps_plain c.args.bound start) (sym c.cut_off.ensures) (cut_from p m M.stands M.terms M.asked c.args.bound M.plain M.keeps_plain start (path_view path) going c.if-path-bound.true from))
+      placed = placed_rest p m M.stands M.terms M.asked M.depends M.plain M.keeps_plain c.args.bound old all rest (path_view path) is c.loop-turn.invariant.placed;
+      trails = trails_handed p m M.stands M.terms M.asked M.depends M.plain M.keeps_plain c.args.bound old all rest (path_view path) is (path_view c.cut_off.result)
+          (λ start from. subst (IsEndedFrom p m M.stands M.terms M.asked M.depends M.plain M.keeps_plain c.args.bound start) (sym c.cut_off.ensures) (cut_from p m M.stands M.terms M.asked c.args.bound M.depends M.plain M.keeps_plain start (path_view path) going c.if-path-bound.true from))
           c.loop-turn.invariant.trails;
-      cover = cover_handed p m M.stands M.terms M.asked M.plain M.keeps_plain c.args.bound old all rest (path_view path) is (path_view c.cut_off.result)
+      cover = cover_handed p m M.stands M.terms M.asked M.depends M.plain M.keeps_plain c.args.bound old all rest (path_view path) is (path_view c.cut_off.result)
           (λ start inputs v0 s0 accounts. subst (AccountsFor p m M.stands inputs s0 start v0) (sym c.cut_off.ensures)
           (accounts_cut p m M.stands M.terms M.asked c.args.bound (path_view path) going start inputs v0 s0 accounts))
           c.loop-turn.invariant.cover;
@@ -70,7 +70,7 @@ step-requires g c =
     let rest = paths_view c.pop.new.self.items in
     let is : paths_left c.loop-turn.self ≡ rest ++ path_view path ∷ [] = ap paths_view c.in-Some.ensures.items ∙ map-append path_view c.pop.new.self.items (path ∷ []) in
     let none : is_some path.end ≡ false = search (rules, c.if-is_some.false) in
-    placed_last (prog_view c.args.prog.now) g.M.Local.LocalMemory.actions M.stands M.terms M.asked M.plain M.keeps_plain c.args.bound (paths_left c.args.self.now) (paths_left c.loop-turn.self) rest (path_view path) is c.loop-turn.invariant.placed
+    placed_last (prog_view c.args.prog.now) g.M.Local.LocalMemory.actions M.stands M.terms M.asked M.depends M.plain M.keeps_plain c.args.bound (paths_left c.args.self.now) (paths_left c.loop-turn.self) rest (path_view path) is c.loop-turn.invariant.placed
     (has_no_end end_view path.end none) (omega (arith, c.if-path-bound.false, c.requires.bounded))
 
 pub loop-turn-preserved : goal.loop-turn-preserved
@@ -82,7 +82,7 @@ loop-turn-preserved g c =
     let none : is_some path.end ≡ false = search (rules, c.if-is_some.false) in
     let same : c.append.new.self.items ≡ c.pop.new.self.items ++ c.in_ok-next.next = c.in_ok-append.ensures.items ∙ ap (λ xs. c.pop.new.self.items ++ xs) c.into_vec.ensures in
     let left : paths_view c.append.new.self.items ≡ rest ++ paths_view c.in_ok-next.next = ap paths_view same ∙ map-append path_view c.pop.new.self.items c.in_ok-next.next in
-    let kept = stepped (prog_view c.args.prog.now) g.M.Local.LocalMemory.actions M.stands M.terms M.asked M.plain M.keeps_plain c.args.bound (paths_left c.args.self.now) (paths_left c.loop-turn.self) rest (path_view path) is
+    let kept = stepped (prog_view c.args.prog.now) g.M.Local.LocalMemory.actions M.stands M.terms M.asked M.depends M.plain M.keeps_plain c.args.bound (paths_left c.args.self.now) (paths_left c.loop-turn.self) rest (path_view path) is
     (paths_view c.in_ok-next.next) (paths_view c.append.new.self.items) left (has_no_end end_view path.end none) c.if-path-bound.false (omega (arith, c.if-path-bound.false, c.requires.bounded))
-    c.in_ok-next.ensures.next c.in_ok-next.ensures.placed c.in_ok-next.ensures.simple c.loop-turn.invariant.placed c.loop-turn.invariant.trails c.loop-turn.invariant.cover in
+    c.in_ok-next.ensures.next c.in_ok-next.ensures.placed c.in_ok-next.ensures.simple c.in_ok-next.ensures.forms c.loop-turn.invariant.placed c.loop-turn.invariant.trails c.loop-turn.invariant.cover in
     record { placed = kept.0; trails = kept.1; cover = kept.2 }
