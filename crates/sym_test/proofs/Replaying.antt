@@ -14,7 +14,7 @@ use Rattle.pure_terms.specs.Meaning.{value, all_true, Satisfies}
 use Rattle.pure_terms.specs.Pure.{PureTerm, PureAtom}
 use Rattle.sym_engine.specs.Lawful.{IsOwnAt}
 use Rattle.sym_explore.specs.Laws.{IsTraced}
-use Rattle.sym_explore.specs.Plain.{IsAtSimple}
+use Rattle.sym_explore.specs.Plain.{EachStep, IsAtSimple}
 use Rattle.sym_explore.specs.Runs.{EndsAfter, StandsAfter}
 use Rattle.sym_explore.specs.Trails.{IsNextPath, IsTrail}
 use Rattle.sym_model.specs.Lists.{Each, OneOf, IsAmong}
@@ -22,6 +22,7 @@ use Rattle.sym_model.specs.Meaning.{is_open, has_open}
 use Rattle.sym_model.specs.Pure.{PureKey}
 use Rattle.sym_model.specs.Terms.{StateTerms}
 use Rattle.sym_model.proofs.ListLaws.{same_some, each_to}
+use Rattle.sym_paths.specs.Forms.{NeedsWhatMatters}
 use Rattle.sym_paths.specs.Meaning.{AreFrames, frames_of, StandsForEnd}
 use Rattle.sym_paths.specs.Pure.{PureFrame, PureEnd, PurePath}
 use Rattle.sym_paths.specs.Pure as path_end
@@ -127,8 +128,9 @@ module _ {S : Type 0} (p : PureParts) (m : Actions) (stands : S → List PureVal
     abbrev query_of : Place → List PureAtom → ℕ → PureQuery
     query_of place atoms i = record { place = place; path = path.choices; vars = path.vars; given = path.given; query = atoms; outside = i }
 
-    abbrev pub way_of : (place : Place) (atoms : List PureAtom) (i : ℕ) → IsWay p m stands terms asked f (query_of place atoms i) (length rest)
-    way_of place atoms i = record {
+    abbrev pub way_of : (depends : S → List ℕ → List PureTerm → List PureValue → Heap → PureTerm → Type 0) → EachStep (NeedsWhatMatters p stands depends) (before ∷ rest) path → (place : Place) (atoms : List PureAtom) (i : ℕ)
+        → IsWay p m stands terms asked depends f (query_of place atoms i) (length rest)
+    way_of depends forms place atoms i = record {
       start = start;
       first = begins.first;
       earlier = rest;
@@ -140,6 +142,7 @@ module _ {S : Type 0} (p : PureParts) (m : Actions) (stands : S → List PureVal
       vars = refl;
       choices = refl;
       given = refl;
+      forms = forms;
     }
 
     -- the start has no condition, so each one is in the fragment or own to a command
@@ -147,13 +150,13 @@ module _ {S : Type 0} (p : PureParts) (m : Actions) (stands : S → List PureVal
     traced_there a (inl first) = absurd (subst (IsAmong a) begins.first.conds first)
     traced_there a (inr either) = either
 
-    module _ (place : Place) (more : List PureAtom) (i : ℕ) (inputs : List PureValue) (come : ComesAlong p m f inputs (length rest) place path.choices)
+    module _ (depends : S → List ℕ → List PureTerm → List PureValue → Heap → PureTerm → Type 0) (forms : EachStep (NeedsWhatMatters p stands depends) (before ∷ rest) path) (place : Place) (more : List PureAtom) (i : ℕ) (inputs : List PureValue) (come : ComesAlong p m f inputs (length rest) place path.choices)
         (more_holds : (us v : List PureValue) → HaveValuation path.vars us v → IsTrue (all_true v path.conds) → IsTrue (all_true v more))
-        (asks : AsksAlong p m stands terms asked f (query_of place (path.conds ++ more) i) (length rest) (way_of place (path.conds ++ more) i)) (outside : IsOutsideAt (path.conds ++ more) i) where
+        (asks : AsksAlong p m stands terms asked depends f (query_of place (path.conds ++ more) i) (length rest) (way_of depends forms place (path.conds ++ more) i)) (outside : IsOutsideAt (path.conds ++ more) i) where
       abbrev q : PureQuery
       q = query_of place (path.conds ++ more) i
 
-      pub is_undecided : (keeps_plain : Type 0) → (keeps_plain → MeetsOther p m f inputs (length rest)) → IsUndecided p m stands terms asked keeps_plain f n q
+      pub is_undecided : (keeps_plain : Type 0) → (keeps_plain → MeetsOther p m f inputs (length rest)) → IsUndecided p m stands terms asked depends keeps_plain f n q
       is_undecided keeps_plain others = record {
         entry = entry;
         k = length rest;
@@ -166,7 +169,7 @@ module _ {S : Type 0} (p : PureParts) (m : Actions) (stands : S → List PureVal
             both_true v path.conds more meets (more_holds us v has meets);
         leads = λ closed us v has given whole.
             leads_along p m stands terms asked plain laws f start begins before rest path next trail how ending us v has (first_true v path.conds more whole) (inr (closed_first path.conds more closed));
-        way = way_of place (path.conds ++ more) i;
+        way = way_of depends forms place (path.conds ++ more) i;
         asks = asks;
         conds_traced = each_to (IsTraced p m stands terms asked start (before ∷ rest)) (λ a. InFragment (a ∷ []) ⊎ OneOf (λ part. IsOwnAt stands terms asked m p part a) (before ∷ rest)) path.conds traced_there
             (laws.keep.traced start path (before ∷ rest) (next, trail));

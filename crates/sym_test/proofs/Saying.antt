@@ -21,13 +21,14 @@ use Rattle.pure_terms.specs.Wide.{has_wide_part}
 use Rattle.pure_terms.proofs.FragmentLaws.{fragment_atom_by_atom}
 use Rattle.sym_explore.specs.Exploring.{IsFrom, IsEndedFrom}
 use Rattle.sym_explore.specs.Laws.{IsBeside}
-use Rattle.sym_explore.specs.Plain.{IsAtSimple, TrailsStayPlain, grown}
+use Rattle.sym_explore.specs.Plain.{EachStep, IsAtSimple, TrailsStayPlain, grown}
 use Rattle.sym_explore.specs.Runs.{EndsAfter, StandsAfter, AccountsFor}
 use Rattle.sym_explore.specs.Trails.{IsNextPath, IsTrail}
 use Rattle.sym_model.specs.Laws.{IsPlainWithin, IsDecidedWithin}
 use Rattle.sym_model.specs.Lists.{Each}
 use Rattle.sym_model.specs.Terms.{StateTerms, AreEachOver}
 use Rattle.sym_model.proofs.ListLaws.{same_some, not_none, each_at}
+use Rattle.sym_paths.specs.Forms.{NeedsWhatMatters}
 use Rattle.sym_paths.specs.Meaning.{StandsForEnd, end_terms}
 use Rattle.sym_paths.specs.Origins.{IsText}
 use Rattle.sym_paths.specs.Pure.{PureEnd, returned, failed, missed, vanished, cut, unknown, PurePath}
@@ -76,15 +77,16 @@ open_is_outside atoms t inside = (
 )
 
 module _ {S : Type 0} (p : PureParts) (m : Actions) (stands : S → List PureValue → Heap → Type 0) (terms : S → StateTerms) (asked : List ℕ → List PureTerm → List PureTerm)
-    (plain : S → ℤ → ℤ → Type 0) (laws : TrailLaws p m stands terms asked) (f : List ℕ) (start : PurePath S) (begins : Begins p stands terms plain f start) (n : ℕ) (entry : IsEntry p f) (few : n ≤ 10000) (keeps_plain : Type 0) (stays : TrailsStayPlain p m stands terms asked plain) where
+    (plain : S → ℤ → ℤ → Type 0) (laws : TrailLaws p m stands terms asked) (f : List ℕ) (start : PurePath S) (begins : Begins p stands terms plain f start) (n : ℕ) (entry : IsEntry p f) (few : n ≤ 10000) (keeps_plain : Type 0) (stays : TrailsStayPlain p m stands terms asked plain)
+    (depends : S → List ℕ → List PureTerm → List PureValue → Heap → PureTerm → Type 0) where
   abbrev s0 : State
   s0 = first_state p f
 
   abbrev From : PurePath S → Type 0
-  From path = IsFrom p m stands terms asked plain keeps_plain n start path
+  From path = IsFrom p m stands terms asked depends plain keeps_plain n start path
 
   abbrev Ended : PurePath S → Type 0
-  Ended path = IsEndedFrom p m stands terms asked plain keeps_plain n start path
+  Ended path = IsEndedFrom p m stands terms asked depends plain keeps_plain n start path
 
   -- an end that is no cut is that of a trail
   from_of : (path : PurePath S) (how : PureEnd) → Ended path → path.ending ≡ Some how → is_cut how ≡ false → From path
@@ -167,7 +169,7 @@ module _ {S : Type 0} (p : PureParts) (m : Actions) (stands : S → List PureVal
   -- ---- undecided
 
   abbrev Undecided : PureQuery → Type 0
-  Undecided q = IsUndecided p m stands terms asked keeps_plain f n q
+  Undecided q = IsUndecided p m stands terms asked depends keeps_plain f n q
 
   abbrev about : PurePath S → Place → List PureAtom → ℕ → PureQuery
   about path place atoms i = record { place = place; path = path.choices; vars = path.vars; given = path.given; query = atoms; outside = i }
@@ -215,13 +217,17 @@ module _ {S : Type 0} (p : PureParts) (m : Actions) (stands : S → List PureVal
       let b : ℕ = grown (length from.earlier) 0 in
       term_is_narrow b t (narrow_there path from) (subst (λ o. Each (IsPlainWithin (neg_ℤ (pos b)) (pos b)) (end_terms o)) ending (plain_there path from keeps simple).ending).0
 
+  -- the actions on the way need only literal forms that matter to them
+  forms_of : (path : PurePath S) (from : From path) (last : LastStep path from.earlier) → EachStep (NeedsWhatMatters p stands depends) (last.before ∷ last.rest) path
+  forms_of path from last = subst (λ before. EachStep (NeedsWhatMatters p stands depends) before path) last.is from.forms
+
   -- ---- the path's own list
 
   own_list : (path : PurePath S) (how : PureEnd) → (from : From path) → path.ending ≡ Some how → (last : LastStep path from.earlier) → (place : Place) (i : ℕ) (us : List PureValue) → ComesAlong p m f us (length last.rest) place path.choices
       → (keeps_plain → MeetsOther p m f us (length last.rest)) → IsOutsideAt path.conds i → Undecided (about path place path.conds i)
   own_list path how from ending last place i us come others outside =
       subst (λ atoms. Undecided (about path place atoms i)) (append-nil path.conds)
-      (is_undecided p m stands terms asked plain laws f start begins n entry last.before last.rest path last.next last.trail how ending from.within place [] i us come (λ vs v has meets. refl) (inl (append-nil path.conds))
+      (is_undecided p m stands terms asked plain laws f start begins n entry last.before last.rest path last.next last.trail how ending from.within depends (forms_of path from last) place [] i us come (λ vs v has meets. refl) (inl (append-nil path.conds))
       (subst (λ atoms. IsOutsideAt atoms i) (sym (append-nil path.conds)) outside) keeps_plain others)
 
   -- a run meets a command of another form, where simple commands alone are impossible
@@ -312,7 +318,7 @@ module _ {S : Type 0} (p : PureParts) (m : Actions) (stands : S → List PureVal
         let (us, (come, either)) = comes_failing path (failed t place) from ending (λ holds. holds) last place (failing_end path t place) in
         let not_narrow : is_narrow_term t ≡ false = not_narrow_by (is_narrow_term t) refl wide.leaves.wide in
         is_about path place q atoms (length path.conds) is wide.query wide.outside
-        (is_undecided p m stands terms asked plain laws f start begins n entry last.before last.rest path last.next last.trail (failed t place) ending from.within place (opening t ∷ []) (length path.conds) us come
+        (is_undecided p m stands terms asked plain laws f start begins n entry last.before last.rest path last.next last.trail (failed t place) ending from.within depends (forms_of path from last) place (opening t ∷ []) (length path.conds) us come
         has_value
         (inr (
           opening t,
@@ -346,7 +352,7 @@ module _ {S : Type 0} (p : PureParts) (m : Actions) (stands : S → List PureVal
   -- ---- all of it
 
   failure_right : (path : PurePath S) (t : PureTerm) (place : Place) (j : PureJudgement) → Ended path → path.ending ≡ Some (failed t place) → IsFailureJudged (lists_of path) (failed t place) place (IsWide (lists_of path) t) j
-      → IsRightlyJudged p m stands terms asked keeps_plain f n start path j
+      → IsRightlyJudged p m stands terms asked depends keeps_plain f n start path j
   failure_right path t place harmless ended ending judged = absurd judged
   failure_right path t place (fails here w inputs) ended ending judged = found_failure path t place here w inputs ended ending judged.0 judged.1
   failure_right path t place (undecided q) ended ending (is, either) =
@@ -358,7 +364,7 @@ module _ {S : Type 0} (p : PureParts) (m : Actions) (stands : S → List PureVal
       either
 
   miss_right : (path : PurePath S) (key : _) (place : Place) (j : PureJudgement) → Ended path → path.ending ≡ Some (missed key place) → IsFailureJudged (lists_of path) (missed key place) place (λ q. ⊥) j
-      → IsRightlyJudged p m stands terms asked keeps_plain f n start path j
+      → IsRightlyJudged p m stands terms asked depends keeps_plain f n start path j
   miss_right path key place harmless ended ending judged = absurd judged
   miss_right path key place (fails here w inputs) ended ending judged = found_miss path key place here w inputs ended ending judged.0 judged.1
   miss_right path key place (undecided q) ended ending (is, either) =
@@ -370,15 +376,15 @@ module _ {S : Type 0} (p : PureParts) (m : Actions) (stands : S → List PureVal
       either
 
   unknown_right : (path : PurePath S) (place : Place) (reason : Reason) (j : PureJudgement) → Ended path → path.ending ≡ Some (unknown place reason) → IsUnknownJudged (lists_of path) place (place_of reason) j
-      → IsRightlyJudged p m stands terms asked keeps_plain f n start path j
+      → IsRightlyJudged p m stands terms asked depends keeps_plain f n start path j
   unknown_right path place reason harmless ended ending judged = absurd judged
   unknown_right path place reason (fails here w inputs) ended ending judged = absurd judged
   unknown_right path place reason (undecided q) ended ending (is, query, outside) = unknown_is_undecided path place reason q ended ending is query outside
 
-  harmless_right : (path : PurePath S) (j : PureJudgement) → j ≡ harmless → NoFailure path → IsRightlyJudged p m stands terms asked keeps_plain f n start path j
-  harmless_right path j is so = subst (IsRightlyJudged p m stands terms asked keeps_plain f n start path) (sym is) so
+  harmless_right : (path : PurePath S) (j : PureJudgement) → j ≡ harmless → NoFailure path → IsRightlyJudged p m stands terms asked depends keeps_plain f n start path j
+  harmless_right path j is so = subst (IsRightlyJudged p m stands terms asked depends keeps_plain f n start path) (sym is) so
 
-  right_at : (path : PurePath S) (o : Option PureEnd) (j : PureJudgement) → Ended path → path.ending ≡ o → IsJudgedEnd path o j → IsRightlyJudged p m stands terms asked keeps_plain f n start path j
+  right_at : (path : PurePath S) (o : Option PureEnd) (j : PureJudgement) → Ended path → path.ending ≡ o → IsJudgedEnd path o j → IsRightlyJudged p m stands terms asked depends keeps_plain f n start path j
   right_at path None j ended ending judged = absurd (not_open path ended ending)
   right_at path (Some (returned t)) j ended ending judged = harmless_right path j judged (returned_is_harmless path t ended ending)
   right_at path (Some (failed t place)) j ended ending judged = failure_right path t place j ended ending judged
@@ -387,7 +393,7 @@ module _ {S : Type 0} (p : PureParts) (m : Actions) (stands : S → List PureVal
   right_at path (Some cut) j ended ending judged = harmless_right path j judged (cut_is_harmless path ended ending)
   right_at path (Some (unknown place reason)) j ended ending judged = unknown_right path place reason j ended ending judged
 
-  pub judged_right : (path : PurePath S) (j : PureJudgement) → Ended path → IsJudgedEnd path path.ending j → IsRightlyJudged p m stands terms asked keeps_plain f n start path j
+  pub judged_right : (path : PurePath S) (j : PureJudgement) → Ended path → IsJudgedEnd path path.ending j → IsRightlyJudged p m stands terms asked depends keeps_plain f n start path j
   judged_right path j ended judged = right_at path path.ending j ended refl judged
 
   -- ---- runs that fail by simple commands alone

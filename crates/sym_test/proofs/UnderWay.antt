@@ -41,20 +41,21 @@ failed_has_input (machine.no_input k) is fault = is
 failed_has_input (machine.bad_input k) is fault = is
 failed_has_input machine.cut is fault = is
 
-pub record IsUnderWay {S : Type 0} (p : PureParts) (m : Actions) (stands : S → List PureValue → Heap → Type 0) (terms : S → StateTerms) (asked : List ℕ → List PureTerm → List PureTerm) (plain : S → ℤ → ℤ → Type 0) (keeps_plain : Type 0) (f : List ℕ) (n : ℕ)
+pub record IsUnderWay {S : Type 0} (p : PureParts) (m : Actions) (stands : S → List PureValue → Heap → Type 0) (terms : S → StateTerms) (asked : List ℕ → List PureTerm → List PureTerm)
+    (depends : S → List ℕ → List PureTerm → List PureValue → Heap → PureTerm → Type 0) (plain : S → ℤ → ℤ → Type 0) (keeps_plain : Type 0) (f : List ℕ) (n : ℕ)
     (left : List (PurePath S)) (kept : Option PureQuery) : Type 0 where
   pub start : PurePath S
   pub begins : Begins p stands terms plain f start
   pub may : Each (MayGoOn p terms) left
-  pub from : Each (IsFrom p m stands terms asked plain keeps_plain n start) left
+  pub from : Each (IsFrom p m stands terms asked depends plain keeps_plain n start) left
   pub cover : kept ≡ None → (inputs : List PureValue) → IsFailed (test_run p m f inputs n).ending → OneOf (AccountsFor p m stands inputs (first_state p f) start []) left
   pub simple_cover : keeps_plain → (inputs : List PureValue) → FailsSimply p m f inputs n → OneOf (AccountsFor p m stands inputs (first_state p f) start []) left
-  pub asks : OnSome (IsUndecided p m stands terms asked keeps_plain f n) kept
+  pub asks : OnSome (IsUndecided p m stands terms asked depends keeps_plain f n) kept
 
 module _ {S : Type 0} (p : PureParts) (m : Actions) (stands : S → List PureValue → Heap → Type 0) (terms : S → StateTerms) (asked : List ℕ → List PureTerm → List PureTerm)
-    (plain : S → ℤ → ℤ → Type 0) (laws : TrailLaws p m stands terms asked) (keeps_plain : Type 0) (stays : TrailsStayPlain p m stands terms asked plain) (f : List ℕ) (n : ℕ) (entry : IsEntry p f) (few : n ≤ 10000) where
+    (depends : S → List ℕ → List PureTerm → List PureValue → Heap → PureTerm → Type 0) (plain : S → ℤ → ℤ → Type 0) (laws : TrailLaws p m stands terms asked) (keeps_plain : Type 0) (stays : TrailsStayPlain p m stands terms asked plain) (f : List ℕ) (n : ℕ) (entry : IsEntry p f) (few : n ≤ 10000) where
   abbrev UnderWay : List (PurePath S) → Option PureQuery → Type 0
-  UnderWay = IsUnderWay p m stands terms asked plain keeps_plain f n
+  UnderWay = IsUnderWay p m stands terms asked depends plain keeps_plain f n
 
   abbrev s0 : State
   s0 = first_state p f
@@ -79,7 +80,7 @@ module _ {S : Type 0} (p : PureParts) (m : Actions) (stands : S → List PureVal
     start = start;
     begins = begins;
     may = (may, tt);
-    from = (record { earlier = []; trail = refl; within = (let none : start.steps ≡ 0 = begins.first.steps in omega (arith, none)); simple = λ keeps. tt }, tt);
+    from = (record { earlier = []; trail = refl; within = (let none : start.steps ≡ 0 = begins.first.steps in omega (arith, none)); simple = λ keeps. tt; forms = tt }, tt);
     cover = λ none inputs fails_there. inl (start_accounts start begins inputs);
     simple_cover = λ keeps inputs fails_so. inl (start_accounts start begins inputs);
     asks = tt;
@@ -87,7 +88,7 @@ module _ {S : Type 0} (p : PureParts) (m : Actions) (stands : S → List PureVal
 
   -- ---- a path is handed out
 
-  pub may_be_judged : (start : PurePath S) → Begins p stands terms plain f start → (path : PurePath S) → IsEndedFrom p m stands terms asked plain keeps_plain n start path → MayBeJudged terms path
+  pub may_be_judged : (start : PurePath S) → Begins p stands terms plain f start → (path : PurePath S) → IsEndedFrom p m stands terms asked depends plain keeps_plain n start path → MayBeJudged terms path
   may_be_judged start begins path (inl (from, some)) = record {
     over = is_over p m stands terms asked plain laws f start begins from.earlier path from.trail;
     sorts = new_sorts p m stands terms asked plain laws f start begins from.earlier path from.trail;
@@ -116,14 +117,14 @@ module _ {S : Type 0} (p : PureParts) (m : Actions) (stands : S → List PureVal
   Undeciding start path (undecided q) = keeps_plain → (inputs : List PureValue) → FailsSimply p m f inputs n → Accounts start inputs path → ⊥
   Undeciding start path _ = Unit {0}
 
-  undeciding : (start : PurePath S) → Begins p stands terms plain f start → (path : PurePath S) (j : PureJudgement) → IsEndedFrom p m stands terms asked plain keeps_plain n start path → IsJudgedEnd path path.ending j → Undeciding start path j
+  undeciding : (start : PurePath S) → Begins p stands terms plain f start → (path : PurePath S) (j : PureJudgement) → IsEndedFrom p m stands terms asked depends plain keeps_plain n start path → IsJudgedEnd path path.ending j → Undeciding start path j
   undeciding start begins path harmless ended judged = tt
   undeciding start begins path (fails place w inputs) ended judged = tt
-  undeciding start begins path (undecided q) ended judged = simple_is_decided p m stands terms asked plain laws f start begins n entry few keeps_plain stays path q ended judged
+  undeciding start begins path (undecided q) ended judged = simple_is_decided p m stands terms asked plain laws f start begins n entry few keeps_plain stays depends path q ended judged
 
   -- the query that is kept from one end to the next
-  after : (left rest : List (PurePath S)) (path : PurePath S) (kept : Option PureQuery) (so : UnderWay left kept) → Each (IsFrom p m stands terms asked plain keeps_plain n so.start) rest → KeepAccounts p m stands n left (path ∷ rest) → Each (MayGoOn p terms) rest
-      → (j : PureJudgement) → IsRightlyJudged p m stands terms asked keeps_plain f n so.start path j → Undeciding so.start path j → AfterJudgement rest kept j
+  after : (left rest : List (PurePath S)) (path : PurePath S) (kept : Option PureQuery) (so : UnderWay left kept) → Each (IsFrom p m stands terms asked depends plain keeps_plain n so.start) rest → KeepAccounts p m stands n left (path ∷ rest) → Each (MayGoOn p terms) rest
+      → (j : PureJudgement) → IsRightlyJudged p m stands terms asked depends keeps_plain f n so.start path j → Undeciding so.start path j → AfterJudgement rest kept j
   after left rest path kept so from accounts may harmless right decided = record {
     start = so.start;
     begins = so.begins;
@@ -161,19 +162,19 @@ module _ {S : Type 0} (p : PureParts) (m : Actions) (stands : S → List PureVal
     asks = so.asks;
   }
 
-  pub goes_on : (left rest : List (PurePath S)) (path : PurePath S) (kept : Option PureQuery) (j : PureJudgement) → UnderWay left kept → KeepTrails p m stands terms asked plain keeps_plain n left (path ∷ []) rest
+  pub goes_on : (left rest : List (PurePath S)) (path : PurePath S) (kept : Option PureQuery) (j : PureJudgement) → UnderWay left kept → KeepTrails p m stands terms asked depends plain keeps_plain n left (path ∷ []) rest
       → KeepAccounts p m stands n left (path ∷ rest) → Each (MayGoOn p terms) rest → IsJudgedEnd path path.ending j → AfterJudgement rest kept j
   goes_on left rest path kept j so trails accounts may judged =
       let (ended, from) = trails so.start so.from in
-      after left rest path kept so from accounts may j (judged_right p m stands terms asked plain laws f so.start so.begins n entry few keeps_plain stays path j ended.0 judged)
+      after left rest path kept so from accounts may j (judged_right p m stands terms asked plain laws f so.start so.begins n entry few keeps_plain stays depends path j ended.0 judged)
       (undeciding so.start so.begins path j ended.0 judged)
 
-  pub handed_out : (left rest : List (PurePath S)) (path : PurePath S) (kept : Option PureQuery) → UnderWay left kept → KeepTrails p m stands terms asked plain keeps_plain n left (path ∷ []) rest → MayBeJudged terms path
+  pub handed_out : (left rest : List (PurePath S)) (path : PurePath S) (kept : Option PureQuery) → UnderWay left kept → KeepTrails p m stands terms asked depends plain keeps_plain n left (path ∷ []) rest → MayBeJudged terms path
   handed_out left rest path kept so trails = may_be_judged so.start so.begins path (trails so.start so.from).0.0
 
   -- ---- no path is left
 
-  pub concludes : (left rest : List (PurePath S)) (kept : Option PureQuery) → UnderWay left kept → KeepAccounts p m stands n left rest → rest ≡ [] → IsRightVerdict p m stands terms asked keeps_plain f n (verdict_of kept)
+  pub concludes : (left rest : List (PurePath S)) (kept : Option PureQuery) → UnderWay left kept → KeepAccounts p m stands n left rest → rest ≡ [] → IsRightVerdict p m stands terms asked depends keeps_plain f n (verdict_of kept)
   concludes left rest (Some q) so accounts none = so.asks
   concludes left rest None so accounts none = record {
     entry = entry;
@@ -188,10 +189,10 @@ module _ {S : Type 0} (p : PureParts) (m : Actions) (stands : S → List PureVal
       (accounts so.start inputs [] s0 (failed_has_input (test_run p m f inputs n).ending fails_so.fails) (so.simple_cover keeps inputs fails_so))
 
 -- In a simple program nothing is left unknown.
-pub simple_decides : {S : Type 0} (p : PureParts) (m : Actions) (stands : S → List PureValue → Heap → Type 0) (terms : S → StateTerms) (asked : List ℕ → List PureTerm → List PureTerm) (keeps_plain : Type 0) (f : List ℕ) (n : ℕ) (verdict : PureVerdict)
-    → IsRightVerdict p m stands terms asked keeps_plain f n verdict → keeps_plain → IsTrue (is_simple p) → ¬ IsUnknownVerdict verdict
-simple_decides p m stands terms asked keeps_plain f n (bug place w inputs) right keeps simple holds = holds
-simple_decides p m stands terms asked keeps_plain f n clean right keeps simple holds = holds
-simple_decides p m stands terms asked keeps_plain f n (unknown q) right keeps simple holds =
+pub simple_decides : {S : Type 0} (p : PureParts) (m : Actions) (stands : S → List PureValue → Heap → Type 0) (terms : S → StateTerms) (asked : List ℕ → List PureTerm → List PureTerm) (depends : S → List ℕ → List PureTerm → List PureValue → Heap → PureTerm → Type 0) (keeps_plain : Type 0) (f : List ℕ) (n : ℕ) (verdict : PureVerdict)
+    → IsRightVerdict p m stands terms asked depends keeps_plain f n verdict → keeps_plain → IsTrue (is_simple p) → ¬ IsUnknownVerdict verdict
+simple_decides p m stands terms asked depends keeps_plain f n (bug place w inputs) right keeps simple holds = holds
+simple_decides p m stands terms asked depends keeps_plain f n clean right keeps simple holds = holds
+simple_decides p m stands terms asked depends keeps_plain f n (unknown q) right keeps simple holds =
     let other = right.not_simple keeps in
     true≢false (sym (simple_at p simple other.state.current other.command other.stands.at) ∙ other.other)

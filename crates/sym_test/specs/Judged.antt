@@ -148,10 +148,11 @@ AccountsForNoFailure p m stands f n start path =
     (inputs : List PureValue) → IsFailed (test_run p m f inputs n).ending → ¬ AccountsFor p m stands inputs (first_state p f) start [] path
 
 abbrev pub IsRightlyJudged : {S : Type 0} → PureParts → Actions → (S → List PureValue → Heap → Type 0) → (S → StateTerms)
-    → (List ℕ → List PureTerm → List PureTerm) → Type 0 → List ℕ → ℕ → PurePath S → PurePath S → PureJudgement → Type 0
-IsRightlyJudged p m stands terms asked keeps_plain f n start path harmless = AccountsForNoFailure p m stands f n start path
-IsRightlyJudged p m stands terms asked keeps_plain f n start path (fails place w inputs) = IsBug p m f n inputs w place
-IsRightlyJudged p m stands terms asked keeps_plain f n start path (undecided q) = IsUndecided p m stands terms asked keeps_plain f n q
+    → (List ℕ → List PureTerm → List PureTerm) → (S → List ℕ → List PureTerm → List PureValue → Heap → PureTerm → Type 0) → Type 0
+    → List ℕ → ℕ → PurePath S → PurePath S → PureJudgement → Type 0
+IsRightlyJudged p m stands terms asked depends keeps_plain f n start path harmless = AccountsForNoFailure p m stands f n start path
+IsRightlyJudged p m stands terms asked depends keeps_plain f n start path (fails place w inputs) = IsBug p m f n inputs w place
+IsRightlyJudged p m stands terms asked depends keeps_plain f n start path (undecided q) = IsUndecided p m stands terms asked depends keeps_plain f n q
 
 -- ---- queries
 

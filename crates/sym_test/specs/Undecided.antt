@@ -17,10 +17,12 @@ use Rattle.pure_terms.specs.Meaning.{value, all_true, Satisfies}
 use Rattle.pure_terms.specs.Pure.{PureTerm, PureAtom, opening}
 use Rattle.pure_terms.specs.Wide.{has_wide_part}
 use Rattle.sym_engine.specs.Lawful.{IsOwnAt}
+use Rattle.sym_explore.specs.Plain.{EachStep}
 use Rattle.sym_explore.specs.Trails.{IsNextPath, IsTrail, MayBeAssumedAt}
 use Rattle.sym_model.specs.Lists.{Each, OneOf}
 use Rattle.sym_model.specs.Meaning.{has_open}
 use Rattle.sym_model.specs.Terms.{StateTerms}
+use Rattle.sym_paths.specs.Forms.{NeedsWhatMatters}
 use Rattle.sym_paths.specs.Meaning.{command_of_path, IsFirstPath}
 use Rattle.sym_paths.specs.Origins.{IsFailing}
 use Rattle.sym_paths.specs.Pure.{PurePath}
@@ -79,9 +81,10 @@ abbrev pub is_narrow_term : PureTerm → Bool
 is_narrow_term t = is_simple t && has_literals_between (neg_ℤ (pos (2 ^ 80))) (pos (2 ^ 80)) t
 
 module _ {S : Type 0} (p : PureParts) (m : Actions) (stands : S → List PureValue → Heap → Type 0) (terms : S → StateTerms)
-    (asked : List ℕ → List PureTerm → List PureTerm) (f : List ℕ) where
+    (asked : List ℕ → List PureTerm → List PureTerm) (depends : S → List ℕ → List PureTerm → List PureValue → Heap → PureTerm → Type 0)
+    (f : List ℕ) where
   -- The way of a query: k steps from the first path of the test lead to a path, and one more to the next path, whose variables and choices
-  -- are the query's, as is what it assumes.
+  -- are the query's, as is what it assumes. At the actions on the way only literal forms are needed that matter to them.
   pub record IsWay (q : PureQuery) (k : ℕ) : Type 0 where
     pub start : PurePath S
     pub first : IsFirstPath stands terms f start
@@ -94,6 +97,7 @@ module _ {S : Type 0} (p : PureParts) (m : Actions) (stands : S → List PureVal
     pub vars : q.vars ≡ next.vars
     pub choices : q.path ≡ next.choices
     pub given : q.given ≡ next.given
+    pub forms : EachStep (NeedsWhatMatters p stands depends) (last ∷ earlier) next
 
   module _ (q : PureQuery) (k : ℕ) (way : IsWay q k) where
     -- Traced: the atom is in the fragment by itself, or own to a command of the way.
@@ -142,12 +146,14 @@ IsOutsideAt atoms i = (¬ InFragment atoms) × ((reason : Reason) × (IsFirstOut
 --   come: so no place or path is invented;
 --   not_simple: so no program is left undecided whose commands are all of simple form;
 --   given_suffices and leads: what is asked is what decides whether the run goes along the path, no more and no less;
---   way: so each term comes from the commands on the way, and not from another one with the same values;
+--   way: so each term comes from the commands on the way, and not from another one with the same values, and no action needs a literal
+--     form on which what it comes to doesn't depend;
 --   asks and conds_traced: so no atom is asked that no command asks;
 --   given_allowed: so nothing is assumed but what the commands ask of their operands and the memory of its chunks;
 --   outside: so no list is handed out that a decider would have decided.
 pub record IsUndecided {S : Type 0} (p : PureParts) (m : Actions) (stands : S → List PureValue → Heap → Type 0) (terms : S → StateTerms)
-    (asked : List ℕ → List PureTerm → List PureTerm) (keeps_plain : Type 0) (f : List ℕ) (n : ℕ) (q : PureQuery) : Type 0 where
+    (asked : List ℕ → List PureTerm → List PureTerm) (depends : S → List ℕ → List PureTerm → List PureValue → Heap → PureTerm → Type 0)
+    (keeps_plain : Type 0) (f : List ℕ) (n : ℕ) (q : PureQuery) : Type 0 where
   pub entry : IsEntry p f
   pub k : ℕ
   pub within : k < n
@@ -158,19 +164,20 @@ pub record IsUndecided {S : Type 0} (p : PureParts) (m : Actions) (stands : S �
       → IsTrue (all_true v q.given) → IsTrue (all_true v q.query)
   pub leads : has_open q.query ≡ false → (inputs v : List PureValue) → HaveValuation q.vars inputs v → IsTrue (all_true v q.given)
       → IsTrue (all_true v q.query) → IsAlong p m f inputs k q.path
-  pub way : IsWay p m stands terms asked f q k
-  pub asks : AsksAlong p m stands terms asked f q k way
-  pub conds_traced : Each (IsTraced p m stands terms asked f q k way) way.next.conds
-  pub given_allowed : Each (IsAssumed p m stands terms asked f q k way) q.given
+  pub way : IsWay p m stands terms asked depends f q k
+  pub asks : AsksAlong p m stands terms asked depends f q k way
+  pub conds_traced : Each (IsTraced p m stands terms asked depends f q k way) way.next.conds
+  pub given_allowed : Each (IsAssumed p m stands terms asked depends f q k way) q.given
   pub outside : IsOutsideAt q.query q.outside
 
 -- ---- verdicts
 
 abbrev pub IsRightVerdict : {S : Type 0} → PureParts → Actions → (S → List PureValue → Heap → Type 0) → (S → StateTerms)
-    → (List ℕ → List PureTerm → List PureTerm) → Type 0 → List ℕ → ℕ → PureVerdict → Type 0
-IsRightVerdict p m stands terms asked keeps_plain f n (bug place w inputs) = IsBug p m f n inputs w place
-IsRightVerdict p m stands terms asked keeps_plain f n clean = IsClean p m f n
-IsRightVerdict p m stands terms asked keeps_plain f n (unknown q) = IsUndecided p m stands terms asked keeps_plain f n q
+    → (List ℕ → List PureTerm → List PureTerm) → (S → List ℕ → List PureTerm → List PureValue → Heap → PureTerm → Type 0) → Type 0
+    → List ℕ → ℕ → PureVerdict → Type 0
+IsRightVerdict p m stands terms asked depends keeps_plain f n (bug place w inputs) = IsBug p m f n inputs w place
+IsRightVerdict p m stands terms asked depends keeps_plain f n clean = IsClean p m f n
+IsRightVerdict p m stands terms asked depends keeps_plain f n (unknown q) = IsUndecided p m stands terms asked depends keeps_plain f n q
 
 -- Decided: in a simple program nothing is left unknown, and a bug is answered wherever some inputs fail by commands of simple form alone.
 abbrev pub IsUnknownVerdict : PureVerdict → Type 0

@@ -53,8 +53,8 @@ pub fn test<M: SymMemory, D: Decider>(
 ) -> Result<Verdict, AllocError>
     requires entry { IsEntry (prog_view prog.now) proc.now }
     requires bound { bound ≤ 10000 }
-    ensures right { IfOk result (λ verdict. IsRightVerdict (prog_view prog.now) M.Local.actions M.stands M.terms M.asked M.keeps_plain
-        proc.now bound (verdict_view verdict)) }
+    ensures right { IfOk result (λ verdict. IsRightVerdict (prog_view prog.now) M.Local.actions M.stands M.terms M.asked M.depends
+        M.keeps_plain proc.now bound (verdict_view verdict)) }
 
     // A simple program is never left unknown, and a bug is answered wherever a run fails by commands of simple form alone.
     ensures decided { M.keeps_plain → IsTrue (is_simple (prog_view prog.now)) → IfOk result (λ verdict. ¬ IsUnknownVerdict
