@@ -5,7 +5,7 @@ use Rattle.gil_values.specs.declared.places.Place.{Place}
 use Rattle.gil_values.specs.Pure.{PureValue}
 use Rattle.gil_syntax.specs.Pure.{PureParts}
 use Rattle.record_heap.specs.Table.{record_actions}
-use Rattle.record_sym.specs.Plain.{record_stands, record_terms, record_asked}
+use Rattle.record_sym.specs.Plain.{record_stands, record_terms, record_asked, record_depends}
 use Rattle.gil_machine.specs.Run.{IsBug}
 use Rattle.sym_test.specs.Undecided.{FailsSimply, IsBugVerdict, IsRightVerdict as IsRight}
 use Rattle.sym_test.specs.View.{PureVerdict}
@@ -18,7 +18,7 @@ use Rattle.gillian_core.specs.Right.{KeepsEnds, IsMeant, IsRightVerdict, IsMeant
 
 -- what a test answers over symbolic records is right
 pub verdict_is_right : (p : PureParts) (entry : List ℕ) (bound : ℕ) (v : PureVerdict)
-    → IsRight p record_actions record_stands record_terms record_asked ⊤ entry bound v
+    → IsRight p record_actions record_stands record_terms record_asked record_depends ⊤ entry bound v
     → ((inputs : List PureValue) → FailsSimply p record_actions entry inputs bound → IsBugVerdict v)
     → IsRightVerdict p entry bound (verdict_answer v)
 verdict_is_right p entry bound (verdict.bug place w inputs) right found = right

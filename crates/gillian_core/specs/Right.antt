@@ -13,7 +13,7 @@ use Rattle.pure_terms.specs.Meaning.{IsUnsatisfiable}
 use Rattle.pure_terms.specs.declared.deciders.Reason.{Reason}
 use Rattle.solver_proof.specs.Closing.{Closes}
 use Rattle.atom_text.specs.Accepted.{PureAtomText, SpellAtoms}
-use Rattle.record_sym.specs.Plain.{record_stands, record_terms, record_asked}
+use Rattle.record_sym.specs.Plain.{record_stands, record_terms, record_asked, record_depends}
 use Rattle.sym_test.specs.Undecided.{IsUndecided, FailsSimply}
 use Rattle.while_syntax.specs.Pure.{PureSource}
 use Rattle.while_syntax.specs.Meaning.{source_end}
@@ -78,7 +78,7 @@ abbrev pub IsRightVerdict : PureParts → List ℕ → ℕ → PureAnswer → Ty
 IsRightVerdict p entry bound clean = IsClean p record_actions entry bound
 IsRightVerdict p entry bound (bug place value inputs) = IsBug p record_actions entry bound inputs value place
 IsRightVerdict p entry bound (undecided query) =
-    IsUndecided p record_actions record_stands record_terms record_asked ⊤ entry bound query × NoneFailsSimply p entry bound
+    IsUndecided p record_actions record_stands record_terms record_asked record_depends ⊤ entry bound query × NoneFailsSimply p entry bound
 IsRightVerdict p entry bound _ = ⊥
 
 -- where a text is compiled, it fails so itself on the inputs of a bug
