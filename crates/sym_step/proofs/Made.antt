@@ -5,7 +5,7 @@ use Rattle.std.proofs.lemmas.Bool.{and_parts}
 use Rattle.gil_values.specs.declared.kinds.Kind.{Kind}
 use Rattle.gil_machine.proofs.Proper.{procs_made, find_made, command_made, MadeCommand}
 use Rattle.gil_syntax.specs.Programs.{find_proc}
-use Rattle.gil_syntax.specs.Pure.{PureExpr, literal, name, logical, list_of, unary_of, binary_of, PureCommand, PureNumberedCommand, PureParts, isym}
+use Rattle.gil_syntax.specs.Pure.{PureExpr, literal, name, logical, list_of, unary_of, binary_of, PureNumberedCommand, PureParts, isym}
 use Rattle.gil_syntax.specs.Subexpressions.{literals_of, own_literals, subexpressions, exprs_of}
 use Rattle.gil_syntax.specs.WellMade.{is_spellable, is_drawable, is_well_made_node, is_well_made_expr, is_well_made_command, is_well_made, is_program_name, has_well_made_names}
 use Rattle.sym_model.proofs.ListLaws.{not_none}
