@@ -148,7 +148,7 @@ IsOutsideAt atoms i = (¬ InFragment atoms) × ((reason : Reason) × (IsFirstOut
 --   given_suffices and leads: what is asked is what decides whether the run goes along the path, no more and no less;
 --   way: so each term comes from the commands on the way, and not from another one with the same values, and no action needs a literal
 --     form on which what it comes to doesn't depend;
---   asks and conds_traced: so no atom is asked that no command asks;
+--   asks and conds_traced: so no atom outside the fragment is asked that no command asks;
 --   given_allowed: so nothing is assumed but what the commands ask of their operands and the memory of its chunks;
 --   outside: so no list is handed out that a decider would have decided.
 pub record IsUndecided {S : Type 0} (p : PureParts) (m : Actions) (stands : S → List PureValue → Heap → Type 0) (terms : S → StateTerms)
