@@ -34,7 +34,7 @@ bug_is_meant a bytes p place v inputs keeps found = fails_by a.entry inputs byte
 -- a verdict is meant where it is right
 pub verdict_is_meant : (a : Asked) (bytes : List ℕ) (p : PureParts) (answer : PureAnswer) → KeepsEnds a.second bytes p
     → IsRightVerdict p a.entry a.bound answer → IsMeantVerdict a bytes answer
-verdict_is_meant a bytes p (bug place v inputs) keeps right = bug_is_meant a bytes p place v inputs keeps right
+verdict_is_meant a bytes p (bug place v inputs) keeps right = bug_is_meant a bytes p place v inputs keeps right.0
 verdict_is_meant a bytes p clean keeps right = tt
 verdict_is_meant a bytes p (undecided q) keeps right = tt
 verdict_is_meant a bytes p (returned v) keeps right = tt

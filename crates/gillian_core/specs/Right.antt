@@ -14,6 +14,7 @@ use Rattle.pure_terms.specs.declared.deciders.Reason.{Reason}
 use Rattle.solver_proof.specs.Closing.{Closes}
 use Rattle.atom_text.specs.Accepted.{PureAtomText, SpellAtoms}
 use Rattle.record_sym.specs.Plain.{record_stands, record_terms, record_asked, record_depends}
+use Rattle.sym_test.specs.Bugs.{IsFound}
 use Rattle.sym_test.specs.Undecided.{IsUndecided, FailsSimply}
 use Rattle.while_syntax.specs.Pure.{PureSource}
 use Rattle.while_syntax.specs.Meaning.{source_end}
@@ -73,10 +74,13 @@ abbrev pub NoneFailsSimply : PureParts → List ℕ → ℕ → Type 0
 NoneFailsSimply p entry bound = (inputs : List PureValue) → ¬ FailsSimply p record_actions entry inputs bound
 
 -- `clean` is right where no run over records fails within the bound; `bug` where the run with these inputs fails with this value at
--- this place within the bound, and draws each of them; `unknown` where the query isn't decided, and none fails by simple commands.
+-- this place within the bound, and draws each of them, and those that no condition on its way names are 0, false and the empty text;
+-- `unknown` where the query isn't decided, and none fails by simple commands.
 abbrev pub IsRightVerdict : PureParts → List ℕ → ℕ → PureAnswer → Type 0
 IsRightVerdict p entry bound clean = IsClean p record_actions entry bound
-IsRightVerdict p entry bound (bug place value inputs) = IsBug p record_actions entry bound inputs value place
+IsRightVerdict p entry bound (bug place value inputs) =
+    IsBug p record_actions entry bound inputs value place
+    × IsFound p record_actions record_stands record_terms record_asked record_depends entry bound place value inputs
 IsRightVerdict p entry bound (undecided query) =
     IsUndecided p record_actions record_stands record_terms record_asked record_depends ⊤ entry bound query × NoneFailsSimply p entry bound
 IsRightVerdict p entry bound _ = ⊥

@@ -136,7 +136,7 @@ module _ {S : Type 0} (plain : S → ℤ → ℤ → Type 0) (b : ℕ) (path : P
       → IsPlainPath plain wide next
   kept next more memory vars steps conds decided stores ending =
       let count : length next.vars ≡ length path.vars = ap (λ (sorts : List Sort). length sorts) vars in
-      let few : length path.vars ≤ path.steps = from.few_variables in
+      let few : length path.vars ≤ path.steps + 2 ^ 39 = from.few_variables in
       record {
         stores = stores;
         memory = λ low high lower higher. subst (λ m. plain m low high) (sym memory) (old_memory low high lower higher);
@@ -148,7 +148,7 @@ module _ {S : Type 0} (plain : S → ℤ → ℤ → Type 0) (b : ℕ) (path : P
   pub with_one_more : (next : PurePath S) (sort : Sort) → next.memory ≡ path.memory → next.vars ≡ path.vars ++ sort ∷ [] → next.steps ≡ path.steps + 1 → next.conds ≡ path.conds → next.ending ≡ path.ending → Stack next.stack → IsPlainPath plain wide next
   with_one_more next sort memory vars steps conds ending stores =
       let count : length next.vars ≡ length path.vars + 1 = ap (λ (sorts : List Sort). length sorts) vars ∙ length-append path.vars (sort ∷ []) in
-      let few : length path.vars ≤ path.steps = from.few_variables in
+      let few : length path.vars ≤ path.steps + 2 ^ 39 = from.few_variables in
       record {
         stores = stores;
         memory = λ low high lower higher. subst (λ m. plain m low high) (sym memory) (old_memory low high lower higher);
@@ -358,7 +358,7 @@ module _ {S : Type 0} (plain : S → ℤ → ℤ → Type 0) (b : ℕ) (path : P
       branched_path br next is_plain vars steps memory conds stores ending =
           let count : length next.vars ≡ length path.vars + length (taken takes) = ap (λ (sorts : List Sort). length sorts) vars ∙ length-append path.vars (taken takes) in
           let one : length (taken takes) ≤ 1 = taken_one takes in
-          let few : length path.vars ≤ path.steps = from.few_variables in
+          let few : length path.vars ≤ path.steps + 2 ^ 39 = from.few_variables in
           record {
             stores = stores;
             memory = λ low high lower higher. subst (λ m. plain m low high) (sym memory) (is_plain low high lower higher).1.0;

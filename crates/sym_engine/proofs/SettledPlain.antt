@@ -40,11 +40,11 @@ module _ (b : ℕ) (narrow : b ≤ narrow_bound) where
   all_narrow (a ∷ atoms) decided = and_from (has_narrow_literals a) (list_all has_narrow_literals atoms) (narrow_literals a decided.0) (all_narrow atoms decided.1)
 
 module _ {S : Type 0} (plain : S → ℤ → ℤ → Type 0) where
-  -- The conditions of a plain path are in the fragment, as long as it has made no more steps than that has variables.
-  pub plain_in_fragment : (b : ℕ) (path : PurePath S) → b ≤ narrow_bound → path.steps < 2 ^ 40 → AreOver path.vars path.conds → IsPlainPath plain b path → InFragment path.conds
+  -- The conditions of a plain path are in the fragment, as long as it has made fewer than 2^39 steps.
+  pub plain_in_fragment : (b : ℕ) (path : PurePath S) → b ≤ narrow_bound → path.steps < 2 ^ 39 → AreOver path.vars path.conds → IsPlainPath plain b path → InFragment path.conds
   plain_in_fragment b path narrow few over from =
       let count : variable_count path.conds ≤ length path.vars = count_bound path.vars path.conds over in
-      let variables : length path.vars ≤ path.steps = from.few_variables in
+      let variables : length path.vars ≤ path.steps + 2 ^ 39 = from.few_variables in
       record {
         forms = all_forms b narrow path.conds from.conds;
         literals = all_narrow b narrow path.conds from.conds;

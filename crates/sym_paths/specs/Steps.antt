@@ -276,13 +276,14 @@ pub record AreNextPaths {S : Type 0} (p : PureParts) (m : Actions) (stands : S �
 -- ---- commands that keep paths in the fragment
 
 -- A path that is plain with numbers from -b to b: its terms are plain, those of its end too, its memory is plain within these and all
--- wider bounds, its conditions have forms of the fragment, and it has at most one variable for each of its steps.
+-- wider bounds, its conditions have forms of the fragment, and it has at most one variable for each of its steps beside the 2^39 with which
+-- it may have begun: after 10,000 steps they are still fewer than the 2^40 of the fragment.
 pub record IsPlainPath {S : Type 0} (plain : S → ℤ → ℤ → Type 0) (b : ℕ) (path : PurePath S) : Type 0 where
   pub stores : Each (λ f. OfEachName (IsPlainWithin (neg_ℤ (pos b)) (pos b)) f.store) path.stack
   pub memory : (low high : ℤ) → low ≤ℤ neg_ℤ (pos b) → pos b ≤ℤ high → plain path.memory low high
   pub conds : Each (IsDecidedWithin (neg_ℤ (pos b)) (pos b)) path.conds
   pub ending : Each (IsPlainWithin (neg_ℤ (pos b)) (pos b)) (end_terms path.ending)
-  pub few_variables : length path.vars ≤ path.steps
+  pub few_variables : length path.vars ≤ path.steps + 2 ^ 39
 
 -- Simple: at a command of the class, a path that is kept with numbers up to b leads to paths that are kept with larger ones, of which
 -- none is unknown, as long as those are numbers of the fragment.

@@ -33,6 +33,7 @@ use Rattle.sym_paths.specs.Meaning.{StandsForEnd, end_terms}
 use Rattle.sym_paths.specs.Origins.{IsText}
 use Rattle.sym_paths.specs.Pure.{PureEnd, returned, failed, missed, vanished, cut, unknown, PurePath}
 use Rattle.sym_paths.specs.Steps.{Extends, IsUnknown, IsRightlyUnknown, place_of, IsPlainPath}
+use Rattle.sym_test.specs.Bugs.{FailsAt, IsFound}
 use Rattle.sym_test.specs.Canonical.{HaveValuation, draws_among}
 use Rattle.sym_test.specs.Judged.{Begins, PureJudgement, harmless, fails, undecided, IsAbout, IsListOutside, IsWide, IsFoundBug, lists_of, IsFailureJudged, IsUnknownJudged, IsJudgedEnd, AccountsForNoFailure, IsRightlyJudged}
 use Rattle.sym_test.specs.Undecided.{first_state, ComesAlong, MeetsOther, FailsSimply, is_narrow_term, IsOutsideAt, IsUndecided}
@@ -165,6 +166,30 @@ module _ {S : Type 0} (p : PureParts) (m : Actions) (stands : S → List PureVal
       subst (λ us. IsBug p m f n us w here) (sym bug.draws) (subst (IsBug p m f n (draws_among path.vars bug.valuation) w) (sym same)
       (subst (λ u. IsBug p m f n (draws_among path.vars bug.valuation) u place) (sym bug.value_is)
       (miss_is_bug p m stands terms asked plain laws f start begins n entry from.earlier path from.trail from.within bug.valuation bug.canonical key place ending)))
+
+  -- where a bug comes from
+  found_along : (path : PurePath S) (how : PureEnd) (place here : Place) (w : PureValue) (inputs : List PureValue) → Ended path → path.ending ≡ Some how → is_cut how ≡ false → FailsAt place how → here ≡ place → IsFoundBug (lists_of path) how w inputs
+      → IsFound p m stands terms asked depends f n here w inputs
+  found_along path how place here w inputs ended ending other at same bug =
+      let from = from_of path how ended ending other in
+      let counted : path.steps ≡ length from.earlier = steps_counted p m stands terms asked plain laws f start begins from.earlier path from.trail in
+      let within : path.steps ≤ n = from.within in
+      record {
+        start = start;
+        first = begins.first;
+        earlier = from.earlier;
+        path = path;
+        trail = from.trail;
+        within = omega (arith, counted, within);
+        forms = from.forms;
+        how = how;
+        ending = ending;
+        at_place = subst (λ q. FailsAt q how) (sym same) at;
+        valuation = bug.valuation;
+        canonical = bug.canonical;
+        draws = bug.draws;
+        value_is = bug.value_is;
+      }
 
   -- ---- undecided
 
@@ -354,7 +379,8 @@ module _ {S : Type 0} (p : PureParts) (m : Actions) (stands : S → List PureVal
   failure_right : (path : PurePath S) (t : PureTerm) (place : Place) (j : PureJudgement) → Ended path → path.ending ≡ Some (failed t place) → IsFailureJudged (lists_of path) (failed t place) place (IsWide (lists_of path) t) j
       → IsRightlyJudged p m stands terms asked depends keeps_plain f n start path j
   failure_right path t place harmless ended ending judged = absurd judged
-  failure_right path t place (fails here w inputs) ended ending judged = found_failure path t place here w inputs ended ending judged.0 judged.1
+  failure_right path t place (fails here w inputs) ended ending judged =
+      (found_failure path t place here w inputs ended ending judged.0 judged.1, found_along path (failed t place) place here w inputs ended ending refl refl judged.0 judged.1)
   failure_right path t place (undecided q) ended ending (is, either) =
       let from = from_of path (failed t place) ended ending refl in
       let last = last_step path (failed t place) from.earlier from.trail ending in
@@ -366,7 +392,8 @@ module _ {S : Type 0} (p : PureParts) (m : Actions) (stands : S → List PureVal
   miss_right : (path : PurePath S) (key : _) (place : Place) (j : PureJudgement) → Ended path → path.ending ≡ Some (missed key place) → IsFailureJudged (lists_of path) (missed key place) place (λ q. ⊥) j
       → IsRightlyJudged p m stands terms asked depends keeps_plain f n start path j
   miss_right path key place harmless ended ending judged = absurd judged
-  miss_right path key place (fails here w inputs) ended ending judged = found_miss path key place here w inputs ended ending judged.0 judged.1
+  miss_right path key place (fails here w inputs) ended ending judged =
+      (found_miss path key place here w inputs ended ending judged.0 judged.1, found_along path (missed key place) place here w inputs ended ending refl refl judged.0 judged.1)
   miss_right path key place (undecided q) ended ending (is, either) =
       let from = from_of path (missed key place) ended ending refl in
       let last = last_step path (missed key place) from.earlier from.trail ending in

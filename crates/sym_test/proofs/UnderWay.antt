@@ -20,6 +20,7 @@ use Rattle.sym_model.proofs.ListLaws.{not_none}
 use Rattle.sym_paths.specs.Meaning.{IsOverTable}
 use Rattle.sym_paths.specs.Pure.{failed, cut, PurePath}
 use Rattle.sym_paths.specs.Steps.{IsInputFault, IsUnknown}
+use Rattle.sym_test.specs.Bugs.{IsFound}
 use Rattle.sym_test.specs.Judged.{Begins, MayBeJudged, PureJudgement, harmless, fails, undecided, IsJudgedEnd, IsRightlyJudged, first_query, verdict_of}
 use Rattle.sym_test.specs.Undecided.{first_state, FailsSimply, IsUndecided, IsRightVerdict, IsUnknownVerdict}
 use Rattle.sym_test.specs.View.{PureQuery, PureVerdict, bug, clean, unknown}
@@ -109,7 +110,7 @@ module _ {S : Type 0} (p : PureParts) (m : Actions) (stands : S → List PureVal
   -- what is left, after a path was handed out of which this is said
   abbrev pub AfterJudgement : List (PurePath S) → Option PureQuery → PureJudgement → Type 0
   AfterJudgement rest kept harmless = UnderWay rest kept
-  AfterJudgement rest kept (fails place w inputs) = IsBug p m f n inputs w place
+  AfterJudgement rest kept (fails place w inputs) = IsBug p m f n inputs w place × IsFound p m stands terms asked depends f n place w inputs
   AfterJudgement rest kept (undecided q) = UnderWay rest (first_query kept q)
 
   -- an undecided path accounts for no run that fails by simple commands alone

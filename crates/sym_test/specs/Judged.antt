@@ -1,8 +1,8 @@
 -- The start of a test, and what is said of one path that has ended.
-use Rattle.std.specs.Prelude.{◌≡◌, ◌⊎◌, ℕ, ℤ, List, [], ◌∷◌, ◌++◌, length, slice_get, Option, Some, None, IsTrue, codes}
+use Rattle.std.specs.Prelude.{◌≡◌, ◌⊎◌, ℕ, ℤ, List, [], ◌∷◌, ◌++◌, length, slice_get, Option, Some, None, IsTrue}
 use Rattle.std.specs.List.{list_all}
 use Rattle.gil_values.specs.declared.places.Place.{Place}
-use Rattle.gil_values.specs.Pure.{PureValue, text}
+use Rattle.gil_values.specs.Pure.{PureValue}
 use Rattle.gil_values.specs.View.{value_view, values_view}
 use Rattle.gil_syntax.specs.Pure.{PureParts}
 use Rattle.gil_machine.specs.Run.{test_run, IsBug}
@@ -24,6 +24,7 @@ use Rattle.sym_paths.specs.Steps.{IsNewSort, IsUnknown, place_of, IsPlainPath}
 use Rattle.pure_terms.specs.View.{atoms_view}
 use Rattle.sym_test.specs.declared.judging.Judgement.{Judgement}
 use Rattle.sym_test.specs.declared.judging.Lists.{Lists}
+use Rattle.sym_test.specs.Bugs.{FailsWith, IsFound}
 use Rattle.sym_test.specs.Canonical.{draws_among, IsCanonical}
 use Rattle.sym_test.specs.Undecided.{first_state, keeps_out, IsOutsideAt, IsUndecided}
 use Rattle.sym_test.specs.View.{PureQuery, query_view, PureVerdict, clean}
@@ -48,12 +49,6 @@ abbrev pub judgement_view : Judgement → PureJudgement
 judgement_view Judgement.Harmless = harmless
 judgement_view (Judgement.Bug place value inputs) = fails place (value_view value) (values_view inputs)
 judgement_view (Judgement.Undecided q) = undecided (query_view q)
-
--- under the valuation the path fails with this value
-abbrev pub FailsWith : List PureValue → PureEnd → PureValue → Type 0
-FailsWith v (failed t place) w = value v t ≡ Some w
-FailsWith v (missed k place) w = w ≡ text (codes "missing")
-FailsWith v _ w = ⊥
 
 -- The path names only variables of its table, which are fresh ones and draws; unless it is unknown some valuation meets its conditions; and
 -- where it fails, it does so with a value.
@@ -151,7 +146,8 @@ abbrev pub IsRightlyJudged : {S : Type 0} → PureParts → Actions → (S → L
     → (List ℕ → List PureTerm → List PureTerm) → (S → List ℕ → List PureTerm → List PureValue → Heap → PureTerm → Type 0) → Type 0
     → List ℕ → ℕ → PurePath S → PurePath S → PureJudgement → Type 0
 IsRightlyJudged p m stands terms asked depends keeps_plain f n start path harmless = AccountsForNoFailure p m stands f n start path
-IsRightlyJudged p m stands terms asked depends keeps_plain f n start path (fails place w inputs) = IsBug p m f n inputs w place
+IsRightlyJudged p m stands terms asked depends keeps_plain f n start path (fails place w inputs) =
+    IsBug p m f n inputs w place × IsFound p m stands terms asked depends f n place w inputs
 IsRightlyJudged p m stands terms asked depends keeps_plain f n start path (undecided q) = IsUndecided p m stands terms asked depends keeps_plain f n q
 
 -- ---- queries

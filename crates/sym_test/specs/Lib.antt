@@ -1,3 +1,4 @@
+pub mod Bugs
 pub mod Canonical
 pub mod Judged
 pub mod Undecided

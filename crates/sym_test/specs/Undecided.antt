@@ -28,6 +28,7 @@ use Rattle.sym_paths.specs.Origins.{IsFailing}
 use Rattle.sym_paths.specs.Pure.{PurePath}
 use Rattle.sym_paths.specs.Pure as path_end
 use Rattle.sym_paths.specs.Steps.{place_of, IsFirstOutside, MayChoose}
+use Rattle.sym_test.specs.Bugs.{IsFound}
 use Rattle.sym_test.specs.Canonical.{HaveValuation}
 use Rattle.sym_test.specs.View.{PureQuery, PureVerdict, bug, clean, unknown}
 
@@ -172,10 +173,12 @@ pub record IsUndecided {S : Type 0} (p : PureParts) (m : Actions) (stands : S �
 
 -- ---- verdicts
 
+-- A bug is one, and comes from a path of the test; clean is clean for all inputs; and what is unknown is undecided.
 abbrev pub IsRightVerdict : {S : Type 0} → PureParts → Actions → (S → List PureValue → Heap → Type 0) → (S → StateTerms)
     → (List ℕ → List PureTerm → List PureTerm) → (S → List ℕ → List PureTerm → List PureValue → Heap → PureTerm → Type 0) → Type 0
     → List ℕ → ℕ → PureVerdict → Type 0
-IsRightVerdict p m stands terms asked depends keeps_plain f n (bug place w inputs) = IsBug p m f n inputs w place
+IsRightVerdict p m stands terms asked depends keeps_plain f n (bug place w inputs) =
+    IsBug p m f n inputs w place × IsFound p m stands terms asked depends f n place w inputs
 IsRightVerdict p m stands terms asked depends keeps_plain f n clean = IsClean p m f n
 IsRightVerdict p m stands terms asked depends keeps_plain f n (unknown q) = IsUndecided p m stands terms asked depends keeps_plain f n q
 
