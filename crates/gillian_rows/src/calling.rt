@@ -35,6 +35,10 @@ pub enum CaseFault {
     Source(SourceFault),
     #[error("reads or writes of no byte")]
     NoSize,
+    #[error("a read or a write with the number 0")]
+    NoNumber,
+    #[error("any output begins so")]
+    AnyOutput,
     #[error("out of memory")]
     Memory,
 }
@@ -51,8 +55,30 @@ impl<T: Drop> From<AllocFailed<T>> for CaseFault {
     }
 }
 
+/// Why the case says nothing by one of its keys, if it does.
+fn empty_key(case: &Case) -> Option<CaseFault> {
+    if case.failing_reads.contains(&0) || case.failing_writes.contains(&0) {
+        return Some(CaseFault::NoNumber);
+    }
+    if is_any(&case.output) {
+        return Some(CaseFault::AnyOutput);
+    }
+    None
+}
+
+/// Whether every output is wanted.
+fn is_any(output: &Output) -> bool {
+    match output {
+        Output::Text(_) => false,
+        Output::Begins(beginning) => beginning.begins.is_empty(),
+    }
+}
+
 /// Calls the program over a source and a sink in memory, with the rules that the case names.
 pub fn call(alloc: Global, case: &Case) -> Result<Answer, CaseFault> {
+    if let Some(fault) = empty_key(case) {
+        return Err(fault);
+    }
     match case.rules {
         Rules::Shipped => call_by_rules(alloc, case),
         Rules::None => call_with(alloc, case, &RuleBook::new(alloc)),

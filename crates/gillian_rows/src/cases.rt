@@ -125,6 +125,8 @@ pub struct Numbered {
 pub enum SourceFault {
     #[error("a source of more than 1,048,600 bytes")]
     TooLarge,
+    #[error("a source that is filled up to fewer bytes than it has")]
+    Filled,
     #[error("out of memory")]
     Memory,
 }
@@ -164,6 +166,9 @@ impl Piece {
                 Ok(())
             }
             Piece::Fill(fill) => {
+                if fill.size < bytes.len() {
+                    return Err(SourceFault::Filled);
+                }
                 for _ in bytes.len()..fill.size {
                     add(bytes, &[fill.byte])?;
                 }
