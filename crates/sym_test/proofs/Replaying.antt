@@ -29,6 +29,7 @@ use Rattle.sym_paths.specs.Pure as path_end
 use Rattle.sym_paths.specs.Steps.{IsUnknown, IsPlaceOf}
 use Rattle.sym_paths.proofs.Silent.{stands_at}
 use Rattle.sym_steps.proofs.Following.{both_true, first_true}
+use Rattle.sym_test.specs.Bugs.{EndsAt}
 use Rattle.sym_test.specs.Canonical.{HaveValuation, draws_among, IsCanonical}
 use Rattle.sym_test.specs.Judged.{Begins}
 use Rattle.sym_test.specs.Undecided.{first_state, ComesAlong, MeetsOther, IsWay, AsksAlong, IsOutsideAt, IsUndecided}
@@ -128,9 +129,9 @@ module _ {S : Type 0} (p : PureParts) (m : Actions) (stands : S → List PureVal
     abbrev query_of : Place → List PureAtom → ℕ → PureQuery
     query_of place atoms i = record { place = place; path = path.choices; vars = path.vars; given = path.given; query = atoms; outside = i }
 
-    abbrev pub way_of : (depends : S → List ℕ → List PureTerm → List PureValue → Heap → PureTerm → Type 0) → EachStep (NeedsWhatMatters p stands depends) (before ∷ rest) path → (place : Place) (atoms : List PureAtom) (i : ℕ)
+    abbrev pub way_of : (depends : S → List ℕ → List PureTerm → List PureValue → Heap → PureTerm → Type 0) → EachStep (NeedsWhatMatters p stands depends) (before ∷ rest) path → (place : Place) → EndsAt place how → (atoms : List PureAtom) (i : ℕ)
         → IsWay p m stands terms asked depends f (query_of place atoms i) (length rest)
-    way_of depends forms place atoms i = record {
+    way_of depends forms place there atoms i = record {
       start = start;
       first = begins.first;
       earlier = rest;
@@ -139,6 +140,9 @@ module _ {S : Type 0} (p : PureParts) (m : Actions) (stands : S → List PureVal
       steps = refl;
       next = path;
       leads = next;
+      how = how;
+      ending = ending;
+      ends_there = there;
       vars = refl;
       choices = refl;
       given = refl;
@@ -150,9 +154,9 @@ module _ {S : Type 0} (p : PureParts) (m : Actions) (stands : S → List PureVal
     traced_there a (inl first) = absurd (subst (IsAmong a) begins.first.conds first)
     traced_there a (inr either) = either
 
-    module _ (depends : S → List ℕ → List PureTerm → List PureValue → Heap → PureTerm → Type 0) (forms : EachStep (NeedsWhatMatters p stands depends) (before ∷ rest) path) (place : Place) (more : List PureAtom) (i : ℕ) (inputs : List PureValue) (come : ComesAlong p m f inputs (length rest) place path.choices)
+    module _ (depends : S → List ℕ → List PureTerm → List PureValue → Heap → PureTerm → Type 0) (forms : EachStep (NeedsWhatMatters p stands depends) (before ∷ rest) path) (place : Place) (there : EndsAt place how) (more : List PureAtom) (i : ℕ) (inputs : List PureValue) (come : ComesAlong p m f inputs (length rest) place path.choices)
         (more_holds : (us v : List PureValue) → HaveValuation path.vars us v → IsTrue (all_true v path.conds) → IsTrue (all_true v more))
-        (asks : AsksAlong p m stands terms asked depends f (query_of place (path.conds ++ more) i) (length rest) (way_of depends forms place (path.conds ++ more) i)) (outside : IsOutsideAt (path.conds ++ more) i) where
+        (asks : AsksAlong p m stands terms asked depends f (query_of place (path.conds ++ more) i) (length rest) (way_of depends forms place there (path.conds ++ more) i)) (outside : IsOutsideAt (path.conds ++ more) i) where
       abbrev q : PureQuery
       q = query_of place (path.conds ++ more) i
 
@@ -169,7 +173,7 @@ module _ {S : Type 0} (p : PureParts) (m : Actions) (stands : S → List PureVal
             both_true v path.conds more meets (more_holds us v has meets);
         leads = λ closed us v has given whole.
             leads_along p m stands terms asked plain laws f start begins before rest path next trail how ending us v has (first_true v path.conds more whole) (inr (closed_first path.conds more closed));
-        way = way_of depends forms place (path.conds ++ more) i;
+        way = way_of depends forms place there (path.conds ++ more) i;
         asks = asks;
         conds_traced = each_to (IsTraced p m stands terms asked start (before ∷ rest)) (λ a. InFragment (a ∷ []) ⊎ OneOf (λ part. IsOwnAt stands terms asked m p part a) (before ∷ rest)) path.conds traced_there
             (laws.keep.traced start path (before ∷ rest) (next, trail));

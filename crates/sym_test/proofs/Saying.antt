@@ -1,7 +1,7 @@
 -- What is said of an ended path is right.
 use Rattle.std.proofs.Common.{◌≡◌, ℤ, pos, neg_ℤ, ◌⊎◌, ⊎_elim, inl, inr, ℕ, zero, suc, ◌<◌, ◌≤◌, ◌^◌, List, [], ◌∷◌, ◌++◌, length, Bool, true, false, ◌&&◌, Option, Some, None, is_some, IsTrue, true≢false, refl, sym, ap, subst, ◌∙◌, arith, slice_get, codes}
 use Rattle.std.specs.List.{list_all}
-use Rattle.std.proofs.lemmas.Bool.{and_parts, and_from}
+use Rattle.std.proofs.lemmas.Bool.{and_parts}
 use Rattle.std.proofs.lemmas.List.{append-nil}
 use Rattle.std.proofs.lemmas.List.Folds.{list_all-append}
 use Rattle.gil_values.specs.declared.places.Place.{Place}
@@ -33,7 +33,7 @@ use Rattle.sym_paths.specs.Meaning.{StandsForEnd, end_terms}
 use Rattle.sym_paths.specs.Origins.{IsText}
 use Rattle.sym_paths.specs.Pure.{PureEnd, returned, failed, missed, vanished, cut, unknown, PurePath}
 use Rattle.sym_paths.specs.Steps.{Extends, IsUnknown, IsRightlyUnknown, place_of, IsPlainPath}
-use Rattle.sym_test.specs.Bugs.{FailsAt, IsFound}
+use Rattle.sym_test.specs.Bugs.{EndsAt, IsFound}
 use Rattle.sym_test.specs.Canonical.{HaveValuation, draws_among}
 use Rattle.sym_test.specs.Judged.{Begins, PureJudgement, harmless, fails, undecided, IsAbout, IsListOutside, IsWide, IsFoundBug, lists_of, IsFailureJudged, IsUnknownJudged, IsJudgedEnd, AccountsForNoFailure, IsRightlyJudged}
 use Rattle.sym_test.specs.Undecided.{first_state, ComesAlong, MeetsOther, FailsSimply, is_narrow_term, IsOutsideAt, IsUndecided}
@@ -168,7 +168,7 @@ module _ {S : Type 0} (p : PureParts) (m : Actions) (stands : S → List PureVal
       (miss_is_bug p m stands terms asked plain laws f start begins n entry from.earlier path from.trail from.within bug.valuation bug.canonical key place ending)))
 
   -- where a bug comes from
-  found_along : (path : PurePath S) (how : PureEnd) (place here : Place) (w : PureValue) (inputs : List PureValue) → Ended path → path.ending ≡ Some how → is_cut how ≡ false → FailsAt place how → here ≡ place → IsFoundBug (lists_of path) how w inputs
+  found_along : (path : PurePath S) (how : PureEnd) (place here : Place) (w : PureValue) (inputs : List PureValue) → Ended path → path.ending ≡ Some how → is_cut how ≡ false → EndsAt place how → here ≡ place → IsFoundBug (lists_of path) how w inputs
       → IsFound p m stands terms asked depends f n here w inputs
   found_along path how place here w inputs ended ending other at same bug =
       let from = from_of path how ended ending other in
@@ -184,7 +184,7 @@ module _ {S : Type 0} (p : PureParts) (m : Actions) (stands : S → List PureVal
         forms = from.forms;
         how = how;
         ending = ending;
-        at_place = subst (λ q. FailsAt q how) (sym same) at;
+        ends_there = subst (λ q. EndsAt q how) (sym same) at;
         valuation = bug.valuation;
         canonical = bug.canonical;
         draws = bug.draws;
@@ -248,11 +248,11 @@ module _ {S : Type 0} (p : PureParts) (m : Actions) (stands : S → List PureVal
 
   -- ---- the path's own list
 
-  own_list : (path : PurePath S) (how : PureEnd) → (from : From path) → path.ending ≡ Some how → (last : LastStep path from.earlier) → (place : Place) (i : ℕ) (us : List PureValue) → ComesAlong p m f us (length last.rest) place path.choices
+  own_list : (path : PurePath S) (how : PureEnd) → (from : From path) → path.ending ≡ Some how → (last : LastStep path from.earlier) → (place : Place) → EndsAt place how → (i : ℕ) (us : List PureValue) → ComesAlong p m f us (length last.rest) place path.choices
       → (keeps_plain → MeetsOther p m f us (length last.rest)) → IsOutsideAt path.conds i → Undecided (about path place path.conds i)
-  own_list path how from ending last place i us come others outside =
+  own_list path how from ending last place there i us come others outside =
       subst (λ atoms. Undecided (about path place atoms i)) (append-nil path.conds)
-      (is_undecided p m stands terms asked plain laws f start begins n entry last.before last.rest path last.next last.trail how ending from.within depends (forms_of path from last) place [] i us come (λ vs v has meets. refl) (inl (append-nil path.conds))
+      (is_undecided p m stands terms asked plain laws f start begins n entry last.before last.rest path last.next last.trail how ending from.within depends (forms_of path from last) place there [] i us come (λ vs v has meets. refl) (inl (append-nil path.conds))
       (subst (λ atoms. IsOutsideAt atoms i) (sym (append-nil path.conds)) outside) keeps_plain others)
 
   -- a run meets a command of another form, where simple commands alone are impossible
@@ -268,7 +268,7 @@ module _ {S : Type 0} (p : PureParts) (m : Actions) (stands : S → List PureVal
       let rightly : IsRightlyUnknown p last.before path (Some (unknown place reason)) = subst (IsRightlyUnknown p last.before path) ending last.next.unknown_rightly in
       let (us, (come, either)) = come_unknown p m stands terms asked plain laws f start begins n entry last.before last.rest path last.next last.trail (unknown place reason) ending from.within place rightly.2 in
       is_about path place q path.conds (place_of reason) is query outside
-      (own_list path (unknown place reason) from ending last place (place_of reason) us come
+      (own_list path (unknown place reason) from ending last place refl (place_of reason) us come
       (others_of path from last us either (λ keeps simple. refutes_unknown path from keeps simple (subst IsUnknown (sym ending) tt)))
       (rightly.0, (reason, (rightly.1, refl))))
 
@@ -280,11 +280,11 @@ module _ {S : Type 0} (p : PureParts) (m : Actions) (stands : S → List PureVal
         let (v, canonical) = has_canonical p m stands terms asked plain laws f start begins (last.before ∷ last.rest) path (last.next, last.trail) (λ holds. known (subst IsUnknown ending holds)) in
         (draws_among path.vars v, come_failing p m stands terms asked plain laws f start begins n entry last.before last.rest path last.next last.trail how ending from.within v canonical known place (fails_there v))
 
-    outside_is_undecided : (q : PureQuery) → IsAbout (lists_of path) place q → IsListOutside (lists_of path) q → Undecided q
-    outside_is_undecided q is list =
+    outside_is_undecided : EndsAt place how → (q : PureQuery) → IsAbout (lists_of path) place q → IsListOutside (lists_of path) q → Undecided q
+    outside_is_undecided there q is list =
         let (us, (come, either)) = comes_failing in
         is_about path place q path.conds q.outside is list.query refl
-        (own_list path how from ending last place q.outside us come (others_of path from last us either (λ keeps simple. refutes_list path from keeps simple q list)) list.outside)
+        (own_list path how from ending last place there q.outside us come (others_of path from last us either (λ keeps simple. refutes_list path from keeps simple q list)) list.outside)
 
   failing_end : (path : PurePath S) (t : PureTerm) (place : Place) (v : List PureValue) (e : End) (s : State) → StandsForEnd p m stands path v s (failed t place) e → (w : PureValue) × (e.ending ≡ machine.failed w place)
   failing_end path t place v e s stood = let (w, (val, is)) = stood.ending in (w, is)
@@ -334,16 +334,10 @@ module _ {S : Type 0} (p : PureParts) (m : Actions) (stands : S → List PureVal
     wide_is_undecided : (q : PureQuery) → IsAbout (lists_of path) place q → IsWide (lists_of path) t q → Undecided q
     wide_is_undecided q is wide =
         let atoms : List PureAtom = path.conds ++ opening t ∷ [] in
-        let met : Satisfies path.vars wide.leaves.valuation atoms = record {
-          proper = wide.leaves.canonical.own.proper;
-          true_there = list_all-append (truth wide.leaves.valuation) path.conds (opening t ∷ [])
-              ∙ and_from (all_true wide.leaves.valuation path.conds) (all_true wide.leaves.valuation (opening t ∷ [])) wide.leaves.canonical.meets
-              (has_value (draws_among path.vars wide.leaves.valuation) wide.leaves.valuation wide.leaves.canonical.own wide.leaves.canonical.meets);
-        } in
         let (us, (come, either)) = comes_failing path (failed t place) from ending (λ holds. holds) last place (failing_end path t place) in
         let not_narrow : is_narrow_term t ≡ false = not_narrow_by (is_narrow_term t) refl wide.leaves.wide in
         is_about path place q atoms (length path.conds) is wide.query wide.outside
-        (is_undecided p m stands terms asked plain laws f start begins n entry last.before last.rest path last.next last.trail (failed t place) ending from.within depends (forms_of path from last) place (opening t ∷ []) (length path.conds) us come
+        (is_undecided p m stands terms asked plain laws f start begins n entry last.before last.rest path last.next last.trail (failed t place) ending from.within depends (forms_of path from last) place refl (opening t ∷ []) (length path.conds) us come
         has_value
         (inr (
           opening t,
@@ -361,8 +355,10 @@ module _ {S : Type 0} (p : PureParts) (m : Actions) (stands : S → List PureVal
                   let (r, (e, (w, (after, val, fails_so)))) = fails_with us v has meets in
                   (w, (e, (val, at_last us s r e w reach after fails_so, fails_so)));
               not_narrow = not_narrow;
+              inside = wide.inside;
               met = wide.leaves.valuation;
-              meets = met;
+              canonical = wide.leaves.canonical;
+              moderate = wide.leaves.moderate wide.inside;
               wide = wide.leaves.wide;
             },
           ),
@@ -385,7 +381,7 @@ module _ {S : Type 0} (p : PureParts) (m : Actions) (stands : S → List PureVal
       let from = from_of path (failed t place) ended ending refl in
       let last = last_step path (failed t place) from.earlier from.trail ending in
       ⊎_elim
-      (λ list. outside_is_undecided path (failed t place) from ending (λ holds. holds) last place (failing_end path t place) q is list)
+      (λ list. outside_is_undecided path (failed t place) from ending (λ holds. holds) last place (failing_end path t place) refl q is list)
       (λ wide. wide_is_undecided path t place from ending last q is wide)
       either
 
@@ -398,7 +394,7 @@ module _ {S : Type 0} (p : PureParts) (m : Actions) (stands : S → List PureVal
       let from = from_of path (missed key place) ended ending refl in
       let last = last_step path (missed key place) from.earlier from.trail ending in
       ⊎_elim
-      (λ list. outside_is_undecided path (missed key place) from ending (λ holds. holds) last place (missing_end path key place) q is list)
+      (λ list. outside_is_undecided path (missed key place) from ending (λ holds. holds) last place (missing_end path key place) refl q is list)
       (λ none. absurd none)
       either
 

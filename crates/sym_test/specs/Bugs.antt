@@ -12,7 +12,7 @@ use Rattle.sym_explore.specs.Trails.{IsTrail}
 use Rattle.sym_model.specs.Terms.{StateTerms}
 use Rattle.sym_paths.specs.Forms.{NeedsWhatMatters}
 use Rattle.sym_paths.specs.Meaning.{IsFirstPath}
-use Rattle.sym_paths.specs.Pure.{PureEnd, failed, missed, PurePath}
+use Rattle.sym_paths.specs.Pure.{PureEnd, failed, missed, unknown, PurePath}
 use Rattle.sym_test.specs.Canonical.{draws_among, IsCanonical}
 
 -- under the valuation the path fails with this value
@@ -21,11 +21,12 @@ FailsWith v (failed t place) w = value v t ≡ Some w
 FailsWith v (missed k place) w = w ≡ text (codes "missing")
 FailsWith v _ w = ⊥
 
--- the path fails at this place
-abbrev pub FailsAt : Place → PureEnd → Type 0
-FailsAt place (failed t here) = here ≡ place
-FailsAt place (missed k here) = here ≡ place
-FailsAt place _ = ⊥
+-- the path fails at this place, or is unknown there
+abbrev pub EndsAt : Place → PureEnd → Type 0
+EndsAt place (failed t here) = here ≡ place
+EndsAt place (missed k here) = here ≡ place
+EndsAt place (unknown here reason) = here ≡ place
+EndsAt place _ = ⊥
 
 module _ {S : Type 0} (p : PureParts) (m : Actions) (stands : S → List PureValue → Heap → Type 0) (terms : S → StateTerms)
     (asked : List ℕ → List PureTerm → List PureTerm) (depends : S → List ℕ → List PureTerm → List PureValue → Heap → PureTerm → Type 0)
@@ -43,7 +44,7 @@ module _ {S : Type 0} (p : PureParts) (m : Actions) (stands : S → List PureVal
     pub forms : EachStep (NeedsWhatMatters p stands depends) earlier path
     pub how : PureEnd
     pub ending : path.ending ≡ Some how
-    pub at_place : FailsAt place how
+    pub ends_there : EndsAt place how
     pub valuation : List PureValue
     pub canonical : IsCanonical path.vars path.conds valuation
     pub draws : inputs ≡ draws_among path.vars valuation

@@ -1,6 +1,7 @@
 -- What a verdict promises: a bug, clean, or undecided. Bugs and clean are those of Gillian, Part I (PLDI 2020).
 use Rattle.std.specs.Prelude.{◌≡◌, ◌⊎◌, ℕ, suc, ◌<◌, ◌≤◌, ◌^◌, pos, neg_ℤ, List, [], ◌∷◌, ◌++◌, length, Bool, false, not, ◌&&◌, ◌||◌, Option, Some, IsTrue, ⊤}
 use Rattle.std.specs.FinMap.{empty}
+use Rattle.std.specs.List.{list_all}
 use Rattle.gil_values.specs.declared.places.Place.{Place}
 use Rattle.gil_values.specs.Pure.{PureValue}
 use Rattle.gil_syntax.specs.Pure.{PureParts, PureNumberedCommand}
@@ -12,8 +13,9 @@ use Rattle.gil_machine.specs.Step.{command_at, step}
 use Rattle.mem_model.specs.Actions.{Actions}
 use Rattle.mem_model.specs.Heaps.{Heap}
 use Rattle.pure_terms.specs.declared.deciders.Reason.{Reason}
+use Rattle.pure_terms.specs.Deciding.{has_moderate_numbers}
 use Rattle.pure_terms.specs.Fragment.{is_simple, has_literals_between, has_fragment_form, has_narrow_literals, InFragment}
-use Rattle.pure_terms.specs.Meaning.{value, all_true, Satisfies}
+use Rattle.pure_terms.specs.Meaning.{value, all_true}
 use Rattle.pure_terms.specs.Pure.{PureTerm, PureAtom, opening}
 use Rattle.pure_terms.specs.Wide.{has_wide_part}
 use Rattle.sym_engine.specs.Lawful.{IsOwnAt}
@@ -25,11 +27,11 @@ use Rattle.sym_model.specs.Terms.{StateTerms}
 use Rattle.sym_paths.specs.Forms.{NeedsWhatMatters}
 use Rattle.sym_paths.specs.Meaning.{command_of_path, IsFirstPath}
 use Rattle.sym_paths.specs.Origins.{IsFailing}
-use Rattle.sym_paths.specs.Pure.{PurePath}
+use Rattle.sym_paths.specs.Pure.{PureEnd, PurePath}
 use Rattle.sym_paths.specs.Pure as path_end
 use Rattle.sym_paths.specs.Steps.{place_of, IsFirstOutside, MayChoose}
-use Rattle.sym_test.specs.Bugs.{IsFound}
-use Rattle.sym_test.specs.Canonical.{HaveValuation}
+use Rattle.sym_test.specs.Bugs.{EndsAt, IsFound}
+use Rattle.sym_test.specs.Canonical.{HaveValuation, IsCanonical}
 use Rattle.sym_test.specs.View.{PureQuery, PureVerdict, bug, clean, unknown}
 
 -- ---- runs
@@ -84,8 +86,9 @@ is_narrow_term t = is_simple t && has_literals_between (neg_ℤ (pos (2 ^ 80))) 
 module _ {S : Type 0} (p : PureParts) (m : Actions) (stands : S → List PureValue → Heap → Type 0) (terms : S → StateTerms)
     (asked : List ℕ → List PureTerm → List PureTerm) (depends : S → List ℕ → List PureTerm → List PureValue → Heap → PureTerm → Type 0)
     (f : List ℕ) where
-  -- The way of a query: k steps from the first path of the test lead to a path, and one more to the next path, whose variables and choices
-  -- are the query's, as is what it assumes. At the actions on the way only literal forms are needed that matter to them.
+  -- The way of a query: k steps from the first path of the test lead to a path, and one more to the next path, which ends at the query's
+  -- place, and whose variables and choices are the query's, as is what it assumes. At the actions on the way only literal forms are
+  -- needed that matter to them.
   pub record IsWay (q : PureQuery) (k : ℕ) : Type 0 where
     pub start : PurePath S
     pub first : IsFirstPath stands terms f start
@@ -95,6 +98,9 @@ module _ {S : Type 0} (p : PureParts) (m : Actions) (stands : S → List PureVal
     pub steps : length earlier ≡ k
     pub next : PurePath S
     pub leads : IsNextPath p m stands terms asked last next
+    pub how : PureEnd
+    pub ending : next.ending ≡ Some how
+    pub ends_there : EndsAt q.place how
     pub vars : q.vars ≡ next.vars
     pub choices : q.path ≡ next.choices
     pub given : q.given ≡ next.given
@@ -111,7 +117,8 @@ module _ {S : Type 0} (p : PureParts) (m : Actions) (stands : S → List PureVal
 
     -- The atom is that a failing value has its literal form. The next path fails at the place with a term that is from the expression of
     -- `fail`, or an action's answer; runs along the path fail there with its value; it isn't simple with narrow literals, and has a part
-    -- which leaves 128 bits under a valuation that meets the other conditions.
+    -- which leaves 128 bits under a canonical valuation that meets the other conditions; these are in the fragment, and the valuation has
+    -- numbers as a decider gives them there.
     pub record IsWideFailure (a : PureAtom) : Type 0 where
       pub term : PureTerm
       pub asks : a ≡ opening term
@@ -123,8 +130,10 @@ module _ {S : Type 0} (p : PureParts) (m : Actions) (stands : S → List PureVal
           → (reached p m inputs k (first_state p f) ≡ Some s)
           → (w : PureValue) × ((e : End) × ((value v term ≡ Some w) × (step p m inputs s ≡ ends e) × (e.ending ≡ failed w q.place)))
       pub not_narrow : is_narrow_term term ≡ false
+      pub inside : InFragment way.next.conds
       pub met : List PureValue
-      pub meets : Satisfies q.vars met q.query
+      pub canonical : IsCanonical q.vars way.next.conds met
+      pub moderate : IsTrue (list_all has_moderate_numbers met)
       pub wide : IsTrue (has_wide_part met term)
 
     -- what is asked are the conditions of the next path, and maybe that a failing value has its literal form
@@ -146,12 +155,13 @@ IsOutsideAt atoms i = (¬ InFragment atoms) × ((reason : Reason) × (IsFirstOut
 -- Undecided: after exactly k steps, fewer than the bound, some run stands at the place along the path.
 --   come: so no place or path is invented;
 --   not_simple: so no program is left undecided whose commands are all of simple form;
---   given_suffices and leads: what is asked is what decides whether the run goes along the path, no more and no less;
+--   given_suffices and leads: of runs that meet what is assumed, those along the path meet what is asked, and where no literal form is
+--     asked no others do;
 --   way: so each term comes from the commands on the way, and not from another one with the same values, and no action needs a literal
---     form on which what it comes to doesn't depend;
+--     form on which what it comes to doesn't depend, wherever the conditions are met;
 --   asks and conds_traced: so no atom outside the fragment is asked that no command asks;
 --   given_allowed: so nothing is assumed but what the commands ask of their operands and the memory of its chunks;
---   outside: so no list is handed out that a decider would have decided.
+--   outside: so no list is handed out that every decider decides.
 pub record IsUndecided {S : Type 0} (p : PureParts) (m : Actions) (stands : S → List PureValue → Heap → Type 0) (terms : S → StateTerms)
     (asked : List ℕ → List PureTerm → List PureTerm) (depends : S → List ℕ → List PureTerm → List PureValue → Heap → PureTerm → Type 0)
     (keeps_plain : Type 0) (f : List ℕ) (n : ℕ) (q : PureQuery) : Type 0 where
