@@ -27,8 +27,9 @@ use Rattle.sym_model.specs.Laws.{MayBeAsked, Serves, ActLaw, ActsPlainly, EachTe
 use Rattle.sym_model.specs.Lists.{Each, IsAmong}
 use Rattle.sym_model.specs.Meaning.{fresh_symbol}
 use Rattle.sym_model.specs.Pure.{PureSub, PureChunk, result_terms}
-use Rattle.sym_model.specs.Terms.{all_of, AreEachOver, IsFreshOver, StandsIn, is_list_term, IsMadeOf, Asked, asked_of, IsOwnCondition}
+use Rattle.sym_model.specs.Terms.{all_of, AreEachOver, IsFreshOver, StandsIn, is_list_term, IsMadeOf, Asked, asked_of, compared_terms, form_terms, IsListed, IsOwnCondition}
 use Rattle.sym_model.proofs.ChunkMeaning.{ChunkTerms, chunk_val, chunk_by_chunk, from_chunks}
+use Rattle.sym_model.proofs.Listed.{listed_itself}
 use Rattle.sym_model.proofs.ListLaws.{not_none, each_to, each_left, each_right, each_flattened, one_left}
 use Rattle.sym_model.proofs.MadeLaws.{stands_itself, made_of_given, elements_made}
 use Rattle.sym_model.proofs.PlainLaws.{plain_wider, decided_wider}
@@ -81,18 +82,18 @@ module _ (fresh : Option Var) (args : List PureTerm) (cs : List PureChunk) where
     over_fresh (Some y) is x e = subst (λ z. IsFreshOver vars z) e is
 
     abbrev OverState : List PureChunk → Type 0
-    OverState ds = Each (IsFine (λ a. IsOver vars (term_of a)) (IsOver vars) (IsOver vars) (over_accepts vars) (IsOver vars) Anything (λ k. over_literal (Literal.Str k)) (over_literal (Literal.Kind Kind.Null)) (over_literal (Literal.Bool true)) (λ ts is. elements_over vars ts is) (λ q t. tt) (λ t. tt) (λ ts. tt)) ds
+    OverState ds = Each (IsFine (λ a. IsOver vars (term_of a)) (IsOver vars) (IsOver vars) (IsOver vars) (over_accepts vars) (IsOver vars) Anything (λ k. over_literal (Literal.Str k)) (over_literal (Literal.Kind Kind.Null)) (over_literal (Literal.Bool true)) (λ ts is. elements_over vars ts is) (λ q t. tt) (λ t. tt) (λ ts. tt)) ds
 
     over_state : OverState cs
     over_state = each_to (ChunkTerms (IsOver vars)) _ cs (λ c is. record { terms = is; holds = tt }) over_chunks
 
-    over_sides : Each (ChunkSides (λ a. IsOver vars (term_of a)) (IsOver vars) (IsOver vars) (over_accepts vars)) cs
+    over_sides : Each (ChunkSides (λ a. IsOver vars (term_of a)) (IsOver vars) (IsOver vars) (IsOver vars) (over_accepts vars)) cs
     over_sides = each_to (ChunkTerms (IsOver vars)) _ cs (λ c is. record { places = is.places; described = is.described; form = λ s a b. chunk_val (IsOver vars) c is }) over_chunks
 
     over_shaped : (o : Option RecordAction) → Each (Shaped (λ a. IsOver vars (term_of a)) OverState (IsOver vars)) (table o fresh args cs)
     over_shaped None = unknown_shaped (λ a. IsOver vars (term_of a)) OverState (IsOver vars) cs over_state (λ k. over_literal (Literal.Str k))
     over_shaped (Some op) =
-        shaped (λ a. IsOver vars (term_of a)) (IsOver vars) (IsOver vars) (over_accepts vars) (IsOver vars) Anything (λ k. over_literal (Literal.Str k)) (over_literal (Literal.Kind Kind.Null)) (over_literal (Literal.Bool true)) (λ ts is. elements_over vars ts is) (λ q t. tt) (λ t. tt) (λ ts. tt)
+        shaped (λ a. IsOver vars (term_of a)) (IsOver vars) (IsOver vars) (IsOver vars) (over_accepts vars) (IsOver vars) Anything (λ k. over_literal (Literal.Str k)) (over_literal (Literal.Kind Kind.Null)) (over_literal (Literal.Bool true)) (λ ts is. elements_over vars ts is) (λ q t. tt) (λ t. tt) (λ ts. tt)
         cs over_sides over_state op fresh args (over_fresh fresh fresh_over) (each_asked (IsOver vars) op args over_args) over_args
         (λ d e no_list. inr (subst (λ xs. Each (IsOver vars) xs) e over_args).0)
 
@@ -124,42 +125,42 @@ module _ (fresh : Option Var) (args : List PureTerm) (cs : List PureChunk) where
     made_chunks = chunk_by_chunk Made cs (each_right Made args (all_of (terms_of cs)) made_all)
 
     abbrev MadeState : List PureChunk → Type 0
-    MadeState ds = Each (IsFine (IsOwnCondition asks) (StandsIn asks.compared) (λ t. IsAmong t asks.forms) (own_accepts asks) Made Anything (λ k. tt) tt tt (elements_made (args ++ all_of (terms_of cs)) fresh) (λ q t. tt) (λ t. tt) (λ ts. tt)) ds
+    MadeState ds = Each (IsFine (IsOwnCondition asks) (IsListed (compared_terms asks)) (IsListed asks.about) (λ t. IsAmong t (form_terms asks)) (own_accepts asks) Made Anything (λ k. tt) tt tt (elements_made (args ++ all_of (terms_of cs)) fresh) (λ q t. tt) (λ t. tt) (λ ts. tt)) ds
 
     made_state : MadeState cs
     made_state = each_to (ChunkTerms Made) _ cs (λ c is. record { terms = is; holds = tt }) made_chunks
 
-    stands_all : Each (StandsIn asks.compared) (asked_by o args ++ ((terms_of cs).placed ++ (terms_of cs).described))
-    stands_all = stands_itself asks.compared
+    listed_all : Each (IsListed (compared_terms asks)) (asked_by o args ++ ((terms_of cs).placed ++ (terms_of cs).described))
+    listed_all = listed_itself (compared_terms asks)
 
-    stands_chunks : Each (StandsIn asks.compared) ((terms_of cs).placed ++ (terms_of cs).described)
-    stands_chunks = each_right (StandsIn asks.compared) (asked_by o args) ((terms_of cs).placed ++ (terms_of cs).described) stands_all
+    listed_chunks : Each (IsListed (compared_terms asks)) ((terms_of cs).placed ++ (terms_of cs).described)
+    listed_chunks = each_right (IsListed (compared_terms asks)) (asked_by o args) ((terms_of cs).placed ++ (terms_of cs).described) listed_all
 
     among_itself : (xs : List PureTerm) → Each (λ t. IsAmong t xs) xs
     among_itself [] = tt
     among_itself (x ∷ xs) = (inl refl, each_to (λ t. IsAmong t xs) (λ t. IsAmong t (x ∷ xs)) xs (λ t later. inr later) (among_itself xs))
 
-    own_zipped : (ds : List PureChunk) → Each (λ c. Each (StandsIn asks.compared) (placed_in c)) ds → Each (λ c. Each (StandsIn asks.compared) (value_where_described c.sub c.val)) ds → Each (λ c. Each (λ t. IsAmong t asks.forms) (value_where_described c.sub c.val)) ds
-        → Each (ChunkSides (IsOwnCondition asks) (StandsIn asks.compared) (λ t. IsAmong t asks.forms) (own_accepts asks)) ds
+    own_zipped : (ds : List PureChunk) → Each (λ c. Each (IsListed (compared_terms asks)) (placed_in c)) ds → Each (λ c. Each (IsListed (compared_terms asks)) (value_where_described c.sub c.val)) ds → Each (λ c. Each (λ t. IsAmong t (form_terms asks)) (value_where_described c.sub c.val)) ds
+        → Each (ChunkSides (IsOwnCondition asks) (IsListed (compared_terms asks)) (IsListed asks.about) (λ t. IsAmong t (form_terms asks)) (own_accepts asks)) ds
     own_zipped [] places described forms = tt
     own_zipped (c ∷ ds) places described forms = (
-      record { places = places.0; described = described.0; form = λ is no_list no_literal. (subst (λ s. Each (λ t. IsAmong t asks.forms) (value_where_described s c.val)) is forms.0).0 },
+      record { places = places.0; described = described.0; form = λ is no_list no_literal. (subst (λ s. Each (λ t. IsAmong t (form_terms asks)) (value_where_described s c.val)) is forms.0).0 },
       own_zipped ds places.1 described.1 forms.1,
     )
 
-    own_sides : Each (ChunkSides (IsOwnCondition asks) (StandsIn asks.compared) (λ t. IsAmong t asks.forms) (own_accepts asks)) cs
+    own_sides : Each (ChunkSides (IsOwnCondition asks) (IsListed (compared_terms asks)) (IsListed asks.about) (λ t. IsAmong t (form_terms asks)) (own_accepts asks)) cs
     own_sides =
         own_zipped cs
-        (each_flattened (StandsIn asks.compared) placed_in cs (each_left (StandsIn asks.compared) (terms_of cs).placed (terms_of cs).described stands_chunks))
-        (each_flattened (StandsIn asks.compared) (λ (c : PureChunk). value_where_described c.sub c.val) cs (each_right (StandsIn asks.compared) (terms_of cs).placed (terms_of cs).described stands_chunks))
-        (each_flattened (λ t. IsAmong t asks.forms) (λ (c : PureChunk). value_where_described c.sub c.val) cs (each_right (λ t. IsAmong t asks.forms) (asked_by o args) (terms_of cs).described (among_itself asks.forms)))
+        (each_flattened (IsListed (compared_terms asks)) placed_in cs (each_left (IsListed (compared_terms asks)) (terms_of cs).placed (terms_of cs).described listed_chunks))
+        (each_flattened (IsListed (compared_terms asks)) (λ (c : PureChunk). value_where_described c.sub c.val) cs (each_right (IsListed (compared_terms asks)) (terms_of cs).placed (terms_of cs).described listed_chunks))
+        (each_flattened (λ t. IsAmong t (form_terms asks)) (λ (c : PureChunk). value_where_described c.sub c.val) cs (each_right (λ t. IsAmong t (form_terms asks)) (asked_by o args) (terms_of cs).described (among_itself (form_terms asks))))
 
   made_shaped : (o : Option RecordAction) → Each (Shaped (IsOwnCondition (asks o)) (MadeState o) (Made o)) (table o fresh args cs)
   made_shaped None = unknown_shaped (IsOwnCondition (asks None)) (MadeState None) (Made None) cs (made_state None) (λ k. tt)
   made_shaped (Some op) =
-      shaped (IsOwnCondition (asks (Some op))) (StandsIn (asks (Some op)).compared) (λ t. IsAmong t (asks (Some op)).forms) (own_accepts (asks (Some op))) (Made (Some op)) Anything (λ k. tt) tt tt (elements_made (args ++ all_of (terms_of cs)) fresh) (λ q t. tt) (λ t. tt) (λ ts. tt)
+      shaped (IsOwnCondition (asks (Some op))) (IsListed (compared_terms (asks (Some op)))) (IsListed (asks (Some op)).about) (λ t. IsAmong t (form_terms (asks (Some op)))) (own_accepts (asks (Some op))) (Made (Some op)) Anything (λ k. tt) tt tt (elements_made (args ++ all_of (terms_of cs)) fresh) (λ q t. tt) (λ t. tt) (λ ts. tt)
       cs (own_sides (Some op)) (made_state (Some op)) op fresh args (λ x is. inr (inr (x, (is, refl))))
-      (each_left (StandsIn (asks (Some op)).compared) (asked_by (Some op) args) ((terms_of cs).placed ++ (terms_of cs).described) (stands_all (Some op))) (made_args (Some op))
+      (listed_itself (asks (Some op)).about) (made_args (Some op))
       (λ d e no_list. inr (one_left (λ y. y ≡ d) (asked_by (Some op) args) (terms_of cs).described (subst (λ xs. IsAmong d (asked_by (Some op) xs)) (sym e) (only_asked op d))))
 
   -- ---- plain
@@ -169,7 +170,7 @@ module _ (fresh : Option Var) (args : List PureTerm) (cs : List PureChunk) where
     plain_fresh x is = (ap (λ s. true && (not (same_sort s Sort.Any) && not (same_sort s Sort.List))) (of_sort x is), refl)
 
     abbrev PlainState : List PureChunk → Type 0
-    PlainState ds = Each (IsFine (IsDecidedWithin low high) (IsPlainWithin low high) (λ t. ⊥) (plain_accepts low high) (IsPlainWithin low high) ListsByTerm (λ k. (refl, refl)) (refl, refl) (refl, refl) (elements_plain low high) (λ q t. tt) (λ t. tt) (λ ts. refl)) ds
+    PlainState ds = Each (IsFine (IsDecidedWithin low high) (IsPlainWithin low high) (IsPlainWithin low high) (λ t. ⊥) (plain_accepts low high) (IsPlainWithin low high) ListsByTerm (λ k. (refl, refl)) (refl, refl) (refl, refl) (elements_plain low high) (λ q t. tt) (λ t. tt) (λ ts. refl)) ds
 
     plain_zipped : (ds : List PureChunk) → Each (ChunkTerms (IsPlainWithin low high)) ds → Each (λ c. ListsByTerm c.sub c.val) ds → PlainState ds
     plain_zipped [] terms lists = tt
@@ -178,7 +179,7 @@ module _ (fresh : Option Var) (args : List PureTerm) (cs : List PureChunk) where
     plain_state : PlainState cs
     plain_state = plain_zipped cs (chunk_by_chunk (IsPlainWithin low high) cs plain.terms) plain.lists
 
-    plain_sides : Each (ChunkSides (IsDecidedWithin low high) (IsPlainWithin low high) (λ t. ⊥) (plain_accepts low high)) cs
+    plain_sides : Each (ChunkSides (IsDecidedWithin low high) (IsPlainWithin low high) (IsPlainWithin low high) (λ t. ⊥) (plain_accepts low high)) cs
     plain_sides = each_to _ _ cs (λ c fine. record {
       places = fine.terms.places;
       described = fine.terms.described;
@@ -213,7 +214,7 @@ module _ (fresh : Option Var) (args : List PureTerm) (cs : List PureChunk) where
     plain_shaped : (o : Option RecordAction) → Each (Shaped (IsDecidedWithin low high) PlainState (IsPlainWithin low high)) (table o fresh args cs)
     plain_shaped None = unknown_shaped (IsDecidedWithin low high) PlainState (IsPlainWithin low high) cs plain_state (λ k. (refl, refl))
     plain_shaped (Some op) =
-        shaped (IsDecidedWithin low high) (IsPlainWithin low high) (λ t. ⊥) (plain_accepts low high) (IsPlainWithin low high) ListsByTerm (λ k. (refl, refl)) (refl, refl) (refl, refl) (elements_plain low high) (λ q t. tt) (λ t. tt) (λ ts. refl)
+        shaped (IsDecidedWithin low high) (IsPlainWithin low high) (IsPlainWithin low high) (λ t. ⊥) (plain_accepts low high) (IsPlainWithin low high) ListsByTerm (λ k. (refl, refl)) (refl, refl) (refl, refl) (elements_plain low high) (λ q t. tt) (λ t. tt) (λ ts. refl)
         cs plain_sides plain_state op fresh args plain_fresh (each_asked (IsPlainWithin low high) op args plain_args) plain_args
         (λ d e no_list. inl (no_list_kind d (subst (λ xs. Each (IsPlainWithin low high) xs) e plain_args).0 no_list))
 

@@ -1,5 +1,5 @@
 -- The forms of the conditions that are asked, and what states and results are made of.
-use Rattle.std.proofs.Common.{◌≡◌, ◌⊎◌, ⊎_elim, inl, inr, ℕ, zero, suc, ◌+◌, List, [], ◌∷◌, ◌++◌, map, Bool, true, false, Option, Some, None, if◌then◌else◌, slice_get, refl, sym, ap, subst, ◌∙◌, arith}
+use Rattle.std.proofs.Common.{◌≡◌, ◌⊎◌, ⊎_elim, inl, inr, ℕ, zero, suc, ◌+◌, List, [], ◌∷◌, ◌++◌, map, Bool, true, false, Option, Some, None, IsTrue, if◌then◌else◌, slice_get, refl, sym, ap, subst, ◌∙◌, arith}
 use Rattle.std.specs.List.{flat_map, remove}
 use Rattle.gil_values.specs.declared.kinds.Kind.{Kind}
 use Rattle.gil_values.specs.Equality.{same_kind}
@@ -17,22 +17,27 @@ use Rattle.sym_conditions.specs.Comparing.{compared}
 use Rattle.sym_model.specs.Chunks.{with_held, placed_in, value_where_described, value_where_held}
 use Rattle.sym_model.specs.Lists.{Each}
 use Rattle.sym_model.specs.Pure.{PureSub, named, cell, shape, bound, dom, proto, gone, PureChunk, sub_terms, done, missed}
-use Rattle.sym_model.specs.Terms.{is_literal, is_list_term}
+use Rattle.sym_model.specs.Terms.{is_literal, is_list_term, is_asked_kind}
 use Rattle.sym_model.proofs.ChunkMeaning.{ChunkTerms, chunk_val}
 use Rattle.sym_model.proofs.ListLaws.{same_some, each_append, each_flat, each_to}
 use Rattle.record_sym.proofs.DisposeLaws.{each_removed}
 use Rattle.record_sym.proofs.CaseLaws.{EachAtom, Shaped, shaped_cases, both_shaped, form_shaped}
 
--- Q of the conditions that are asked of terms of which Side holds, and of the forms that are needed where Form holds
-pub record Accepts (Q : PureAtom → Type 0) (Side Form : PureTerm → Type 0) : Type 0 where
+-- Q of the conditions that compare terms of which Side holds, of those that ask kinds where Given holds, and of the forms that are
+-- needed where Form holds
+pub record Accepts (Q : PureAtom → Type 0) (Side Given Form : PureTerm → Type 0) : Type 0 where
   pub are_equal : (s t : PureTerm) → Side s → Side t → compared s t ≡ Comparison.Unsure → Q (positive (equal s t))
   pub are_other : (s t : PureTerm) → Side s → Side t → compared s t ≡ Comparison.Unsure → Q (negative (equal s t))
-  pub is_kind : (t : PureTerm) (k : Kind) → Side t → known_kind t ≡ None → Q (positive (kind_is t k))
-  pub isnt_kind : (t : PureTerm) (k : Kind) → Side t → known_kind t ≡ None → Q (negative (kind_is t k))
+  pub is_kind : (t : PureTerm) (k : Kind) → Given t → IsTrue (is_asked_kind (literal (Literal.Kind k))) → known_kind t ≡ None
+      → Q (positive (kind_is t k))
+  pub isnt_kind : (t : PureTerm) (k : Kind) → Given t → IsTrue (is_asked_kind (literal (Literal.Kind k))) → known_kind t ≡ None
+      → Q (negative (kind_is t k))
   pub form : (t : PureTerm) → Form t → is_list_term t ≡ false → is_literal t ≡ false → Q (opening t)
   pub elements : (ts : PureTerms) → Side (list_of ts) → Each Side (to_list ts)
+  pub asked_elements : (ts : PureTerms) → Given (list_of ts) → Each Given (to_list ts)
+  pub asked_side : (t : PureTerm) → Given t → Side t
 
-module _ (Q : PureAtom → Type 0) (Side Form : PureTerm → Type 0) (accepts : Accepts Q Side Form) where
+module _ (Q : PureAtom → Type 0) (Side Given Form : PureTerm → Type 0) (accepts : Accepts Q Side Given Form) where
   never_shaped : EachAtom Q never
   never_shaped = tt
 
@@ -59,19 +64,20 @@ module _ (Q : PureAtom → Type 0) (Side Form : PureTerm → Type 0) (accepts : 
   if_shaped true x y first second = first
   if_shaped false x y first second = second
 
-  by_known : (t : PureTerm) (k : Kind) → Side t → (o : Option Kind) → known_kind t ≡ o → EachAtom Q (by_kind o k always never (given (positive (kind_is t k))))
-  by_known t k side (Some l) is = if_shaped (same_kind l k) always never always_shaped tt
-  by_known t k side None is = ((accepts.is_kind t k side is, tt), tt)
+  module _ (t : PureTerm) (k : Kind) (asked : Given t) (own : IsTrue (is_asked_kind (literal (Literal.Kind k)))) where
+    by_known : (o : Option Kind) → known_kind t ≡ o → EachAtom Q (by_kind o k always never (given (positive (kind_is t k))))
+    by_known (Some l) is = if_shaped (same_kind l k) always never always_shaped tt
+    by_known None is = ((accepts.is_kind t k asked own is, tt), tt)
 
-  kind_shaped : (t : PureTerm) (k : Kind) → Side t → EachAtom Q (of_kind t k)
-  kind_shaped t k side = by_known t k side (known_kind t) refl
+    kind_shaped : EachAtom Q (of_kind t k)
+    kind_shaped = by_known (known_kind t) refl
 
-  by_unknown : (t : PureTerm) (k : Kind) → Side t → (o : Option Kind) → known_kind t ≡ o → EachAtom Q (by_kind o k never always (given (negative (kind_is t k))))
-  by_unknown t k side (Some l) is = if_shaped (same_kind l k) never always tt always_shaped
-  by_unknown t k side None is = ((accepts.isnt_kind t k side is, tt), tt)
+    by_unknown : (o : Option Kind) → known_kind t ≡ o → EachAtom Q (by_kind o k never always (given (negative (kind_is t k))))
+    by_unknown (Some l) is = if_shaped (same_kind l k) never always tt always_shaped
+    by_unknown None is = ((accepts.isnt_kind t k asked own is, tt), tt)
 
-  not_kind_shaped : (t : PureTerm) (k : Kind) → Side t → EachAtom Q (not_of_kind t k)
-  not_kind_shaped t k side = by_unknown t k side (known_kind t) refl
+    not_kind_shaped : EachAtom Q (not_of_kind t k)
+    not_kind_shaped = by_unknown (known_kind t) refl
 
   any_shaped : {A : Type 0} (f : A → Alternatives) (es : List A) → Each (λ e. EachAtom Q (f e)) es → EachAtom Q (any f es)
   any_shaped f es each = each_flat (Each Q) f es each
@@ -266,28 +272,31 @@ module _ (Q : PureAtom → Type 0) (Side Form : PureTerm → Type 0) (accepts : 
             each_append (Shaped Q State R) (changes_from when l p t cs 0 cs) (without_property when l p cs)
             (changes_shaped t r_t 0 cs sides (λ j c at. ap (slice_get cs) (omega arith) ∙ at)) without_shaped
 
-      or_fail_shaped : (l p : PureTerm) → Side l → Side p → (branches : Alternatives → RecordBranches) → ((when : Alternatives) → EachAtom Q when → Shapes (branches when)) → Shapes (property_or_fail l p cs branches)
-      or_fail_shaped l p side_l side_p branches is =
+      or_fail_shaped : (l p : PureTerm) → Given l → Given p → (branches : Alternatives → RecordBranches) → ((when : Alternatives) → EachAtom Q when → Shapes (branches when)) → Shapes (property_or_fail l p cs branches)
+      or_fail_shaped l p asked_l asked_p branches is =
           each_append (Shaped Q State R) (cases (not_of_kind l Kind.Sym ++ not_of_kind p Kind.Str) cs (failure Failure.Kind)) (branches (both (of_kind l Kind.Sym) (of_kind p Kind.Str)))
-          (failed_shaped (not_of_kind l Kind.Sym ++ not_of_kind p Kind.Str) Failure.Kind (each_append (Each Q) (not_of_kind l Kind.Sym) (not_of_kind p Kind.Str) (not_kind_shaped l Kind.Sym side_l) (not_kind_shaped p Kind.Str side_p)))
-          (is (both (of_kind l Kind.Sym) (of_kind p Kind.Str)) (both_shaped Q (of_kind l Kind.Sym) (of_kind p Kind.Str) (kind_shaped l Kind.Sym side_l) (kind_shaped p Kind.Str side_p)))
+          (failed_shaped (not_of_kind l Kind.Sym ++ not_of_kind p Kind.Str) Failure.Kind (each_append (Each Q) (not_of_kind l Kind.Sym) (not_of_kind p Kind.Str) (not_kind_shaped l Kind.Sym asked_l refl) (not_kind_shaped p Kind.Str asked_p refl)))
+          (is (both (of_kind l Kind.Sym) (of_kind p Kind.Str)) (both_shaped Q (of_kind l Kind.Sym) (of_kind p Kind.Str) (kind_shaped l Kind.Sym asked_l refl) (kind_shaped p Kind.Str asked_p refl)))
 
       wrong_shaped : Shapes (wrong_number cs)
       wrong_shaped = failed_shaped always Failure.Arity always_shaped
 
       -- ---- `new`
 
-      faulty_shaped : (ds : List PureTerm) → Each Side ds → EachAtom Q (faulty ds)
-      faulty_shaped [] all_sides = tt
-      faulty_shaped (d ∷ ds) all_sides =
-          each_append (Each Q) (not_of_kind d Kind.Str) (any (same d) ds ++ faulty ds) (not_kind_shaped d Kind.Str all_sides.0)
-          (each_append (Each Q) (any (same d) ds) (faulty ds) (same_each d ds all_sides.0 all_sides.1) (faulty_shaped ds all_sides.1))
+      given_sides : (ds : List PureTerm) → Each Given ds → Each Side ds
+      given_sides ds all_given = each_to Given Side ds accepts.asked_side all_given
 
-      distinct_shaped : (x : Alternatives) (ds : List PureTerm) → EachAtom Q x → Each Side ds → EachAtom Q (distinct_from x ds)
-      distinct_shaped x [] first all_sides = first
-      distinct_shaped x (d ∷ ds) first all_sides =
+      faulty_shaped : (ds : List PureTerm) → Each Given ds → EachAtom Q (faulty ds)
+      faulty_shaped [] all_given = tt
+      faulty_shaped (d ∷ ds) all_given =
+          each_append (Each Q) (not_of_kind d Kind.Str) (any (same d) ds ++ faulty ds) (not_kind_shaped d Kind.Str all_given.0 refl)
+          (each_append (Each Q) (any (same d) ds) (faulty ds) (same_each d ds (accepts.asked_side d all_given.0) (given_sides ds all_given.1)) (faulty_shaped ds all_given.1))
+
+      distinct_shaped : (x : Alternatives) (ds : List PureTerm) → EachAtom Q x → Each Given ds → EachAtom Q (distinct_from x ds)
+      distinct_shaped x [] first all_given = first
+      distinct_shaped x (d ∷ ds) first all_given =
           distinct_shaped (all_from (both x (of_kind d Kind.Str)) (other d) ds) ds
-          (other_each (both x (of_kind d Kind.Str)) d ds (both_shaped Q x (of_kind d Kind.Str) first (kind_shaped d Kind.Str all_sides.0)) all_sides.0 all_sides.1) all_sides.1
+          (other_each (both x (of_kind d Kind.Str)) d ds (both_shaped Q x (of_kind d Kind.Str) first (kind_shaped d Kind.Str all_given.0 refl)) (accepts.asked_side d all_given.0) (given_sides ds all_given.1)) all_given.1
 
       fine_names : (x : Var) → R (variable x) → (ds : List PureTerm) → Each R ds → State (map (name_chunk x) ds)
       fine_names x r_x [] all_r = tt
@@ -300,10 +309,10 @@ module _ (Q : PureAtom → Type 0) (Side Form : PureTerm → Type 0) (accepts : 
           (each_append IsFine cs (map (name_chunk x) (to_list ts)) state (fine_names x r_x (to_list ts) (r_elements ts r_d)))
           (record { terms = record { places = (r_x, tt); described = (r_d, tt); held = tt }; holds = n_list ts }, tt)
 
-      unlisted_shaped : (x : Var) → R (variable x) → (d : PureTerm) → Side d → EachAtom Q (with_form d (of_kind d Kind.List)) → Shapes (cases (not_of_kind d Kind.List) cs (failure Failure.Kind) ++ cases (with_form d (of_kind d Kind.List)) cs (done (variable x)))
-      unlisted_shaped x r_x d side form =
+      unlisted_shaped : (x : Var) → R (variable x) → (d : PureTerm) → Given d → EachAtom Q (with_form d (of_kind d Kind.List)) → Shapes (cases (not_of_kind d Kind.List) cs (failure Failure.Kind) ++ cases (with_form d (of_kind d Kind.List)) cs (done (variable x)))
+      unlisted_shaped x r_x d asked form =
           each_append (Shaped Q State R) (cases (not_of_kind d Kind.List) cs (failure Failure.Kind)) (cases (with_form d (of_kind d Kind.List)) cs (done (variable x)))
-          (failed_shaped (not_of_kind d Kind.List) Failure.Kind (not_kind_shaped d Kind.List side))
+          (failed_shaped (not_of_kind d Kind.List) Failure.Kind (not_kind_shaped d Kind.List asked refl))
           (shaped_cases Q State R (with_form d (of_kind d Kind.List)) cs (done (variable x)) form state (r_x, tt))
 
       no_list_literal : (k : Literal) → of_kind (literal k) Kind.List ≡ never
@@ -313,18 +322,18 @@ module _ (Q : PureAtom → Type 0) (Side Form : PureTerm → Type 0) (accepts : 
       no_list_literal (Literal.Kind n) = refl
       no_list_literal (Literal.Proc n) = refl
 
-      form_of_argument : (d : PureTerm) → Side d → (of_kind d Kind.List ≡ never) ⊎ Q (opening d) → EachAtom Q (with_form d (of_kind d Kind.List))
-      form_of_argument d side why = ⊎_elim (λ e. subst (λ x. EachAtom Q (with_form d x)) (sym e) tt) (λ is. form_shaped Q d (of_kind d Kind.List) is (kind_shaped d Kind.List side)) why
+      form_of_argument : (d : PureTerm) → Given d → (of_kind d Kind.List ≡ never) ⊎ Q (opening d) → EachAtom Q (with_form d (of_kind d Kind.List))
+      form_of_argument d asked why = ⊎_elim (λ e. subst (λ x. EachAtom Q (with_form d x)) (sym e) tt) (λ is. form_shaped Q d (of_kind d Kind.List) is (kind_shaped d Kind.List asked refl)) why
 
-      make_shaped : (x : Var) → R (variable x) → (d : PureTerm) → Side d → R d → (is_list_term d ≡ false → (of_kind d Kind.List ≡ never) ⊎ Form d) → Shapes (make x d cs)
-      make_shaped x r_x (list_of ts) side r_d form =
+      make_shaped : (x : Var) → R (variable x) → (d : PureTerm) → Given d → R d → (is_list_term d ≡ false → (of_kind d Kind.List ≡ never) ⊎ Form d) → Shapes (make x d cs)
+      make_shaped x r_x (list_of ts) asked r_d form =
           each_append (Shaped Q State R) (cases (faulty (to_list ts)) cs (failure Failure.Kind)) (made_cases x (list_of ts) (to_list ts) cs)
-          (failed_shaped (faulty (to_list ts)) Failure.Kind (faulty_shaped (to_list ts) (accepts.elements ts side)))
-          (shaped_cases Q State R (distinct_from always (to_list ts)) (created x (list_of ts) (to_list ts) cs) (done (variable x)) (distinct_shaped always (to_list ts) always_shaped (accepts.elements ts side)) (fine_created x r_x ts r_d) (r_x, tt))
-      make_shaped x r_x (literal k) side r_d form = unlisted_shaped x r_x (literal k) side (form_of_argument (literal k) side (inl (no_list_literal k)))
-      make_shaped x r_x (variable y) side r_d form = unlisted_shaped x r_x (variable y) side (form_of_argument (variable y) side (⊎_elim inl (λ is. inr (accepts.form (variable y) is refl refl)) (form refl)))
-      make_shaped x r_x (unary_of op t) side r_d form = unlisted_shaped x r_x (unary_of op t) side (form_of_argument (unary_of op t) side (⊎_elim inl (λ is. inr (accepts.form (unary_of op t) is refl refl)) (form refl)))
-      make_shaped x r_x (binary_of op s t) side r_d form = unlisted_shaped x r_x (binary_of op s t) side (form_of_argument (binary_of op s t) side (⊎_elim inl (λ is. inr (accepts.form (binary_of op s t) is refl refl)) (form refl)))
+          (failed_shaped (faulty (to_list ts)) Failure.Kind (faulty_shaped (to_list ts) (accepts.asked_elements ts asked)))
+          (shaped_cases Q State R (distinct_from always (to_list ts)) (created x (list_of ts) (to_list ts) cs) (done (variable x)) (distinct_shaped always (to_list ts) always_shaped (accepts.asked_elements ts asked)) (fine_created x r_x ts r_d) (r_x, tt))
+      make_shaped x r_x (literal k) asked r_d form = unlisted_shaped x r_x (literal k) asked (form_of_argument (literal k) asked (inl (no_list_literal k)))
+      make_shaped x r_x (variable y) asked r_d form = unlisted_shaped x r_x (variable y) asked (form_of_argument (variable y) asked (⊎_elim inl (λ is. inr (accepts.form (variable y) is refl refl)) (form refl)))
+      make_shaped x r_x (unary_of op t) asked r_d form = unlisted_shaped x r_x (unary_of op t) asked (form_of_argument (unary_of op t) asked (⊎_elim inl (λ is. inr (accepts.form (unary_of op t) is refl refl)) (form refl)))
+      make_shaped x r_x (binary_of op s t) asked r_d form = unlisted_shaped x r_x (binary_of op s t) asked (form_of_argument (binary_of op s t) asked (⊎_elim inl (λ is. inr (accepts.form (binary_of op s t) is refl refl)) (form refl)))
 
       -- ---- `dispose`
 
@@ -410,28 +419,28 @@ module _ (Q : PureAtom → Type 0) (Side Form : PureTerm → Type 0) (accepts : 
 
       -- ---- every action
 
-      pub shaped : (op : RecordAction) (fresh : Option Var) (args : List PureTerm) → ((x : Var) → fresh ≡ Some x → R (variable x)) → Each Side (asked_by (Some op) args) → Each R args
+      pub shaped : (op : RecordAction) (fresh : Option Var) (args : List PureTerm) → ((x : Var) → fresh ≡ Some x → R (variable x)) → Each Given (asked_by (Some op) args) → Each R args
           → ((d : PureTerm) → args ≡ d ∷ [] → is_list_term d ≡ false → (of_kind d Kind.List ≡ never) ⊎ Form d) → Shapes (branches_of op fresh args cs)
-      shaped RecordAction.New (Some x) (d ∷ []) r_x asked_sides all_r form = make_shaped x (r_x x refl) d asked_sides.0 all_r.0 (form d refl)
-      shaped RecordAction.New None (d ∷ []) r_x asked_sides all_r form = tt
-      shaped RecordAction.New (Some x) [] r_x asked_sides all_r form = wrong_shaped
-      shaped RecordAction.New None [] r_x asked_sides all_r form = wrong_shaped
-      shaped RecordAction.New (Some x) (d ∷ e ∷ more) r_x asked_sides all_r form = wrong_shaped
-      shaped RecordAction.New None (d ∷ e ∷ more) r_x asked_sides all_r form = wrong_shaped
-      shaped RecordAction.Lookup fresh (l ∷ p ∷ []) r_x asked_sides all_r form =
-          or_fail_shaped l p asked_sides.0 asked_sides.1.0 (λ when. lookup when l p cs) (λ when conds. lookup_shaped l p asked_sides.0 asked_sides.1.0 all_r.0 all_r.1.0 when conds)
-      shaped RecordAction.Lookup fresh [] r_x asked_sides all_r form = wrong_shaped
-      shaped RecordAction.Lookup fresh (l ∷ []) r_x asked_sides all_r form = wrong_shaped
-      shaped RecordAction.Lookup fresh (l ∷ p ∷ t ∷ more) r_x asked_sides all_r form = wrong_shaped
-      shaped RecordAction.Mutate fresh (l ∷ p ∷ t ∷ []) r_x asked_sides all_r form =
-          or_fail_shaped l p asked_sides.0 asked_sides.1.0 (λ when. mutate when l p t cs) (λ when conds. mutate_shaped l p asked_sides.0 asked_sides.1.0 all_r.0 all_r.1.0 when conds t all_r.1.1.0)
-      shaped RecordAction.Mutate fresh [] r_x asked_sides all_r form = wrong_shaped
-      shaped RecordAction.Mutate fresh (l ∷ []) r_x asked_sides all_r form = wrong_shaped
-      shaped RecordAction.Mutate fresh (l ∷ p ∷ []) r_x asked_sides all_r form = wrong_shaped
-      shaped RecordAction.Mutate fresh (l ∷ p ∷ t ∷ s ∷ more) r_x asked_sides all_r form = wrong_shaped
-      shaped RecordAction.Dispose fresh (l ∷ []) r_x asked_sides all_r form =
+      shaped RecordAction.New (Some x) (d ∷ []) r_x all_asked all_r form = make_shaped x (r_x x refl) d all_asked.0 all_r.0 (form d refl)
+      shaped RecordAction.New None (d ∷ []) r_x all_asked all_r form = tt
+      shaped RecordAction.New (Some x) [] r_x all_asked all_r form = wrong_shaped
+      shaped RecordAction.New None [] r_x all_asked all_r form = wrong_shaped
+      shaped RecordAction.New (Some x) (d ∷ e ∷ more) r_x all_asked all_r form = wrong_shaped
+      shaped RecordAction.New None (d ∷ e ∷ more) r_x all_asked all_r form = wrong_shaped
+      shaped RecordAction.Lookup fresh (l ∷ p ∷ []) r_x all_asked all_r form =
+          or_fail_shaped l p all_asked.0 all_asked.1.0 (λ when. lookup when l p cs) (λ when conds. lookup_shaped l p (accepts.asked_side l all_asked.0) (accepts.asked_side p all_asked.1.0) all_r.0 all_r.1.0 when conds)
+      shaped RecordAction.Lookup fresh [] r_x all_asked all_r form = wrong_shaped
+      shaped RecordAction.Lookup fresh (l ∷ []) r_x all_asked all_r form = wrong_shaped
+      shaped RecordAction.Lookup fresh (l ∷ p ∷ t ∷ more) r_x all_asked all_r form = wrong_shaped
+      shaped RecordAction.Mutate fresh (l ∷ p ∷ t ∷ []) r_x all_asked all_r form =
+          or_fail_shaped l p all_asked.0 all_asked.1.0 (λ when. mutate when l p t cs) (λ when conds. mutate_shaped l p (accepts.asked_side l all_asked.0) (accepts.asked_side p all_asked.1.0) all_r.0 all_r.1.0 when conds t all_r.1.1.0)
+      shaped RecordAction.Mutate fresh [] r_x all_asked all_r form = wrong_shaped
+      shaped RecordAction.Mutate fresh (l ∷ []) r_x all_asked all_r form = wrong_shaped
+      shaped RecordAction.Mutate fresh (l ∷ p ∷ []) r_x all_asked all_r form = wrong_shaped
+      shaped RecordAction.Mutate fresh (l ∷ p ∷ t ∷ s ∷ more) r_x all_asked all_r form = wrong_shaped
+      shaped RecordAction.Dispose fresh (l ∷ []) r_x all_asked all_r form =
           each_append (Shaped Q State R) (cases (not_of_kind l Kind.Sym) cs (failure Failure.Kind)) (dispose (of_kind l Kind.Sym) l cs)
-          (failed_shaped (not_of_kind l Kind.Sym) Failure.Kind (not_kind_shaped l Kind.Sym asked_sides.0))
-          (dispose_shaped l asked_sides.0 all_r.0 (of_kind l Kind.Sym) (kind_shaped l Kind.Sym asked_sides.0))
-      shaped RecordAction.Dispose fresh [] r_x asked_sides all_r form = wrong_shaped
-      shaped RecordAction.Dispose fresh (l ∷ p ∷ more) r_x asked_sides all_r form = wrong_shaped
+          (failed_shaped (not_of_kind l Kind.Sym) Failure.Kind (not_kind_shaped l Kind.Sym all_asked.0 refl))
+          (dispose_shaped l (accepts.asked_side l all_asked.0) all_r.0 (of_kind l Kind.Sym) (kind_shaped l Kind.Sym all_asked.0 refl))
+      shaped RecordAction.Dispose fresh [] r_x all_asked all_r form = wrong_shaped
+      shaped RecordAction.Dispose fresh (l ∷ p ∷ more) r_x all_asked all_r form = wrong_shaped
