@@ -1,6 +1,6 @@
 -- The three laws on conditions and terms, as what conditions and terms are made of: they are own and made of what is given; they
 -- name no other variables; they are plain.
-use Rattle.std.proofs.Common.{◌≡◌, ⊎_elim, inl, inr, ℤ, List, [], ◌++◌, Bool, true, false, not, ◌&&◌, ◌||◌, None, IsTrue, is_some, refl, sym, ap, ◌∙◌, true≢false}
+use Rattle.std.proofs.Common.{◌≡◌, ⊎_elim, inl, inr, ℤ, List, [], Bool, true, false, not, ◌&&◌, ◌||◌, None, IsTrue, is_some, refl, sym, ap, ◌∙◌, true≢false}
 use Rattle.std.proofs.lemmas.Bool.{and_parts, and_from}
 use Rattle.std.proofs.lemmas.List.Elements.{Contains-append_cases}
 use Rattle.gil_values.proofs.OperatorSymbols.{none_contained}
@@ -19,8 +19,8 @@ use Rattle.sym_conditions.specs.Comparing.{compared}
 use Rattle.sym_conditions.proofs.Telling.{Compared, are_same, are_different, are_unsure, comparison_of}
 use Rattle.sym_model.specs.Laws.{IsPlainWithin, IsDecidedWithin}
 use Rattle.sym_model.specs.Lists.{Each, IsAmong}
-use Rattle.sym_model.specs.Terms.{is_literal, are_apart, Asked, compared_terms, form_terms, IsListed, is_asked_kind, IsOwnCondition}
-use Rattle.sym_model.proofs.Listed.{listed_elements, listed_left}
+use Rattle.sym_model.specs.Terms.{are_apart, Asked, form_terms, IsListed, IsNear, is_asked, IsSide, IsOwnCondition}
+use Rattle.sym_model.proofs.Listed.{listed_elements, side_elements, asked_side}
 use Rattle.record_sym.proofs.NameLists.{elements_over}
 use Rattle.record_sym.proofs.Shapes.{Accepts}
 
@@ -37,16 +37,17 @@ unsure s t is = unsure_by s t (compared s t) (comparison_of s t) is
 
 -- ---- own conditions
 
-pub own_accepts : (g : Asked) → Accepts (IsOwnCondition g) (IsListed (compared_terms g)) (IsListed g.about) (λ t. IsAmong t (form_terms g))
+pub own_accepts : (g : Asked) → Accepts (IsOwnCondition g) (IsSide g) (IsListed g.about) (IsNear g) (λ t. IsAmong t (form_terms g))
 own_accepts g = record {
   are_equal = λ s t first second is. let parts = unsure s t is in inl (parts.0, parts.1, inl (first, second));
   are_other = λ s t first second is. let parts = unsure s t is in inl (parts.0, parts.1, inl (first, second));
   is_kind = λ t k asked own known. inr (refl, (asked, known, own));
   isnt_kind = λ t k asked own known. inr (refl, (asked, known, own));
   form = λ t form no_list no_literal. (form, no_list, no_literal);
-  elements = listed_elements (compared_terms g);
+  elements = side_elements g;
   asked_elements = listed_elements g.about;
-  asked_side = listed_left g.about (g.state.placed ++ g.state.described);
+  asked_side = asked_side g;
+  asked_near = λ t asked. is_asked asked;
 }
 
 -- ---- variables
@@ -57,7 +58,7 @@ over_both vars s t first second x has = ⊎_elim (first x) (second x) (Contains-
 over_kind : (vars : List Sort) (t : PureTerm) (k : Kind) → IsOver vars t → IsOver vars (kind_is t k)
 over_kind vars t k over x has = ⊎_elim (over x) (λ none. absurd (none_contained x none)) (Contains-append_cases (variables t) [] x has)
 
-pub over_accepts : (vars : List Sort) → Accepts (λ a. IsOver vars (term_of a)) (IsOver vars) (IsOver vars) (IsOver vars)
+pub over_accepts : (vars : List Sort) → Accepts (λ a. IsOver vars (term_of a)) (IsOver vars) (IsOver vars) (IsOver vars) (IsOver vars)
 over_accepts vars = record {
   are_equal = λ s t first second is. over_both vars s t first second;
   are_other = λ s t first second is. over_both vars s t first second;
@@ -67,6 +68,7 @@ over_accepts vars = record {
   elements = λ ts over. elements_over vars ts over;
   asked_elements = λ ts over. elements_over vars ts over;
   asked_side = λ t over. over;
+  asked_near = λ t over. over;
 }
 
 -- ---- plain
@@ -126,7 +128,7 @@ plain_elements low high (term_and t ts) simple no_any no_list literals =
 pub elements_plain : (low high : ℤ) (ts : PureTerms) → IsPlainWithin low high (list_of ts) → Each (IsPlainWithin low high) (to_list ts)
 elements_plain low high ts plain = let p = plain_parts low high (list_of ts) plain in plain_elements low high ts p.simple p.no_any p.no_list p.literals
 
-pub plain_accepts : (low high : ℤ) → Accepts (IsDecidedWithin low high) (IsPlainWithin low high) (IsPlainWithin low high) (λ t. ⊥)
+pub plain_accepts : (low high : ℤ) → Accepts (IsDecidedWithin low high) (IsPlainWithin low high) (IsPlainWithin low high) (IsPlainWithin low high) (λ t. ⊥)
 plain_accepts low high = record {
   are_equal = λ s t first second is. decided_equality low high s t first second;
   are_other = λ s t first second is. decided_equality low high s t first second;
@@ -136,4 +138,5 @@ plain_accepts low high = record {
   elements = elements_plain low high;
   asked_elements = elements_plain low high;
   asked_side = λ t plain. plain;
+  asked_near = λ t plain. plain;
 }

@@ -1,5 +1,5 @@
 -- Terms of states, arguments, conditions and results: which variables they name, and where they come from.
-use Rattle.std.specs.Prelude.{◌≡◌, ◌⊎◌, pos, List, [], ◌++◌, Bool, true, false, not, ◌&&◌, ◌||◌, Option, Some, None, IsTrue, ⊤}
+use Rattle.std.specs.Prelude.{◌≡◌, ◌⊎◌, pos, List, [], ◌++◌, map, Bool, true, false, not, ◌&&◌, ◌||◌, Option, Some, None, IsTrue, ⊤}
 use Rattle.gil_values.specs.declared.kinds.Kind.{Kind}
 use Rattle.gil_values.specs.declared.operators.UnOp.{UnOp}
 use Rattle.gil_values.specs.declared.operators.BinOp.{BinOp}
@@ -7,6 +7,7 @@ use Rattle.gil_values.specs.Equality.{same_kind}
 use Rattle.pure_terms.specs.declared.literals.Literal.{Literal}
 use Rattle.pure_terms.specs.declared.variables.Sort.{Sort}
 use Rattle.pure_terms.specs.declared.variables.Var.{Var}
+use Rattle.pure_terms.specs.Equality.{same_term}
 use Rattle.pure_terms.specs.Folding.{folded_binary}
 use Rattle.pure_terms.specs.Fragment.{is_shift, is_integer_literal}
 use Rattle.pure_terms.specs.Kinds.{same_sort, allows, known_kind}
@@ -15,16 +16,22 @@ use Rattle.pure_terms.specs.Naming.{names_only_below}
 use Rattle.pure_terms.specs.Pure.{PureTerm, literal, variable, list_of, unary_of, binary_of, PureTerms, no_terms, term_and, to_list, PureAtom, positive, negative, opening, subterms}
 use Rattle.sym_model.specs.Lists.{Each, OneOf, IsAmong}
 
+-- what a state says of a location: the terms of a name, an offset or a descriptor
+pub record LocatedTerms : Type 0 where
+  pub loc : PureTerm
+  pub terms : List PureTerm
+
 -- The terms of a state: its locations, names and offsets; what its descriptors hold, the lists of names and the bounds; what
--- its other keys hold; and the offsets by themselves.
+-- its other keys hold; the offsets by themselves; and the locations with the names, the offsets and what descriptors hold there.
 pub record StateTerms : Type 0 where
   pub placed : List PureTerm
   pub described : List PureTerm
   pub held : List PureTerm
   pub offsets : List PureTerm
+  pub located : List LocatedTerms
 
 abbrev pub no_state_terms : StateTerms
-no_state_terms = record { placed = []; described = []; held = []; offsets = [] }
+no_state_terms = record { placed = []; described = []; held = []; offsets = []; located = [] }
 
 abbrev pub all_of : StateTerms → List PureTerm
 all_of s = s.placed ++ (s.described ++ s.held)
@@ -114,6 +121,23 @@ pub data IsListed (ts : List PureTerm) : PureTerm → Type 0 where
   is_given : {t : PureTerm} → IsAmong t ts → IsListed ts t
   is_element : {us : PureTerms} {t : PureTerm} → IsListed ts (list_of us) → IsAmong t (to_list us) → IsListed ts t
 
+-- two terms that are the same or don't surely differ
+abbrev pub may_be_same : PureTerm → PureTerm → Bool
+may_be_same s t = same_term s t || not (are_apart s t)
+
+abbrev pub locations_of : Asked → List PureTerm
+locations_of g = map (λ p. p.loc) g.state.located
+
+-- what is asked about, a location that may be the same as that, and so on along locations
+pub data IsNear (g : Asked) : PureTerm → Type 0 where
+  is_asked : {t : PureTerm} → IsListed g.about t → IsNear g t
+  is_next : {s t : PureTerm} → IsNear g s → IsAmong t (locations_of g) → IsTrue (may_be_same s t) → IsNear g t
+
+-- A side of `=` is a term that may be compared: one that is asked about, a location, or one that stands at a location that is near.
+pub record IsSide (g : Asked) (t : PureTerm) : Type 0 where
+  pub compared : IsListed (compared_terms g) t
+  pub near : IsListed (g.about ++ locations_of g) t ⊎ OneOf (λ p. IsNear g p.loc × IsListed p.terms t) g.state.located
+
 abbrev pub one : PureTerm
 one = literal (Literal.Int (pos 1))
 
@@ -140,7 +164,7 @@ AreOrdered g s t =
 
 -- the sides of `=`, and of `<` and `<=`, which may be numbers
 abbrev pub AreSides : Asked → BinOp → PureTerm → PureTerm → Type 0
-AreSides g BinOp.Equal s t = (IsListed (compared_terms g) s × IsListed (compared_terms g) t) ⊎ IsNextToLimit g s t
+AreSides g BinOp.Equal s t = (IsSide g s × IsSide g t) ⊎ IsNextToLimit g s t
 AreSides g BinOp.Less s t = IsTrue (may_be_ordered s t) × AreOrdered g s t
 AreSides g BinOp.LessOrEqual s t = IsTrue (may_be_ordered s t) × AreOrdered g s t
 AreSides g _ s t = ⊥
