@@ -27,11 +27,11 @@ use Rattle.sym_model.specs.Laws.{MayBeAsked, Serves, ActLaw, ActsPlainly, EachTe
 use Rattle.sym_model.specs.Lists.{Each, OneOf, IsAmong}
 use Rattle.sym_model.specs.Meaning.{fresh_symbol}
 use Rattle.sym_model.specs.Pure.{PureSub, sub_terms, PureChunk, result_terms}
-use Rattle.sym_model.specs.Terms.{all_of, AreEachOver, IsFreshOver, StandsIn, is_list_term, IsMadeOf, LocatedTerms, Asked, asked_of, compared_terms, form_terms, IsListed, is_given, locations_of, IsNear, is_next, IsSide, IsOwnCondition}
+use Rattle.sym_model.specs.Terms.{all_of, AreEachOver, IsFreshOver, is_list_term, IsMadeOf, LocatedTerms, Asked, asked_of, compared_terms, form_terms, IsListed, is_given, locations_of, IsNear, is_next, IsSide, IsOwnCondition}
 use Rattle.sym_model.proofs.ChunkMeaning.{ChunkTerms, chunk_val, chunk_by_chunk, from_chunks}
 use Rattle.sym_model.proofs.Listed.{listed_itself}
 use Rattle.sym_model.proofs.ListLaws.{not_none, each_to, each_left, each_right, each_flattened, each_is_among, one_left, one_right}
-use Rattle.sym_model.proofs.MadeLaws.{stands_itself, made_of_given, elements_made}
+use Rattle.sym_model.proofs.MadeLaws.{made_of_given, elements_made}
 use Rattle.sym_model.proofs.PlainLaws.{plain_wider, decided_wider}
 use Rattle.record_sym.proofs.Accepting.{own_accepts, over_accepts, plain_accepts, elements_plain, plain_parts}
 use Rattle.record_sym.proofs.CaseLaws.{Shaped, shaped_cases, covered}
@@ -116,7 +116,7 @@ module _ (fresh : Option Var) (args : List PureTerm) (cs : List PureChunk) where
     Made = IsMadeOf (args ++ all_of (terms_of cs)) fresh
 
     made_all : Each Made (args ++ all_of (terms_of cs))
-    made_all = each_to (StandsIn (args ++ all_of (terms_of cs))) Made (args ++ all_of (terms_of cs)) (made_of_given (args ++ all_of (terms_of cs)) fresh) (stands_itself (args ++ all_of (terms_of cs)))
+    made_all = each_to (IsListed (args ++ all_of (terms_of cs))) Made (args ++ all_of (terms_of cs)) (made_of_given (args ++ all_of (terms_of cs)) fresh) (listed_itself (args ++ all_of (terms_of cs)))
 
     made_args : Each Made args
     made_args = each_left Made args (all_of (terms_of cs)) made_all

@@ -13,7 +13,7 @@ use Rattle.pure_terms.specs.Fragment.{is_shift, is_integer_literal}
 use Rattle.pure_terms.specs.Kinds.{same_sort, allows, known_kind}
 use Rattle.pure_terms.specs.Meaning.{IsOver}
 use Rattle.pure_terms.specs.Naming.{names_only_below}
-use Rattle.pure_terms.specs.Pure.{PureTerm, literal, variable, list_of, unary_of, binary_of, PureTerms, no_terms, term_and, to_list, PureAtom, positive, negative, opening, subterms}
+use Rattle.pure_terms.specs.Pure.{PureTerm, literal, variable, list_of, unary_of, binary_of, PureTerms, no_terms, term_and, to_list, PureAtom, positive, negative, opening}
 use Rattle.sym_model.specs.Lists.{Each, OneOf, IsAmong}
 
 -- what a state says of a location: the terms of a name, an offset or a descriptor
@@ -45,9 +45,10 @@ abbrev pub IsFreshOver : List Sort → Option Var → Type 0
 IsFreshOver vars None = ⊤
 IsFreshOver vars (Some x) = IsOver vars (variable x)
 
--- the term is one of these, or stands in one of them
-abbrev pub StandsIn : List PureTerm → PureTerm → Type 0
-StandsIn ts t = OneOf (λ u. IsAmong t (subterms u)) ts
+-- one of these terms, or an element of a list term that is
+pub data IsListed (ts : List PureTerm) : PureTerm → Type 0 where
+  is_given : {t : PureTerm} → IsAmong t ts → IsListed ts t
+  is_element : {us : PureTerms} {t : PureTerm} → IsListed ts (list_of us) → IsAmong t (to_list us) → IsListed ts t
 
 abbrev pub is_literal : PureTerm → Bool
 is_literal (literal l) = true
@@ -59,9 +60,9 @@ is_list_term _ = false
 
 -- ---- where the terms of new states and results come from
 
--- one of these terms, a literal, or the fresh variable
+-- such a term, a literal, or the fresh variable
 abbrev pub IsPart : List PureTerm → Option Var → PureTerm → Type 0
-IsPart ts fresh t = StandsIn ts t ⊎ (IsTrue (is_literal t) ⊎ ((x : Var) × ((fresh ≡ Some x) × (t ≡ variable x))))
+IsPart ts fresh t = IsListed ts t ⊎ (IsTrue (is_literal t) ⊎ ((x : Var) × ((fresh ≡ Some x) × (t ≡ variable x))))
 
 -- such a term plus or minus a literal
 abbrev pub IsShifted : List PureTerm → Option Var → PureTerm → Type 0
@@ -115,11 +116,6 @@ compared_terms g = g.about ++ (g.state.placed ++ g.state.described)
 -- the terms whose literal form may be needed
 abbrev pub form_terms : Asked → List PureTerm
 form_terms g = g.about ++ g.state.described
-
--- one of these terms, or an element of a list term that is
-pub data IsListed (ts : List PureTerm) : PureTerm → Type 0 where
-  is_given : {t : PureTerm} → IsAmong t ts → IsListed ts t
-  is_element : {us : PureTerms} {t : PureTerm} → IsListed ts (list_of us) → IsAmong t (to_list us) → IsListed ts t
 
 -- two terms that are the same or don't surely differ
 abbrev pub may_be_same : PureTerm → PureTerm → Bool
