@@ -20,8 +20,9 @@ use Rattle.sym_model.specs.Meaning.{IsOutcome, fresh_symbol, IsBranchFor}
 use Rattle.sym_model.specs.Pure.{PureBranch, PureResult, failed, result_terms}
 use Rattle.sym_model.specs.Terms.{all_of, IsMadeOf, asked_of, IsOwnCondition}
 use Rattle.sym_model.specs.View.{branch_view, branches_view}
+use Rattle.sym_model.proofs.Listed.{listed_itself}
 use Rattle.sym_model.proofs.ListLaws.{each_right, each_to}
-use Rattle.sym_model.proofs.MadeLaws.{made_of_given, stands_itself}
+use Rattle.sym_model.proofs.MadeLaws.{made_of_given}
 use Rattle.sym_model.proofs.PlainLaws.{plain_wider}
 
 -- a state with an equal note is a copy
@@ -70,7 +71,7 @@ module _ (action : List ℕ) (fresh : Option Var) (args : List PureTerm) (s : No
     made = (
       (
         of_state (IsMadeOf (args ++ all_of (noted_terms s)) fresh)
-            (each_to _ (IsMadeOf (args ++ all_of (noted_terms s)) fresh) (args ++ all_of (noted_terms s)) (made_of_given (args ++ all_of (noted_terms s)) fresh) (stands_itself (args ++ all_of (noted_terms s)))),
+            (each_to _ (IsMadeOf (args ++ all_of (noted_terms s)) fresh) (args ++ all_of (noted_terms s)) (made_of_given (args ++ all_of (noted_terms s)) fresh) (listed_itself (args ++ all_of (noted_terms s)))),
         of_result (IsMadeOf (args ++ all_of (noted_terms s)) fresh) tt,
       ),
       tt,

@@ -20,7 +20,7 @@ HasValue v (Some t) = (w : PureValue) × (value v t ≡ Some w)
 
 abbrev pub terms_of_note : Option PureTerm → StateTerms
 terms_of_note None = no_state_terms
-terms_of_note (Some t) = record { placed = []; described = t ∷ []; held = []; offsets = [] }
+terms_of_note (Some t) = record { placed = []; described = t ∷ []; held = []; offsets = []; located = [] }
 
 abbrev pub IsPlainNote : Option PureTerm → ℤ → ℤ → Type 0
 IsPlainNote None low high = ⊤

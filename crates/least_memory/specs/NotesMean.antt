@@ -1,7 +1,7 @@
 -- States with a note have a meaning.
 use Rattle.std.specs.Prelude.{ℕ, List, [], ◌∷◌, Option, Some, None}
 use Rattle.std.specs.FinMap.{empty}
-use Rattle.std.proofs.Common.{sym, subst, ◌∙◌}
+use Rattle.std.proofs.Common.{inl, sym, subst, ◌∙◌}
 use Rattle.gil_values.specs.Pure.{PureValue}
 use Rattle.least_memory.specs.Notes.{HasValue, terms_of_note, note_of, noted_stands, noted_terms, all_asked}
 use Rattle.mem_model.specs.declared.keys.MemoryName.TheVariants.{Record}
@@ -14,7 +14,7 @@ use Rattle.pure_terms.proofs.VariableLaws.{depend_on_variables}
 use Rattle.sym_model.specs.Laws.{IsMeaning, AsksItsArguments}
 use Rattle.sym_model.specs.Lists.{Each, IsAmong}
 use Rattle.sym_model.specs.Terms.{all_of}
-use Rattle.sym_model.proofs.ListLaws.{each_is_among}
+use Rattle.sym_model.proofs.ListLaws.{each_to, each_is_among}
 
 only : (P : PureTerm → Type 0) (t : PureTerm) → Each P (t ∷ []) → P t
 only P t each = each.0
@@ -40,4 +40,4 @@ notes_mean = record {
 }
 
 pub all_are_given : AsksItsArguments all_asked
-all_are_given action args = each_is_among args
+all_are_given action args = each_to (λ t. IsAmong t args) _ args (λ t among. inl among) (each_is_among args)

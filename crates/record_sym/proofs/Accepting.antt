@@ -19,36 +19,35 @@ use Rattle.sym_conditions.specs.Comparing.{compared}
 use Rattle.sym_conditions.proofs.Telling.{Compared, are_same, are_different, are_unsure, comparison_of}
 use Rattle.sym_model.specs.Laws.{IsPlainWithin, IsDecidedWithin}
 use Rattle.sym_model.specs.Lists.{Each, IsAmong}
-use Rattle.sym_model.specs.Terms.{StandsIn, is_literal, Asked, IsOwnCondition}
-use Rattle.sym_model.proofs.MadeLaws.{stands_elements}
+use Rattle.sym_model.specs.Terms.{are_apart, Asked, form_terms, IsListed, IsNear, is_asked, IsSide, IsOwnCondition}
+use Rattle.sym_model.proofs.Listed.{listed_elements, side_elements, asked_side}
 use Rattle.record_sym.proofs.NameLists.{elements_over}
 use Rattle.record_sym.proofs.Shapes.{Accepts}
 
 -- ---- comparisons that aren't sure
 
-or_false_first : (b c : Bool) → (b || c) ≡ false → b ≡ false
-or_false_first true c e = absurd (true≢false e)
-or_false_first false c e = refl
-
-unsure_by : (s t : PureTerm) (c : Comparison) → Compared s t c → c ≡ Comparison.Unsure → (¬ (s ≡ t)) × ((is_literal s && is_literal t) ≡ false)
+unsure_by : (s t : PureTerm) (c : Comparison) → Compared s t c → c ≡ Comparison.Unsure → (¬ (s ≡ t)) × (are_apart s t ≡ false)
 unsure_by s t Comparison.Same (are_same e) is = absurd (cc)
 unsure_by s t Comparison.Different (are_different a b) is = absurd (cc)
 unsure_by s t Comparison.Unsure (are_unsure differ apart) is =
-    ((λ e. true≢false (sym (same_term-refl s) ∙ ap (same_term s) e ∙ differ)), or_false_first (is_literal s && is_literal t) _ apart)
+    ((λ e. true≢false (sym (same_term-refl s) ∙ ap (same_term s) e ∙ differ)), apart)
 
-unsure : (s t : PureTerm) → compared s t ≡ Comparison.Unsure → (¬ (s ≡ t)) × ((is_literal s && is_literal t) ≡ false)
+unsure : (s t : PureTerm) → compared s t ≡ Comparison.Unsure → (¬ (s ≡ t)) × (are_apart s t ≡ false)
 unsure s t is = unsure_by s t (compared s t) (comparison_of s t) is
 
 -- ---- own conditions
 
-pub own_accepts : (g : Asked) → Accepts (IsOwnCondition g) (StandsIn g.compared) (λ t. IsAmong t g.forms)
+pub own_accepts : (g : Asked) → Accepts (IsOwnCondition g) (IsSide g) (IsListed g.about) (IsNear g) (λ t. IsAmong t (form_terms g))
 own_accepts g = record {
-  are_equal = λ s t first second is. let parts = unsure s t is in inl (refl, inl (parts.0, parts.1, inl first, inl second));
-  are_other = λ s t first second is. let parts = unsure s t is in inl (refl, inl (parts.0, parts.1, inl first, inl second));
-  is_kind = λ t k side known. inr (refl, (side, known, refl));
-  isnt_kind = λ t k side known. inr (refl, (side, known, refl));
+  are_equal = λ s t first second is. let parts = unsure s t is in inl (parts.0, parts.1, inl (first, second));
+  are_other = λ s t first second is. let parts = unsure s t is in inl (parts.0, parts.1, inl (first, second));
+  is_kind = λ t k asked own known. inr (refl, (asked, known, own));
+  isnt_kind = λ t k asked own known. inr (refl, (asked, known, own));
   form = λ t form no_list no_literal. (form, no_list, no_literal);
-  elements = stands_elements g.compared;
+  elements = side_elements g;
+  asked_elements = listed_elements g.about;
+  asked_side = asked_side g;
+  asked_near = λ t asked. is_asked asked;
 }
 
 -- ---- variables
@@ -59,14 +58,17 @@ over_both vars s t first second x has = ⊎_elim (first x) (second x) (Contains-
 over_kind : (vars : List Sort) (t : PureTerm) (k : Kind) → IsOver vars t → IsOver vars (kind_is t k)
 over_kind vars t k over x has = ⊎_elim (over x) (λ none. absurd (none_contained x none)) (Contains-append_cases (variables t) [] x has)
 
-pub over_accepts : (vars : List Sort) → Accepts (λ a. IsOver vars (term_of a)) (IsOver vars) (IsOver vars)
+pub over_accepts : (vars : List Sort) → Accepts (λ a. IsOver vars (term_of a)) (IsOver vars) (IsOver vars) (IsOver vars) (IsOver vars)
 over_accepts vars = record {
   are_equal = λ s t first second is. over_both vars s t first second;
   are_other = λ s t first second is. over_both vars s t first second;
-  is_kind = λ t k side known. over_kind vars t k side;
-  isnt_kind = λ t k side known. over_kind vars t k side;
+  is_kind = λ t k asked own known. over_kind vars t k asked;
+  isnt_kind = λ t k asked own known. over_kind vars t k asked;
   form = λ t form no_list no_literal. form;
   elements = λ ts over. elements_over vars ts over;
+  asked_elements = λ ts over. elements_over vars ts over;
+  asked_side = λ t over. over;
+  asked_near = λ t over. over;
 }
 
 -- ---- plain
@@ -126,12 +128,15 @@ plain_elements low high (term_and t ts) simple no_any no_list literals =
 pub elements_plain : (low high : ℤ) (ts : PureTerms) → IsPlainWithin low high (list_of ts) → Each (IsPlainWithin low high) (to_list ts)
 elements_plain low high ts plain = let p = plain_parts low high (list_of ts) plain in plain_elements low high ts p.simple p.no_any p.no_list p.literals
 
-pub plain_accepts : (low high : ℤ) → Accepts (IsDecidedWithin low high) (IsPlainWithin low high) (λ t. ⊥)
+pub plain_accepts : (low high : ℤ) → Accepts (IsDecidedWithin low high) (IsPlainWithin low high) (IsPlainWithin low high) (IsPlainWithin low high) (λ t. ⊥)
 plain_accepts low high = record {
   are_equal = λ s t first second is. decided_equality low high s t first second;
   are_other = λ s t first second is. decided_equality low high s t first second;
-  is_kind = λ t k side known. never_unknown low high t side known;
-  isnt_kind = λ t k side known. never_unknown low high t side known;
+  is_kind = λ t k asked own known. never_unknown low high t asked known;
+  isnt_kind = λ t k asked own known. never_unknown low high t asked known;
   form = λ t form no_list no_literal. absurd form;
   elements = elements_plain low high;
+  asked_elements = elements_plain low high;
+  asked_side = λ t plain. plain;
+  asked_near = λ t plain. plain;
 }

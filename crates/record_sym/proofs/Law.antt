@@ -1,5 +1,5 @@
 -- The branches of every action keep the laws of a symbolic memory.
-use Rattle.std.proofs.Common.{◌≡◌, inl, inr, ℕ, ℤ, ◌-ℤ◌, ◌+ℤ◌, List, [], ◌∷◌, ◌++◌, true, false, not, ◌&&◌, Option, Some, None, refl, sym, ap, subst, ◌∙◌, true≢false}
+use Rattle.std.proofs.Common.{◌≡◌, ⊎_elim, inl, inr, ℕ, ℤ, ◌-ℤ◌, ◌+ℤ◌, List, [], ◌∷◌, ◌++◌, map, true, false, not, ◌&&◌, Option, Some, None, refl, sym, ap, subst, ◌∙◌, true≢false}
 use Rattle.std.proofs.lemmas.Bool.{and_parts, false≢true}
 use Rattle.gil_values.proofs.OperatorSymbols.{none_contained}
 use Rattle.gil_values.specs.declared.kinds.Kind.{Kind}
@@ -22,15 +22,16 @@ use Rattle.record_sym.specs.Laws.{AreRight}
 use Rattle.record_sym.specs.Plain.{ListsByTerm, ArePlainChunks}
 use Rattle.record_sym.specs.Table.{failure, asked_by, branches_of, unknown_action, table}
 use Rattle.sym_conditions.specs.Alternatives.{Alternatives, always, never, by_kind, of_kind}
-use Rattle.sym_model.specs.Chunks.{StandFor, placed_in, value_where_described, terms_of}
+use Rattle.sym_model.specs.Chunks.{StandFor, placed_in, value_where_described, located_in, terms_of}
 use Rattle.sym_model.specs.Laws.{MayBeAsked, Serves, ActLaw, ActsPlainly, EachTerm, IsPlainWithin, IsDecidedWithin, growth}
-use Rattle.sym_model.specs.Lists.{Each, IsAmong}
+use Rattle.sym_model.specs.Lists.{Each, OneOf, IsAmong}
 use Rattle.sym_model.specs.Meaning.{fresh_symbol}
-use Rattle.sym_model.specs.Pure.{PureSub, PureChunk, result_terms}
-use Rattle.sym_model.specs.Terms.{all_of, AreEachOver, IsFreshOver, StandsIn, is_list_term, IsMadeOf, Asked, asked_of, IsOwnCondition}
+use Rattle.sym_model.specs.Pure.{PureSub, sub_terms, PureChunk, result_terms}
+use Rattle.sym_model.specs.Terms.{all_of, AreEachOver, IsFreshOver, is_list_term, IsMadeOf, LocatedTerms, Asked, asked_of, compared_terms, form_terms, IsListed, is_given, locations_of, IsNear, is_next, IsSide, IsOwnCondition}
 use Rattle.sym_model.proofs.ChunkMeaning.{ChunkTerms, chunk_val, chunk_by_chunk, from_chunks}
-use Rattle.sym_model.proofs.ListLaws.{not_none, each_to, each_left, each_right, each_flattened, one_left}
-use Rattle.sym_model.proofs.MadeLaws.{stands_itself, made_of_given, elements_made}
+use Rattle.sym_model.proofs.Listed.{listed_itself}
+use Rattle.sym_model.proofs.ListLaws.{not_none, each_to, each_left, each_right, each_flattened, each_is_among, one_left, one_right}
+use Rattle.sym_model.proofs.MadeLaws.{made_of_given, elements_made}
 use Rattle.sym_model.proofs.PlainLaws.{plain_wider, decided_wider}
 use Rattle.record_sym.proofs.Accepting.{own_accepts, over_accepts, plain_accepts, elements_plain, plain_parts}
 use Rattle.record_sym.proofs.CaseLaws.{Shaped, shaped_cases, covered}
@@ -81,18 +82,18 @@ module _ (fresh : Option Var) (args : List PureTerm) (cs : List PureChunk) where
     over_fresh (Some y) is x e = subst (λ z. IsFreshOver vars z) e is
 
     abbrev OverState : List PureChunk → Type 0
-    OverState ds = Each (IsFine (λ a. IsOver vars (term_of a)) (IsOver vars) (IsOver vars) (over_accepts vars) (IsOver vars) Anything (λ k. over_literal (Literal.Str k)) (over_literal (Literal.Kind Kind.Null)) (over_literal (Literal.Bool true)) (λ ts is. elements_over vars ts is) (λ q t. tt) (λ t. tt) (λ ts. tt)) ds
+    OverState ds = Each (IsFine (λ a. IsOver vars (term_of a)) (IsOver vars) (IsOver vars) (IsOver vars) (IsOver vars) (over_accepts vars) (IsOver vars) Anything (λ k. over_literal (Literal.Str k)) (over_literal (Literal.Kind Kind.Null)) (over_literal (Literal.Bool true)) (λ ts is. elements_over vars ts is) (λ q t. tt) (λ t. tt) (λ ts. tt)) ds
 
     over_state : OverState cs
     over_state = each_to (ChunkTerms (IsOver vars)) _ cs (λ c is. record { terms = is; holds = tt }) over_chunks
 
-    over_sides : Each (ChunkSides (λ a. IsOver vars (term_of a)) (IsOver vars) (IsOver vars) (over_accepts vars)) cs
-    over_sides = each_to (ChunkTerms (IsOver vars)) _ cs (λ c is. record { places = is.places; described = is.described; form = λ s a b. chunk_val (IsOver vars) c is }) over_chunks
+    over_sides : Each (ChunkSides (λ a. IsOver vars (term_of a)) (IsOver vars) (IsOver vars) (IsOver vars) (IsOver vars) (over_accepts vars)) cs
+    over_sides = each_to (ChunkTerms (IsOver vars)) _ cs (λ c is. record { loc = is.places.0; near = λ l near same. is.places.0; places = λ near. is.places.1; described = λ near. is.described; form = λ s a b. chunk_val (IsOver vars) c is }) over_chunks
 
     over_shaped : (o : Option RecordAction) → Each (Shaped (λ a. IsOver vars (term_of a)) OverState (IsOver vars)) (table o fresh args cs)
     over_shaped None = unknown_shaped (λ a. IsOver vars (term_of a)) OverState (IsOver vars) cs over_state (λ k. over_literal (Literal.Str k))
     over_shaped (Some op) =
-        shaped (λ a. IsOver vars (term_of a)) (IsOver vars) (IsOver vars) (over_accepts vars) (IsOver vars) Anything (λ k. over_literal (Literal.Str k)) (over_literal (Literal.Kind Kind.Null)) (over_literal (Literal.Bool true)) (λ ts is. elements_over vars ts is) (λ q t. tt) (λ t. tt) (λ ts. tt)
+        shaped (λ a. IsOver vars (term_of a)) (IsOver vars) (IsOver vars) (IsOver vars) (IsOver vars) (over_accepts vars) (IsOver vars) Anything (λ k. over_literal (Literal.Str k)) (over_literal (Literal.Kind Kind.Null)) (over_literal (Literal.Bool true)) (λ ts is. elements_over vars ts is) (λ q t. tt) (λ t. tt) (λ ts. tt)
         cs over_sides over_state op fresh args (over_fresh fresh fresh_over) (each_asked (IsOver vars) op args over_args) over_args
         (λ d e no_list. inr (subst (λ xs. Each (IsOver vars) xs) e over_args).0)
 
@@ -115,7 +116,7 @@ module _ (fresh : Option Var) (args : List PureTerm) (cs : List PureChunk) where
     Made = IsMadeOf (args ++ all_of (terms_of cs)) fresh
 
     made_all : Each Made (args ++ all_of (terms_of cs))
-    made_all = each_to (StandsIn (args ++ all_of (terms_of cs))) Made (args ++ all_of (terms_of cs)) (made_of_given (args ++ all_of (terms_of cs)) fresh) (stands_itself (args ++ all_of (terms_of cs)))
+    made_all = each_to (IsListed (args ++ all_of (terms_of cs))) Made (args ++ all_of (terms_of cs)) (made_of_given (args ++ all_of (terms_of cs)) fresh) (listed_itself (args ++ all_of (terms_of cs)))
 
     made_args : Each Made args
     made_args = each_left Made args (all_of (terms_of cs)) made_all
@@ -124,42 +125,69 @@ module _ (fresh : Option Var) (args : List PureTerm) (cs : List PureChunk) where
     made_chunks = chunk_by_chunk Made cs (each_right Made args (all_of (terms_of cs)) made_all)
 
     abbrev MadeState : List PureChunk → Type 0
-    MadeState ds = Each (IsFine (IsOwnCondition asks) (StandsIn asks.compared) (λ t. IsAmong t asks.forms) (own_accepts asks) Made Anything (λ k. tt) tt tt (elements_made (args ++ all_of (terms_of cs)) fresh) (λ q t. tt) (λ t. tt) (λ ts. tt)) ds
+    MadeState ds = Each (IsFine (IsOwnCondition asks) (IsSide asks) (IsListed asks.about) (IsNear asks) (λ t. IsAmong t (form_terms asks)) (own_accepts asks) Made Anything (λ k. tt) tt tt (elements_made (args ++ all_of (terms_of cs)) fresh) (λ q t. tt) (λ t. tt) (λ ts. tt)) ds
 
     made_state : MadeState cs
     made_state = each_to (ChunkTerms Made) _ cs (λ c is. record { terms = is; holds = tt }) made_chunks
 
-    stands_all : Each (StandsIn asks.compared) (asked_by o args ++ ((terms_of cs).placed ++ (terms_of cs).described))
-    stands_all = stands_itself asks.compared
+    listed_all : Each (IsListed (compared_terms asks)) (asked_by o args ++ ((terms_of cs).placed ++ (terms_of cs).described))
+    listed_all = listed_itself (compared_terms asks)
 
-    stands_chunks : Each (StandsIn asks.compared) ((terms_of cs).placed ++ (terms_of cs).described)
-    stands_chunks = each_right (StandsIn asks.compared) (asked_by o args) ((terms_of cs).placed ++ (terms_of cs).described) stands_all
+    listed_chunks : Each (IsListed (compared_terms asks)) ((terms_of cs).placed ++ (terms_of cs).described)
+    listed_chunks = each_right (IsListed (compared_terms asks)) (asked_by o args) ((terms_of cs).placed ++ (terms_of cs).described) listed_all
 
     among_itself : (xs : List PureTerm) → Each (λ t. IsAmong t xs) xs
     among_itself [] = tt
     among_itself (x ∷ xs) = (inl refl, each_to (λ t. IsAmong t xs) (λ t. IsAmong t (x ∷ xs)) xs (λ t later. inr later) (among_itself xs))
 
-    own_zipped : (ds : List PureChunk) → Each (λ c. Each (StandsIn asks.compared) (placed_in c)) ds → Each (λ c. Each (StandsIn asks.compared) (value_where_described c.sub c.val)) ds → Each (λ c. Each (λ t. IsAmong t asks.forms) (value_where_described c.sub c.val)) ds
-        → Each (ChunkSides (IsOwnCondition asks) (StandsIn asks.compared) (λ t. IsAmong t asks.forms) (own_accepts asks)) ds
-    own_zipped [] places described forms = tt
-    own_zipped (c ∷ ds) places described forms = (
-      record { places = places.0; described = described.0; form = λ is no_list no_literal. (subst (λ s. Each (λ t. IsAmong t asks.forms) (value_where_described s c.val)) is forms.0).0 },
-      own_zipped ds places.1 described.1 forms.1,
-    )
+    -- what holds of a chunk's location and of what stands there holds of one of those of the state
+    located_one : (P : LocatedTerms → Type 0) (ds : List PureChunk) (c : PureChunk) → IsAmong c ds → P (located_in c) → OneOf P (map located_in ds)
+    located_one P [] c one holds = absurd one
+    located_one P (d ∷ ds) c one holds = ⊎_elim (λ e. inl (subst (λ b. P (located_in b)) (sym e) holds)) (λ later. inr (located_one P ds c later holds)) one
 
-    own_sides : Each (ChunkSides (IsOwnCondition asks) (StandsIn asks.compared) (λ t. IsAmong t asks.forms) (own_accepts asks)) cs
+    location_among : (ds : List PureChunk) (c : PureChunk) → IsAmong c ds → IsAmong c.loc (map (λ p. p.loc) (map located_in ds))
+    location_among [] c one = absurd one
+    location_among (d ∷ ds) c one = ⊎_elim (λ e. inl (ap (λ (b : PureChunk). b.loc) e)) (λ later. inr (location_among ds c later)) one
+
+    module _ (c : PureChunk) (there : IsAmong c cs) where
+      sides_there : (ts : List PureTerm) → Each (IsListed (compared_terms asks)) ts → Each (IsListed (located_in c).terms) ts → IsNear asks c.loc → Each (IsSide asks) ts
+      sides_there [] listed at near = tt
+      sides_there (t ∷ ts) listed at near = (
+        record { compared = listed.0; near = inr (located_one (λ p. IsNear asks p.loc × IsListed p.terms t) cs c there (near, at.0)) },
+        sides_there ts listed.1 at.1 near,
+      )
+
+      listed_there : Each (IsListed (located_in c).terms) (sub_terms c.sub ++ value_where_described c.sub c.val)
+      listed_there = listed_itself (located_in c).terms
+
+      own_chunk : Each (IsListed (compared_terms asks)) (placed_in c) → Each (IsListed (compared_terms asks)) (value_where_described c.sub c.val) → Each (λ t. IsAmong t (form_terms asks)) (value_where_described c.sub c.val)
+          → ChunkSides (IsOwnCondition asks) (IsSide asks) (IsListed asks.about) (IsNear asks) (λ t. IsAmong t (form_terms asks)) (own_accepts asks) c
+      own_chunk places described forms = record {
+        loc = record { compared = places.0; near = inl (is_given (one_right (λ t. t ≡ c.loc) asks.about (locations_of asks) (location_among cs c there))) };
+        near = λ l near same. is_next near (location_among cs c there) same;
+        places = sides_there (sub_terms c.sub) places.1 (each_left (IsListed (located_in c).terms) (sub_terms c.sub) (value_where_described c.sub c.val) listed_there);
+        described = sides_there (value_where_described c.sub c.val) described (each_right (IsListed (located_in c).terms) (sub_terms c.sub) (value_where_described c.sub c.val) listed_there);
+        form = λ is no_list no_literal. (subst (λ s. Each (λ t. IsAmong t (form_terms asks)) (value_where_described s c.val)) is forms).0;
+      }
+
+    own_zipped : (ds : List PureChunk) → Each (λ c. IsAmong c cs) ds → Each (λ c. Each (IsListed (compared_terms asks)) (placed_in c)) ds → Each (λ c. Each (IsListed (compared_terms asks)) (value_where_described c.sub c.val)) ds → Each (λ c. Each (λ t. IsAmong t (form_terms asks)) (value_where_described c.sub c.val)) ds
+        → Each (ChunkSides (IsOwnCondition asks) (IsSide asks) (IsListed asks.about) (IsNear asks) (λ t. IsAmong t (form_terms asks)) (own_accepts asks)) ds
+    own_zipped [] there places described forms = tt
+    own_zipped (c ∷ ds) there places described forms = (own_chunk c there.0 places.0 described.0 forms.0, own_zipped ds there.1 places.1 described.1 forms.1)
+
+    own_sides : Each (ChunkSides (IsOwnCondition asks) (IsSide asks) (IsListed asks.about) (IsNear asks) (λ t. IsAmong t (form_terms asks)) (own_accepts asks)) cs
     own_sides =
-        own_zipped cs
-        (each_flattened (StandsIn asks.compared) placed_in cs (each_left (StandsIn asks.compared) (terms_of cs).placed (terms_of cs).described stands_chunks))
-        (each_flattened (StandsIn asks.compared) (λ (c : PureChunk). value_where_described c.sub c.val) cs (each_right (StandsIn asks.compared) (terms_of cs).placed (terms_of cs).described stands_chunks))
-        (each_flattened (λ t. IsAmong t asks.forms) (λ (c : PureChunk). value_where_described c.sub c.val) cs (each_right (λ t. IsAmong t asks.forms) (asked_by o args) (terms_of cs).described (among_itself asks.forms)))
+        own_zipped cs (each_is_among cs)
+        (each_flattened (IsListed (compared_terms asks)) placed_in cs (each_left (IsListed (compared_terms asks)) (terms_of cs).placed (terms_of cs).described listed_chunks))
+        (each_flattened (IsListed (compared_terms asks)) (λ (c : PureChunk). value_where_described c.sub c.val) cs (each_right (IsListed (compared_terms asks)) (terms_of cs).placed (terms_of cs).described listed_chunks))
+        (each_flattened (λ t. IsAmong t (form_terms asks)) (λ (c : PureChunk). value_where_described c.sub c.val) cs (each_right (λ t. IsAmong t (form_terms asks)) (asked_by o args) (terms_of cs).described (among_itself (form_terms asks))))
 
   made_shaped : (o : Option RecordAction) → Each (Shaped (IsOwnCondition (asks o)) (MadeState o) (Made o)) (table o fresh args cs)
   made_shaped None = unknown_shaped (IsOwnCondition (asks None)) (MadeState None) (Made None) cs (made_state None) (λ k. tt)
   made_shaped (Some op) =
-      shaped (IsOwnCondition (asks (Some op))) (StandsIn (asks (Some op)).compared) (λ t. IsAmong t (asks (Some op)).forms) (own_accepts (asks (Some op))) (Made (Some op)) Anything (λ k. tt) tt tt (elements_made (args ++ all_of (terms_of cs)) fresh) (λ q t. tt) (λ t. tt) (λ ts. tt)
+      shaped (IsOwnCondition (asks (Some op))) (IsSide (asks (Some op))) (IsListed (asks (Some op)).about) (IsNear (asks (Some op))) (λ t. IsAmong t (form_terms (asks (Some op)))) (own_accepts (asks (Some op))) (Made (Some op)) Anything (λ k. tt) tt tt (elements_made (args ++ all_of (terms_of cs)) fresh) (λ q t. tt) (λ t. tt) (λ ts. tt)
       cs (own_sides (Some op)) (made_state (Some op)) op fresh args (λ x is. inr (inr (x, (is, refl))))
-      (each_left (StandsIn (asks (Some op)).compared) (asked_by (Some op) args) ((terms_of cs).placed ++ (terms_of cs).described) (stands_all (Some op))) (made_args (Some op))
+      (listed_itself (asks (Some op)).about) (made_args (Some op))
       (λ d e no_list. inr (one_left (λ y. y ≡ d) (asked_by (Some op) args) (terms_of cs).described (subst (λ xs. IsAmong d (asked_by (Some op) xs)) (sym e) (only_asked op d))))
 
   -- ---- plain
@@ -169,7 +197,7 @@ module _ (fresh : Option Var) (args : List PureTerm) (cs : List PureChunk) where
     plain_fresh x is = (ap (λ s. true && (not (same_sort s Sort.Any) && not (same_sort s Sort.List))) (of_sort x is), refl)
 
     abbrev PlainState : List PureChunk → Type 0
-    PlainState ds = Each (IsFine (IsDecidedWithin low high) (IsPlainWithin low high) (λ t. ⊥) (plain_accepts low high) (IsPlainWithin low high) ListsByTerm (λ k. (refl, refl)) (refl, refl) (refl, refl) (elements_plain low high) (λ q t. tt) (λ t. tt) (λ ts. refl)) ds
+    PlainState ds = Each (IsFine (IsDecidedWithin low high) (IsPlainWithin low high) (IsPlainWithin low high) (IsPlainWithin low high) (λ t. ⊥) (plain_accepts low high) (IsPlainWithin low high) ListsByTerm (λ k. (refl, refl)) (refl, refl) (refl, refl) (elements_plain low high) (λ q t. tt) (λ t. tt) (λ ts. refl)) ds
 
     plain_zipped : (ds : List PureChunk) → Each (ChunkTerms (IsPlainWithin low high)) ds → Each (λ c. ListsByTerm c.sub c.val) ds → PlainState ds
     plain_zipped [] terms lists = tt
@@ -178,10 +206,12 @@ module _ (fresh : Option Var) (args : List PureTerm) (cs : List PureChunk) where
     plain_state : PlainState cs
     plain_state = plain_zipped cs (chunk_by_chunk (IsPlainWithin low high) cs plain.terms) plain.lists
 
-    plain_sides : Each (ChunkSides (IsDecidedWithin low high) (IsPlainWithin low high) (λ t. ⊥) (plain_accepts low high)) cs
+    plain_sides : Each (ChunkSides (IsDecidedWithin low high) (IsPlainWithin low high) (IsPlainWithin low high) (IsPlainWithin low high) (λ t. ⊥) (plain_accepts low high)) cs
     plain_sides = each_to _ _ cs (λ c fine. record {
-      places = fine.terms.places;
-      described = fine.terms.described;
+      loc = fine.terms.places.0;
+      near = λ l near same. fine.terms.places.0;
+      places = λ near. fine.terms.places.1;
+      described = λ near. fine.terms.described;
       form = λ is no_list no_literal. true≢false (sym (subst (λ s. ListsByTerm s c.val) is fine.holds) ∙ no_list);
     }) plain_state
 
@@ -213,7 +243,7 @@ module _ (fresh : Option Var) (args : List PureTerm) (cs : List PureChunk) where
     plain_shaped : (o : Option RecordAction) → Each (Shaped (IsDecidedWithin low high) PlainState (IsPlainWithin low high)) (table o fresh args cs)
     plain_shaped None = unknown_shaped (IsDecidedWithin low high) PlainState (IsPlainWithin low high) cs plain_state (λ k. (refl, refl))
     plain_shaped (Some op) =
-        shaped (IsDecidedWithin low high) (IsPlainWithin low high) (λ t. ⊥) (plain_accepts low high) (IsPlainWithin low high) ListsByTerm (λ k. (refl, refl)) (refl, refl) (refl, refl) (elements_plain low high) (λ q t. tt) (λ t. tt) (λ ts. refl)
+        shaped (IsDecidedWithin low high) (IsPlainWithin low high) (IsPlainWithin low high) (IsPlainWithin low high) (λ t. ⊥) (plain_accepts low high) (IsPlainWithin low high) ListsByTerm (λ k. (refl, refl)) (refl, refl) (refl, refl) (elements_plain low high) (λ q t. tt) (λ t. tt) (λ ts. refl)
         cs plain_sides plain_state op fresh args plain_fresh (each_asked (IsPlainWithin low high) op args plain_args) plain_args
         (λ d e no_list. inl (no_list_kind d (subst (λ xs. Each (IsPlainWithin low high) xs) e plain_args).0 no_list))
 

@@ -1,11 +1,12 @@
 -- The forms of the conditions that are asked, and what states and results are made of.
-use Rattle.std.proofs.Common.{◌≡◌, ◌⊎◌, ⊎_elim, inl, inr, ℕ, zero, suc, ◌+◌, List, [], ◌∷◌, ◌++◌, map, Bool, true, false, Option, Some, None, if◌then◌else◌, slice_get, refl, sym, ap, subst, ◌∙◌, arith}
+use Rattle.std.proofs.Common.{◌≡◌, ◌⊎◌, ⊎_elim, inl, inr, ℕ, zero, suc, ◌+◌, List, [], ◌∷◌, ◌++◌, map, Bool, true, false, not, ◌||◌, Option, Some, None, IsTrue, if◌then◌else◌, slice_get, refl, sym, ap, subst, ◌∙◌, arith}
 use Rattle.std.specs.List.{flat_map, remove}
 use Rattle.gil_values.specs.declared.kinds.Kind.{Kind}
 use Rattle.gil_values.specs.Equality.{same_kind}
 use Rattle.mem_model.specs.declared.failures.Failure.{Failure}
 use Rattle.pure_terms.specs.declared.literals.Literal.{Literal}
 use Rattle.pure_terms.specs.declared.variables.Var.{Var}
+use Rattle.pure_terms.specs.Equality.{same_term}
 use Rattle.pure_terms.specs.Kinds.{known_kind}
 use Rattle.pure_terms.specs.Pure.{PureTerm, literal, variable, list_of, unary_of, binary_of, PureTerms, to_list, PureAtom, positive, negative, opening}
 use Rattle.record_sym.specs.Places.{gone_there, gone_at, key_there, at_key, key_elsewhere, other_key, listed, unlisted, tells_not, lacks, absent_there, absent_at, form_of_names, opened_there, opened_at, undescribed_there, undescribed_at}
@@ -14,25 +15,31 @@ use Rattle.record_sym.specs.Table.{RecordBranches, cases, failure, null, true_te
 use Rattle.sym_conditions.specs.declared.comparing.Comparison.{Comparison}
 use Rattle.sym_conditions.specs.Alternatives.{Alternatives, never, always, given, both, any, all_from, all, equal, same, other, by_comparison, kind_is, by_kind, of_kind, not_of_kind, with_form}
 use Rattle.sym_conditions.specs.Comparing.{compared}
-use Rattle.sym_model.specs.Chunks.{with_held, placed_in, value_where_described, value_where_held}
+use Rattle.sym_model.specs.Chunks.{with_held, value_where_described, value_where_held}
 use Rattle.sym_model.specs.Lists.{Each}
 use Rattle.sym_model.specs.Pure.{PureSub, named, cell, shape, bound, dom, proto, gone, PureChunk, sub_terms, done, missed}
-use Rattle.sym_model.specs.Terms.{is_literal, is_list_term}
+use Rattle.sym_model.specs.Terms.{is_literal, is_list_term, are_apart, may_be_same, is_asked_kind}
 use Rattle.sym_model.proofs.ChunkMeaning.{ChunkTerms, chunk_val}
 use Rattle.sym_model.proofs.ListLaws.{same_some, each_append, each_flat, each_to}
 use Rattle.record_sym.proofs.DisposeLaws.{each_removed}
 use Rattle.record_sym.proofs.CaseLaws.{EachAtom, Shaped, shaped_cases, both_shaped, form_shaped}
 
--- Q of the conditions that are asked of terms of which Side holds, and of the forms that are needed where Form holds
-pub record Accepts (Q : PureAtom → Type 0) (Side Form : PureTerm → Type 0) : Type 0 where
+-- Q of the conditions that compare terms of which Side holds, of those that ask kinds where Given holds, and of the forms that are
+-- needed where Form holds; Near of what is asked about, and so of locations
+pub record Accepts (Q : PureAtom → Type 0) (Side Given Near Form : PureTerm → Type 0) : Type 0 where
   pub are_equal : (s t : PureTerm) → Side s → Side t → compared s t ≡ Comparison.Unsure → Q (positive (equal s t))
   pub are_other : (s t : PureTerm) → Side s → Side t → compared s t ≡ Comparison.Unsure → Q (negative (equal s t))
-  pub is_kind : (t : PureTerm) (k : Kind) → Side t → known_kind t ≡ None → Q (positive (kind_is t k))
-  pub isnt_kind : (t : PureTerm) (k : Kind) → Side t → known_kind t ≡ None → Q (negative (kind_is t k))
+  pub is_kind : (t : PureTerm) (k : Kind) → Given t → IsTrue (is_asked_kind (literal (Literal.Kind k))) → known_kind t ≡ None
+      → Q (positive (kind_is t k))
+  pub isnt_kind : (t : PureTerm) (k : Kind) → Given t → IsTrue (is_asked_kind (literal (Literal.Kind k))) → known_kind t ≡ None
+      → Q (negative (kind_is t k))
   pub form : (t : PureTerm) → Form t → is_list_term t ≡ false → is_literal t ≡ false → Q (opening t)
   pub elements : (ts : PureTerms) → Side (list_of ts) → Each Side (to_list ts)
+  pub asked_elements : (ts : PureTerms) → Given (list_of ts) → Each Given (to_list ts)
+  pub asked_side : (t : PureTerm) → Given t → Side t
+  pub asked_near : (t : PureTerm) → Given t → Near t
 
-module _ (Q : PureAtom → Type 0) (Side Form : PureTerm → Type 0) (accepts : Accepts Q Side Form) where
+module _ (Q : PureAtom → Type 0) (Side Given Near Form : PureTerm → Type 0) (accepts : Accepts Q Side Given Near Form) where
   never_shaped : EachAtom Q never
   never_shaped = tt
 
@@ -59,19 +66,20 @@ module _ (Q : PureAtom → Type 0) (Side Form : PureTerm → Type 0) (accepts : 
   if_shaped true x y first second = first
   if_shaped false x y first second = second
 
-  by_known : (t : PureTerm) (k : Kind) → Side t → (o : Option Kind) → known_kind t ≡ o → EachAtom Q (by_kind o k always never (given (positive (kind_is t k))))
-  by_known t k side (Some l) is = if_shaped (same_kind l k) always never always_shaped tt
-  by_known t k side None is = ((accepts.is_kind t k side is, tt), tt)
+  module _ (t : PureTerm) (k : Kind) (asked : Given t) (own : IsTrue (is_asked_kind (literal (Literal.Kind k)))) where
+    by_known : (o : Option Kind) → known_kind t ≡ o → EachAtom Q (by_kind o k always never (given (positive (kind_is t k))))
+    by_known (Some l) is = if_shaped (same_kind l k) always never always_shaped tt
+    by_known None is = ((accepts.is_kind t k asked own is, tt), tt)
 
-  kind_shaped : (t : PureTerm) (k : Kind) → Side t → EachAtom Q (of_kind t k)
-  kind_shaped t k side = by_known t k side (known_kind t) refl
+    kind_shaped : EachAtom Q (of_kind t k)
+    kind_shaped = by_known (known_kind t) refl
 
-  by_unknown : (t : PureTerm) (k : Kind) → Side t → (o : Option Kind) → known_kind t ≡ o → EachAtom Q (by_kind o k never always (given (negative (kind_is t k))))
-  by_unknown t k side (Some l) is = if_shaped (same_kind l k) never always tt always_shaped
-  by_unknown t k side None is = ((accepts.isnt_kind t k side is, tt), tt)
+    by_unknown : (o : Option Kind) → known_kind t ≡ o → EachAtom Q (by_kind o k never always (given (negative (kind_is t k))))
+    by_unknown (Some l) is = if_shaped (same_kind l k) never always tt always_shaped
+    by_unknown None is = ((accepts.isnt_kind t k asked own is, tt), tt)
 
-  not_kind_shaped : (t : PureTerm) (k : Kind) → Side t → EachAtom Q (not_of_kind t k)
-  not_kind_shaped t k side = by_unknown t k side (known_kind t) refl
+    not_kind_shaped : EachAtom Q (not_of_kind t k)
+    not_kind_shaped = by_unknown (known_kind t) refl
 
   any_shaped : {A : Type 0} (f : A → Alternatives) (es : List A) → Each (λ e. EachAtom Q (f e)) es → EachAtom Q (any f es)
   any_shaped f es each = each_flat (Each Q) f es each
@@ -90,16 +98,36 @@ module _ (Q : PureAtom → Type 0) (Side Form : PureTerm → Type 0) (accepts : 
 
   -- the terms of a chunk that may be compared, and the form of its names
   pub record ChunkSides (c : PureChunk) : Type 0 where
-    pub places : Each Side (placed_in c)
-    pub described : Each Side (value_where_described c.sub c.val)
+    pub loc : Side c.loc
+    pub near : (l : PureTerm) → Near l → IsTrue (may_be_same l c.loc) → Near c.loc
+    pub places : Near c.loc → Each Side (sub_terms c.sub)
+    pub described : Near c.loc → Each Side (value_where_described c.sub c.val)
     pub form : c.sub ≡ shape → is_list_term c.val ≡ false → is_literal c.val ≡ false → Form c.val
 
-  module _ (l p : PureTerm) (side_l : Side l) (side_p : Side p) (c : PureChunk) (sides : ChunkSides c) where
+  both_never : (x : Alternatives) → both x never ≡ never
+  both_never [] = refl
+  both_never (conds ∷ x) = both_never x
+
+  module _ (l p : PureTerm) (side_l : Side l) (near_l : Near l) (side_p : Side p) (c : PureChunk) (sides : ChunkSides c) where
     loc_same : EachAtom Q (same l c.loc)
-    loc_same = same_shaped l c.loc side_l sides.places.0
+    loc_same = same_shaped l c.loc side_l sides.loc
 
     loc_other : EachAtom Q (other l c.loc)
-    loc_other = other_shaped l c.loc side_l sides.places.0
+    loc_other = other_shaped l c.loc side_l sides.loc
+
+    near_or_by : (a b : Bool) → same_term l c.loc ≡ a → are_apart l c.loc ≡ b
+        → Near c.loc ⊎ (by_comparison (if a then Comparison.Same else if b then Comparison.Different else Comparison.Unsure) always never (given (positive (equal l c.loc))) ≡ never)
+    near_or_by true b is_a is_b = inl (sides.near l near_l (λ i. is_a i || not (is_b i)))
+    near_or_by false true is_a is_b = inr refl
+    near_or_by false false is_a is_b = inl (sides.near l near_l (λ i. is_a i || not (is_b i)))
+
+    -- the chunk's location is near, or it is surely another one
+    near_or_never : Near c.loc ⊎ (same l c.loc ≡ never)
+    near_or_never = near_or_by (same_term l c.loc) (are_apart l c.loc) refl refl
+
+    where_same : (y : Alternatives) → (Near c.loc → EachAtom Q y) → EachAtom Q (both (same l c.loc) y)
+    where_same y shaped_y =
+        ⊎_elim (λ near. both_shaped Q (same l c.loc) y loc_same (shaped_y near)) (λ e. subst (λ x. EachAtom Q (both x y)) (sym e) tt) near_or_never
 
     gone_by : (s : PureSub) → EachAtom Q (gone_there l c.loc s)
     gone_by gone = loc_same
@@ -108,20 +136,20 @@ module _ (Q : PureAtom → Type 0) (Side Form : PureTerm → Type 0) (accepts : 
     gone_shaped : EachAtom Q (gone_at l c)
     gone_shaped = gone_by c.sub
 
-    side_of : (q : PureTerm) → c.sub ≡ named q → Side q
-    side_of q is = (subst (λ s. Each Side (sub_terms s)) is sides.places.1).0
+    side_of : (q : PureTerm) → c.sub ≡ named q → Near c.loc → Side q
+    side_of q is near = (subst (λ s. Each Side (sub_terms s)) is (sides.places near)).0
 
     key_by : (s : PureSub) → c.sub ≡ s → EachAtom Q (key_there l p c.loc s)
-    key_by (named q) is = both_shaped Q (same l c.loc) (same p q) loc_same (same_shaped p q side_p (side_of q is))
+    key_by (named q) is = where_same (same p q) (λ near. same_shaped p q side_p (side_of q is near))
     key_by s is = tt
 
     key_shaped : EachAtom Q (at_key l p c)
     key_shaped = key_by c.sub refl
 
-    by_place : (q : PureTerm) → Side q → (k : Comparison) → EachAtom Q (by_comparison k (other l c.loc) always (other l c.loc ++ both (same l c.loc) (other p q)))
+    by_place : (q : PureTerm) → (Near c.loc → Side q) → (k : Comparison) → EachAtom Q (by_comparison k (other l c.loc) always (other l c.loc ++ both (same l c.loc) (other p q)))
     by_place q side Comparison.Same = loc_other
     by_place q side Comparison.Different = always_shaped
-    by_place q side Comparison.Unsure = each_append (Each Q) (other l c.loc) (both (same l c.loc) (other p q)) loc_other (both_shaped Q (same l c.loc) (other p q) loc_same (other_shaped p q side_p side))
+    by_place q side Comparison.Unsure = each_append (Each Q) (other l c.loc) (both (same l c.loc) (other p q)) loc_other (where_same (other p q) (λ near. other_shaped p q side_p (side near)))
 
     elsewhere_by : (s : PureSub) → c.sub ≡ s → EachAtom Q (key_elsewhere l p c.loc s)
     elsewhere_by (named q) is = by_place q (side_of q is) (compared p q)
@@ -130,8 +158,8 @@ module _ (Q : PureAtom → Type 0) (Side Form : PureTerm → Type 0) (accepts : 
     elsewhere_shaped : EachAtom Q (other_key l p c)
     elsewhere_shaped = elsewhere_by c.sub refl
 
-    side_of_val : c.sub ≡ shape → Side c.val
-    side_of_val is = (subst (λ s. Each Side (value_where_described s c.val)) is sides.described).0
+    side_of_val : c.sub ≡ shape → Near c.loc → Side c.val
+    side_of_val is near = (subst (λ s. Each Side (value_where_described s c.val)) is (sides.described near)).0
 
     listed_by : (t : PureTerm) → Side t → EachAtom Q (listed p t)
     listed_by (list_of ts) side = same_each p (to_list ts) side_p (accepts.elements ts side)
@@ -144,7 +172,7 @@ module _ (Q : PureAtom → Type 0) (Side Form : PureTerm → Type 0) (accepts : 
     lacks_by : (s : PureSub) → c.sub ≡ s → EachAtom Q (tells_not l p c.loc s c.val)
     lacks_by (named q) is = by_place q (side_of q is) (compared p q)
     lacks_by gone is = loc_other
-    lacks_by shape is = each_append (Each Q) (other l c.loc) (both (same l c.loc) (listed p c.val)) loc_other (both_shaped Q (same l c.loc) (listed p c.val) loc_same (listed_by c.val (side_of_val is)))
+    lacks_by shape is = each_append (Each Q) (other l c.loc) (both (same l c.loc) (listed p c.val)) loc_other (where_same (listed p c.val) (λ near. listed_by c.val (side_of_val is near)))
     lacks_by (cell q) is = always_shaped
     lacks_by bound is = always_shaped
     lacks_by dom is = always_shaped
@@ -154,7 +182,7 @@ module _ (Q : PureAtom → Type 0) (Side Form : PureTerm → Type 0) (accepts : 
     lacks_shaped = lacks_by c.sub refl
 
     absent_by : (s : PureSub) → c.sub ≡ s → EachAtom Q (absent_there l p c.loc s c.val)
-    absent_by shape is = both_shaped Q (same l c.loc) (unlisted p c.val) loc_same (unlisted_by c.val (side_of_val is))
+    absent_by shape is = where_same (unlisted p c.val) (λ near. unlisted_by c.val (side_of_val is near))
     absent_by s is = tt
 
     absent_shaped : EachAtom Q (absent_at l p c)
@@ -188,10 +216,6 @@ module _ (Q : PureAtom → Type 0) (Side Form : PureTerm → Type 0) (accepts : 
     abbrev pub Shapes : RecordBranches → Type 0
     Shapes bs = Each (Shaped Q State R) bs
 
-    both_never : (x : Alternatives) → both x never ≡ never
-    both_never [] = refl
-    both_never (conds ∷ x) = both_never x
-
     never_taken : (when : Alternatives) (cs : List PureChunk) (res : _) → Shapes (cases (both when never) cs res)
     never_taken when cs res = subst (λ x. Shapes (cases x cs res)) (sym (both_never when)) tt
 
@@ -218,25 +242,25 @@ module _ (Q : PureAtom → Type 0) (Side Form : PureTerm → Type 0) (accepts : 
       each_chunk : (f : PureChunk → Alternatives) → ((c : PureChunk) → ChunkSides c → EachAtom Q (f c)) → Each (λ c. EachAtom Q (f c)) cs
       each_chunk f is = each_to ChunkSides (λ c. EachAtom Q (f c)) cs is sides
 
-      module _ (l p : PureTerm) (side_l : Side l) (side_p : Side p) (r_l : R l) (r_p : R p) (when : Alternatives) (conds : EachAtom Q when) where
+      module _ (l p : PureTerm) (side_l : Side l) (near_l : Near l) (side_p : Side p) (r_l : R l) (r_p : R p) (when : Alternatives) (conds : EachAtom Q when) where
         without_shaped : Shapes (without_property when l p cs)
         without_shaped =
             each_append (Shaped Q State R) (gone_cases when l cs) (absent_cases when l p cs ++ (opened_names when l p cs ++ missed_names when l p cs))
-            (failed_shaped (both when (any (gone_at l) cs)) Failure.Gone (both_shaped Q when (any (gone_at l) cs) conds (any_shaped (gone_at l) cs (each_chunk (gone_at l) (gone_shaped l p side_l side_p)))))
+            (failed_shaped (both when (any (gone_at l) cs)) Failure.Gone (both_shaped Q when (any (gone_at l) cs) conds (any_shaped (gone_at l) cs (each_chunk (gone_at l) (gone_shaped l p side_l near_l side_p)))))
             (each_append (Shaped Q State R) (absent_cases when l p cs) (opened_names when l p cs ++ missed_names when l p cs)
-            (failed_shaped (both when (any (absent_at l p) cs)) Failure.Absent (both_shaped Q when (any (absent_at l p) cs) conds (any_shaped (absent_at l p) cs (each_chunk (absent_at l p) (absent_shaped l p side_l side_p)))))
+            (failed_shaped (both when (any (absent_at l p) cs)) Failure.Absent (both_shaped Q when (any (absent_at l p) cs) conds (any_shaped (absent_at l p) cs (each_chunk (absent_at l p) (absent_shaped l p side_l near_l side_p)))))
             (each_append (Shaped Q State R) (opened_names when l p cs) (missed_names when l p cs)
             (shaped_cases Q State R (both (any (opened_at l) cs) (both when (all (other_key l p) cs))) cs (missed_name l p)
-            (both_shaped Q (any (opened_at l) cs) (both when (all (other_key l p) cs)) (any_shaped (opened_at l) cs (each_chunk (opened_at l) (opened_shaped l p side_l side_p)))
-            (both_shaped Q when (all (other_key l p) cs) conds (all_shaped always (other_key l p) cs always_shaped (each_chunk (other_key l p) (elsewhere_shaped l p side_l side_p))))) state (r_l, (r_p, tt)))
+            (both_shaped Q (any (opened_at l) cs) (both when (all (other_key l p) cs)) (any_shaped (opened_at l) cs (each_chunk (opened_at l) (opened_shaped l p side_l near_l side_p)))
+            (both_shaped Q when (all (other_key l p) cs) conds (all_shaped always (other_key l p) cs always_shaped (each_chunk (other_key l p) (elsewhere_shaped l p side_l near_l side_p))))) state (r_l, (r_p, tt)))
             (shaped_cases Q State R (both when (all (lacks l p) cs)) cs (missed_name l p)
-            (both_shaped Q when (all (lacks l p) cs) conds (all_shaped always (lacks l p) cs always_shaped (each_chunk (lacks l p) (lacks_shaped l p side_l side_p)))) state (r_l, (r_p, tt)))))
+            (both_shaped Q when (all (lacks l p) cs) conds (all_shaped always (lacks l p) cs always_shaped (each_chunk (lacks l p) (lacks_shaped l p side_l near_l side_p)))) state (r_l, (r_p, tt)))))
 
         found_shaped : (ds : List PureChunk) → Each ChunkSides ds → State ds → Shapes (flat_map (found when l p cs) ds)
         found_shaped [] all_sides fine = tt
         found_shaped (c ∷ ds) all_sides fine =
             each_append (Shaped Q State R) (found when l p cs c) (flat_map (found when l p cs) ds)
-            (shaped_cases Q State R (both when (at_key l p c)) cs (done c.val) (both_shaped Q when (at_key l p c) conds (key_shaped l p side_l side_p c all_sides.0)) state (chunk_val R c fine.0.terms, tt))
+            (shaped_cases Q State R (both when (at_key l p c)) cs (done c.val) (both_shaped Q when (at_key l p c) conds (key_shaped l p side_l near_l side_p c all_sides.0)) state (chunk_val R c fine.0.terms, tt))
             (found_shaped ds all_sides.1 fine.1)
 
         lookup_shaped : Shapes (lookup when l p cs)
@@ -245,7 +269,7 @@ module _ (Q : PureAtom → Type 0) (Side Form : PureTerm → Type 0) (accepts : 
         change_by : (t : PureTerm) → R t → (i : ℕ) (c : PureChunk) → slice_get cs i ≡ Some c → ChunkSides c → (s : PureSub) → c.sub ≡ s → Shapes (cases (both when (key_there l p c.loc s)) (with_held cs i t) (done t))
         change_by t r_t i c there c_sides (named q) is =
             shaped_cases Q State R (both when (key_there l p c.loc (named q))) (with_held cs i t) (done t)
-            (both_shaped Q when (key_there l p c.loc (named q)) conds (subst (λ s. EachAtom Q (key_there l p c.loc s)) is (key_shaped l p side_l side_p c c_sides)))
+            (both_shaped Q when (key_there l p c.loc (named q)) conds (subst (λ s. EachAtom Q (key_there l p c.loc s)) is (key_shaped l p side_l near_l side_p c c_sides)))
             (fine_held cs i c q t there is r_t state) (r_t, tt)
         change_by t r_t i c there c_sides (cell q) is = never_taken when (with_held cs i t) (done t)
         change_by t r_t i c there c_sides shape is = never_taken when (with_held cs i t) (done t)
@@ -266,28 +290,31 @@ module _ (Q : PureAtom → Type 0) (Side Form : PureTerm → Type 0) (accepts : 
             each_append (Shaped Q State R) (changes_from when l p t cs 0 cs) (without_property when l p cs)
             (changes_shaped t r_t 0 cs sides (λ j c at. ap (slice_get cs) (omega arith) ∙ at)) without_shaped
 
-      or_fail_shaped : (l p : PureTerm) → Side l → Side p → (branches : Alternatives → RecordBranches) → ((when : Alternatives) → EachAtom Q when → Shapes (branches when)) → Shapes (property_or_fail l p cs branches)
-      or_fail_shaped l p side_l side_p branches is =
+      or_fail_shaped : (l p : PureTerm) → Given l → Given p → (branches : Alternatives → RecordBranches) → ((when : Alternatives) → EachAtom Q when → Shapes (branches when)) → Shapes (property_or_fail l p cs branches)
+      or_fail_shaped l p asked_l asked_p branches is =
           each_append (Shaped Q State R) (cases (not_of_kind l Kind.Sym ++ not_of_kind p Kind.Str) cs (failure Failure.Kind)) (branches (both (of_kind l Kind.Sym) (of_kind p Kind.Str)))
-          (failed_shaped (not_of_kind l Kind.Sym ++ not_of_kind p Kind.Str) Failure.Kind (each_append (Each Q) (not_of_kind l Kind.Sym) (not_of_kind p Kind.Str) (not_kind_shaped l Kind.Sym side_l) (not_kind_shaped p Kind.Str side_p)))
-          (is (both (of_kind l Kind.Sym) (of_kind p Kind.Str)) (both_shaped Q (of_kind l Kind.Sym) (of_kind p Kind.Str) (kind_shaped l Kind.Sym side_l) (kind_shaped p Kind.Str side_p)))
+          (failed_shaped (not_of_kind l Kind.Sym ++ not_of_kind p Kind.Str) Failure.Kind (each_append (Each Q) (not_of_kind l Kind.Sym) (not_of_kind p Kind.Str) (not_kind_shaped l Kind.Sym asked_l refl) (not_kind_shaped p Kind.Str asked_p refl)))
+          (is (both (of_kind l Kind.Sym) (of_kind p Kind.Str)) (both_shaped Q (of_kind l Kind.Sym) (of_kind p Kind.Str) (kind_shaped l Kind.Sym asked_l refl) (kind_shaped p Kind.Str asked_p refl)))
 
       wrong_shaped : Shapes (wrong_number cs)
       wrong_shaped = failed_shaped always Failure.Arity always_shaped
 
       -- ---- `new`
 
-      faulty_shaped : (ds : List PureTerm) → Each Side ds → EachAtom Q (faulty ds)
-      faulty_shaped [] all_sides = tt
-      faulty_shaped (d ∷ ds) all_sides =
-          each_append (Each Q) (not_of_kind d Kind.Str) (any (same d) ds ++ faulty ds) (not_kind_shaped d Kind.Str all_sides.0)
-          (each_append (Each Q) (any (same d) ds) (faulty ds) (same_each d ds all_sides.0 all_sides.1) (faulty_shaped ds all_sides.1))
+      given_sides : (ds : List PureTerm) → Each Given ds → Each Side ds
+      given_sides ds all_given = each_to Given Side ds accepts.asked_side all_given
 
-      distinct_shaped : (x : Alternatives) (ds : List PureTerm) → EachAtom Q x → Each Side ds → EachAtom Q (distinct_from x ds)
-      distinct_shaped x [] first all_sides = first
-      distinct_shaped x (d ∷ ds) first all_sides =
+      faulty_shaped : (ds : List PureTerm) → Each Given ds → EachAtom Q (faulty ds)
+      faulty_shaped [] all_given = tt
+      faulty_shaped (d ∷ ds) all_given =
+          each_append (Each Q) (not_of_kind d Kind.Str) (any (same d) ds ++ faulty ds) (not_kind_shaped d Kind.Str all_given.0 refl)
+          (each_append (Each Q) (any (same d) ds) (faulty ds) (same_each d ds (accepts.asked_side d all_given.0) (given_sides ds all_given.1)) (faulty_shaped ds all_given.1))
+
+      distinct_shaped : (x : Alternatives) (ds : List PureTerm) → EachAtom Q x → Each Given ds → EachAtom Q (distinct_from x ds)
+      distinct_shaped x [] first all_given = first
+      distinct_shaped x (d ∷ ds) first all_given =
           distinct_shaped (all_from (both x (of_kind d Kind.Str)) (other d) ds) ds
-          (other_each (both x (of_kind d Kind.Str)) d ds (both_shaped Q x (of_kind d Kind.Str) first (kind_shaped d Kind.Str all_sides.0)) all_sides.0 all_sides.1) all_sides.1
+          (other_each (both x (of_kind d Kind.Str)) d ds (both_shaped Q x (of_kind d Kind.Str) first (kind_shaped d Kind.Str all_given.0 refl)) (accepts.asked_side d all_given.0) (given_sides ds all_given.1)) all_given.1
 
       fine_names : (x : Var) → R (variable x) → (ds : List PureTerm) → Each R ds → State (map (name_chunk x) ds)
       fine_names x r_x [] all_r = tt
@@ -300,10 +327,10 @@ module _ (Q : PureAtom → Type 0) (Side Form : PureTerm → Type 0) (accepts : 
           (each_append IsFine cs (map (name_chunk x) (to_list ts)) state (fine_names x r_x (to_list ts) (r_elements ts r_d)))
           (record { terms = record { places = (r_x, tt); described = (r_d, tt); held = tt }; holds = n_list ts }, tt)
 
-      unlisted_shaped : (x : Var) → R (variable x) → (d : PureTerm) → Side d → EachAtom Q (with_form d (of_kind d Kind.List)) → Shapes (cases (not_of_kind d Kind.List) cs (failure Failure.Kind) ++ cases (with_form d (of_kind d Kind.List)) cs (done (variable x)))
-      unlisted_shaped x r_x d side form =
+      unlisted_shaped : (x : Var) → R (variable x) → (d : PureTerm) → Given d → EachAtom Q (with_form d (of_kind d Kind.List)) → Shapes (cases (not_of_kind d Kind.List) cs (failure Failure.Kind) ++ cases (with_form d (of_kind d Kind.List)) cs (done (variable x)))
+      unlisted_shaped x r_x d asked form =
           each_append (Shaped Q State R) (cases (not_of_kind d Kind.List) cs (failure Failure.Kind)) (cases (with_form d (of_kind d Kind.List)) cs (done (variable x)))
-          (failed_shaped (not_of_kind d Kind.List) Failure.Kind (not_kind_shaped d Kind.List side))
+          (failed_shaped (not_of_kind d Kind.List) Failure.Kind (not_kind_shaped d Kind.List asked refl))
           (shaped_cases Q State R (with_form d (of_kind d Kind.List)) cs (done (variable x)) form state (r_x, tt))
 
       no_list_literal : (k : Literal) → of_kind (literal k) Kind.List ≡ never
@@ -313,18 +340,18 @@ module _ (Q : PureAtom → Type 0) (Side Form : PureTerm → Type 0) (accepts : 
       no_list_literal (Literal.Kind n) = refl
       no_list_literal (Literal.Proc n) = refl
 
-      form_of_argument : (d : PureTerm) → Side d → (of_kind d Kind.List ≡ never) ⊎ Q (opening d) → EachAtom Q (with_form d (of_kind d Kind.List))
-      form_of_argument d side why = ⊎_elim (λ e. subst (λ x. EachAtom Q (with_form d x)) (sym e) tt) (λ is. form_shaped Q d (of_kind d Kind.List) is (kind_shaped d Kind.List side)) why
+      form_of_argument : (d : PureTerm) → Given d → (of_kind d Kind.List ≡ never) ⊎ Q (opening d) → EachAtom Q (with_form d (of_kind d Kind.List))
+      form_of_argument d asked why = ⊎_elim (λ e. subst (λ x. EachAtom Q (with_form d x)) (sym e) tt) (λ is. form_shaped Q d (of_kind d Kind.List) is (kind_shaped d Kind.List asked refl)) why
 
-      make_shaped : (x : Var) → R (variable x) → (d : PureTerm) → Side d → R d → (is_list_term d ≡ false → (of_kind d Kind.List ≡ never) ⊎ Form d) → Shapes (make x d cs)
-      make_shaped x r_x (list_of ts) side r_d form =
+      make_shaped : (x : Var) → R (variable x) → (d : PureTerm) → Given d → R d → (is_list_term d ≡ false → (of_kind d Kind.List ≡ never) ⊎ Form d) → Shapes (make x d cs)
+      make_shaped x r_x (list_of ts) asked r_d form =
           each_append (Shaped Q State R) (cases (faulty (to_list ts)) cs (failure Failure.Kind)) (made_cases x (list_of ts) (to_list ts) cs)
-          (failed_shaped (faulty (to_list ts)) Failure.Kind (faulty_shaped (to_list ts) (accepts.elements ts side)))
-          (shaped_cases Q State R (distinct_from always (to_list ts)) (created x (list_of ts) (to_list ts) cs) (done (variable x)) (distinct_shaped always (to_list ts) always_shaped (accepts.elements ts side)) (fine_created x r_x ts r_d) (r_x, tt))
-      make_shaped x r_x (literal k) side r_d form = unlisted_shaped x r_x (literal k) side (form_of_argument (literal k) side (inl (no_list_literal k)))
-      make_shaped x r_x (variable y) side r_d form = unlisted_shaped x r_x (variable y) side (form_of_argument (variable y) side (⊎_elim inl (λ is. inr (accepts.form (variable y) is refl refl)) (form refl)))
-      make_shaped x r_x (unary_of op t) side r_d form = unlisted_shaped x r_x (unary_of op t) side (form_of_argument (unary_of op t) side (⊎_elim inl (λ is. inr (accepts.form (unary_of op t) is refl refl)) (form refl)))
-      make_shaped x r_x (binary_of op s t) side r_d form = unlisted_shaped x r_x (binary_of op s t) side (form_of_argument (binary_of op s t) side (⊎_elim inl (λ is. inr (accepts.form (binary_of op s t) is refl refl)) (form refl)))
+          (failed_shaped (faulty (to_list ts)) Failure.Kind (faulty_shaped (to_list ts) (accepts.asked_elements ts asked)))
+          (shaped_cases Q State R (distinct_from always (to_list ts)) (created x (list_of ts) (to_list ts) cs) (done (variable x)) (distinct_shaped always (to_list ts) always_shaped (accepts.asked_elements ts asked)) (fine_created x r_x ts r_d) (r_x, tt))
+      make_shaped x r_x (literal k) asked r_d form = unlisted_shaped x r_x (literal k) asked (form_of_argument (literal k) asked (inl (no_list_literal k)))
+      make_shaped x r_x (variable y) asked r_d form = unlisted_shaped x r_x (variable y) asked (form_of_argument (variable y) asked (⊎_elim inl (λ is. inr (accepts.form (variable y) is refl refl)) (form refl)))
+      make_shaped x r_x (unary_of op t) asked r_d form = unlisted_shaped x r_x (unary_of op t) asked (form_of_argument (unary_of op t) asked (⊎_elim inl (λ is. inr (accepts.form (unary_of op t) is refl refl)) (form refl)))
+      make_shaped x r_x (binary_of op s t) asked r_d form = unlisted_shaped x r_x (binary_of op s t) asked (form_of_argument (binary_of op s t) asked (⊎_elim inl (λ is. inr (accepts.form (binary_of op s t) is refl refl)) (form refl)))
 
       -- ---- `dispose`
 
@@ -337,18 +364,18 @@ module _ (Q : PureAtom → Type 0) (Side Form : PureTerm → Type 0) (accepts : 
       fine_taking [] left conds fine left_sides = tt
       fine_taking (conds ∷ x) left all_conds fine left_sides = (record { when = all_conds; fine = fine; left_sides = left_sides }, tt)
 
-      module _ (loc : PureTerm) (side_loc : Side loc) (r_loc : R loc) where
+      module _ (loc : PureTerm) (side_loc : Side loc) (near_loc : Near loc) (r_loc : R loc) where
         next_fine : (d : PureTerm) → Side d → (k : PureTaking) → IsFineTaking k → (i : ℕ) (es : List PureChunk) → Each ChunkSides es → Each IsFineTaking (takings_from k.when loc d k.left i es)
         next_fine d side_d k is i [] all_sides = tt
         next_fine d side_d k is i (c ∷ es) all_sides =
             each_append IsFineTaking (taking (both k.when (at_key loc d c)) (remove k.left i)) (takings_from k.when loc d k.left (i + 1) es)
-            (fine_taking (both k.when (at_key loc d c)) (remove k.left i) (both_shaped Q k.when (at_key loc d c) is.when (key_shaped loc d side_loc side_d c all_sides.0)) (each_removed IsFine k.left i is.fine) (each_removed ChunkSides k.left i is.left_sides))
+            (fine_taking (both k.when (at_key loc d c)) (remove k.left i) (both_shaped Q k.when (at_key loc d c) is.when (key_shaped loc d side_loc near_loc side_d c all_sides.0)) (each_removed IsFine k.left i is.fine) (each_removed ChunkSides k.left i is.left_sides))
             (next_fine d side_d k is (i + 1) es all_sides.1)
 
         missing_shaped : (d : PureTerm) → Side d → R d → (k : PureTaking) → IsFineTaking k → Shapes (missing_name cs loc d k)
         missing_shaped d side_d r_d k is =
             shaped_cases Q State R (both k.when (all (other_key loc d) k.left)) cs (missed_name loc d)
-            (both_shaped Q k.when (all (other_key loc d) k.left) is.when (all_shaped always (other_key loc d) k.left always_shaped (each_to ChunkSides (λ c. EachAtom Q (other_key loc d c)) k.left (elsewhere_shaped loc d side_loc side_d) is.left_sides)))
+            (both_shaped Q k.when (all (other_key loc d) k.left) is.when (all_shaped always (other_key loc d) k.left always_shaped (each_to ChunkSides (λ c. EachAtom Q (other_key loc d c)) k.left (elsewhere_shaped loc d side_loc near_loc side_d) is.left_sides)))
             state (r_loc, (r_d, tt))
 
         disposed_shaped : (k : PureTaking) → IsFineTaking k → Shapes (disposed loc k)
@@ -365,13 +392,20 @@ module _ (Q : PureAtom → Type 0) (Side Form : PureTerm → Type 0) (accepts : 
             (names_shaped ds all_sides.1 all_r.1 (flat_map (next_takings loc d) ks)
             (each_flat IsFineTaking (next_takings loc d) ks (each_to IsFineTaking (λ k. Each IsFineTaking (next_takings loc d k)) ks (λ k is. next_fine d all_sides.0 k is 0 k.left is.left_sides) fine)))
 
-      module _ (l : PureTerm) (side_l : Side l) (r_l : R l) (when : Alternatives) (conds : EachAtom Q when) where
+      never_disposed : (loc : PureTerm) (ds : List PureTerm) → Shapes (dispose_names cs loc ds [])
+      never_disposed loc [] = tt
+      never_disposed loc (d ∷ ds) = never_disposed loc ds
+
+      module _ (l : PureTerm) (side_l : Side l) (near_l : Near l) (r_l : R l) (when : Alternatives) (conds : EachAtom Q when) where
         there_shaped : (i : ℕ) (c : PureChunk) → ChunkSides c → IsFine c → (s : PureSub) → c.sub ≡ s → (t : PureTerm) → c.val ≡ t → Shapes (dispose_there when l cs i c.loc s t)
         there_shaped i c c_sides fine shape is (list_of ts) is_list =
-            let side_val : Side (list_of ts) = subst Side is_list (side_of_val l l side_l side_l c c_sides is) in
             let r_val : R (list_of ts) = subst R is_list (chunk_val R c fine.terms) in
-            names_shaped c.loc c_sides.places.0 fine.terms.places.0 (to_list ts) (accepts.elements ts side_val) (r_elements ts r_val) (taking (both when (same l c.loc)) (remove cs i))
-            (fine_taking (both when (same l c.loc)) (remove cs i) (both_shaped Q when (same l c.loc) conds (same_shaped l c.loc side_l c_sides.places.0)) (each_removed IsFine cs i state) (each_removed ChunkSides cs i sides))
+            ⊎_elim
+            (λ near.
+            names_shaped c.loc c_sides.loc near fine.terms.places.0 (to_list ts) (accepts.elements ts (subst Side is_list (side_of_val l l side_l near_l side_l c c_sides is near))) (r_elements ts r_val) (taking (both when (same l c.loc)) (remove cs i))
+            (fine_taking (both when (same l c.loc)) (remove cs i) (both_shaped Q when (same l c.loc) conds (same_shaped l c.loc side_l c_sides.loc)) (each_removed IsFine cs i state) (each_removed ChunkSides cs i sides)))
+            (λ e. subst (λ x. Shapes (dispose_names cs c.loc (to_list ts) (taking x (remove cs i)))) (sym (ap (both when) e ∙ both_never when)) (never_disposed c.loc (to_list ts)))
+            (near_or_never l l side_l near_l side_l c c_sides)
         there_shaped i c c_sides fine shape is (literal k) is_list = tt
         there_shaped i c c_sides fine shape is (variable y) is_list = tt
         there_shaped i c c_sides fine shape is (unary_of op t) is_list = tt
@@ -390,8 +424,8 @@ module _ (Q : PureAtom → Type 0) (Side Form : PureTerm → Type 0) (accepts : 
             (there_shaped i c all_sides.0 fine.0 c.sub refl c.val refl) (from_shaped (i + 1) ds all_sides.1 fine.1)
 
         undescribed_by : (c : PureChunk) → ChunkSides c → (s : PureSub) → EachAtom Q (undescribed_there l c.loc s)
-        undescribed_by c c_sides shape = other_shaped l c.loc side_l c_sides.places.0
-        undescribed_by c c_sides gone = other_shaped l c.loc side_l c_sides.places.0
+        undescribed_by c c_sides shape = other_shaped l c.loc side_l c_sides.loc
+        undescribed_by c c_sides gone = other_shaped l c.loc side_l c_sides.loc
         undescribed_by c c_sides (named q) = always_shaped
         undescribed_by c c_sides (cell q) = always_shaped
         undescribed_by c c_sides bound = always_shaped
@@ -401,37 +435,37 @@ module _ (Q : PureAtom → Type 0) (Side Form : PureTerm → Type 0) (accepts : 
         dispose_shaped : Shapes (dispose when l cs)
         dispose_shaped =
             each_append (Shaped Q State R) (gone_cases when l cs) (cases (both (any (opened_at l) cs) when) cs (done true_term) ++ (cases (both when (all (undescribed_at l) cs)) cs (missed (record { loc = l; sub = shape })) ++ dispose_from when l cs 0 cs))
-            (failed_shaped (both when (any (gone_at l) cs)) Failure.Gone (both_shaped Q when (any (gone_at l) cs) conds (any_shaped (gone_at l) cs (each_chunk (gone_at l) (gone_shaped l l side_l side_l)))))
+            (failed_shaped (both when (any (gone_at l) cs)) Failure.Gone (both_shaped Q when (any (gone_at l) cs) conds (any_shaped (gone_at l) cs (each_chunk (gone_at l) (gone_shaped l l side_l near_l side_l)))))
             (each_append (Shaped Q State R) (cases (both (any (opened_at l) cs) when) cs (done true_term)) (cases (both when (all (undescribed_at l) cs)) cs (missed (record { loc = l; sub = shape })) ++ dispose_from when l cs 0 cs)
-            (shaped_cases Q State R (both (any (opened_at l) cs) when) cs (done true_term) (both_shaped Q (any (opened_at l) cs) when (any_shaped (opened_at l) cs (each_chunk (opened_at l) (opened_shaped l l side_l side_l))) conds) state (r_true, tt))
+            (shaped_cases Q State R (both (any (opened_at l) cs) when) cs (done true_term) (both_shaped Q (any (opened_at l) cs) when (any_shaped (opened_at l) cs (each_chunk (opened_at l) (opened_shaped l l side_l near_l side_l))) conds) state (r_true, tt))
             (each_append (Shaped Q State R) (cases (both when (all (undescribed_at l) cs)) cs (missed (record { loc = l; sub = shape }))) (dispose_from when l cs 0 cs)
             (shaped_cases Q State R (both when (all (undescribed_at l) cs)) cs (missed (record { loc = l; sub = shape })) (both_shaped Q when (all (undescribed_at l) cs) conds (all_shaped always (undescribed_at l) cs always_shaped (each_chunk (undescribed_at l) (λ c c_sides. undescribed_by c c_sides c.sub)))) state (r_l, tt))
             (from_shaped 0 cs sides state)))
 
       -- ---- every action
 
-      pub shaped : (op : RecordAction) (fresh : Option Var) (args : List PureTerm) → ((x : Var) → fresh ≡ Some x → R (variable x)) → Each Side (asked_by (Some op) args) → Each R args
+      pub shaped : (op : RecordAction) (fresh : Option Var) (args : List PureTerm) → ((x : Var) → fresh ≡ Some x → R (variable x)) → Each Given (asked_by (Some op) args) → Each R args
           → ((d : PureTerm) → args ≡ d ∷ [] → is_list_term d ≡ false → (of_kind d Kind.List ≡ never) ⊎ Form d) → Shapes (branches_of op fresh args cs)
-      shaped RecordAction.New (Some x) (d ∷ []) r_x asked_sides all_r form = make_shaped x (r_x x refl) d asked_sides.0 all_r.0 (form d refl)
-      shaped RecordAction.New None (d ∷ []) r_x asked_sides all_r form = tt
-      shaped RecordAction.New (Some x) [] r_x asked_sides all_r form = wrong_shaped
-      shaped RecordAction.New None [] r_x asked_sides all_r form = wrong_shaped
-      shaped RecordAction.New (Some x) (d ∷ e ∷ more) r_x asked_sides all_r form = wrong_shaped
-      shaped RecordAction.New None (d ∷ e ∷ more) r_x asked_sides all_r form = wrong_shaped
-      shaped RecordAction.Lookup fresh (l ∷ p ∷ []) r_x asked_sides all_r form =
-          or_fail_shaped l p asked_sides.0 asked_sides.1.0 (λ when. lookup when l p cs) (λ when conds. lookup_shaped l p asked_sides.0 asked_sides.1.0 all_r.0 all_r.1.0 when conds)
-      shaped RecordAction.Lookup fresh [] r_x asked_sides all_r form = wrong_shaped
-      shaped RecordAction.Lookup fresh (l ∷ []) r_x asked_sides all_r form = wrong_shaped
-      shaped RecordAction.Lookup fresh (l ∷ p ∷ t ∷ more) r_x asked_sides all_r form = wrong_shaped
-      shaped RecordAction.Mutate fresh (l ∷ p ∷ t ∷ []) r_x asked_sides all_r form =
-          or_fail_shaped l p asked_sides.0 asked_sides.1.0 (λ when. mutate when l p t cs) (λ when conds. mutate_shaped l p asked_sides.0 asked_sides.1.0 all_r.0 all_r.1.0 when conds t all_r.1.1.0)
-      shaped RecordAction.Mutate fresh [] r_x asked_sides all_r form = wrong_shaped
-      shaped RecordAction.Mutate fresh (l ∷ []) r_x asked_sides all_r form = wrong_shaped
-      shaped RecordAction.Mutate fresh (l ∷ p ∷ []) r_x asked_sides all_r form = wrong_shaped
-      shaped RecordAction.Mutate fresh (l ∷ p ∷ t ∷ s ∷ more) r_x asked_sides all_r form = wrong_shaped
-      shaped RecordAction.Dispose fresh (l ∷ []) r_x asked_sides all_r form =
+      shaped RecordAction.New (Some x) (d ∷ []) r_x all_asked all_r form = make_shaped x (r_x x refl) d all_asked.0 all_r.0 (form d refl)
+      shaped RecordAction.New None (d ∷ []) r_x all_asked all_r form = tt
+      shaped RecordAction.New (Some x) [] r_x all_asked all_r form = wrong_shaped
+      shaped RecordAction.New None [] r_x all_asked all_r form = wrong_shaped
+      shaped RecordAction.New (Some x) (d ∷ e ∷ more) r_x all_asked all_r form = wrong_shaped
+      shaped RecordAction.New None (d ∷ e ∷ more) r_x all_asked all_r form = wrong_shaped
+      shaped RecordAction.Lookup fresh (l ∷ p ∷ []) r_x all_asked all_r form =
+          or_fail_shaped l p all_asked.0 all_asked.1.0 (λ when. lookup when l p cs) (λ when conds. lookup_shaped l p (accepts.asked_side l all_asked.0) (accepts.asked_near l all_asked.0) (accepts.asked_side p all_asked.1.0) all_r.0 all_r.1.0 when conds)
+      shaped RecordAction.Lookup fresh [] r_x all_asked all_r form = wrong_shaped
+      shaped RecordAction.Lookup fresh (l ∷ []) r_x all_asked all_r form = wrong_shaped
+      shaped RecordAction.Lookup fresh (l ∷ p ∷ t ∷ more) r_x all_asked all_r form = wrong_shaped
+      shaped RecordAction.Mutate fresh (l ∷ p ∷ t ∷ []) r_x all_asked all_r form =
+          or_fail_shaped l p all_asked.0 all_asked.1.0 (λ when. mutate when l p t cs) (λ when conds. mutate_shaped l p (accepts.asked_side l all_asked.0) (accepts.asked_near l all_asked.0) (accepts.asked_side p all_asked.1.0) all_r.0 all_r.1.0 when conds t all_r.1.1.0)
+      shaped RecordAction.Mutate fresh [] r_x all_asked all_r form = wrong_shaped
+      shaped RecordAction.Mutate fresh (l ∷ []) r_x all_asked all_r form = wrong_shaped
+      shaped RecordAction.Mutate fresh (l ∷ p ∷ []) r_x all_asked all_r form = wrong_shaped
+      shaped RecordAction.Mutate fresh (l ∷ p ∷ t ∷ s ∷ more) r_x all_asked all_r form = wrong_shaped
+      shaped RecordAction.Dispose fresh (l ∷ []) r_x all_asked all_r form =
           each_append (Shaped Q State R) (cases (not_of_kind l Kind.Sym) cs (failure Failure.Kind)) (dispose (of_kind l Kind.Sym) l cs)
-          (failed_shaped (not_of_kind l Kind.Sym) Failure.Kind (not_kind_shaped l Kind.Sym asked_sides.0))
-          (dispose_shaped l asked_sides.0 all_r.0 (of_kind l Kind.Sym) (kind_shaped l Kind.Sym asked_sides.0))
-      shaped RecordAction.Dispose fresh [] r_x asked_sides all_r form = wrong_shaped
-      shaped RecordAction.Dispose fresh (l ∷ p ∷ more) r_x asked_sides all_r form = wrong_shaped
+          (failed_shaped (not_of_kind l Kind.Sym) Failure.Kind (not_kind_shaped l Kind.Sym all_asked.0 refl))
+          (dispose_shaped l (accepts.asked_side l all_asked.0) (accepts.asked_near l all_asked.0) all_r.0 (of_kind l Kind.Sym) (kind_shaped l Kind.Sym all_asked.0 refl))
+      shaped RecordAction.Dispose fresh [] r_x all_asked all_r form = wrong_shaped
+      shaped RecordAction.Dispose fresh (l ∷ p ∷ more) r_x all_asked all_r form = wrong_shaped

@@ -11,7 +11,7 @@ use Rattle.record_sym.specs.View.{state_view}
 use Rattle.sym_model.specs.Laws.{IsMeaning, AsksItsArguments}
 use Rattle.sym_model.specs.Lists.{Each, IsAmong}
 use Rattle.sym_model.proofs.ChunkMeaning.{chunks_have_meaning}
-use Rattle.sym_model.proofs.ListLaws.{each_is_among}
+use Rattle.sym_model.proofs.ListLaws.{each_to, each_is_among}
 
 pub record_meaning : IsMeaning Record record_stands record_terms
 record_meaning = let chunks = chunks_have_meaning Record in record {
@@ -32,4 +32,5 @@ asked_are_given (Some RecordAction.Dispose) args = each_is_among args
 asked_are_given None args = each_is_among args
 
 pub record_asks_its_arguments : AsksItsArguments record_asked
-record_asks_its_arguments action args = asked_are_given (action_of action) args
+record_asks_its_arguments action args =
+    let asked = asked_by (action_of action) args in each_to (λ t. IsAmong t args) _ asked (λ t among. inl among) (asked_are_given (action_of action) args)

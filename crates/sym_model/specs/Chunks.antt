@@ -1,5 +1,5 @@
 -- Lists of chunks: the heap that they stand for, and their terms.
-use Rattle.std.specs.Prelude.{◌≡◌, ℕ, zero, suc, List, [], ◌∷◌, Some}
+use Rattle.std.specs.Prelude.{◌≡◌, ℕ, zero, suc, List, [], ◌∷◌, ◌++◌, map, Some}
 use Rattle.std.specs.List.{flat_map}
 use Rattle.std.specs.FinMap.{empty, remove}
 use Rattle.gil_values.specs.Pure.{PureValue}
@@ -10,7 +10,7 @@ use Rattle.pure_terms.specs.Meaning.{value}
 use Rattle.pure_terms.specs.Pure.{PureTerm}
 use Rattle.sym_model.specs.Meaning.{key_value}
 use Rattle.sym_model.specs.Pure.{PureSub, named, cell, shape, bound, dom, proto, gone, PureChunk, sub_terms}
-use Rattle.sym_model.specs.Terms.{StateTerms}
+use Rattle.sym_model.specs.Terms.{LocatedTerms, StateTerms}
 
 -- the chunk stands for this key and this value
 pub record IsEntry (v : List PureValue) (c : PureChunk) (k : Key) (w : PureValue) : Type 0 where
@@ -56,10 +56,14 @@ abbrev pub offset_of : PureSub → List PureTerm
 offset_of (cell t) = t ∷ []
 offset_of _ = []
 
+abbrev pub located_in : PureChunk → LocatedTerms
+located_in c = record { loc = c.loc; terms = sub_terms c.sub ++ value_where_described c.sub c.val }
+
 abbrev pub terms_of : List PureChunk → StateTerms
 terms_of cs = record {
   placed = flat_map placed_in cs;
   described = flat_map (λ c. value_where_described c.sub c.val) cs;
   held = flat_map (λ c. value_where_held c.sub c.val) cs;
   offsets = flat_map (λ c. offset_of c.sub) cs;
+  located = map located_in cs;
 }

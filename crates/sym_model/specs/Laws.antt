@@ -49,9 +49,10 @@ pub record IsCopy {S : Type 0} (stands : S → List PureValue → Heap → Type 
 
 -- ---- asking
 
--- an action asks about some of its arguments, and of nothing else that is handed to it
+-- an action asks about some of its arguments, of nothing else that is handed to it, and about literals
 abbrev pub AsksItsArguments : (List ℕ → List PureTerm → List PureTerm) → Type 0
-AsksItsArguments asked = (action : List ℕ) (args : List PureTerm) → Each (λ t. IsAmong t args) (asked action args)
+AsksItsArguments asked =
+    (action : List ℕ) (args : List PureTerm) → Each (λ t. IsAmong t args ⊎ IsTrue (is_literal t)) (asked action args)
 
 -- The condition under which an action may be asked: the fresh variable is there exactly where the concrete action takes a new
 -- symbol, it is of sort Fresh, and its number is above those of all variables of the arguments and of the state.

@@ -1,27 +1,37 @@
 -- Terms of states, arguments, conditions and results: which variables they name, and where they come from.
-use Rattle.std.specs.Prelude.{◌≡◌, ◌⊎◌, pos, List, [], ◌++◌, Bool, true, false, ◌&&◌, Option, Some, None, IsTrue, ⊤}
+use Rattle.std.specs.Prelude.{◌≡◌, ◌⊎◌, pos, List, [], ◌++◌, map, Bool, true, false, not, ◌&&◌, ◌||◌, Option, Some, None, IsTrue, ⊤}
+use Rattle.gil_values.specs.declared.kinds.Kind.{Kind}
 use Rattle.gil_values.specs.declared.operators.UnOp.{UnOp}
 use Rattle.gil_values.specs.declared.operators.BinOp.{BinOp}
+use Rattle.gil_values.specs.Equality.{same_kind}
 use Rattle.pure_terms.specs.declared.literals.Literal.{Literal}
 use Rattle.pure_terms.specs.declared.variables.Sort.{Sort}
 use Rattle.pure_terms.specs.declared.variables.Var.{Var}
+use Rattle.pure_terms.specs.Equality.{same_term}
 use Rattle.pure_terms.specs.Folding.{folded_binary}
-use Rattle.pure_terms.specs.Fragment.{is_shift, is_integer_literal, is_kind_literal}
-use Rattle.pure_terms.specs.Kinds.{known_kind}
+use Rattle.pure_terms.specs.Fragment.{is_shift, is_integer_literal}
+use Rattle.pure_terms.specs.Kinds.{same_sort, allows, known_kind}
 use Rattle.pure_terms.specs.Meaning.{IsOver}
-use Rattle.pure_terms.specs.Pure.{PureTerm, literal, variable, list_of, unary_of, binary_of, PureTerms, no_terms, term_and, PureAtom, positive, negative, opening, subterms}
+use Rattle.pure_terms.specs.Naming.{names_only_below}
+use Rattle.pure_terms.specs.Pure.{PureTerm, literal, variable, list_of, unary_of, binary_of, PureTerms, no_terms, term_and, to_list, PureAtom, positive, negative, opening}
 use Rattle.sym_model.specs.Lists.{Each, OneOf, IsAmong}
 
+-- what a state says of a location: the terms of a name, an offset or a descriptor
+pub record LocatedTerms : Type 0 where
+  pub loc : PureTerm
+  pub terms : List PureTerm
+
 -- The terms of a state: its locations, names and offsets; what its descriptors hold, the lists of names and the bounds; what
--- its other keys hold; and the offsets by themselves.
+-- its other keys hold; the offsets by themselves; and the locations with the names, the offsets and what descriptors hold there.
 pub record StateTerms : Type 0 where
   pub placed : List PureTerm
   pub described : List PureTerm
   pub held : List PureTerm
   pub offsets : List PureTerm
+  pub located : List LocatedTerms
 
 abbrev pub no_state_terms : StateTerms
-no_state_terms = record { placed = []; described = []; held = []; offsets = [] }
+no_state_terms = record { placed = []; described = []; held = []; offsets = []; located = [] }
 
 abbrev pub all_of : StateTerms → List PureTerm
 all_of s = s.placed ++ (s.described ++ s.held)
@@ -35,9 +45,10 @@ abbrev pub IsFreshOver : List Sort → Option Var → Type 0
 IsFreshOver vars None = ⊤
 IsFreshOver vars (Some x) = IsOver vars (variable x)
 
--- the term is one of these, or stands in one of them
-abbrev pub StandsIn : List PureTerm → PureTerm → Type 0
-StandsIn ts t = OneOf (λ u. IsAmong t (subterms u)) ts
+-- one of these terms, or an element of a list term that is
+pub data IsListed (ts : List PureTerm) : PureTerm → Type 0 where
+  is_given : {t : PureTerm} → IsAmong t ts → IsListed ts t
+  is_element : {us : PureTerms} {t : PureTerm} → IsListed ts (list_of us) → IsAmong t (to_list us) → IsListed ts t
 
 abbrev pub is_literal : PureTerm → Bool
 is_literal (literal l) = true
@@ -49,9 +60,9 @@ is_list_term _ = false
 
 -- ---- where the terms of new states and results come from
 
--- one of these terms, a literal, or the fresh variable
+-- such a term, a literal, or the fresh variable
 abbrev pub IsPart : List PureTerm → Option Var → PureTerm → Type 0
-IsPart ts fresh t = StandsIn ts t ⊎ (IsTrue (is_literal t) ⊎ ((x : Var) × ((fresh ≡ Some x) × (t ≡ variable x))))
+IsPart ts fresh t = IsListed ts t ⊎ (IsTrue (is_literal t) ⊎ ((x : Var) × ((fresh ≡ Some x) × (t ≡ variable x))))
 
 -- such a term plus or minus a literal
 abbrev pub IsShifted : List PureTerm → Option Var → PureTerm → Type 0
@@ -71,55 +82,113 @@ abbrev mutual
   AreMadeOf ts fresh no_terms = ⊤
   AreMadeOf ts fresh (term_and u us) = IsMadeOf ts fresh u × AreMadeOf ts fresh us
 
+-- ---- terms that surely differ
+
+abbrev pub are_other_kinds : Option Kind → Option Kind → Bool
+are_other_kinds (Some k) (Some l) = not (same_kind k l)
+are_other_kinds _ _ = false
+
+-- a Fresh variable, and a term over variables with lower numbers
+abbrev pub is_fresh_above : PureTerm → PureTerm → Bool
+is_fresh_above (variable x) t = same_sort x.sort Sort.Fresh && names_only_below x.number t
+is_fresh_above _ t = false
+
+-- two terms that aren't the same have different values: both are literals, their kinds are known and differ, or one is a Fresh
+-- variable and the other names lower variables alone
+abbrev pub are_apart : PureTerm → PureTerm → Bool
+are_apart s t = (is_literal s && is_literal t) || (are_other_kinds (known_kind s) (known_kind t) ||
+    (is_fresh_above s t || is_fresh_above t s))
+
 -- ---- the forms of conditions
 
--- What conditions may speak of: the terms that they compare and whose kinds they ask, the offsets that they may raise by 1, and
--- the terms whose literal form they may need.
+-- What conditions may speak of: what an action asks about, and the terms of the state.
 pub record Asked : Type 0 where
-  pub compared : List PureTerm
-  pub offsets : List PureTerm
-  pub forms : List PureTerm
+  pub about : List PureTerm
+  pub state : StateTerms
 
--- These arguments, and of the state everything but what its other keys hold.
 abbrev pub asked_of : List PureTerm → StateTerms → Asked
-asked_of args s = record { compared = args ++ (s.placed ++ s.described); offsets = s.offsets; forms = args ++ s.described }
+asked_of about s = record { about = about; state = s }
 
--- `=`, `<` and `<=`
-abbrev pub is_comparing : BinOp → Bool
-is_comparing BinOp.Equal = true
-is_comparing BinOp.Less = true
-is_comparing BinOp.LessOrEqual = true
-is_comparing _ = false
+-- The terms that may be compared: of the state everything but what its other keys hold.
+abbrev pub compared_terms : Asked → List PureTerm
+compared_terms g = g.about ++ (g.state.placed ++ g.state.described)
+
+-- the terms whose literal form may be needed
+abbrev pub form_terms : Asked → List PureTerm
+form_terms g = g.about ++ g.state.described
+
+-- two terms that are the same or don't surely differ
+abbrev pub may_be_same : PureTerm → PureTerm → Bool
+may_be_same s t = same_term s t || not (are_apart s t)
+
+abbrev pub locations_of : Asked → List PureTerm
+locations_of g = map (λ p. p.loc) g.state.located
+
+-- what is asked about, a location that may be the same as that, and so on along locations
+pub data IsNear (g : Asked) : PureTerm → Type 0 where
+  is_asked : {t : PureTerm} → IsListed g.about t → IsNear g t
+  is_next : {s t : PureTerm} → IsNear g s → IsAmong t (locations_of g) → IsTrue (may_be_same s t) → IsNear g t
+
+-- A side of `=` is a term that may be compared: one that is asked about, a location, or one that stands at a location that is near.
+pub record IsSide (g : Asked) (t : PureTerm) : Type 0 where
+  pub compared : IsListed (compared_terms g) t
+  pub near : IsListed (g.about ++ locations_of g) t ⊎ OneOf (λ p. IsNear g p.loc × IsListed p.terms t) g.state.located
 
 abbrev pub one : PureTerm
 one = literal (Literal.Int (pos 1))
 
 -- an offset plus 1
 abbrev pub IsNextOffset : Asked → PureTerm → Type 0
-IsNextOffset g t = OneOf (λ u. folded_binary BinOp.Add u one ≡ t) g.offsets
+IsNextOffset g t = OneOf (λ u. folded_binary BinOp.Add u one ≡ t) g.state.offsets
 
--- a side of a comparison is a term that may be compared, or a literal
-abbrev pub IsSide : Asked → PureTerm → Type 0
-IsSide g t = StandsIn g.compared t ⊎ IsTrue (is_literal t)
+-- an offset or what a descriptor holds, as a bound; or a literal that is asked about
+abbrev pub IsLimit : Asked → PureTerm → Type 0
+IsLimit g t = IsAmong t (g.state.offsets ++ g.state.described) ⊎ (IsAmong t g.about × IsTrue (is_literal t))
 
--- two different terms, of which one at least is no literal; or an offset plus 1 and a side
-abbrev pub AreCompared : Asked → PureTerm → PureTerm → Type 0
-AreCompared g s t =
-    (¬ (s ≡ t) × ((is_literal s && is_literal t) ≡ false) × IsSide g s × IsSide g t)
-    ⊎ ((IsNextOffset g s × IsSide g t) ⊎ (IsSide g s × IsNextOffset g t))
+-- an offset plus 1, and a limit
+abbrev pub IsNextToLimit : Asked → PureTerm → PureTerm → Type 0
+IsNextToLimit g s t = (IsNextOffset g s × IsLimit g t) ⊎ (IsLimit g s × IsNextOffset g t)
 
--- that the term has a kind, where its form and its variables' sorts leave its kind open
+-- the kind of each, where it is known, is that of numbers
+abbrev pub may_be_ordered : PureTerm → PureTerm → Bool
+may_be_ordered s t = allows (known_kind s) Kind.Int && allows (known_kind t) Kind.Int
+
+-- a limit and what is asked about, two limits, or an offset plus 1 and a limit
+abbrev pub AreOrdered : Asked → PureTerm → PureTerm → Type 0
+AreOrdered g s t =
+    ((IsListed g.about s ⊎ IsLimit g s) × IsLimit g t) ⊎ ((IsLimit g s × IsListed g.about t) ⊎ IsNextToLimit g s t)
+
+-- the sides of `=`, and of `<` and `<=`, which may be numbers
+abbrev pub AreSides : Asked → BinOp → PureTerm → PureTerm → Type 0
+AreSides g BinOp.Equal s t = (IsSide g s × IsSide g t) ⊎ IsNextToLimit g s t
+AreSides g BinOp.Less s t = IsTrue (may_be_ordered s t) × AreOrdered g s t
+AreSides g BinOp.LessOrEqual s t = IsTrue (may_be_ordered s t) × AreOrdered g s t
+AreSides g _ s t = ⊥
+
+-- two different terms, which don't surely differ
+abbrev pub AreCompared : Asked → BinOp → PureTerm → PureTerm → Type 0
+AreCompared g op s t = ¬ (s ≡ t) × (are_apart s t ≡ false) × AreSides g op s t
+
+-- the kinds of locations, names, numbers and lists
+abbrev pub is_asked_kind : PureTerm → Bool
+is_asked_kind (literal (Literal.Kind Kind.Sym)) = true
+is_asked_kind (literal (Literal.Kind Kind.Str)) = true
+is_asked_kind (literal (Literal.Kind Kind.Int)) = true
+is_asked_kind (literal (Literal.Kind Kind.List)) = true
+is_asked_kind _ = false
+
+-- that a term that is asked about has such a kind, where its form and its variables' sorts leave its kind open
 abbrev pub IsKindQuestion : Asked → PureTerm → PureTerm → Type 0
-IsKindQuestion g (unary_of UnOp.Kind u) t = StandsIn g.compared u × (known_kind u ≡ None) × IsTrue (is_kind_literal t)
+IsKindQuestion g (unary_of UnOp.Kind u) t = IsListed g.about u × (known_kind u ≡ None) × IsTrue (is_asked_kind t)
 IsKindQuestion g _ t = ⊥
 
 abbrev pub IsQuestion : Asked → PureTerm → Type 0
-IsQuestion g (binary_of op s t) = (IsTrue (is_comparing op) × AreCompared g s t) ⊎ ((op ≡ BinOp.Equal) × IsKindQuestion g s t)
+IsQuestion g (binary_of op s t) = AreCompared g op s t ⊎ ((op ≡ BinOp.Equal) × IsKindQuestion g s t)
 IsQuestion g _ = ⊥
 
 -- a term that is no list term and no literal, where its literal form is needed
 abbrev pub IsFormAsked : Asked → PureTerm → Type 0
-IsFormAsked g t = IsAmong t g.forms × (is_list_term t ≡ false) × (is_literal t ≡ false)
+IsFormAsked g t = IsAmong t (form_terms g) × (is_list_term t ≡ false) × (is_literal t ≡ false)
 
 -- The conditions that a memory may give: comparisons, kinds, and terms whose literal form is needed.
 abbrev pub IsOwnCondition : Asked → PureAtom → Type 0

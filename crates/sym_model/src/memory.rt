@@ -27,7 +27,7 @@ pub trait SymMemory: Drop {
 
     ghost terms: { Self → StateTerms };
 
-    /// The arguments that an action asks about, and not those that it only stores.
+    /// What an action asks about: its arguments, but not those that it only stores, and literals that it compares these with.
     ghost asked: { List ℕ → List PureTerm → List PureTerm };
 
     /// What an action comes to depends on the literal form of a term, under a valuation that gives the state this heap.
