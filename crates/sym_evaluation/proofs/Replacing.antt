@@ -1,5 +1,5 @@
 -- Where parts of a term are replaced, the term is.
-use Rattle.std.proofs.Common.{◌≡◌, ◌⊎◌, ⊎_elim, inl, inr, ◌<◌, List, [], ◌∷◌, ◌++◌, true, ◌&&◌, Option, Some, None, refl, sym, ap, subst, ◌∙◌, arith, true≢false}
+use Rattle.std.proofs.Common.{◌≡◌, ⊎_elim, inl, inr, ◌<◌, List, ◌++◌, true, ◌&&◌, Option, Some, None, refl, sym, ap, subst, ◌∙◌, arith, true≢false}
 use Rattle.std.specs.List.{Contains}
 use Rattle.std.specs.Option.{option_and_then, option_map}
 use Rattle.std.specs.Result.{result_ok}
@@ -8,15 +8,13 @@ use Rattle.std.proofs.lemmas.List.Elements.{Contains-append_cases, Contains-appe
 use Rattle.gil_values.specs.declared.operators.UnOp.{UnOp}
 use Rattle.gil_values.specs.declared.operators.BinOp.{BinOp}
 use Rattle.gil_values.specs.Operators.{unary, binary}
-use Rattle.gil_values.specs.Pure.{PureValue, list, from_list as list_elements}
 use Rattle.pure_terms.specs.declared.variables.Sort.{Sort}
 use Rattle.pure_terms.specs.declared.variables.Var.{Var}
-use Rattle.pure_terms.specs.Fragment.{is_simple, are_simple, is_shift, is_variable_of, is_integer_literal}
-use Rattle.pure_terms.specs.Meaning.{value, values, both, IsProper, AreVariablesOf}
-use Rattle.pure_terms.specs.Pure.{PureTerm, literal, variable, list_of, unary_of, binary_of, from_list, size, sizes, variables, variables_of_all}
+use Rattle.pure_terms.specs.Fragment.{is_simple, is_shift, is_variable_of, is_integer_literal}
+use Rattle.pure_terms.specs.Meaning.{value}
+use Rattle.pure_terms.specs.Pure.{PureTerm, literal, variable, list_of, unary_of, binary_of, size, variables}
 use Rattle.pure_terms.specs.Rewriting.{Replaces, IsSameOrSmaller}
 use Rattle.pure_terms.proofs.KindLaws.{over_left, over_right}
-use Rattle.sym_model.proofs.Asking.{both_parts}
 use Rattle.sym_model.proofs.ListLaws.{same_some, not_none}
 
 pub replaces_itself : (t : PureTerm) → Replaces t t
@@ -41,6 +39,10 @@ replaces_on t u w first second = record {
 pub some_of : {A B : Type 0} (f : A → Option B) (o : Option A) (b : B) → option_and_then f o ≡ Some b → (a : A) × ((o ≡ Some a) × (f a ≡ Some b))
 some_of f (Some a) b is = (a, (refl, is))
 some_of f None b is = not_none is
+
+pub some_mapped : {A B : Type 0} (f : A → B) (o : Option A) (b : B) → option_map f o ≡ Some b → (a : A) × ((o ≡ Some a) × (f a ≡ b))
+some_mapped f (Some a) b is = (a, (refl, same_some is))
+some_mapped f None b is = not_none is
 
 unary_smaller : (op : UnOp) (t u : PureTerm) → IsSameOrSmaller t u → IsSameOrSmaller (unary_of op t) (unary_of op u)
 unary_smaller op t u (inl same) = inl (ap (unary_of op) same)
@@ -104,67 +106,4 @@ replaces_operands op s t p q first second = record {
   no_more_names = joined_names (variables s) (variables t) (variables p) (variables q) first.no_more_names second.no_more_names;
   simple_stays = shift_stays op s t p q first.no_larger second.no_larger;
   no_larger = binary_smaller op s t p q first.no_larger second.no_larger;
-}
-
--- ---- lists
-
-abbrev pub EachReplaces : List PureTerm → List PureTerm → Type 0
-EachReplaces [] [] = Unit {0}
-EachReplaces (t ∷ ts) (u ∷ us) = Replaces t u × EachReplaces ts us
-EachReplaces _ _ = ⊥
-
-each_value : (vars : List Sort) (v : List PureValue) (ts us : List PureTerm) (ws : List PureValue) → IsProper vars v → AreVariablesOf vars (variables_of_all (from_list ts)) → EachReplaces ts us → values v (from_list ts) ≡ Some ws → values v (from_list us) ≡ Some ws
-each_value vars v [] [] ws proper over each is = is
-each_value vars v (t ∷ ts) (u ∷ us) ws proper over each is =
-    let (a, (rest, (first, second, whole))) = both_parts (value v t) (values v (from_list ts)) ws is in
-    (λ i. both (each.0.value_kept vars v a proper (over_left vars (variables t) (variables_of_all (from_list ts)) over) first i)
-    (each_value vars v ts us rest proper (over_right vars (variables t) (variables_of_all (from_list ts)) over) each.1 second i)) ∙ ap Some (sym whole)
-each_value vars v [] (u ∷ us) ws proper over each is = absurd each
-each_value vars v (t ∷ ts) [] ws proper over each is = absurd each
-
-each_names : (ts us : List PureTerm) → EachReplaces ts us → (x : Var) → Contains (variables_of_all (from_list us)) x → Contains (variables_of_all (from_list ts)) x
-each_names [] [] each x has = has
-each_names (t ∷ ts) (u ∷ us) each x has = joined_names (variables t) (variables_of_all (from_list ts)) (variables u) (variables_of_all (from_list us)) each.0.no_more_names (each_names ts us each.1) x has
-each_names [] (u ∷ us) each x has = absurd each
-each_names (t ∷ ts) [] each x has = absurd each
-
-each_simple : (ts us : List PureTerm) → EachReplaces ts us → are_simple (from_list ts) ≡ true → are_simple (from_list us) ≡ true
-each_simple [] [] each simple = simple
-each_simple (t ∷ ts) (u ∷ us) each simple =
-    let (first, second) = and_parts (is_simple t) (are_simple (from_list ts)) simple in
-    and_from (is_simple u) (are_simple (from_list us)) (each.0.simple_stays first) (each_simple ts us each.1 second)
-each_simple [] (u ∷ us) each simple = absurd each
-each_simple (t ∷ ts) [] each simple = absurd each
-
-abbrev AreSmaller : List PureTerm → List PureTerm → Type 0
-AreSmaller ts us = (us ≡ ts) ⊎ (sizes (from_list us) < sizes (from_list ts))
-
-one_smaller : (t u : PureTerm) (ts us : List PureTerm) → IsSameOrSmaller t u → AreSmaller ts us → AreSmaller (t ∷ ts) (u ∷ us)
-one_smaller t u ts us (inl same) (inl also) = inl (λ i. same i ∷ also i)
-one_smaller t u ts us (inl same) (inr less) = let e : size u ≡ size t = ap size same in inr (omega (arith, e, less))
-one_smaller t u ts us (inr less) (inl also) = let e : sizes (from_list us) ≡ sizes (from_list ts) = ap (λ xs. sizes (from_list xs)) also in inr (omega (arith, e, less))
-one_smaller t u ts us (inr less) (inr more) = inr (omega (arith, less, more))
-
-each_smaller : (ts us : List PureTerm) → EachReplaces ts us → AreSmaller ts us
-each_smaller [] [] each = inl refl
-each_smaller (t ∷ ts) (u ∷ us) each = one_smaller t u ts us each.0.no_larger (each_smaller ts us each.1)
-each_smaller [] (u ∷ us) each = absurd each
-each_smaller (t ∷ ts) [] each = absurd each
-
-list_smaller : (ts us : List PureTerm) → AreSmaller ts us → IsSameOrSmaller (list_of (from_list ts)) (list_of (from_list us))
-list_smaller ts us (inl same) = inl (ap (λ xs. list_of (from_list xs)) same)
-list_smaller ts us (inr less) = inr (omega (arith, less))
-
-pub some_mapped : {A B : Type 0} (f : A → B) (o : Option A) (b : B) → option_map f o ≡ Some b → (a : A) × ((o ≡ Some a) × (f a ≡ b))
-some_mapped f (Some a) b is = (a, (refl, same_some is))
-some_mapped f None b is = not_none is
-
-pub replaces_elements : (ts us : List PureTerm) → EachReplaces ts us → Replaces (list_of (from_list ts)) (list_of (from_list us))
-replaces_elements ts us each = record {
-  value_kept = λ vars v w proper over whole.
-      let (ws, (inner, outer)) = some_mapped (λ ws. list (list_elements ws)) (values v (from_list ts)) w whole in
-      ap (option_map (λ ws. list (list_elements ws))) (each_value vars v ts us ws proper over each inner) ∙ ap Some outer;
-  no_more_names = each_names ts us each;
-  simple_stays = each_simple ts us each;
-  no_larger = list_smaller ts us (each_smaller ts us each);
 }

@@ -1,41 +1,52 @@
 -- Where the terms and conditions of an evaluation come from: what may be asked of the operands of an expression.
-use Rattle.std.specs.Prelude.{◌≡◌, ◌⊎◌, List, [], ◌∷◌, ◌++◌, Bool, Option, Some, None}
+use Rattle.std.specs.Prelude.{◌≡◌, ◌⊎◌, pos, int_lt, List, [], ◌∷◌, ◌++◌, Bool, true, false, not, ◌&&◌, Option, Some, None, IsTrue}
 use Rattle.std.specs.Option.{option_map, option_and_then}
 use Rattle.gil_values.specs.declared.kinds.Kind.{Kind}
 use Rattle.gil_values.specs.declared.operators.UnOp.{UnOp}
 use Rattle.gil_values.specs.declared.operators.BinOp.{BinOp}
-use Rattle.gil_syntax.specs.Pure.{PureExpr, literal as value_literal, name, logical, list_of as list_expr, unary_of as unary_expr, binary_of as binary_expr, PureExprs, no_exprs, expr_and}
+use Rattle.gil_syntax.specs.Pure.{PureExpr, literal as value_literal, name, logical, list_of as list_expr, unary_of as unary_expr, binary_of as binary_expr, PureExprs, no_exprs, expr_and, from_list as exprs_from}
 use Rattle.gil_syntax.specs.Subexpressions.{subexpressions}
+use Rattle.pure_terms.specs.declared.literals.Literal.{Literal}
 use Rattle.pure_terms.specs.declared.variables.Sort.{Sort}
 use Rattle.pure_terms.specs.declared.variables.Var.{Var}
-use Rattle.pure_terms.specs.Kinds.{known_kind}
+use Rattle.pure_terms.specs.Folding.{folded_unary, folded_binary}
+use Rattle.pure_terms.specs.Fragment.{is_variable_of}
+use Rattle.pure_terms.specs.Kinds.{allows, known_kind}
 use Rattle.pure_terms.specs.Meaning.{IsOver}
 use Rattle.pure_terms.specs.Pure.{PureTerm, literal, variable, list_of, unary_of, binary_of, from_list, PureAtom, positive, negative, opening, term_of}
 use Rattle.pure_terms.specs.Rewriting.{Replaces}
-use Rattle.sym_evaluation.specs.Checks.{is_of_kind, are_of_one_kind, is_zero, is_negative, length_of, is_below}
+use Rattle.sym_evaluation.specs.Checks.{is_of_kind, has_length, are_of_one_kind, is_zero, is_negative, length_of, is_below}
 use Rattle.sym_evaluation.specs.Evaluating.{spelled, literal_term}
 use Rattle.sym_evaluation.specs.Meaning.{IsStoreOver}
 use Rattle.sym_evaluation.specs.Pure.{PureStore, term_at, PureGoodCase, PureCases, PureSides}
 use Rattle.sym_evaluation.specs.Sides.{is_boolean}
 use Rattle.sym_model.specs.Lists.{Each, OneOf}
+use Rattle.sym_model.specs.Terms.{is_literal}
 
--- the expression with each name replaced by its term
+-- The term of the expression: each name is replaced by its term, and each operator is folded where its operands tell more of its value, as
+-- `((v + 1) + 1)` to `(v + 2)`.
 abbrev mutual
   pub substituted : PureStore → PureExpr → Option PureTerm
   substituted bs (value_literal v) = literal_term (spelled v)
   substituted bs (name x) = term_at bs x
   substituted bs (logical x) = term_at bs x
   substituted bs (list_expr es) = option_map (λ ts. list_of (from_list ts)) (all_substituted bs es)
-  substituted bs (unary_expr op e) = option_map (unary_of op) (substituted bs e)
-  substituted bs (binary_expr op d e) = option_and_then (λ s. option_map (binary_of op s) (substituted bs e)) (substituted bs d)
+  substituted bs (unary_expr op e) = option_map (folded_unary op) (substituted bs e)
+  substituted bs (binary_expr op d e) = option_and_then (λ s. option_map (folded_binary op s) (substituted bs e)) (substituted bs d)
 
   pub all_substituted : PureStore → PureExprs → Option (List PureTerm)
   all_substituted bs no_exprs = Some []
   all_substituted bs (expr_and e es) = option_and_then (λ t. option_map (λ ts. t ∷ ts) (all_substituted bs es)) (substituted bs e)
 
--- The term is from the expression: it is the expression with each name replaced by its term, or may stand in the place of that.
+abbrev pub IsTermOf : PureStore → PureExpr → PureTerm → Type 0
+IsTermOf bs e t = substituted bs e ≡ Some t
+
+abbrev pub AreTermsOf : PureStore → List PureExpr → List PureTerm → Type 0
+AreTermsOf bs es ts = all_substituted bs (exprs_from es) ≡ Some ts
+
+-- The term is from the expression: it is the term of the expression, or may stand in the place of that.
 abbrev pub IsFrom : PureStore → PureExpr → PureTerm → Type 0
-IsFrom bs e t = (u : PureTerm) × ((substituted bs e ≡ Some u) × Replaces u t)
+IsFrom bs e t = (u : PureTerm) × (IsTermOf bs e u × Replaces u t)
 
 -- ---- questions
 
@@ -45,37 +56,71 @@ IsAbout u (positive t) = t ≡ u
 IsAbout u (negative t) = t ≡ u
 IsAbout u (opening t) = ⊥
 
--- that an operand has a kind, where form and sorts leave its kind open
-abbrev pub AsksKind : PureStore → PureExpr → PureAtom → Type 0
-AsksKind bs e a = (t : PureTerm) × ((k : Kind) × (IsFrom bs e t × (known_kind t ≡ None) × IsAbout (is_of_kind t k) a))
+-- that an operand is of a kind, where form and sorts leave its kind open
+abbrev pub AsksKind : Kind → PureTerm → PureAtom → Type 0
+AsksKind k t a = (known_kind t ≡ None) × IsAbout (is_of_kind t k) a
 
--- that two operands have one kind, where both kinds are open
-abbrev pub AsksOneKind : PureStore → PureExpr → PureExpr → PureAtom → Type 0
-AsksOneKind bs d e a =
-    (s : PureTerm) × ((t : PureTerm) × (IsFrom bs d s × IsFrom bs e t × (known_kind s ≡ None) × (known_kind t ≡ None)
-    × IsAbout (are_of_one_kind s t) a))
+-- that an operand whose kind is open isn't of some kind: texts and lists have a length
+abbrev pub AsksLength : PureTerm → PureAtom → Type 0
+AsksLength t a = (k : Kind) × ((known_kind t ≡ None) × (a ≡ negative (is_of_kind t k)))
 
--- that a divisor is 0
-abbrev pub AsksZero : PureStore → PureExpr → PureAtom → Type 0
-AsksZero bs e a = (t : PureTerm) × (IsFrom bs e t × IsAbout (is_zero t) a)
+-- that two operands are of these kinds; the second is asked only where the first may be of its kind
+abbrev pub AsksKinds : Kind → Kind → PureTerm → PureTerm → PureAtom → Type 0
+AsksKinds j k s t a = AsksKind j s a ⊎ (IsTrue (allows (known_kind s) j) × AsksKind k t a)
 
--- that a place is below 0, or below the length of a list
-abbrev pub AsksPlace : PureStore → PureExpr → PureExpr → PureAtom → Type 0
-AsksPlace bs d e a =
-    (s : PureTerm) × ((t : PureTerm) × (IsFrom bs d s × IsFrom bs e t × (IsAbout (is_negative t) a ⊎ IsAbout (is_below t (length_of s)) a)))
+-- form and sorts allow these kinds
+abbrev pub MayBeOfKinds : Kind → Kind → PureTerm → PureTerm → Type 0
+MayBeOfKinds j k s t = IsTrue (allows (known_kind s) j) × IsTrue (allows (known_kind t) k)
 
--- what is asked of two operands
-abbrev pub AsksTwo : PureStore → BinOp → PureExpr → PureExpr → PureAtom → Type 0
-AsksTwo bs BinOp.Append d e a = AsksOneKind bs d e a
-AsksTwo bs BinOp.Divide d e a = AsksZero bs e a
-AsksTwo bs BinOp.Remainder d e a = AsksZero bs e a
-AsksTwo bs BinOp.Nth d e a = AsksPlace bs d e a
-AsksTwo bs _ d e a = ⊥
+-- that both operands of `++` are texts or both are lists: where both kinds are open, that they are one; else that the other operand is of
+-- the known kind
+abbrev pub AsksAppended : PureTerm → PureTerm → PureAtom → Type 0
+AsksAppended s t a =
+    ((known_kind s ≡ None) × (known_kind t ≡ None) × (IsAbout (are_of_one_kind s t) a ⊎ AsksLength s a))
+    ⊎ ((k : Kind) × (IsTrue (has_length k) × (((known_kind s ≡ Some k) × AsksKind k t a) ⊎ ((known_kind t ≡ Some k) × AsksKind k s a))))
 
--- what is asked of the operands of one operator
+-- that a divisor is 0, where both may be integers and the divisor is no literal
+abbrev pub AsksZero : PureTerm → PureTerm → PureAtom → Type 0
+AsksZero s t a = MayBeOfKinds Kind.Int Kind.Int s t × (is_literal t ≡ false) × IsAbout (is_zero t) a
+
+-- the term is no number below 0, by its form
+abbrev pub may_be_place : PureTerm → Bool
+may_be_place (literal (Literal.Int n)) = not (int_lt n (pos 0))
+may_be_place t = true
+
+-- that a place is below 0, or below the length of a list, where these may be an integer and a list and aren't decided by their forms
+abbrev pub AsksPlace : PureTerm → PureTerm → PureAtom → Type 0
+AsksPlace s t a =
+    MayBeOfKinds Kind.List Kind.Int s t
+    × (((is_literal t ≡ false) × IsAbout (is_negative t) a)
+    ⊎ (IsTrue (may_be_place t) × ((is_literal t && is_literal (length_of s)) ≡ false) × IsAbout (is_below t (length_of s)) a))
+
+-- what an operator asks of its operand
+abbrev pub AsksOne : UnOp → PureTerm → PureAtom → Type 0
+AsksOne UnOp.Not t a = AsksKind Kind.Bool t a
+AsksOne UnOp.Neg t a = AsksKind Kind.Int t a
+AsksOne UnOp.Len t a = AsksLength t a
+AsksOne UnOp.Kind t a = ⊥
+
+-- what an operator asks of two operands
+abbrev pub AsksTwo : BinOp → PureTerm → PureTerm → PureAtom → Type 0
+AsksTwo BinOp.Equal s t a = ⊥
+AsksTwo BinOp.And s t a = AsksKinds Kind.Bool Kind.Bool s t a
+AsksTwo BinOp.Or s t a = AsksKinds Kind.Bool Kind.Bool s t a
+AsksTwo BinOp.Append s t a = AsksAppended s t a
+AsksTwo BinOp.Divide s t a = AsksKinds Kind.Int Kind.Int s t a ⊎ AsksZero s t a
+AsksTwo BinOp.Remainder s t a = AsksKinds Kind.Int Kind.Int s t a ⊎ AsksZero s t a
+AsksTwo BinOp.Nth s t a = AsksKinds Kind.List Kind.Int s t a ⊎ AsksPlace s t a
+AsksTwo BinOp.Add s t a = AsksKinds Kind.Int Kind.Int s t a
+AsksTwo BinOp.Subtract s t a = AsksKinds Kind.Int Kind.Int s t a
+AsksTwo BinOp.Multiply s t a = AsksKinds Kind.Int Kind.Int s t a
+AsksTwo BinOp.Less s t a = AsksKinds Kind.Int Kind.Int s t a
+AsksTwo BinOp.LessOrEqual s t a = AsksKinds Kind.Int Kind.Int s t a
+
+-- what is asked of the terms of an operator's operands
 abbrev pub IsAskedOf : PureStore → PureAtom → PureExpr → Type 0
-IsAskedOf bs a (unary_expr op e) = AsksKind bs e a
-IsAskedOf bs a (binary_expr op d e) = AsksKind bs d a ⊎ (AsksKind bs e a ⊎ AsksTwo bs op d e a)
+IsAskedOf bs a (unary_expr op e) = (t : PureTerm) × (IsTermOf bs e t × AsksOne op t a)
+IsAskedOf bs a (binary_expr op d e) = (s : PureTerm) × ((t : PureTerm) × (IsTermOf bs d s × IsTermOf bs e t × AsksTwo op s t a))
 IsAskedOf bs a _ = ⊥
 
 -- The condition is one that the expression asks of the operands of an operator in it.
@@ -100,6 +145,10 @@ EachCondition P cases = Each (λ c. Each P c.conds) cases.faults × OnConditions
 abbrev pub ComesFrom : PureStore → PureExpr → PureCases PureTerm → Type 0
 ComesFrom bs e cases = EachCondition (IsAsked bs e) cases × OnResult (IsFrom bs e) cases.good
 
+-- The result is the term of the expression.
+abbrev pub HasTerm : PureStore → PureExpr → PureCases PureTerm → Type 0
+HasTerm bs e cases = OnResult (IsTermOf bs e) cases.good
+
 abbrev pub AreEachFrom : PureStore → List PureExpr → List PureTerm → Type 0
 AreEachFrom bs [] [] = Unit {0}
 AreEachFrom bs (e ∷ es) (t ∷ ts) = IsFrom bs e t × AreEachFrom bs es ts
@@ -119,12 +168,12 @@ AreEachOver vars ts = Each (IsOver vars) ts
 
 -- ---- guards
 
--- a term, and its parts under `not`, `and` and `or`
+-- a term, and its parts under `and` and `or`; `not` turns what is asked of its operand
 abbrev pub boolean_parts : PureTerm → List PureTerm
 boolean_parts (literal l) = literal l ∷ []
 boolean_parts (variable x) = variable x ∷ []
 boolean_parts (list_of ts) = list_of ts ∷ []
-boolean_parts (unary_of UnOp.Not t) = unary_of UnOp.Not t ∷ boolean_parts t
+boolean_parts (unary_of UnOp.Not t) = boolean_parts t
 boolean_parts (unary_of op t) = unary_of op t ∷ []
 boolean_parts (binary_of BinOp.And s t) = binary_of BinOp.And s t ∷ (boolean_parts s ++ boolean_parts t)
 boolean_parts (binary_of BinOp.Or s t) = binary_of BinOp.Or s t ∷ (boolean_parts s ++ boolean_parts t)
@@ -134,14 +183,19 @@ boolean_parts (binary_of op s t) = binary_of op s t ∷ []
 abbrev pub IsCompared : PureTerm → PureAtom → Type 0
 IsCompared u a = (x : Var) × ((b : Bool) × ((u ≡ variable x) × (x.sort ≡ Sort.Any) × (a ≡ positive (is_boolean u b))))
 
+-- the atom says that a part of a guard is true or false: of a variable of sort any it does so by comparing it
+abbrev pub SaysPart : PureAtom → PureTerm → Type 0
+SaysPart a u = ((is_variable_of Sort.Any u ≡ false) × IsAbout u a) ⊎ IsCompared u a
+
 -- the atom asks whether the guard is a boolean, where its kind is open
 abbrev pub AsksBoolean : PureTerm → PureAtom → Type 0
 AsksBoolean t a = (known_kind t ≡ None) × IsAbout (is_of_kind t Kind.Bool) a
 
 -- The condition says that the guard or a part of it is true or false, or asks whether the guard is a boolean where its kind is open.
+-- Nothing is asked of a literal, nor of a guard that is sure to be no boolean.
 abbrev pub IsGuardCondition : PureTerm → PureAtom → Type 0
 IsGuardCondition t a =
-    OneOf (λ u. IsAbout u a ⊎ IsCompared u a) (boolean_parts t) ⊎ AsksBoolean t a
+    (is_literal t ≡ false) × IsTrue (allows (known_kind t) Kind.Bool) × (OneOf (SaysPart a) (boolean_parts t) ⊎ AsksBoolean t a)
 
 abbrev pub OnSide : (PureAtom → Type 0) → Option (List PureAtom) → Type 0
 OnSide P None = Unit {0}

@@ -1,5 +1,7 @@
 -- The candidates of an action need only literal forms that matter to it.
-use Rattle.std.proofs.Common.{◌≡◌, ⊎_elim, inl, inr, ℕ, List, [], ◌∷◌, ◌++◌, map, Bool, slice_get, Option, Some, None, IsTrue, refl, sym, ap, subst, ◌∙◌}
+use Rattle.std.proofs.Common.{◌≡◌, ◌⊎◌, inl, inr, ℕ, List, [], ◌∷◌, ◌++◌, map, Bool, slice_get, Option, Some, None, IsTrue, refl, sym, ap, subst, ◌∙◌}
+use Rattle.gil_values.specs.declared.kinds.Kind.{Kind}
+use Rattle.gil_values.specs.declared.operators.UnOp.{UnOp}
 use Rattle.gil_values.specs.declared.operators.BinOp.{BinOp}
 use Rattle.gil_values.specs.declared.places.Place.{Place}
 use Rattle.gil_values.specs.Pure.{PureValue}
@@ -11,10 +13,11 @@ use Rattle.mem_model.specs.Actions.{Actions}
 use Rattle.mem_model.specs.Heaps.{Heap}
 use Rattle.pure_terms.specs.declared.variables.Sort.{Sort}
 use Rattle.pure_terms.specs.Meaning.{all_true, IsProper, IsOver}
-use Rattle.pure_terms.specs.Pure.{PureTerm, PureAtom, opening, term_of}
+use Rattle.pure_terms.specs.Pure.{PureTerm, PureAtom, negative, opening, term_of}
+use Rattle.sym_evaluation.specs.Checks.{is_of_kind}
 use Rattle.sym_evaluation.specs.Meaning.{HaveValues}
 use Rattle.sym_evaluation.specs.Pure.{PureStore, PureFaultCase, PureGoodCase, PureCases}
-use Rattle.sym_evaluation.specs.Questions.{AsksKind, AsksTwo, IsAskedOf, IsAsked, OnResult, OnConditions, AreEachFrom}
+use Rattle.sym_evaluation.specs.Questions.{AsksKind, AsksLength, AsksKinds, AsksAppended, AsksZero, AsksPlace, AsksOne, AsksTwo, IsAskedOf, IsAsked, OnResult, OnConditions, AreEachFrom}
 use Rattle.sym_model.specs.Forms.{OpensOnly, OpenWhatMatters}
 use Rattle.sym_model.specs.Laws.{IsMeaning, Serves}
 use Rattle.sym_model.specs.Lists.{Each, OneOf}
@@ -38,26 +41,57 @@ use Rattle.sym_steps.proofs.Following.{first_true, second_true, good_leads, serv
 -- ---- what is asked of operands is never a literal form
 
 module _ (bs : PureStore) (t : PureTerm) where
-  two_closed : (op : BinOp) (d e : PureExpr) → AsksTwo bs op d e (opening t) → ⊥
-  two_closed BinOp.Append d e (x, (y, is)) = is.4
-  two_closed BinOp.Divide d e (y, is) = is.1
-  two_closed BinOp.Remainder d e (y, is) = is.1
-  two_closed BinOp.Nth d e (x, (y, is)) = ⊎_elim (λ none. none) (λ none. none) is.2
-  two_closed BinOp.Add d e is = is
-  two_closed BinOp.Subtract d e is = is
-  two_closed BinOp.Multiply d e is = is
-  two_closed BinOp.Equal d e is = is
-  two_closed BinOp.Less d e is = is
-  two_closed BinOp.LessOrEqual d e is = is
-  two_closed BinOp.And d e is = is
-  two_closed BinOp.Or d e is = is
+  kind_closed : (k : Kind) (u : PureTerm) → AsksKind k u (opening t) → ⊥
+  kind_closed k u (known, none) = none
 
-  kind_closed : (e : PureExpr) → AsksKind bs e (opening t) → ⊥
-  kind_closed e (u, (k, is)) = is.2
+  length_closed : (u : PureTerm) → AsksLength u (opening t) → ⊥
+  length_closed u (k, (known, is)) = is_opening is where
+    is_opening : opening t ≡ negative (is_of_kind u k) → ⊥
+    is_opening is = cc
+
+  unary_closed : (op : UnOp) (u : PureTerm) → AsksOne op u (opening t) → ⊥
+  unary_closed UnOp.Not u asks = kind_closed Kind.Bool u asks
+  unary_closed UnOp.Neg u asks = kind_closed Kind.Int u asks
+  unary_closed UnOp.Len u asks = length_closed u asks
+  unary_closed UnOp.Kind u asks = asks
+
+  module _ (u w : PureTerm) where
+    kinds_closed : (j k : Kind) → AsksKinds j k u w (opening t) → ⊥
+    kinds_closed j k (inl asks) = kind_closed j u asks
+    kinds_closed j k (inr (may, asks)) = kind_closed k w asks
+
+    zero_closed : AsksKinds Kind.Int Kind.Int u w (opening t) ⊎ AsksZero u w (opening t) → ⊥
+    zero_closed (inl asks) = kinds_closed Kind.Int Kind.Int asks
+    zero_closed (inr (kinds, other, none)) = none
+
+    place_closed : AsksKinds Kind.List Kind.Int u w (opening t) ⊎ AsksPlace u w (opening t) → ⊥
+    place_closed (inl asks) = kinds_closed Kind.List Kind.Int asks
+    place_closed (inr (kinds, inl (other, none))) = none
+    place_closed (inr (kinds, inr (place, other, none))) = none
+
+    append_closed : AsksAppended u w (opening t) → ⊥
+    append_closed (inl (known_u, known_w, inl none)) = none
+    append_closed (inl (known_u, known_w, inr asks)) = length_closed u asks
+    append_closed (inr (k, (long, inl (known, asks)))) = kind_closed k w asks
+    append_closed (inr (k, (long, inr (known, asks)))) = kind_closed k u asks
+
+    two_closed : (op : BinOp) → AsksTwo op u w (opening t) → ⊥
+    two_closed BinOp.Append asks = append_closed asks
+    two_closed BinOp.Divide asks = zero_closed asks
+    two_closed BinOp.Remainder asks = zero_closed asks
+    two_closed BinOp.Nth asks = place_closed asks
+    two_closed BinOp.Add asks = kinds_closed Kind.Int Kind.Int asks
+    two_closed BinOp.Subtract asks = kinds_closed Kind.Int Kind.Int asks
+    two_closed BinOp.Multiply asks = kinds_closed Kind.Int Kind.Int asks
+    two_closed BinOp.Equal asks = asks
+    two_closed BinOp.Less asks = kinds_closed Kind.Int Kind.Int asks
+    two_closed BinOp.LessOrEqual asks = kinds_closed Kind.Int Kind.Int asks
+    two_closed BinOp.And asks = kinds_closed Kind.Bool Kind.Bool asks
+    two_closed BinOp.Or asks = kinds_closed Kind.Bool Kind.Bool asks
 
   operator_closed : (e : PureExpr) → IsAskedOf bs (opening t) e → ⊥
-  operator_closed (unary_of op e) is = kind_closed e is
-  operator_closed (binary_of op d e) is = ⊎_elim (kind_closed d) (λ later. ⊎_elim (kind_closed e) (two_closed op d e) later) is
+  operator_closed (unary_of op e) (u, (is, asks)) = unary_closed op u asks
+  operator_closed (binary_of op d e) (u, (w, (is_u, is_w, asks))) = two_closed u w op asks
   operator_closed (literal v) is = is
   operator_closed (name x) is = is
   operator_closed (logical x) is = is

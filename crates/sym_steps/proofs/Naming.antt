@@ -1,5 +1,5 @@
 -- Which variables the conditions of guards name.
-use Rattle.std.proofs.Common.{◌⊎◌, ⊎_elim, inl, inr, List, [], ◌++◌, sym, subst}
+use Rattle.std.proofs.Common.{⊎_elim, inl, inr, List, [], ◌++◌, sym, subst}
 use Rattle.std.proofs.lemmas.List.Elements.{Contains-append_cases}
 use Rattle.gil_values.specs.declared.kinds.Kind.{Kind}
 use Rattle.gil_values.specs.declared.operators.UnOp.{UnOp}
@@ -11,7 +11,7 @@ use Rattle.pure_terms.specs.Meaning.{AreVariablesOf, IsOver}
 use Rattle.pure_terms.specs.Pure.{PureTerm, literal, variable, list_of, unary_of, binary_of, PureAtom, positive, negative, opening, term_of, variables}
 use Rattle.pure_terms.proofs.KindLaws.{over_left, over_right}
 use Rattle.sym_evaluation.specs.Checks.{is_of_kind}
-use Rattle.sym_evaluation.specs.Questions.{IsAbout, IsCompared, boolean_parts, IsGuardCondition}
+use Rattle.sym_evaluation.specs.Questions.{IsAbout, IsCompared, boolean_parts, SaysPart, IsGuardCondition}
 use Rattle.sym_model.specs.Lists.{Each}
 use Rattle.sym_model.proofs.ListLaws.{each_append, one_with}
 
@@ -37,7 +37,7 @@ module _ (vars : List Sort) where
   parts_over (literal l) over = (over, tt)
   parts_over (variable x) over = (over, tt)
   parts_over (list_of ts) over = (over, tt)
-  parts_over (unary_of UnOp.Not t) over = (over, parts_over t over)
+  parts_over (unary_of UnOp.Not t) over = parts_over t over
   parts_over (unary_of UnOp.Neg t) over = (over, tt)
   parts_over (unary_of UnOp.Len t) over = (over, tt)
   parts_over (unary_of UnOp.Kind t) over = (over, tt)
@@ -58,7 +58,7 @@ module _ (vars : List Sort) where
 
   -- the condition of a guard names only variables of its term
   pub guard_over : (t : PureTerm) (a : PureAtom) → IsOver vars t → IsGuardCondition t a → IsOver vars (term_of a)
-  guard_over t a over (inl part) =
-      one_with (IsOver vars) (λ u. IsAbout u a ⊎ IsCompared u a) (boolean_parts t) (parts_over t over) part
-      (λ u over_u which. ⊎_elim (λ about. about_over u a about over_u) (λ compared. compared_over u a compared over_u) which)
-  guard_over t a over (inr (known, about)) = about_over (is_of_kind t Kind.Bool) a about (with_literal t over)
+  guard_over t a over (other, may, inl part) =
+      one_with (IsOver vars) (SaysPart a) (boolean_parts t) (parts_over t over) part
+      (λ u over_u which. ⊎_elim (λ (sort, about). about_over u a about over_u) (λ compared. compared_over u a compared over_u) which)
+  guard_over t a over (other, may, inr (known, about)) = about_over (is_of_kind t Kind.Bool) a about (with_literal t over)

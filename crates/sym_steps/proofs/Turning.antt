@@ -14,6 +14,7 @@ use Rattle.pure_terms.specs.Pure.{PureTerm, PureAtom, term_of}
 use Rattle.sym_evaluation.specs.Meaning.{HasValue, IsSideWhere, is_true, is_false, is_no_boolean, AreSidesOf}
 use Rattle.sym_evaluation.specs.Pure.{PureGoodCase, PureCases, PureSides}
 use Rattle.sym_evaluation.specs.Questions.{IsAsked, IsFrom, AsksBoolean, IsGuardCondition, EachCondition, OnConditions, OnResult, OnSide, SidesComeFrom}
+use Rattle.sym_evaluation.proofs.SideOrigins.{boolean_is_condition}
 use Rattle.sym_model.specs.Lists.{Each, OneOf}
 use Rattle.sym_model.specs.Terms.{StateTerms}
 use Rattle.sym_model.proofs.ListLaws.{same_some, each_append, each_to, one_left, one_right}
@@ -207,7 +208,7 @@ module _ {S : Type 0} (stands : S → List PureValue → Heap → Type 0) (terms
 
     -- that the guard is a boolean is one of its conditions, and may be assumed
     as_conditions : (more : List PureAtom) → Each (AsksBoolean g.result) more → Each (IsGuardCondition g.result) more
-    as_conditions more = each_to (AsksBoolean g.result) (IsGuardCondition g.result) more (λ a is. inr is)
+    as_conditions more = each_to (AsksBoolean g.result) (IsGuardCondition g.result) more (boolean_is_condition g.result)
 
     may_more : (more : List PureAtom) → Each (AsksBoolean g.result) more → Each (MayAssume Own (running_store path.stack) c.command) more
     may_more more asks =

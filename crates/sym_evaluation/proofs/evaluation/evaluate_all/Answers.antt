@@ -21,7 +21,7 @@ returns c =
       cases = found_all_cases (AreCasesOfAll bs e) c.evaluate_all_after.result bs (faults_view c.new.result) (atoms_view c.new-2.result) e (ap faults_view c.new.ensures) (ap atoms_view c.new-2.ensures)
           (all_cases_are_right folding bs e c.requires) c.evaluate_all_after.ensures;
       origin = found_all_cases (AllComeFrom bs e) c.evaluate_all_after.result bs (faults_view c.new.result) (atoms_view c.new-2.result) e (ap faults_view c.new.ensures) (ap atoms_view c.new-2.ensures)
-          (all_come_from folding bs e) c.evaluate_all_after.ensures;
+          (all_come_from bs e) c.evaluate_all_after.ensures;
       names = found_all_cases (NameNoOthers AreEachOver bs) c.evaluate_all_after.result bs (faults_view c.new.result) (atoms_view c.new-2.result) e (ap faults_view c.new.ensures) (ap atoms_view c.new-2.ensures)
           (all_name_no_others folding bs e) c.evaluate_all_after.ensures;
       plain = found_all_cases (AllAnswerPlainly bs e) c.evaluate_all_after.result bs (faults_view c.new.result) (atoms_view c.new-2.result) e (ap faults_view c.new.ensures) (ap atoms_view c.new-2.ensures)
