@@ -1,7 +1,7 @@
 -- What becomes of a candidate by what the decider says.
-use Rattle.std.proofs.Common.{◌≡◌, inl, inr, ℕ, List, [], ◌∷◌, ◌++◌, map, length, Bool, true, false, Option, Some, None, refl, sym, ap, subst, ◌∙◌, append_assoc}
+use Rattle.std.proofs.Common.{◌≡◌, ◌⊎◌, inl, inr, ℕ, ◌<◌, List, [], ◌∷◌, ◌++◌, map, length, Bool, true, false, Option, Some, None, refl, sym, ap, subst, ◌∙◌, append_assoc, true≢false, arith}
 use Rattle.std.specs.List.{list_any}
-use Rattle.std.proofs.lemmas.List.{length-map}
+use Rattle.std.proofs.lemmas.List.{append-nil, length-append, length-map}
 use Rattle.gil_values.specs.declared.places.Place.{Place}
 use Rattle.gil_values.specs.Pure.{PureValue}
 use Rattle.gil_syntax.specs.Pure.{PureParts}
@@ -20,10 +20,19 @@ use Rattle.sym_model.specs.Meaning.{is_open, has_open}
 use Rattle.sym_model.proofs.ListLaws.{each_left, each_right, each_mapped}
 use Rattle.sym_paths.specs.Pure.{PurePath}
 use Rattle.sym_paths.specs.Settling.{Candidate, ended_unknown, Stays, AreSettled}
-use Rattle.sym_paths.specs.Steps.{IsFirstOutside}
+use Rattle.sym_paths.specs.Steps.{IsFirstOutside, AsksMore}
 
 abbrev pub seen_open : List Atom → Bool
 seen_open atoms = list_any (λ a. is_open (atom_view a)) atoms
+
+-- a list is longer than a part of it, where only the whole needs a literal form, or where it has another length
+form_is_longer : (xs ys : List PureAtom) → has_open xs ≡ false → has_open (xs ++ ys) ≡ true → length xs < length (xs ++ ys)
+form_is_longer xs [] none needs = absurd (true≢false (sym needs ∙ ap has_open (append-nil xs) ∙ none))
+form_is_longer xs (y ∷ ys) none needs = subst (λ n. length xs < n) (sym (length-append xs (y ∷ ys))) (omega arith)
+
+other_is_longer : (xs ys : List PureAtom) → ¬ (length (xs ++ ys) ≡ length xs) → length xs < length (xs ++ ys)
+other_is_longer xs [] other = absurd (other (ap length (append-nil xs)))
+other_is_longer xs (y ∷ ys) other = subst (λ n. length xs < n) (sym (length-append xs (y ∷ ys))) (omega arith)
 
 module _ {S : Type 0} (p : PureParts) (path : PurePath S) (c : Candidate S) (here : Place) (old : ℕ) (atoms : List Atom) (stands : StandsThere p path old here) (same : atoms_view atoms ≡ c.path.conds) where
   closed : seen_open atoms ≡ false → has_open c.path.conds ≡ false
@@ -40,14 +49,25 @@ module _ {S : Type 0} (p : PureParts) (path : PurePath S) (c : Candidate S) (her
     met = λ v old_met. (w, subst (Satisfies c.path.vars w) same meets);
   })
 
-  pub stays_unknown : (reason : Reason) (next : PurePath S) → ¬ InFragment (atoms_view atoms) → IsFirstOutside (atoms_view atoms) reason → next ≡ ended_unknown c here reason → Stays p path c next
-  stays_unknown reason next outside first is = inr (record {
+  -- there are more conditions than the old path has, where one needs a literal form, or where their number isn't the old one
+  longer : IsAfter path c → (seen_open atoms ≡ true) ⊎ ¬ (length atoms ≡ old) → AsksMore path c.path
+  longer after (inl needs) none =
+      subst (λ xs. length path.conds < length xs) (sym after.conds)
+      (form_is_longer path.conds after.added none (ap has_open (sym after.conds ∙ sym same) ∙ sym (open_seen atoms) ∙ needs))
+  longer after (inr other) none =
+      subst (λ xs. length path.conds < length xs) (sym after.conds)
+      (other_is_longer path.conds after.added
+      (λ equal. other (sym (length-map atoms atom_view) ∙ ap length same ∙ ap length after.conds ∙ equal ∙ stands.conditions)))
+
+  pub stays_unknown : IsAfter path c → (seen_open atoms ≡ true) ⊎ ¬ (length atoms ≡ old) → (reason : Reason) (next : PurePath S) → ¬ InFragment (atoms_view atoms) → IsFirstOutside (atoms_view atoms) reason → next ≡ ended_unknown c here reason → Stays p path c next
+  stays_unknown after asked reason next outside first is = inr (record {
     place = here;
     reason = reason;
     is = is;
     outside = subst (λ xs. ¬ InFragment xs) same outside;
     first = subst (λ xs. IsFirstOutside xs reason) same first;
     at = stands.place;
+    asks = longer after asked;
   })
 
 pub needs_some : (atoms : List Atom) → seen_open atoms ≡ true → AreEachInFragment (atoms_view atoms) → ⊥

@@ -1,14 +1,13 @@
 -- What trails keep, and what they say in the words of the laws.
-use Rattle.std.proofs.Common.{◌≡◌, ◌⊎◌, ⊎_elim, inl, inr, ℕ, ◌+◌, List, [], ◌∷◌, length, sym, subst, arith}
+use Rattle.std.proofs.Common.{◌≡◌, ◌⊎◌, ⊎_elim, inl, inr, ℕ, ◌+◌, List, [], ◌∷◌, length, Bool, true, false, Some, None, refl, sym, subst, arith}
 use Rattle.gil_values.specs.Pure.{PureValue}
-use Rattle.gil_syntax.specs.Pure.{PureParts}
+use Rattle.gil_syntax.specs.Pure.{PureParts, PureNumberedCommand}
 use Rattle.mem_model.specs.Actions.{Actions}
 use Rattle.mem_model.specs.Heaps.{Heap}
-use Rattle.pure_terms.specs.Fragment.{InFragment}
 use Rattle.pure_terms.specs.Meaning.{Satisfies}
 use Rattle.pure_terms.specs.Pure.{PureTerm, PureAtom}
 use Rattle.sym_engine.specs.Lawful.{IsOwnAt}
-use Rattle.sym_explore.specs.Laws.{EndsAreOfRuns, IsTraced, TrailsReplay, TrailsHoldAlong, TrailsMayEndBefore, TrailsKeep}
+use Rattle.sym_explore.specs.Laws.{EndsAreOfRuns, IsTraced, MayBeAssumedInAction, IsAssumedOn, TrailsReplay, TrailsHoldAlong, TrailsMayEndBefore, TrailsKeep}
 use Rattle.sym_explore.specs.Trails.{IsNextPath, IsTrail, MayBeAssumedAt}
 use Rattle.sym_explore.proofs.RunSteps.{ends_are_of_runs, ends_stay}
 use Rattle.sym_explore.proofs.Trails.{trail_over, replay, replay_choices, never_cut, along, back}
@@ -16,8 +15,9 @@ use Rattle.sym_model.specs.Lists.{Each, OneOf, IsAmong}
 use Rattle.sym_model.specs.Terms.{StateTerms}
 use Rattle.sym_model.proofs.ListLaws.{each_append, each_to, each_is_among, one_left}
 use Rattle.sym_paths.specs.Frames.{running_store}
+use Rattle.sym_paths.specs.Meaning.{command_of_path}
 use Rattle.sym_paths.specs.Pure.{PurePath}
-use Rattle.sym_paths.specs.Steps.{IsUnknown, MayAssume}
+use Rattle.sym_paths.specs.Steps.{IsUnknown, MayAssume, is_action}
 
 pub ends_of_runs : EndsAreOfRuns
 ends_of_runs p m inputs s0 s n e after = (ends_are_of_runs p m inputs s0 s n e after, ends_stay p m inputs s0 s n e after)
@@ -38,10 +38,10 @@ module _ {S : Type 0} (p : PureParts) (m : Actions) (stands : S → List PureVal
   Traced = IsTraced p m stands terms asked
 
   traced_later : (start before : PurePath S) (earlier : List (PurePath S)) (a : PureAtom) → Traced start earlier a → Traced start (before ∷ earlier) a
-  traced_later start before earlier a is = ⊎_elim inl (λ other. inr (⊎_elim inl (λ own. inr (inr own)) other)) is
+  traced_later start before earlier a is = ⊎_elim inl (λ own. inr (inr own)) is
 
-  traced_new : (start before : PurePath S) (earlier : List (PurePath S)) (a : PureAtom) → InFragment (a ∷ []) ⊎ IsOwnAt stands terms asked m p before a → Traced start (before ∷ earlier) a
-  traced_new start before earlier a is = inr (⊎_elim inl (λ own. inr (inl own)) is)
+  traced_new : (start before : PurePath S) (earlier : List (PurePath S)) (a : PureAtom) → IsOwnAt stands terms asked m p before a → Traced start (before ∷ earlier) a
+  traced_new start before earlier a own = inr (inl own)
 
   all_traced : (start path : PurePath S) (earlier : List (PurePath S)) → IsTrailOf start earlier path → Each (Traced start earlier) path.conds
   all_traced start path [] trail =
@@ -51,7 +51,7 @@ module _ {S : Type 0} (p : PureParts) (m : Actions) (stands : S → List PureVal
       subst (Each (Traced start (before ∷ earlier))) (sym own.conds)
       (each_append (Traced start (before ∷ earlier)) before.conds own.added
       (each_to (Traced start earlier) (Traced start (before ∷ earlier)) before.conds (traced_later start before earlier) (all_traced start before earlier trail))
-      (each_to (λ a. InFragment (a ∷ []) ⊎ IsOwnAt stands terms asked m p before a) (Traced start (before ∷ earlier)) own.added (traced_new start before earlier) own.each))
+      (each_to (IsOwnAt stands terms asked m p before) (Traced start (before ∷ earlier)) own.added (traced_new start before earlier) own.each))
 
   abbrev Assumes : PurePath S → Type 0
   Assumes path = Each (λ a. IsAmong a path.conds) path.given
@@ -79,6 +79,39 @@ module _ {S : Type 0} (p : PureParts) (m : Actions) (stands : S → List PureVal
       (each_to (Allowed earlier) (Allowed (before ∷ earlier)) before.given (λ a later. inr later) (all_allowed start before earlier trail none))
       (each_to (MayAssume (IsOwnAt stands terms asked m p before) (running_store before.stack) c.command) (Allowed (before ∷ earlier)) new.added (λ a may. inl (c, (at, may))) (new.each c at)))
 
+  -- before a path that goes on only actions assumed something
+  abbrev InActions : List (PurePath S) → PureAtom → Type 0
+  InActions earlier a = OneOf (λ before. MayBeAssumedInAction p m stands terms asked before a) earlier
+
+  by_action : (before : PurePath S) (c : PureNumberedCommand) → command_of_path p before ≡ Some c → (added : List PureAtom) → Each (MayAssume (IsOwnAt stands terms asked m p before) (running_store before.stack) c.command) added
+      → (is_action c.command ≡ false → added ≡ []) → (b : Bool) → is_action c.command ≡ b → Each (λ a. MayBeAssumedInAction p m stands terms asked before a) added
+  by_action before c at added may kept true acts =
+      each_to (MayAssume (IsOwnAt stands terms asked m p before) (running_store before.stack) c.command) (λ a. MayBeAssumedInAction p m stands terms asked before a) added
+      (λ a allowed. ((c, (at, allowed)), (c, (at, acts)))) may
+  by_action before c at added may kept false other = subst (Each (λ a. MayBeAssumedInAction p m stands terms asked before a)) (sym (kept other)) tt
+
+  all_in_actions : (start path : PurePath S) (earlier : List (PurePath S)) → IsTrailOf start earlier path → start.given ≡ [] → path.ending ≡ None → Each (InActions earlier) path.given
+  all_in_actions start path [] trail none going = subst (λ (q : PurePath S). Each (InActions []) q.given) (sym trail) (subst (Each (InActions [])) (sym none) tt)
+  all_in_actions start path (before ∷ earlier) (next, trail) none going =
+      let (c, at) = next.at_command in
+      let new = next.assumes in
+      subst (Each (InActions (before ∷ earlier))) (sym new.given)
+      (each_append (InActions (before ∷ earlier)) before.given new.added
+      (each_to (InActions earlier) (InActions (before ∷ earlier)) before.given (λ a later. inr later) (all_in_actions start before earlier trail none next.going))
+      (each_to (λ a. MayBeAssumedInAction p m stands terms asked before a) (InActions (before ∷ earlier)) new.added (λ a here. inl here)
+      (by_action before c at new.added (new.each c at) (λ other. new.kept c at other (inl going)) (is_action c.command) refl)))
+
+  all_assumed_on : (start path : PurePath S) (earlier : List (PurePath S)) → IsTrailOf start earlier path → start.given ≡ [] → Each (IsAssumedOn p m stands terms asked earlier) path.given
+  all_assumed_on start path [] trail none = subst (λ (q : PurePath S). Each (IsAssumedOn p m stands terms asked []) q.given) (sym trail) (subst (Each (IsAssumedOn p m stands terms asked [])) (sym none) tt)
+  all_assumed_on start path (before ∷ earlier) (next, trail) none =
+      let (c, at) = next.at_command in
+      let new = next.assumes in
+      let On = IsAssumedOn p m stands terms asked (before ∷ earlier) in
+      subst (Each On) (sym new.given)
+      (each_append On before.given new.added
+      (each_to (InActions earlier) On before.given (λ a later. inr later) (all_in_actions start before earlier trail none next.going))
+      (each_to (MayAssume (IsOwnAt stands terms asked m p before) (running_store before.stack) c.command) On new.added (λ a may. inl (c, (at, may))) (new.each c at)))
+
   abbrev IsMet : PurePath S → Type 0
   IsMet path = (w : List PureValue) × Satisfies path.vars w path.conds
 
@@ -95,6 +128,7 @@ module _ {S : Type 0} (p : PureParts) (m : Actions) (stands : S → List PureVal
     traced = all_traced;
     assumed = all_assumed;
     allowed = all_allowed;
+    assumed_on = all_assumed_on;
     satisfiable = all_met;
   }
 

@@ -247,7 +247,7 @@ module _ {S : Type 0} (p : PureParts) (m : Actions) (stands : S → List PureVal
         let earlier_same = choices_left before path n s chosen more rest at recorded same in
         let (made, stood) = keeps_pace earlier before over is trail b.valuation s (with_choice chosen [] ++ more) (with_choice (choice_at p m s) [] ++ rest) b.extends (b.given given) at earlier_same next.going in
         let does = step_does p m inputs s t next.at_command.0 (command_there inputs s0 start before path b.valuation s next stood.stands_for) goes in
-        let is_choice : chosen ≡ choice_at p m s = same_first chosen (choice_at p m s) more rest (fits still ∙ sym does.chosen_is) (left_over before n _ _ made earlier_same) in
+        let is_choice : chosen ≡ choice_at p m s = same_first chosen (choice_at p m s) more rest (fits (inl still) ∙ sym does.chosen_is) (left_over before n _ _ made earlier_same) in
         let by_step : IsChosen before path (choice_at p m s) = subst (IsChosen before path) is_choice recorded in
         let ext_step = b.step n s stood in
         let goes_on_too : GoesOnAs path.ending (step p m inputs s) = subst (λ o. GoesOnAs o (step p m inputs s)) (sym still) (subst (GoesOnAs None) (sym goes) tt) in

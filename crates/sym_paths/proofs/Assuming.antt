@@ -1,16 +1,18 @@
 -- What is newly assumed may be assumed at the command.
-use Rattle.std.proofs.Common.{◌≡◌, List, [], ◌++◌, Some, sym, ap, subst, ◌∙◌, append_assoc}
+use Rattle.std.proofs.Common.{◌≡◌, ◌⊎◌, inl, inr, List, [], ◌∷◌, ◌++◌, true, false, Some, None, refl, sym, ap, subst, ◌∙◌, append_assoc, true≢false}
 use Rattle.std.proofs.lemmas.List.{append-nil}
+use Rattle.gil_values.specs.declared.places.Place.{Place}
 use Rattle.gil_syntax.specs.Pure.{PureParts, PureCommand, PureNumberedCommand, vanish, usym, isym, assign, call, act, ifgoto, return, fail, fold_use, unfold_use, assert_that, loop_invariant}
+use Rattle.pure_terms.specs.declared.deciders.Reason.{Reason}
 use Rattle.pure_terms.specs.Pure.{PureAtom}
 use Rattle.sym_evaluation.specs.Pure.{PureStore}
 use Rattle.sym_model.specs.Lists.{Each}
-use Rattle.sym_model.proofs.ListLaws.{same_some, each_append, each_to}
+use Rattle.sym_model.proofs.ListLaws.{same_some, not_none, each_append, each_to}
 use Rattle.sym_paths.specs.Frames.{running_store}
 use Rattle.sym_paths.specs.Meaning.{command_of_path}
 use Rattle.sym_paths.specs.Pure.{PurePath}
 use Rattle.sym_paths.specs.Settling.{Candidate, ended_unknown, AssumesRightly}
-use Rattle.sym_paths.specs.Steps.{MayAssume, Assumes}
+use Rattle.sym_paths.specs.Steps.{MayAssume, is_action, Assumes}
 
 -- where more is own, more may be assumed
 may_wider : (own more : PureAtom → Type 0) → ((a : PureAtom) → own a → more a) → (bs : PureStore) (k : PureCommand) (a : PureAtom) → MayAssume own bs k a → MayAssume more bs k a
@@ -34,25 +36,54 @@ assumes_wider p own more wider path next assumes = record {
   given = assumes.given;
   each = λ c at. each_to (MayAssume own (running_store path.stack) c.command) (MayAssume more (running_store path.stack) c.command) assumes.added
       (may_wider own more wider (running_store path.stack) c.command) (assumes.each c at);
+  kept = assumes.kept;
 }
 
 module _ {S : Type 0} (p : PureParts) (own : PureAtom → Type 0) (path : PurePath S) where
   pub assumes_nothing : (next : PurePath S) → next.given ≡ path.given → Assumes p own path next
-  assumes_nothing next same = record { added = []; given = same ∙ sym (append-nil path.given); each = λ c at. tt }
+  assumes_nothing next same = record { added = []; given = same ∙ sym (append-nil path.given); each = λ c at. tt; kept = λ c at other goes. refl }
 
   module _ (c : PureNumberedCommand) (at : command_of_path p path ≡ Some c) where
     abbrev May : PureAtom → Type 0
     May = MayAssume own (running_store path.stack) c.command
 
-    assumes_these : (next : PurePath S) (added : List PureAtom) → next.given ≡ path.given ++ added → Each May added → Assumes p own path next
-    assumes_these next added given all = record {
+    -- why nothing is assumed at a command that is no action, where the path goes on or has a choice more
+    abbrev Kept : PurePath S → List PureAtom → Type 0
+    Kept next added = is_action c.command ≡ false → (next.ending ≡ None) ⊎ ¬ (next.choices ≡ path.choices) → added ≡ []
+
+    assumes_these : (next : PurePath S) (added : List PureAtom) → next.given ≡ path.given ++ added → Each May added → Kept next added → Assumes p own path next
+    assumes_these next added given all kept = record {
       added = added;
       given = given;
       each = λ d there. subst (λ (k : PureNumberedCommand). Each (MayAssume own (running_store path.stack) k.command) added) (same_some (sym at ∙ there)) all;
+      kept = λ d there other. kept (ap (λ (k : PureNumberedCommand). is_action k.command) (same_some (sym at ∙ there)) ∙ other);
     }
 
-    pub assumes_rightly : (d : Candidate S) (added : List PureAtom) → d.path.given ≡ path.given ++ added → Each May added → Each May d.no_fault → AssumesRightly p own path d
-    assumes_rightly d added given all besides = (
-      assumes_these d.path added given all,
-      λ place reason. assumes_these (ended_unknown d place reason) (added ++ d.no_fault) (ap (λ xs. xs ++ d.no_fault) given ∙ append_assoc path.given added d.no_fault) (each_append May added d.no_fault all besides),
+    -- at an action; without a choice more, and where the path goes on without what is assumed; or with nothing assumed at all
+    abbrev pub AssumesLittle : Candidate S → List PureAtom → Type 0
+    AssumesLittle d added =
+        (is_action c.command ≡ true) ⊎ (((d.path.choices ≡ path.choices) × (d.path.ending ≡ None → added ≡ [])) ⊎ (added ++ d.no_fault ≡ []))
+
+    none_first : (added more : List PureAtom) → added ++ more ≡ [] → added ≡ []
+    none_first [] more none = refl
+    none_first (a ∷ added) more none = cc
+
+    kept_there : (d : Candidate S) (added : List PureAtom) → AssumesLittle d added → Kept d.path added
+    kept_there d added (inl acts) other goes = absurd (true≢false (sym acts ∙ other))
+    kept_there d added (inr (inl (same, going))) other (inl goes) = going goes
+    kept_there d added (inr (inl (same, going))) other (inr chosen) = absurd (chosen same)
+    kept_there d added (inr (inr none)) other goes = none_first added d.no_fault none
+
+    kept_unknown : (d : Candidate S) (added : List PureAtom) → AssumesLittle d added → (place : Place) (reason : Reason) → Kept (ended_unknown d place reason) (added ++ d.no_fault)
+    kept_unknown d added (inl acts) place reason other goes = absurd (true≢false (sym acts ∙ other))
+    kept_unknown d added (inr (inl (same, going))) place reason other (inl goes) = not_none (sym goes)
+    kept_unknown d added (inr (inl (same, going))) place reason other (inr chosen) = absurd (chosen same)
+    kept_unknown d added (inr (inr none)) place reason other goes = none
+
+    pub assumes_rightly : (d : Candidate S) (added : List PureAtom) → d.path.given ≡ path.given ++ added → Each May added → Each May d.no_fault → AssumesLittle d added → AssumesRightly p own path d
+    assumes_rightly d added given all besides little = (
+      assumes_these d.path added given all (kept_there d added little),
+      λ place reason.
+          assumes_these (ended_unknown d place reason) (added ++ d.no_fault) (ap (λ xs. xs ++ d.no_fault) given ∙ append_assoc path.given added d.no_fault) (each_append May added d.no_fault all besides)
+          (kept_unknown d added little place reason),
     )

@@ -1,5 +1,6 @@
 pub mod Assuming
 pub mod Binding
+pub mod Closed
 pub mod Drawing
 pub mod FirstFrame
 pub mod Forms

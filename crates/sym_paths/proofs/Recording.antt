@@ -1,12 +1,13 @@
 -- What a step records of its command, and how many variables are fresh.
-use Rattle.std.proofs.Common.{◌≡◌, ℕ, ◌+◌, List, [], ◌∷◌, ◌++◌, false, Option, Some, None, is_some, refl, sym, ap, subst, ◌∙◌, arith}
+use Rattle.std.proofs.Common.{◌≡◌, ⊎_elim, inl, inr, ℕ, ◌+◌, List, [], ◌∷◌, ◌++◌, false, Option, Some, None, is_some, refl, sym, ap, subst, ◌∙◌, arith, true≢false}
 use Rattle.gil_syntax.specs.Pure.{PureParts, PureNumberedCommand}
 use Rattle.mem_model.specs.Actions.{Actions}
 use Rattle.pure_terms.specs.declared.variables.Sort.{Sort}
+use Rattle.sym_model.specs.Meaning.{has_open}
 use Rattle.sym_model.proofs.ListLaws.{same_some, not_none}
 use Rattle.sym_paths.specs.Meaning.{command_of_path}
 use Rattle.sym_paths.specs.Pure.{PureEnd, PurePath}
-use Rattle.sym_paths.specs.Steps.{IsChosen, MayChoose, IsRecorded, counter_after, counter_past, fresh_count, symbols_taken, makes_choice}
+use Rattle.sym_paths.specs.Steps.{IsChosen, MayChoose, IsRecorded, counter_after, counter_past, fresh_count, symbols_taken, new_sorts, makes_choice}
 use Rattle.std.proofs.lemmas.List.{append-nil}
 
 past_append : (xs ys : List Sort) (n : ℕ) → counter_past (xs ++ ys) n ≡ counter_past ys (counter_past xs n)
@@ -29,11 +30,12 @@ fresh_append xs ys = past_append xs ys 0 ∙ past_is ys (fresh_count xs)
 
 module _ {S : Type 0} (p : PureParts) (m : Actions) (path next : PurePath S) where
   -- with these new variables and this choice
-  pub records_by : (c : PureNumberedCommand) → command_of_path p path ≡ Some c → (sorts : List Sort) (chosen : Option ℕ) → next.vars ≡ path.vars ++ sorts → fresh_count sorts ≡ symbols_taken m c.command
+  pub records_by : (c : PureNumberedCommand) → command_of_path p path ≡ Some c → (sorts : List Sort) (chosen : Option ℕ) → next.vars ≡ path.vars ++ sorts → sorts ≡ new_sorts m c.command → fresh_count sorts ≡ symbols_taken m c.command
       → IsChosen path next chosen → MayChoose c.command chosen → is_some chosen ≡ makes_choice c.command → IsRecorded p m path next
-  records_by c at sorts chosen vars symbols choices may made = record {
+  records_by c at sorts chosen vars new symbols choices may made = record {
     symbols = λ d there going.
         ap fresh_count vars ∙ fresh_append path.vars sorts ∙ ap (λ n. fresh_count path.vars + n) symbols ∙ ap (λ (k : PureNumberedCommand). fresh_count path.vars + symbols_taken m k.command) (same_some (sym at ∙ there));
+    variables = λ d there. inl (vars ∙ ap (λ ss. path.vars ++ ss) new ∙ ap (λ (k : PureNumberedCommand). path.vars ++ new_sorts m k.command) (same_some (sym at ∙ there)));
     choice = λ d there. (
       chosen,
       (
@@ -45,12 +47,13 @@ module _ {S : Type 0} (p : PureParts) (m : Actions) (path next : PurePath S) whe
   }
 
   -- with neither
-  pub same_records : (c : PureNumberedCommand) → command_of_path p path ≡ Some c → symbols_taken m c.command ≡ 0 → makes_choice c.command ≡ false → next.vars ≡ path.vars → next.choices ≡ path.choices → IsRecorded p m path next
-  same_records c at symbols made vars choices = records_by c at [] None (vars ∙ sym (append-nil path.vars)) (sym symbols) (choices ∙ sym (append-nil path.choices)) (λ n none. not_none none) (sym made)
+  pub same_records : (c : PureNumberedCommand) → command_of_path p path ≡ Some c → new_sorts m c.command ≡ [] → symbols_taken m c.command ≡ 0 → makes_choice c.command ≡ false → next.vars ≡ path.vars → next.choices ≡ path.choices → IsRecorded p m path next
+  same_records c at new symbols made vars choices = records_by c at [] None (vars ∙ sym (append-nil path.vars)) (sym new) (sym symbols) (choices ∙ sym (append-nil path.choices)) (λ n none. not_none none) (sym made)
 
-  -- a path that ends, without a choice more
-  pub ended_records : next.choices ≡ path.choices → (how : PureEnd) → next.ending ≡ Some how → IsRecorded p m path next
-  ended_records choices how is = record {
+  -- a path that ends, without a variable, a choice or the need of a literal form more
+  pub ended_records : next.vars ≡ path.vars → next.choices ≡ path.choices → (has_open path.conds ≡ false → has_open next.conds ≡ false) → (how : PureEnd) → next.ending ≡ Some how → IsRecorded p m path next
+  ended_records vars choices closed how is = record {
     symbols = λ c at going. not_none (sym going ∙ is);
-    choice = λ c at. (None, (choices ∙ sym (append-nil path.choices), (λ n none. not_none none), λ going. not_none (sym going ∙ is)));
+    variables = λ c at. inr (vars, λ going. not_none (sym going ∙ is));
+    choice = λ c at. (None, (choices ∙ sym (append-nil path.choices), (λ n none. not_none none), ⊎_elim (λ going. not_none (sym going ∙ is)) (λ needs. absurd (true≢false (sym needs.1 ∙ closed needs.0)))));
   }

@@ -1,5 +1,5 @@
 -- What becomes of candidates are the paths of the step.
-use Rattle.std.proofs.Common.{◌≡◌, ◌⊎◌, inl, inr, List, [], ◌∷◌, ◌++◌, false, IsTrue, sym, ap, subst, ◌∙◌, refl, append_assoc, true≢false}
+use Rattle.std.proofs.Common.{◌≡◌, ◌⊎◌, ⊎_elim, inl, inr, List, [], ◌∷◌, ◌++◌, false, None, IsTrue, sym, ap, subst, ◌∙◌, refl, append_assoc, true≢false}
 use Rattle.gil_values.specs.declared.places.Place.{Place}
 use Rattle.gil_values.specs.Pure.{PureValue}
 use Rattle.gil_syntax.specs.Pure.{PureParts}
@@ -86,7 +86,8 @@ module _ {S : Type 0} (p : PureParts) (m : Actions) (stands : S → List PureVal
   recorded_on c next recorded (inr left) =
       subst (IsRecorded p m path) (sym left.is) (record {
         symbols = λ d there going. not_none (sym going);
-        choice = λ d there. let (chosen, (choices, may, made)) = recorded.choice d there in (chosen, (choices, may, λ going. not_none (sym going)));
+        variables = λ d there. ⊎_elim inl (λ (same : (c.path.vars ≡ path.vars) × ¬ (c.path.ending ≡ None)). inr (same.0, λ going. not_none (sym going))) (recorded.variables d there);
+        choice = λ d there. let (chosen, (choices, may, made)) = recorded.choice d there in (chosen, (choices, may, ⊎_elim (λ going. not_none (sym going)) (λ needs. made (inr needs))));
       })
 
   abbrev Covered : List PureValue → List PureValue → State → Candidate S → Type 0
@@ -150,7 +151,7 @@ module _ {S : Type 0} (p : PureParts) (m : Actions) (stands : S → List PureVal
 
   rightly_on : (c : Candidate S) (next : PurePath S) → ¬ IsUnknown c.path.ending → Stays p path c next → IsRightlyUnknown p path next next.ending
   rightly_on c next known (inl kept) = rightly p path next next.ending (subst (λ (n : PurePath S). ¬ IsUnknown n.ending) (sym kept.is) known)
-  rightly_on c next known (inr left) = subst (λ (n : PurePath S). IsRightlyUnknown p path n n.ending) (sym left.is) (left.outside, left.first, left.at)
+  rightly_on c next known (inr left) = subst (λ (n : PurePath S). IsRightlyUnknown p path n n.ending) (sym left.is) (left.outside, left.first, left.at, left.asks)
 
   pub settled_are_next : (cs : List (Candidate S)) (nexts : List (PurePath S)) → AreCandidates p m stands terms own path cs → AreSettled p path cs nexts → AreNextPaths p m stands terms own path nexts
   settled_are_next cs nexts laws settled = record {

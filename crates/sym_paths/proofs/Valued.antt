@@ -17,7 +17,6 @@ use Rattle.gil_machine.specs.Step as machine_step
 use Rattle.mem_model.specs.Actions.{Actions}
 use Rattle.mem_model.specs.Heaps.{Heap}
 use Rattle.pure_terms.specs.declared.deciders.Reason.{Reason}
-use Rattle.pure_terms.specs.Fragment.{InFragment}
 use Rattle.pure_terms.specs.Meaning.{value, truth, all_true, IsProper, IsOver, Satisfies}
 use Rattle.pure_terms.specs.declared.literals.Literal.{Literal}
 use Rattle.pure_terms.specs.Pure.{PureTerm, literal, PureAtom, term_of}
@@ -27,7 +26,7 @@ use Rattle.sym_evaluation.specs.Questions.{IsAsked, IsFrom, OnConditions, OnResu
 use Rattle.sym_model.specs.Lists.{Each, OneOf, IsAmong}
 use Rattle.sym_model.specs.Meaning.{has_open}
 use Rattle.sym_model.specs.Terms.{StateTerms}
-use Rattle.sym_model.proofs.ListLaws.{each_append, each_at, each_map, each_to, each_by_place, one_map, one_left, one_right}
+use Rattle.sym_model.proofs.ListLaws.{not_none, each_append, each_at, each_map, each_to, each_by_place, one_map, one_left, one_right}
 use Rattle.sym_paths.specs.Valued.{place_at, faulted, assigned, failing, Assigns, Fails, IsResult, AreForCases, IsEvaluated, ValuedCandidates}
 use Rattle.sym_paths.specs.Laws.{IsBound}
 use Rattle.sym_paths.specs.Meaning.{AreFrames, Stands, StandsForStep, IsOverTable, command_of_path}
@@ -35,9 +34,10 @@ use Rattle.sym_paths.specs.Moves.{running_store}
 use Rattle.sym_paths.specs.Origins.{Follows}
 use Rattle.sym_paths.specs.Pure.{PureFrame, failed, PurePath}
 use Rattle.sym_paths.specs.Settling.{Candidate, ended_unknown, AssumesRightly, AreCandidates}
-use Rattle.sym_paths.specs.Steps.{Extends, IsUnknown, IsChosen, GoesOnAs, Grows, IsRecorded, symbols_taken, makes_choice, AddsOwn, MayAssume, IsExact, HoldsAlong}
+use Rattle.sym_paths.specs.Steps.{Extends, IsUnknown, IsChosen, GoesOnAs, Grows, IsRecorded, symbols_taken, new_sorts, makes_choice, AddsOwn, MayAssume, IsExact, HoldsAlong}
 use Rattle.sym_paths.proofs.Assuming.{assumes_rightly}
 use Rattle.sym_paths.proofs.Binding.{agree_bound, each_bound}
+use Rattle.sym_paths.proofs.Closed.{NeedsNone, asked_closed, closed_each, closed_both}
 use Rattle.sym_paths.proofs.Growing.{later_among}
 use Rattle.sym_paths.proofs.Moving.{nothing_more, none_next, advanced_frames, running_stands, running_each, advanced_each, open_is_known}
 use Rattle.sym_paths.proofs.Origins.{follows_going, follows_failing}
@@ -147,6 +147,9 @@ module _ {S : Type 0} (stands : S → List PureValue → Heap → Type 0) (terms
   may_each : (atoms : List PureAtom) → Each Own atoms → Each (MayAssume Own (running_store path.stack) c.command) atoms
   may_each atoms all = subst (λ j. Each (MayAssume Own (running_store path.stack) j) atoms) (sym command) (each_to Own (MayAssume Own (running_store path.stack) k) atoms may all)
 
+  all_closed : (atoms : List PureAtom) → Each Own atoms → has_open atoms ≡ false
+  all_closed atoms all = closed_each atoms (each_to Own NeedsNone atoms (asked_closed (running_store path.stack) e) all)
+
   abbrev OverTable : PureAtom → Type 0
   OverTable a = IsOver path.vars (term_of a)
 
@@ -222,13 +225,13 @@ module _ {S : Type 0} (stands : S → List PureValue → Heap → Type 0) (terms
     fault_own = record {
       added = fc.conds;
       conds = refl;
-      each = each_to (IsAsked (running_store path.stack) e) (λ a. InFragment (a ∷ []) ⊎ IsAsked (running_store path.stack) e a) fc.conds (λ a asked. inr asked)
-          (each_at (λ (d : PureFaultCase). Each (IsAsked (running_store path.stack) e) d.conds) cases.faults i fc evaluated.origin.0.0 which);
+      each = each_at (λ (d : PureFaultCase). Each (IsAsked (running_store path.stack) e) d.conds) cases.faults i fc evaluated.origin.0.0 which;
     }
 
   fault_assumes : (i : ℕ) (fc : PureFaultCase) → slice_get cases.faults i ≡ Some fc → AssumesRightly p Own path (faulted path here fc)
   fault_assumes i fc which =
       assumes_rightly p Own path c at (faulted path here fc) fc.conds refl (may_each fc.conds (each_at (λ (d : PureFaultCase). Each Own d.conds) cases.faults i fc evaluated.origin.0.0 which)) tt
+      (inr (inl (refl, λ going. not_none (sym going))))
 
   good_asked : (g : PureGoodCase PureTerm) → cases.good ≡ Some g → Each Own g.conds
   good_asked g is_good = subst (OnConditions Own) is_good evaluated.origin.0.1
@@ -244,7 +247,7 @@ module _ {S : Type 0} (stands : S → List PureValue → Heap → Type 0) (terms
   -- ---- the result
 
   module _ (x : List ℕ) (goes_to : (here : Place) (s : State) (a : PureValue) → go_on here s a ≡ machine_step.assigned x a s) (g : PureGoodCase PureTerm) (bs : PureStore) (is_good : cases.good ≡ Some g) (bound : IsBound (running_store path.stack) x g.result bs)
-      (quiet : (symbols_taken m k ≡ 0) × (makes_choice k ≡ false)) (kind : k ≡ assign x e) where
+      (quiet : (symbols_taken m k ≡ 0) × (makes_choice k ≡ false) × (new_sorts m k ≡ [])) (kind : k ≡ assign x e) where
     abbrev gp : PurePath S
     gp = (assigned path bs g).path
 
@@ -315,14 +318,13 @@ module _ {S : Type 0} (stands : S → List PureValue → Heap → Type 0) (terms
     good_own = record {
       added = g.conds;
       conds = refl;
-      each = each_to (IsAsked (running_store path.stack) e) (λ a. InFragment (a ∷ []) ⊎ IsAsked (running_store path.stack) e a) g.conds (λ a asked. inr asked)
-          (subst (OnConditions (IsAsked (running_store path.stack) e)) is_good evaluated.origin.0.1);
+      each = subst (OnConditions (IsAsked (running_store path.stack) e)) is_good evaluated.origin.0.1;
     }
 
     assigned_keeps : GoodLaws stands terms p m (IsAsked (running_store path.stack) e) path g (assigned path bs g)
     assigned_keeps = record {
       growth = (good_grows, later_among path.conds g.conds);
-      recorded = same_records p m path gp c at (ap (symbols_taken m) command ∙ quiet.0) (ap makes_choice command ∙ quiet.1) refl refl;
+      recorded = same_records p m path gp c at (ap (new_sorts m) command ∙ quiet.2) (ap (symbols_taken m) command ∙ quiet.0) (ap makes_choice command ∙ quiet.1) refl refl;
       known = open_is_known path.ending no_end;
       vars = refl;
       conds = refl;
@@ -330,7 +332,7 @@ module _ {S : Type 0} (stands : S → List PureValue → Heap → Type 0) (terms
       exact = good_exact;
       along = (good_along, good_along_unknown);
       own_conditions = good_own;
-      assumes = assumes_rightly p Own path c at (assigned path bs g) [] (same_and_none path.given path.given refl) tt (may_each g.conds (good_asked g is_good));
+      assumes = assumes_rightly p Own path c at (assigned path bs g) [] (same_and_none path.given path.given refl) tt (may_each g.conds (good_asked g is_good)) (inr (inl (refl, λ going. refl)));
       origin = follows_going p m terms path gp c at (assign x e) (command ∙ kind) no_end (refl, (g.result, (result_from g is_good, (bs, (bound, refl)))));
     }
 
@@ -401,7 +403,7 @@ module _ {S : Type 0} (stands : S → List PureValue → Heap → Type 0) (terms
         },
         tt,
       );
-      recorded = ended_records p m path tp refl (failed g.result here) refl;
+      recorded = ended_records p m path tp refl refl (closed_both path.conds g.conds (all_closed g.conds (good_asked g is_good))) (failed g.result here) refl;
       known = λ unknown. unknown;
       vars = refl;
       conds = refl;
@@ -411,10 +413,9 @@ module _ {S : Type 0} (stands : S → List PureValue → Heap → Type 0) (terms
       own_conditions = record {
         added = g.conds;
         conds = refl;
-        each = each_to (IsAsked (running_store path.stack) e) (λ a. InFragment (a ∷ []) ⊎ IsAsked (running_store path.stack) e a) g.conds (λ a asked. inr asked)
-            (subst (OnConditions (IsAsked (running_store path.stack) e)) is_good evaluated.origin.0.1);
+        each = subst (OnConditions (IsAsked (running_store path.stack) e)) is_good evaluated.origin.0.1;
       };
-      assumes = assumes_rightly p Own path c at (failing path here g) g.conds refl (may_each g.conds (good_asked g is_good)) tt;
+      assumes = assumes_rightly p Own path c at (failing path here g) g.conds refl (may_each g.conds (good_asked g is_good)) tt (inr (inl (refl, λ going. not_none (sym going))));
       origin = follows_failing p m terms path tp c at (fail e) (command ∙ kind) g.result here refl (inr (result_from g is_good));
     }
 
@@ -473,7 +474,7 @@ module _ {S : Type 0} (stands : S → List PureValue → Heap → Type 0) (terms
     are_candidates : (cs : List (Candidate S)) → AreForCases path here Makes cases cs → AreCandidates p m stands terms Own path cs
     are_candidates cs are = record {
       growth = each_candidate (λ d. Grows terms path d.path × Each (λ a. IsAmong a d.path.conds) d.no_fault) (λ i fc which. (fault_grows i fc which, tt)) (λ g d laws. laws.growth) cs are;
-      recorded = each_candidate (λ d. IsRecorded p m path d.path) (λ i fc which. ended_records p m path (fp i fc which) refl (failed (literal (Literal.Str (fault_text fc.fault))) here) refl) (λ g d laws. laws.recorded) cs are;
+      recorded = each_candidate (λ d. IsRecorded p m path d.path) (λ i fc which. ended_records p m path (fp i fc which) refl refl (closed_both path.conds fc.conds (all_closed fc.conds (each_at (λ (d : PureFaultCase). Each Own d.conds) cases.faults i fc evaluated.origin.0.0 which))) (failed (literal (Literal.Str (fault_text fc.fault))) here) refl) (λ g d laws. laws.recorded) cs are;
       known = each_candidate (λ d. ¬ IsUnknown d.path.ending) (λ i fc which unknown. unknown) (λ g d laws. laws.known) cs are;
       cover = λ inputs v s is has. subst (OneOf (Covered inputs v s is)) (sym are.1.0) (covers_by inputs v s is (evaluate e s.current.store) (says v s is) are.0 are.1.1);
       exact = each_candidate (λ d. has_open d.path.conds ≡ false → IsExact p m stands path d.path) (λ i fc which no_form. fault_exact i fc which) (λ g d laws no_form. laws.exact) cs are;
@@ -489,7 +490,7 @@ valued_candidates {S} stands terms = record {
   of_assignment = λ p m path c x e cases cs over no_end at command evaluated.
       are_candidates stands terms p m path c e cases over no_end at (assign x e) (λ here s a. machine_step.assigned x a s) command (λ inputs here s. refl) (λ s. refl) evaluated (λ a is. is) (Assigns path x)
       (λ g d is_good (made : Assigns path x g d). subst (GoodLaws stands terms p m (IsAsked (running_store path.stack) e) path g) (sym made.1.1)
-      (assigned_keeps stands terms p m path c e cases over no_end at (assign x e) (λ here s a. machine_step.assigned x a s) command (λ inputs here s. refl) (λ s. refl) evaluated (λ a is. is) x (λ here s a. refl) g made.0 is_good made.1.0 (refl, refl) refl)) cs;
+      (assigned_keeps stands terms p m path c e cases over no_end at (assign x e) (λ here s a. machine_step.assigned x a s) command (λ inputs here s. refl) (λ s. refl) evaluated (λ a is. is) x (λ here s a. refl) g made.0 is_good made.1.0 (refl, refl, refl) refl)) cs;
   of_failure = λ p m path c e cases cs over no_end at command evaluated.
       are_candidates stands terms p m path c e cases over no_end at (fail e) (λ here s a. fails_with a here s) command (λ inputs here s. refl) (λ s. refl) evaluated (λ a is. is) (Fails path (place_at path.stack c))
       (λ g d is_good (made : Fails path (place_at path.stack c) g d). subst (GoodLaws stands terms p m (IsAsked (running_store path.stack) e) path g) (sym made)

@@ -74,3 +74,13 @@ next_variable path sort = variable (record { number = length path.vars; sort = s
 abbrev pub fresh_where : Bool → List Sort → Option Var
 fresh_where true vars = Some (record { number = length vars; sort = Sort.Fresh })
 fresh_where false vars = None
+
+-- an action that takes a new symbol gets a fresh variable, which stays in the table whatever comes of the action
+abbrev pub taken : Bool → List Sort
+taken true = Sort.Fresh ∷ []
+taken false = []
+
+-- the new variable of a draw
+abbrev pub drawn_by : Option Sort → List Sort
+drawn_by None = []
+drawn_by (Some sort) = sort ∷ []

@@ -17,7 +17,7 @@ use Rattle.sym_paths.specs.Frames.{running_store, advanced, AreMoved, IsBound, I
 use Rattle.sym_paths.specs.Meaning.{command_of_path}
 use Rattle.sym_paths.specs.Pure.{PureFrame, failed, PurePath}
 
--- the term is the text of a fault
+-- the term is a text
 abbrev pub IsText : PureTerm → Type 0
 IsText t = (why : List ℕ) × (t ≡ literal (Literal.Str why))
 
@@ -93,8 +93,8 @@ module _ {S : Type 0} (p : PureParts) (m : Actions) (terms : S → StateTerms) (
   GoesOnFrom (loop_invariant xs ps items) = KeepsMemory × AreMoved path.stack next.stack
   GoesOnFrom _ = ⊥
 
--- Origin: where the next path goes on, each name and the memory have what the command gives them; where it fails, the failing term is the
--- text of a fault, or from the command.
+-- Origin: where the next path goes on, each name and the memory have what the command gives them; where it fails, the failing term is a
+-- text, or from the command.
 pub record Follows {S : Type 0} (p : PureParts) (m : Actions) (terms : S → StateTerms) (path next : PurePath S) : Type 0 where
   pub going : (c : PureNumberedCommand) → command_of_path p path ≡ Some c → next.ending ≡ None → GoesOnFrom p m terms path next c.command
   pub failing : (c : PureNumberedCommand) (t : PureTerm) (place : Place) → command_of_path p path ≡ Some c

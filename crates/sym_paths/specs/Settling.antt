@@ -18,7 +18,7 @@ use Rattle.sym_model.specs.Terms.{StateTerms}
 use Rattle.sym_paths.specs.Meaning.{StandsForStep, Stands}
 use Rattle.sym_paths.specs.Origins.{Follows}
 use Rattle.sym_paths.specs.Pure.{unknown, PurePath}
-use Rattle.sym_paths.specs.Steps.{Extends, HasInput, IsUnknown, IsFirstOutside, IsPlaceOf, Grows, IsRecorded, AddsOwn, Assumes, IsExact, HoldsAlong, AreNextPaths}
+use Rattle.sym_paths.specs.Steps.{Extends, HasInput, IsUnknown, IsFirstOutside, IsPlaceOf, AsksMore, Grows, IsRecorded, AddsOwn, Assumes, IsExact, HoldsAlong, AreNextPaths}
 
 -- a path that may come next, and what is assumed besides where it ends as unknown: that there is no fault at its command
 pub record Candidate (S : Type 0) : Type 0 where
@@ -36,7 +36,7 @@ pub record IsKept {S : Type 0} (path : PurePath S) (c : Candidate S) (next : Pur
   pub no_form : has_open c.path.conds ≡ false
   pub met : (v : List PureValue) → Satisfies path.vars v path.conds → (w : List PureValue) × Satisfies c.path.vars w c.path.conds
 
--- it ends as unknown: its list is outside the fragment
+-- it ends as unknown: its list is outside the fragment, and something is asked
 pub record IsLeftUnknown {S : Type 0} (p : PureParts) (path : PurePath S) (c : Candidate S) (next : PurePath S) : Type 0 where
   pub place : Place
   pub reason : Reason
@@ -44,6 +44,7 @@ pub record IsLeftUnknown {S : Type 0} (p : PureParts) (path : PurePath S) (c : C
   pub outside : ¬ InFragment c.path.conds
   pub first : IsFirstOutside c.path.conds reason
   pub at : IsPlaceOf p path.stack place
+  pub asks : AsksMore path c.path
 
 abbrev pub Stays : {S : Type 0} → PureParts → PurePath S → Candidate S → PurePath S → Type 0
 Stays p path c next = IsKept path c next ⊎ IsLeftUnknown p path c next

@@ -3,7 +3,7 @@ use Rattle.std.specs.Prelude.{◌≡◌, ◌⊎◌, ℕ, suc, ◌+◌, ◌<◌, 
 use Rattle.std.specs.Option.{is_some}
 use Rattle.gil_values.specs.declared.places.Place.{Place}
 use Rattle.gil_values.specs.Pure.{PureValue, symbol}
-use Rattle.gil_syntax.specs.Pure.{PureParts, PureCommand, call, act, usym, ifgoto, PureNumberedCommand}
+use Rattle.gil_syntax.specs.Pure.{PureParts, PureCommand, call, act, usym, isym, ifgoto, PureNumberedCommand}
 use Rattle.gil_machine.specs.Choices.{choice_at, with_choice}
 use Rattle.gil_machine.specs.State.{State, Ending, no_input, bad_input, Step, goes_on, ends}
 use Rattle.gil_machine.specs.Step.{step}
@@ -22,7 +22,7 @@ use Rattle.sym_model.specs.Lists.{Each, OneOf, IsAmong}
 use Rattle.sym_model.specs.Meaning.{has_open}
 use Rattle.sym_model.specs.Terms.{StateTerms}
 use Rattle.sym_paths.specs.Meaning.{StandsForStep, Stands, OfEachName, IsOverTable, end_terms, command_of_frames, command_of_path}
-use Rattle.sym_paths.specs.Frames.{running_store}
+use Rattle.sym_paths.specs.Frames.{running_store, draw_sort, taken, drawn_by}
 use Rattle.sym_paths.specs.Origins.{Follows}
 use Rattle.sym_paths.specs.Pure.{PureFrame, PureEnd, unknown, PurePath}
 
@@ -119,6 +119,13 @@ symbols_taken m (usym x) = 1
 symbols_taken m (act x a es) = if m.takes_symbol a then 1 else 0
 symbols_taken m _ = 0
 
+-- the sorts of the variables that a command adds: one for a symbol that it takes, and one for a draw
+abbrev pub new_sorts : Actions → PureCommand → List Sort
+new_sorts m (usym x) = Sort.Fresh ∷ []
+new_sorts m (isym x k) = drawn_by (draw_sort k)
+new_sorts m (act x a es) = taken (m.takes_symbol a)
+new_sorts m _ = []
+
 -- choices are made at guards and at actions
 abbrev pub makes_choice : PureCommand → Bool
 makes_choice (ifgoto e i) = true
@@ -150,10 +157,14 @@ IsPlaceOf p [] place = ⊥
 IsPlaceOf p (f ∷ fs) place =
     (c : PureNumberedCommand) × ((command_of_frames p (f ∷ fs) ≡ Some c) × (place ≡ record { proc = f.procedure; at = c.at }))
 
--- an unknown path's list isn't in the fragment, and its end names the command and the first atom outside
+-- The next path has a condition more than the old one, where the old one needs no literal form.
+abbrev pub AsksMore : {S : Type 0} → PurePath S → PurePath S → Type 0
+AsksMore path next = has_open path.conds ≡ false → length path.conds < length next.conds
+
+-- an unknown path's list isn't in the fragment, its end names the command and the first atom outside, and its last step asked something
 abbrev pub IsRightlyUnknown : {S : Type 0} → PureParts → PurePath S → PurePath S → Option PureEnd → Type 0
 IsRightlyUnknown p path next (Some (unknown place reason)) =
-    (¬ InFragment next.conds) × IsFirstOutside next.conds reason × IsPlaceOf p path.stack place
+    (¬ InFragment next.conds) × IsFirstOutside next.conds reason × IsPlaceOf p path.stack place × AsksMore path next
 IsRightlyUnknown p path next _ = ⊤
 
 -- by how much the numbers of a path may grow in one step
@@ -166,8 +177,8 @@ narrow_bound = 2 ^ 80
 
 -- ---- the laws
 
--- Growth: everything is extended at its end, by what one step adds; the draws that are listed are the new variables that are no
--- fresh ones; what is newly assumed is among the conditions.
+-- Growth: everything is extended at its end; the draws that are listed are the new variables that are no fresh ones; what is newly
+-- assumed is among the conditions.
 pub record Grows {S : Type 0} (terms : S → StateTerms) (path next : PurePath S) : Type 0 where
   pub new_vars : List Sort
   pub vars : next.vars ≡ path.vars ++ new_vars
@@ -183,20 +194,23 @@ pub record Grows {S : Type 0} (terms : S → StateTerms) (path next : PurePath S
   pub steps : next.steps ≡ path.steps + 1
   pub over : IsOverTable terms next
 
--- Record: a path that goes on has a fresh variable more for each symbol that the command takes, and a choice more exactly where the
--- command makes one. A path that ends has at most one choice more, and that is one of the command's.
+-- Record: a path that goes on has the command's new variables. A path that ends has these or none. A path that goes on, or is the first to
+-- need a literal form, has a choice more exactly where the command makes one; any other one has at most one choice more, which is one of
+-- the command's.
 pub record IsRecorded {S : Type 0} (p : PureParts) (m : Actions) (path next : PurePath S) : Type 0 where
   pub symbols : (c : PureNumberedCommand) → command_of_path p path ≡ Some c → next.ending ≡ None
       → fresh_count next.vars ≡ fresh_count path.vars + symbols_taken m c.command
+  pub variables : (c : PureNumberedCommand) → command_of_path p path ≡ Some c
+      → (next.vars ≡ path.vars ++ new_sorts m c.command) ⊎ ((next.vars ≡ path.vars) × ¬ (next.ending ≡ None))
   pub choice : (c : PureNumberedCommand) → command_of_path p path ≡ Some c
       → (chosen : Option ℕ) × (IsChosen path next chosen × MayChoose c.command chosen
-      × (next.ending ≡ None → is_some chosen ≡ makes_choice c.command))
+      × ((next.ending ≡ None) ⊎ ((has_open path.conds ≡ false) × IsTrue (has_open next.conds)) → is_some chosen ≡ makes_choice c.command))
 
--- Own: each new condition is by itself in the fragment, or one that is the command's own.
+-- Own: each new condition is one that is the command's own.
 pub record AddsOwn {S : Type 0} (own : PureAtom → Type 0) (path next : PurePath S) : Type 0 where
   pub added : List PureAtom
   pub conds : next.conds ≡ path.conds ++ added
-  pub each : Each (λ a. InFragment (a ∷ []) ⊎ own a) added
+  pub each : Each own added
 
 -- What may be assumed at a command, where `own` are the conditions that are its own: at a guard what its expression asks, or that it is a
 -- boolean, but never which way it goes; at a call what its expressions ask, but not that its callee has a literal form.
@@ -205,12 +219,20 @@ MayAssume own bs (ifgoto e i) a = IsAsked bs e a ⊎ ((t : PureTerm) × (IsFrom 
 MayAssume own bs (call x e es) a = IsAsked bs e a ⊎ OneOf (λ d. IsAsked bs d a) es
 MayAssume own bs _ a = own a
 
--- Assumed: what is newly assumed is what may be assumed at the command.
+-- actions
+abbrev pub is_action : PureCommand → Bool
+is_action (act x a es) = true
+is_action _ = false
+
+-- Assumed: what is newly assumed is what may be assumed at the command. At a command that is no action nothing is, where the path goes
+-- on or has a choice more.
 pub record Assumes {S : Type 0} (p : PureParts) (own : PureAtom → Type 0) (path next : PurePath S) : Type 0 where
   pub added : List PureAtom
   pub given : next.given ≡ path.given ++ added
   pub each : (c : PureNumberedCommand) → command_of_path p path ≡ Some c
       → Each (MayAssume own (running_store path.stack) c.command) added
+  pub kept : (c : PureNumberedCommand) → command_of_path p path ≡ Some c → is_action c.command ≡ false
+      → (next.ending ≡ None) ⊎ ¬ (next.choices ≡ path.choices) → added ≡ []
 
 module _ {S : Type 0} (p : PureParts) (m : Actions) (stands : S → List PureValue → Heap → Type 0) where
   -- Cover: what a state comes to that the path stands for, but for want of input, some answered path stands for, or is unknown with
@@ -251,7 +273,7 @@ module _ {S : Type 0} (p : PureParts) (m : Actions) (stands : S → List PureVal
 abbrev pub NeedsNoForm : {S : Type 0} → PurePath S → PurePath S → Type 0
 NeedsNoForm path next = has_open path.conds ≡ false → ¬ IsUnknown next.ending → has_open next.conds ≡ false
 
--- Satisfiable: where some valuation met the old conditions, some meets the new ones.
+-- Satisfiable: where some valuation met the old conditions, some meets those of a next path that isn't unknown.
 abbrev pub StaysSatisfiable : {S : Type 0} → PurePath S → PurePath S → Type 0
 StaysSatisfiable path next =
     (v : List PureValue) → Satisfies path.vars v path.conds → ¬ IsUnknown next.ending

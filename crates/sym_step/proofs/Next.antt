@@ -7,7 +7,6 @@ use Rattle.gil_syntax.specs.Simple.{is_simple_command}
 use Rattle.gil_syntax.specs.Valid.{IsValid}
 use Rattle.mem_model.specs.Actions.{Actions}
 use Rattle.mem_model.specs.Heaps.{Heap}
-use Rattle.pure_terms.specs.Fragment.{InFragment}
 use Rattle.pure_terms.specs.Meaning.{AreOver}
 use Rattle.pure_terms.specs.Pure.{PureTerm, PureAtom}
 use Rattle.sym_engine.specs.Forms.{NeedWhatMattersIn}
@@ -42,7 +41,7 @@ module _ {S : Type 0} (p : PureParts) (m : Actions) (stands : S → List PureVal
   own_more own more wider path next adds = record {
     added = adds.added;
     conds = adds.conds;
-    each = each_to (λ a. InFragment (a ∷ []) ⊎ own a) (λ a. InFragment (a ∷ []) ⊎ more a) adds.added (λ a either. elim either [ inl inside ↦ inl inside | inr is ↦ inr (wider a is) ]) adds.each;
+    each = each_to own more adds.added wider adds.each;
   }
 
   next_of_more : (own more : PureAtom → Type 0) → ((a : PureAtom) → own a → more a) → (path : PurePath S) (nexts : List (PurePath S)) → AreNextPaths p m stands terms own path nexts → AreNextPaths p m stands terms more path nexts

@@ -41,9 +41,10 @@ use Rattle.sym_paths.specs.Origins.{Follows}
 use Rattle.sym_paths.specs.Pure.{PureFrame, PureEnd, PurePath}
 use Rattle.sym_paths.specs.Pure as path_end
 use Rattle.sym_paths.specs.Settling.{Candidate, AreCandidates}
-use Rattle.sym_paths.specs.Steps.{AreNext, drawn_from, IsNewSort, fresh_count, symbols_taken, makes_choice, IsUnknown, IsChosen, MayChoose, MayAssume}
+use Rattle.sym_paths.specs.Steps.{AreNext, drawn_from, IsNewSort, fresh_count, symbols_taken, new_sorts, is_action, makes_choice, IsUnknown, IsChosen, MayChoose, MayAssume}
 use Rattle.sym_paths.proofs.Assuming.{assumes_rightly}
 use Rattle.sym_paths.proofs.Binding.{agree_bound, each_bound}
+use Rattle.sym_paths.proofs.Closed.{NeedsNone, one_asked_closed}
 use Rattle.sym_paths.proofs.Growing.{path_stands, path_over, later_among}
 use Rattle.sym_paths.proofs.Moving.{none_next, advanced_frames, running_stands, running_each, advanced_each}
 use Rattle.sym_paths.proofs.Origins.{follows_ended, follows_going, follows_failing}
@@ -140,11 +141,19 @@ module _ {S : Type 0} (memory : MemoryName) (stands : S → List PureValue → H
   own_conditions : EachCondition Own cases
   own_conditions = (each_to (λ d. Each Asked d.conds) (λ d. Each Own d.conds) cases.faults (λ d. each_to Asked Own d.conds (λ a one. inl one)) evaluated.origin.0.0, own_good cases.good evaluated.origin.0.1)
 
+  good_closed : (o : Option (PureGoodCase (List PureTerm))) → OnConditions Asked o → OnConditions NeedsNone o
+  good_closed None is = tt
+  good_closed (Some g) is = each_to Asked NeedsNone g.conds (one_asked_closed (running_store path.stack) es) is
+
+  all_closed : EachCondition NeedsNone cases
+  all_closed = (each_to (λ d. Each Asked d.conds) (λ d. Each NeedsNone d.conds) cases.faults (λ d. each_to Asked NeedsNone d.conds (one_asked_closed (running_store path.stack) es)) evaluated.origin.0.0, good_closed cases.good evaluated.origin.0.1)
+
   evaluation : IsEvaluation (running_store path.stack) HaveValues AreEachOver (evaluate_all es) Own c.command cases
   evaluation = record {
     says = evaluated.are_cases;
     origin = own_conditions;
     assumed = subst (λ k. EachCondition (MayAssume Own (running_store path.stack) k) cases) (sym command) own_conditions;
+    closed = all_closed;
     names = evaluated.names;
   }
 
@@ -290,12 +299,12 @@ module _ {S : Type 0} (memory : MemoryName) (stands : S → List PureValue → H
             },
             tt,
           );
-          recorded = records_by p m path d.path c at (taken takes) (Some k) refl (as_many_taken takes ∙ sym (ap (symbols_taken m) command)) refl may_choose (sym (ap makes_choice command));
+          recorded = records_by p m path d.path c at (taken takes) (Some k) refl (sym (ap (new_sorts m) command)) (as_many_taken takes ∙ sym (ap (symbols_taken m) command)) refl may_choose (sym (ap makes_choice command));
           known = known;
           vars = refl;
           conds = refl;
           own_more = own_branch;
-          assumes = assumes_rightly p Own path c at d b.conds refl (subst (λ j. Each (MayAssume Own (running_store path.stack) j) b.conds) (sym command) own_branch) tt;
+          assumes = assumes_rightly p Own path c at d b.conds refl (subst (λ j. Each (MayAssume Own (running_store path.stack) j) b.conds) (sym command) own_branch) tt (inl (ap is_action command));
           origin = λ no_form. origin;
           exact = acts;
           along = λ inputs v ws s is in_turn given which goes.

@@ -33,8 +33,9 @@ use Rattle.sym_paths.specs.Meaning.{AreFrames, Stands, StandsForStep, OfEachName
 use Rattle.sym_paths.specs.Moves.{running_store}
 use Rattle.sym_paths.specs.Pure.{PureFrame, PurePath}
 use Rattle.sym_paths.specs.Settling.{Candidate, AreCandidates}
-use Rattle.sym_paths.specs.Steps.{symbols_taken, makes_choice, GoesOnAs, MayAssume}
+use Rattle.sym_paths.specs.Steps.{symbols_taken, new_sorts, makes_choice, GoesOnAs, MayAssume}
 use Rattle.sym_paths.proofs.Assuming.{assumes_rightly}
+use Rattle.sym_paths.proofs.Closed.{NeedsNone, asked_closed, one_asked_closed}
 use Rattle.sym_paths.proofs.Growing.{later_among}
 use Rattle.sym_paths.proofs.Moving.{open_is_known}
 use Rattle.sym_paths.proofs.Origins.{follows_going}
@@ -154,6 +155,7 @@ module _ {S : Type 0} (stands : S → List PureValue → Heap → Type 0) (terms
     says = λ vars v s serves. both_say v (evaluate e s) (evaluate_all es s) callee args (evaluated.are_cases vars v s serves) (all_evaluated.are_cases vars v s serves);
     origin = asked_so Own (λ a is. inl is) (λ a is. inr (inl is));
     assumed = subst (λ k. EachCondition (MayAssume Own bs k) cases) (sym command) (asked_so (MayAssume Own bs (call x e es)) (λ a is. inl is) (λ a is. inr is));
+    closed = asked_so NeedsNone (asked_closed bs e) (one_asked_closed bs es);
     names = λ vars store. (
       each_called (λ a. IsOver vars (term_of a)) callee args (evaluated.names vars store).0 (all_evaluated.names vars store).0,
       called_from (IsOver vars) (AreEachOver vars) callee args (evaluated.names vars store).1 (all_evaluated.names vars store).1,
@@ -206,7 +208,7 @@ module _ {S : Type 0} (stands : S → List PureValue → Heap → Type 0) (terms
 
     fails_makes : (why : List ℕ) → ((v : List PureValue) (s : State) (a : PureValue × List PureValue) → Stands stands path v s → AreCalled v g.result a → enter_value p a.0 x a.1 (there s) s ≡ fails_with (text why) (there s) s) → Makes g [] (fails_to_call path x here why g)
     fails_makes why fails =
-        failing_makes stands terms p m path c over at AreCalled AreCalledOver outcome go_on no_choice Own cases evaluation does choice g [] why is_good tt tt tt (λ v s a is val met. (fails v s a is val, refl))
+        failing_makes stands terms p m path c over at AreCalled AreCalledOver outcome go_on no_choice Own cases evaluation does choice g [] why is_good tt tt tt refl (λ v s a is val met. (fails v s a is val, refl))
 
     -- ---- a call that begins
 
@@ -263,12 +265,12 @@ module _ {S : Type 0} (stands : S → List PureValue → Heap → Type 0) (terms
           },
           later_among path.conds g.conds,
         );
-        recorded = same_records p m path ep c at (ap (symbols_taken m) command) (ap makes_choice command) refl refl;
+        recorded = same_records p m path ep c at (ap (new_sorts m) command) (ap (symbols_taken m) command) (ap makes_choice command) refl refl;
         known = open_is_known path.ending no_end;
         vars = refl;
         conds = ap (λ xs. path.conds ++ xs) (sym (append-nil g.conds));
         own_more = tt;
-        assumes = assumes_rightly p Own path c at (entering path x here q bs' g) [] (same_and_none path.given path.given refl) tt asked_good;
+        assumes = assumes_rightly p Own path c at (entering path x here q bs' g) [] (same_and_none path.given path.given refl) tt asked_good (inr (inl (refl, λ going. refl)));
         origin = λ no_form. follows_going p m terms path ep c at (call x e es) command no_end (
           refl,
           record {
@@ -325,12 +327,12 @@ module _ {S : Type 0} (stands : S → List PureValue → Heap → Type 0) (terms
           },
           each_left (λ a. IsAmong a (path.conds ++ (g.conds ++ asked))) g.conds asked (later_among path.conds (g.conds ++ asked)),
         );
-        recorded = same_records p m path (needs_callee path x here g).path c at (ap (symbols_taken m) command) (ap makes_choice command) refl refl;
+        recorded = same_records p m path (needs_callee path x here g).path c at (ap (new_sorts m) command) (ap (symbols_taken m) command) (ap makes_choice command) refl refl;
         known = open_is_known path.ending no_end;
         vars = refl;
         conds = refl;
         own_more = (inr (inr (g.result.callee, (from, no_literal, may_be, refl))), tt);
-        assumes = assumes_rightly p Own path c at (needs_callee path x here g) [] (same_and_none path.given path.given refl) tt asked_good;
+        assumes = assumes_rightly p Own path c at (needs_callee path x here g) [] (same_and_none path.given path.given refl) tt asked_good (inr (inl (refl, λ going. refl)));
         origin = λ closed. absurd (true≢false closed);
         exact = λ inputs v s a is ok val met closed. absurd (true≢false closed);
         along = λ inputs v ws s is given which goes.

@@ -133,8 +133,8 @@ module _ {S : Type 0} (stands : S → List PureValue → Heap → Type 0) (terms
 
     assumes_copied : (c : Candidate S) (state : S) → IsCopy stands terms depends plain c.path.memory state → AssumesRightly p own path c → AssumesRightly p own path (copied c state)
     assumes_copied c state copy (assumes, unknown) = (
-      record { added = assumes.added; given = assumes.given; each = assumes.each },
-      λ place reason. let besides = unknown place reason in record { added = besides.added; given = besides.given; each = besides.each },
+      record { added = assumes.added; given = assumes.given; each = assumes.each; kept = assumes.kept },
+      λ place reason. let besides = unknown place reason in record { added = besides.added; given = besides.given; each = besides.each; kept = besides.kept },
     )
 
     -- the terms of a memory are those of its copy
@@ -198,7 +198,7 @@ module _ {S : Type 0} (stands : S → List PureValue → Heap → Type 0) (terms
     pub copies_keep_the_laws : (cs ds : List (Candidate S)) → AreCandidates p m stands terms own path cs → AreCopied stands terms depends plain cs ds → AreCandidates p m stands terms own path ds
     copies_keep_the_laws cs ds laws copies = record {
       growth = each_copied Grown Grown grows_copied cs ds laws.growth copies;
-      recorded = each_copied (λ c. IsRecorded p m path c.path) (λ c. IsRecorded p m path c.path) (λ c state copy recorded. record { symbols = recorded.symbols; choice = recorded.choice }) cs ds laws.recorded copies;
+      recorded = each_copied (λ c. IsRecorded p m path c.path) (λ c. IsRecorded p m path c.path) (λ c state copy recorded. record { symbols = recorded.symbols; variables = recorded.variables; choice = recorded.choice }) cs ds laws.recorded copies;
       known = each_copied (λ c. ¬ IsUnknown c.path.ending) (λ c. ¬ IsUnknown c.path.ending) (λ c state copy known. known) cs ds laws.known copies;
       cover = λ inputs v s is has. one_copied (Covered inputs v s) (Covered inputs v s) (covers_copied inputs v s) cs ds (laws.cover inputs v s is has) copies;
       exact = each_copied Exact Exact exact_copied cs ds laws.exact copies;

@@ -18,7 +18,6 @@ use Rattle.mem_model.specs.Actions.{Actions}
 use Rattle.mem_model.specs.Heaps.{Heap}
 use Rattle.pure_terms.specs.declared.deciders.Reason.{Reason}
 use Rattle.pure_terms.specs.declared.variables.Sort.{Sort}
-use Rattle.pure_terms.specs.Fragment.{InFragment}
 use Rattle.pure_terms.specs.Meaning.{truth, all_true, IsProper, IsOver, Satisfies}
 use Rattle.pure_terms.specs.declared.literals.Literal.{Literal}
 use Rattle.pure_terms.specs.Pure.{literal, PureAtom, term_of}
@@ -37,6 +36,7 @@ use Rattle.sym_paths.specs.Pure.{PureFrame, failed, PurePath}
 use Rattle.sym_paths.specs.Settling.{Candidate, ended_unknown, AssumesRightly, AreCandidates}
 use Rattle.sym_paths.specs.Steps.{AreNext, Extends, IsUnknown, IsChosen, GoesOnAs, Grows, IsRecorded, AddsOwn, MayAssume, IsExact, HoldsAlong}
 use Rattle.sym_paths.proofs.Assuming.{assumes_rightly}
+use Rattle.sym_paths.proofs.Closed.{NeedsNone, closed_each, closed_both}
 use Rattle.sym_paths.proofs.Growing.{all_true-more, later_among}
 use Rattle.sym_paths.proofs.Moving.{nothing_more, none_next, running_stands, running_each}
 use Rattle.sym_paths.proofs.Origins.{follows_failing}
@@ -81,11 +81,13 @@ abbrev pub of_outcome : {A B : Type 0} → (A → Option B) → Result A Fault �
 of_outcome f (Ok a) = f a
 of_outcome f (Err fault) = None
 
--- the cases are those of what is evaluated, ask what is own and may be assumed at the command, and name only variables of the store
+-- the cases are those of what is evaluated, ask what is own and may be assumed at the command, and no literal form, and name only variables
+-- of the store
 pub record IsEvaluation {X A : Type 0} (bs : PureStore) (Is : List PureValue → X → A → Type 0) (Over : List Sort → X → Type 0) (outcome : Store → Result A Fault) (own : PureAtom → Type 0) (command : PureCommand) (cases : PureCases X) : Type 0 where
   pub says : (vars : List Sort) (v : List PureValue) (s : Store) → Serves vars v bs s → SayOutcome v (Is v) (outcome s) cases
   pub origin : EachCondition own cases
   pub assumed : EachCondition (MayAssume own bs command) cases
+  pub closed : EachCondition NeedsNone cases
   pub names : NameNoOthers Over bs cases
 
 -- what is said of one fault case
@@ -175,6 +177,9 @@ module _ {S : Type 0} (stands : S → List PureValue → Heap → Type 0) (terms
     abbrev pub May : PureAtom → Type 0
     May = MayAssume own (running_store path.stack) c.command
 
+    pub good_closed : (g : PureGoodCase X) → cases.good ≡ Some g → has_open g.conds ≡ false
+    good_closed g is_good = closed_each g.conds (subst (OnConditions NeedsNone) is_good evaluated.closed.1)
+
     pub good_may : (g : PureGoodCase X) → cases.good ≡ Some g → Each May g.conds
     good_may g is_good = subst (OnConditions May) is_good evaluated.assumed.1
 
@@ -254,8 +259,7 @@ module _ {S : Type 0} (stands : S → List PureValue → Heap → Type 0) (terms
       good_own = record {
         added = g.conds ++ more;
         conds = makes.conds;
-        each = each_to own (λ a. InFragment (a ∷ []) ⊎ own a) (g.conds ++ more) (λ a asked. inr asked)
-            (each_append own g.conds more (subst (OnConditions own) is_good evaluated.origin.1) makes.own_more);
+        each = each_append own g.conds more (subst (OnConditions own) is_good evaluated.origin.1) makes.own_more;
       }
 
       by_form : (inputs v ws : List PureValue) (s : State) → Stands stands path v s → AreNext inputs s.counter s.draws sorts ws → IsProper (path.vars ++ sorts) (v ++ ws) → IsTrue (all_true (v ++ ws) d.path.conds) → (b : Bool) → has_open more ≡ b
@@ -350,12 +354,15 @@ module _ {S : Type 0} (stands : S → List PureValue → Heap → Type 0) (terms
       fault_own = record {
         added = fc.conds;
         conds = refl;
-        each = each_to own (λ a. InFragment (a ∷ []) ⊎ own a) fc.conds (λ a asked. inr asked)
-            (each_at (λ (d : PureFaultCase). Each own d.conds) cases.faults i fc evaluated.origin.0 which);
+        each = each_at (λ (d : PureFaultCase). Each own d.conds) cases.faults i fc evaluated.origin.0 which;
       }
+
+      fault_closed : has_open path.conds ≡ false → has_open fp.conds ≡ false
+      fault_closed = closed_both path.conds fc.conds (closed_each fc.conds (each_at (λ (d : PureFaultCase). Each NeedsNone d.conds) cases.faults i fc evaluated.closed.0 which))
 
       fault_assumes : AssumesRightly p own path (faulted path here fc)
       fault_assumes = assumes_rightly p own path c at (faulted path here fc) fc.conds refl (each_at (λ (d : PureFaultCase). Each May d.conds) cases.faults i fc evaluated.assumed.0 which) tt
+          (inr (inl (refl, λ going. not_none (sym going))))
 
       fault_follows : Follows p m terms path fp
       fault_follows =
@@ -407,7 +414,7 @@ module _ {S : Type 0} (stands : S → List PureValue → Heap → Type 0) (terms
       pub are_candidates : (cs : List (Candidate S)) → AreOfCases path here Make cases cs → AreCandidates p m stands terms own path cs
       are_candidates cs are = record {
         growth = each_candidate (λ d. Grows terms path d.path × Each (λ a. IsAmong a d.path.conds) d.no_fault) (λ i fc which. (fault_grows i fc which, tt)) (λ g more d is makes. makes.growth) cs are;
-        recorded = each_candidate (λ d. IsRecorded p m path d.path) (λ i fc which. ended_records p m path (fp i fc which) refl (failed (literal (Literal.Str (fault_text fc.fault))) here) refl) (λ g more d is makes. makes.recorded) cs are;
+        recorded = each_candidate (λ d. IsRecorded p m path d.path) (λ i fc which. ended_records p m path (fp i fc which) refl refl (fault_closed i fc which) (failed (literal (Literal.Str (fault_text fc.fault))) here) refl) (λ g more d is makes. makes.recorded) cs are;
         known = each_candidate (λ d. ¬ IsUnknown d.path.ending) (λ i fc which unknown. unknown) (λ g more d is makes. makes.known) cs are;
         cover = λ inputs v s is has. subst (OneOf (Covered inputs v s)) (sym are.1.0) (covers_by inputs v s is (outcome s.current.store) refl (says v s is) are.0 are.1.1);
         exact = each_candidate (λ d. has_open d.path.conds ≡ false → IsExact p m stands path d.path) (λ i fc which no_form. fault_exact i fc which) (λ g more d is makes. good_exact sorts g more d is makes) cs are;
@@ -493,7 +500,7 @@ module _ {S : Type 0} (stands : S → List PureValue → Heap → Type 0) (terms
 
     -- ---- failing with a text
 
-    module _ (g : PureGoodCase X) (more : List PureAtom) (why : List ℕ) (is_good : cases.good ≡ Some g) (own_more : Each own more) (may_more : Each (MayAssume own (running_store path.stack) c.command) more) (more_over : Each (λ a. IsOver path.vars (term_of a)) more)
+    module _ (g : PureGoodCase X) (more : List PureAtom) (why : List ℕ) (is_good : cases.good ≡ Some g) (own_more : Each own more) (may_more : Each (MayAssume own (running_store path.stack) c.command) more) (more_over : Each (λ a. IsOver path.vars (term_of a)) more) (no_form : has_open more ≡ false)
         (fails : (v : List PureValue) (s : State) (a : A) → Stands stands path v s → Is v g.result a → IsTrue (all_true v more) → (go_on (at_command s) s a ≡ fails_with (text why) (at_command s) s) × (chooses s a ≡ None)) where
       abbrev wp : PurePath S
       wp = (failing_with path here why g more).path
@@ -542,12 +549,12 @@ module _ {S : Type 0} (stands : S → List PureValue → Heap → Type 0) (terms
           },
           tt,
         );
-        recorded = ended_records p m path wp refl (failed (literal (Literal.Str why)) here) refl;
+        recorded = ended_records p m path wp refl refl (closed_both path.conds (g.conds ++ more) (closed_both g.conds more no_form (good_closed g is_good))) (failed (literal (Literal.Str why)) here) refl;
         known = λ unknown. unknown;
         vars = refl;
         conds = refl;
         own_more = own_more;
-        assumes = assumes_rightly p own path c at (failing_with path here why g more) (g.conds ++ more) refl (each_append May g.conds more (good_may g is_good) may_more) tt;
+        assumes = assumes_rightly p own path c at (failing_with path here why g more) (g.conds ++ more) refl (each_append May g.conds more (good_may g is_good) may_more) tt (inr (inl (refl, λ going. not_none (sym going))));
         origin = λ no_form. follows_failing p m terms path wp c at c.command refl (literal (Literal.Str why)) here refl (inl (why, refl));
         exact = λ inputs v s a is ok val met closed. fails_there inputs v s a is val met;
         along = λ inputs v ws s is given which goes. second_true (v ++ ws) path.given (g.conds ++ more) given;

@@ -1,5 +1,5 @@
 -- The candidates of `return` keep the laws.
-use Rattle.std.proofs.Common.{◌≡◌, ◌⊎◌, inl, ℕ, List, [], ◌∷◌, ◌++◌, Option, Some, None, IsTrue, refl, sym, ap, subst, ◌∙◌}
+use Rattle.std.proofs.Common.{◌≡◌, ◌⊎◌, inl, inr, ℕ, List, [], ◌∷◌, ◌++◌, false, Option, Some, None, IsTrue, refl, sym, ap, subst, ◌∙◌}
 use Rattle.std.proofs.lemmas.List.{append-nil}
 use Rattle.gil_values.specs.declared.places.Place.{Place}
 use Rattle.gil_values.specs.Pure.{PureValue}
@@ -16,15 +16,17 @@ use Rattle.sym_evaluation.specs.Meaning.{HasValue}
 use Rattle.sym_evaluation.specs.Pure.{PureGoodCase, PureCases}
 use Rattle.sym_evaluation.specs.Questions.{IsAsked, IsFrom, OnConditions, OnResult, EachCondition}
 use Rattle.sym_model.specs.Lists.{Each, OneOf}
+use Rattle.sym_model.specs.Meaning.{has_open}
 use Rattle.sym_model.specs.Terms.{StateTerms}
-use Rattle.sym_model.proofs.ListLaws.{each_append}
+use Rattle.sym_model.proofs.ListLaws.{not_none, each_append, each_to}
 use Rattle.sym_paths.specs.Valued.{place_at, IsEvaluated}
 use Rattle.sym_paths.specs.Meaning.{IsFrame, AreFrames, Stands, StandsForStep, OfEachName, IsOverTable, command_of_path}
 use Rattle.sym_paths.specs.Moves.{running_store}
 use Rattle.sym_paths.specs.Pure.{PureFrame, returned, PurePath}
 use Rattle.sym_paths.specs.Settling.{Candidate, AreCandidates}
-use Rattle.sym_paths.specs.Steps.{symbols_taken, makes_choice, GoesOnAs, MayAssume}
+use Rattle.sym_paths.specs.Steps.{symbols_taken, new_sorts, makes_choice, GoesOnAs, MayAssume}
 use Rattle.sym_paths.proofs.Assuming.{assumes_rightly}
+use Rattle.sym_paths.proofs.Closed.{NeedsNone, asked_closed, closed_each, closed_both}
 use Rattle.sym_paths.proofs.Growing.{later_among}
 use Rattle.sym_paths.proofs.Binding.{agree_bound, each_bound}
 use Rattle.sym_paths.proofs.Moving.{open_is_known}
@@ -79,11 +81,19 @@ module _ {S : Type 0} (stands : S → List PureValue → Heap → Type 0) (terms
   abbrev no_choice : State → PureValue → Option ℕ
   no_choice s a = None
 
+  good_closed : (o : Option (PureGoodCase PureTerm)) → OnConditions Own o → OnConditions NeedsNone o
+  good_closed None asked = tt
+  good_closed (Some g) asked = each_to Own NeedsNone g.conds (asked_closed (running_store path.stack) e) asked
+
+  each_closed : EachCondition Own cases → EachCondition NeedsNone cases
+  each_closed each = (each_to (λ d. Each Own d.conds) (λ d. Each NeedsNone d.conds) cases.faults (λ d. each_to Own NeedsNone d.conds (asked_closed (running_store path.stack) e)) each.0, good_closed cases.good each.1)
+
   evaluation : IsEvaluation (running_store path.stack) HasValue IsOver (evaluate e) Own c.command cases
   evaluation = record {
     says = evaluated.are_cases;
     origin = evaluated.origin.0;
     assumed = subst (λ k. EachCondition (MayAssume Own (running_store path.stack) k) cases) (sym command) evaluated.origin.0;
+    closed = each_closed evaluated.origin.0;
     names = evaluated.names;
   }
 
@@ -105,6 +115,9 @@ module _ {S : Type 0} (stands : S → List PureValue → Heap → Type 0) (terms
 
     result_over : IsOver path.vars g.result
     result_over = subst (OnResult (IsOver path.vars)) is_good (evaluated.names path.vars (store_over stands terms p m path c over at)).1
+
+    closed_good : has_open g.conds ≡ false
+    closed_good = closed_each g.conds (subst (OnConditions NeedsNone) is_good (each_closed evaluated.origin.0).1)
 
     asked : Each (MayAssume Own (running_store path.stack) c.command) g.conds
     asked = good_may stands terms p m path c over at HasValue IsOver (evaluate e) go_on no_choice Own cases evaluation does choice g is_good
@@ -150,12 +163,12 @@ module _ {S : Type 0} (stands : S → List PureValue → Heap → Type 0) (terms
           },
           tt,
         );
-        recorded = ended_records p m path (returning path g).path refl (returned g.result) refl;
+        recorded = ended_records p m path (returning path g).path refl refl (closed_both path.conds g.conds closed_good) (returned g.result) refl;
         known = λ unknown. unknown;
         vars = refl;
         conds = ap (λ xs. path.conds ++ xs) (sym (append-nil g.conds));
         own_more = tt;
-        assumes = assumes_rightly p Own path c at (returning path g) g.conds refl asked tt;
+        assumes = assumes_rightly p Own path c at (returning path g) g.conds refl asked tt (inr (inl (refl, λ going. not_none (sym going))));
         origin = λ no_form. follows_ended p m terms path (returning path g).path (returned g.result) refl refl;
         exact = λ inputs v s a is ok val met closed. (same_and_none path.choices path.choices refl, returns_there inputs v s a is val met);
         along = λ inputs v ws s is given which goes. subst (λ xs. IsTrue (all_true (v ++ ws) xs)) (sym (append-nil g.conds)) (second_true (v ++ ws) path.given g.conds given);
@@ -211,12 +224,12 @@ module _ {S : Type 0} (stands : S → List PureValue → Heap → Type 0) (terms
           },
           later_among path.conds g.conds,
         );
-        recorded = same_records p m path rp c at (ap (symbols_taken m) command) (ap makes_choice command) refl refl;
+        recorded = same_records p m path rp c at (ap (new_sorts m) command) (ap (symbols_taken m) command) (ap makes_choice command) refl refl;
         known = open_is_known path.ending no_end;
         vars = refl;
         conds = ap (λ xs. path.conds ++ xs) (sym (append-nil g.conds));
         own_more = tt;
-        assumes = assumes_rightly p Own path c at (resuming path (next ∷ callers) g) [] (same_and_none path.given path.given refl) tt asked;
+        assumes = assumes_rightly p Own path c at (resuming path (next ∷ callers) g) [] (same_and_none path.given path.given refl) tt asked (inr (inl (refl, λ going. refl)));
         origin = λ no_form. follows_going p m terms path rp c at (return e) command no_end (
           refl,
           record {

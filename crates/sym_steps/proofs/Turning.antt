@@ -24,8 +24,9 @@ use Rattle.sym_paths.specs.Meaning.{AreFrames, Stands, StandsForStep, OfEachName
 use Rattle.sym_paths.specs.Moves.{running_store, advanced}
 use Rattle.sym_paths.specs.Pure.{PureFrame, PurePath}
 use Rattle.sym_paths.specs.Settling.{Candidate, AreCandidates}
-use Rattle.sym_paths.specs.Steps.{symbols_taken, makes_choice, IsChosen, MayChoose, MayAssume}
+use Rattle.sym_paths.specs.Steps.{symbols_taken, new_sorts, makes_choice, IsChosen, MayChoose, MayAssume}
 use Rattle.sym_paths.proofs.Assuming.{assumes_rightly}
+use Rattle.sym_paths.proofs.Closed.{NeedsNone, asked_closed, boolean_closed, closed_each}
 use Rattle.sym_paths.proofs.Growing.{all_true-more}
 use Rattle.sym_paths.proofs.Moving.{open_is_known, advanced_frames, running_stands, running_each, advanced_each}
 use Rattle.sym_paths.proofs.Origins.{stays_moved, advanced_moved, follows_going}
@@ -175,6 +176,7 @@ module _ {S : Type 0} (stands : S → List PureValue → Heap → Type 0) (terms
     says = evaluated.are_cases;
     origin = asked_so Own (λ a is. inl is);
     assumed = subst (λ k. EachCondition (MayAssume Own (running_store path.stack) k) cases) (sym command) (asked_so (MayAssume Own (running_store path.stack) (ifgoto e label)) (λ a is. inl is));
+    closed = asked_so NeedsNone (asked_closed (running_store path.stack) e);
     names = evaluated.names;
   }
 
@@ -257,12 +259,12 @@ module _ {S : Type 0} (stands : S → List PureValue → Heap → Type 0) (terms
           },
           tt,
         );
-        recorded = records_by p m path tp c at [] (Some side) (same_and_none path.vars path.vars refl) (sym (ap (symbols_taken m) command)) refl may_choose (sym (ap makes_choice command));
+        recorded = records_by p m path tp c at [] (Some side) (same_and_none path.vars path.vars refl) (sym (ap (new_sorts m) command)) (sym (ap (symbols_taken m) command)) refl may_choose (sym (ap makes_choice command));
         known = open_is_known path.ending no_end;
         vars = refl;
         conds = refl;
         own_more = more_own more from_guard;
-        assumes = assumes_rightly p Own path c at (turning path fs side g more) [] (same_and_none path.given path.given refl) tt tt;
+        assumes = assumes_rightly p Own path c at (turning path fs side g more) [] (same_and_none path.given path.given refl) tt tt (inr (inr refl));
         origin = λ no_form. follows_going p m terms path tp c at (ifgoto e label) command no_end (refl, moved);
         exact = λ inputs v s a is ok val true_there closed.
             let (which, there) = takes v s a is val true_there in (
@@ -339,6 +341,7 @@ module _ {S : Type 0} (stands : S → List PureValue → Heap → Type 0) (terms
         let asks : Each (AsksBoolean g.result) more = side_each (AsksBoolean g.result) sides.when_no_boolean more is_side come.2 in
         failing_makes stands terms p m path c over at HasValue IsOver (evaluate e) go_on chooses Own cases evaluation does choice g more (codes "type") is_good
         (more_own more (as_conditions more asks)) (may_more more asks) (more_over more (as_conditions more asks))
+        (closed_each more (each_to (AsksBoolean g.result) NeedsNone more (boolean_closed g.result) asks))
         (λ v s a is val met. no_branch a label (at_command stands terms p m path c over at s) s (side_taken v (is_no_boolean a) sides.when_no_boolean more is_side (says v s a is val).2 met))
 
     -- ---- all of them

@@ -14,7 +14,7 @@ use Rattle.sym_model.specs.Laws.{ActLaw}
 use Rattle.sym_model.specs.Lists.{OneOf}
 use Rattle.sym_model.specs.Pure.{PureResult, done, failed, missed, PureBranch}
 use Rattle.sym_model.specs.Terms.{StateTerms, asked_of, IsOwnCondition}
-pub use Rattle.sym_paths.specs.Frames.{fresh_where}
+pub use Rattle.sym_paths.specs.Frames.{fresh_where, taken}
 use Rattle.sym_paths.specs.Laws.{IsBound}
 use Rattle.sym_paths.specs.Meaning.{IsOverTable, command_of_path}
 use Rattle.sym_paths.specs.Moves.{running_store, advanced}
@@ -23,11 +23,6 @@ use Rattle.sym_paths.specs.Pure as path_end
 use Rattle.sym_paths.specs.Settling.{Candidate, AreCandidates}
 use Rattle.sym_paths.specs.Valued.{place_at}
 use Rattle.sym_steps.specs.Cases.{AreOfCases, AreEvaluated}
-
--- an action that takes a new symbol gets a fresh variable, which stays in the table whatever comes of the action
-abbrev pub taken : Bool → List Sort
-taken true = Sort.Fresh ∷ []
-taken false = []
 
 module _ {S : Type 0} (path : PurePath S) (x : List ℕ) (here : Place) (takes : Bool) where
   -- what every branch does: its conditions are assumed, its choice is recorded, and the memory is the branch's
