@@ -9,7 +9,6 @@ use Rattle.gil_machine.specs.State.{State, End, IsOver, cut, failed}
 use Rattle.gil_machine.specs.Step.{command_at, step}
 use Rattle.mem_model.specs.Actions.{Actions}
 use Rattle.mem_model.specs.Heaps.{Heap}
-use Rattle.pure_terms.specs.Fragment.{InFragment}
 use Rattle.pure_terms.specs.Meaning.{value, all_true, Satisfies}
 use Rattle.pure_terms.specs.Pure.{PureTerm, PureAtom}
 use Rattle.sym_engine.specs.Lawful.{IsOwnAt}
@@ -149,10 +148,10 @@ module _ {S : Type 0} (p : PureParts) (m : Actions) (stands : S → List PureVal
       forms = forms;
     }
 
-    -- the start has no condition, so each one is in the fragment or own to a command
-    traced_there : (a : PureAtom) → IsTraced p m stands terms asked start (before ∷ rest) a → InFragment (a ∷ []) ⊎ OneOf (λ part. IsOwnAt stands terms asked m p part a) (before ∷ rest)
+    -- the start has no condition, so each one is own to a command
+    traced_there : (a : PureAtom) → IsTraced p m stands terms asked start (before ∷ rest) a → OneOf (λ part. IsOwnAt stands terms asked m p part a) (before ∷ rest)
     traced_there a (inl first) = absurd (subst (IsAmong a) begins.first.conds first)
-    traced_there a (inr either) = either
+    traced_there a (inr own) = own
 
     module _ (depends : S → List ℕ → List PureTerm → List PureValue → Heap → PureTerm → Type 0) (forms : EachStep (NeedsWhatMatters p stands depends) (before ∷ rest) path) (place : Place) (there : EndsAt place how) (more : List PureAtom) (i : ℕ) (inputs : List PureValue) (come : ComesAlong p m f inputs (length rest) place path.choices)
         (more_holds : (us v : List PureValue) → HaveValuation path.vars us v → IsTrue (all_true v path.conds) → IsTrue (all_true v more))
@@ -175,9 +174,9 @@ module _ {S : Type 0} (p : PureParts) (m : Actions) (stands : S → List PureVal
             leads_along p m stands terms asked plain laws f start begins before rest path next trail how ending us v has (first_true v path.conds more whole) (inr (closed_first path.conds more closed));
         way = way_of depends forms place there (path.conds ++ more) i;
         asks = asks;
-        conds_traced = each_to (IsTraced p m stands terms asked start (before ∷ rest)) (λ a. InFragment (a ∷ []) ⊎ OneOf (λ part. IsOwnAt stands terms asked m p part a) (before ∷ rest)) path.conds traced_there
+        conds_traced = each_to (IsTraced p m stands terms asked start (before ∷ rest)) (λ a. OneOf (λ part. IsOwnAt stands terms asked m p part a) (before ∷ rest)) path.conds traced_there
             (laws.keep.traced start path (before ∷ rest) (next, trail));
-        given_allowed = laws.keep.allowed start path (before ∷ rest) (next, trail) begins.first.given;
+        given_allowed = laws.keep.assumed_on start path (before ∷ rest) (next, trail) begins.first.given;
         outside = outside;
       }
 

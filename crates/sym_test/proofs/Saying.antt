@@ -266,11 +266,12 @@ module _ {S : Type 0} (p : PureParts) (m : Actions) (stands : S → List PureVal
       let from = from_of path (unknown place reason) ended ending refl in
       let last = last_step path (unknown place reason) from.earlier from.trail ending in
       let rightly : IsRightlyUnknown p last.before path (Some (unknown place reason)) = subst (IsRightlyUnknown p last.before path) ending last.next.unknown_rightly in
-      let (us, (come, either)) = come_unknown p m stands terms asked plain laws f start begins n entry last.before last.rest path last.next last.trail (unknown place reason) ending from.within place rightly.2 in
+      let (not_inside, first, here, more) = rightly in
+      let (us, (come, either)) = come_unknown p m stands terms asked plain laws f start begins n entry last.before last.rest path last.next last.trail (unknown place reason) ending from.within place here in
       is_about path place q path.conds (place_of reason) is query outside
       (own_list path (unknown place reason) from ending last place refl (place_of reason) us come
       (others_of path from last us either (λ keeps simple. refutes_unknown path from keeps simple (subst IsUnknown (sym ending) tt)))
-      (rightly.0, (reason, (rightly.1, refl))))
+      (not_inside, (reason, (first, refl))))
 
   -- how a run comes to the last command of a failing path
   module _ (path : PurePath S) (how : PureEnd) (from : From path) (ending : path.ending ≡ Some how) (known : IsUnknown (Some how) → ⊥) (last : LastStep path from.earlier) (place : Place)

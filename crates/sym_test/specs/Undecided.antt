@@ -20,7 +20,8 @@ use Rattle.pure_terms.specs.Pure.{PureTerm, PureAtom, opening}
 use Rattle.pure_terms.specs.Wide.{has_wide_part}
 use Rattle.sym_engine.specs.Lawful.{IsOwnAt}
 use Rattle.sym_explore.specs.Plain.{EachStep}
-use Rattle.sym_explore.specs.Trails.{IsNextPath, IsTrail, MayBeAssumedAt}
+use Rattle.sym_explore.specs.Laws.{IsAssumedOn}
+use Rattle.sym_explore.specs.Trails.{IsNextPath, IsTrail}
 use Rattle.sym_model.specs.Lists.{Each, OneOf}
 use Rattle.sym_model.specs.Meaning.{has_open}
 use Rattle.sym_model.specs.Terms.{StateTerms}
@@ -107,13 +108,13 @@ module _ {S : Type 0} (p : PureParts) (m : Actions) (stands : S → List PureVal
     pub forms : EachStep (NeedsWhatMatters p stands depends) (last ∷ earlier) next
 
   module _ (q : PureQuery) (k : ℕ) (way : IsWay q k) where
-    -- Traced: the atom is in the fragment by itself, or own to a command of the way.
+    -- Traced: the atom is own to a command of the way.
     abbrev pub IsTraced : PureAtom → Type 0
-    IsTraced a = InFragment (a ∷ []) ⊎ OneOf (λ path. IsOwnAt stands terms asked m p path a) (way.last ∷ way.earlier)
+    IsTraced a = OneOf (λ path. IsOwnAt stands terms asked m p path a) (way.last ∷ way.earlier)
 
-    -- a command of the way may assume the atom
+    -- the last command of the way may assume the atom, or an action before it
     abbrev pub IsAssumed : PureAtom → Type 0
-    IsAssumed a = OneOf (λ path. MayBeAssumedAt p m stands terms asked path a) (way.last ∷ way.earlier)
+    IsAssumed a = IsAssumedOn p m stands terms asked (way.last ∷ way.earlier) a
 
     -- The atom is that a failing value has its literal form. The next path fails at the place with a term that is from the expression of
     -- `fail`, or an action's answer; runs along the path fail there with its value; it isn't simple with narrow literals, and has a part
@@ -159,8 +160,8 @@ IsOutsideAt atoms i = (¬ InFragment atoms) × ((reason : Reason) × (IsFirstOut
 --     asked no others do;
 --   way: so each term comes from the commands on the way, and not from another one with the same values, and no action needs a literal
 --     form on which what it comes to doesn't depend, wherever the conditions are met;
---   asks and conds_traced: so no atom outside the fragment is asked that no command asks;
---   given_allowed: so nothing is assumed but what the commands ask of their operands and the memory of its chunks;
+--   asks and conds_traced: so no atom is asked that no command asks;
+--   given_allowed: so nothing is assumed but what the last command asks of its operands and the memory of its chunks;
 --   outside: so no list is handed out that every decider decides.
 pub record IsUndecided {S : Type 0} (p : PureParts) (m : Actions) (stands : S → List PureValue → Heap → Type 0) (terms : S → StateTerms)
     (asked : List ℕ → List PureTerm → List PureTerm) (depends : S → List ℕ → List PureTerm → List PureValue → Heap → PureTerm → Type 0)
