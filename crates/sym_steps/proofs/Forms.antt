@@ -1,23 +1,18 @@
 -- The candidates of an action need only literal forms that matter to it.
-use Rattle.std.proofs.Common.{◌≡◌, ◌⊎◌, inl, inr, ℕ, List, [], ◌∷◌, ◌++◌, map, Bool, slice_get, Option, Some, None, IsTrue, refl, sym, ap, subst, ◌∙◌}
-use Rattle.gil_values.specs.declared.kinds.Kind.{Kind}
-use Rattle.gil_values.specs.declared.operators.UnOp.{UnOp}
-use Rattle.gil_values.specs.declared.operators.BinOp.{BinOp}
+use Rattle.std.proofs.Common.{◌≡◌, ℕ, List, [], ◌∷◌, ◌++◌, map, Bool, slice_get, Option, Some, None, IsTrue, true≢false, refl, sym, ap, subst, ◌∙◌}
 use Rattle.gil_values.specs.declared.places.Place.{Place}
 use Rattle.gil_values.specs.Pure.{PureValue}
 use Rattle.gil_syntax.specs.Evaluation.{evaluate_all}
-use Rattle.gil_syntax.specs.Pure.{PureParts, PureExpr, literal, name, logical, list_of, unary_of, binary_of, PureNumberedCommand, act}
-use Rattle.gil_syntax.specs.Subexpressions.{subexpressions}
+use Rattle.gil_syntax.specs.Pure.{PureParts, PureExpr, PureNumberedCommand, act}
 use Rattle.mem_model.specs.declared.keys.MemoryName.{MemoryName}
 use Rattle.mem_model.specs.Actions.{Actions}
 use Rattle.mem_model.specs.Heaps.{Heap}
 use Rattle.pure_terms.specs.declared.variables.Sort.{Sort}
 use Rattle.pure_terms.specs.Meaning.{all_true, IsProper, IsOver}
-use Rattle.pure_terms.specs.Pure.{PureTerm, PureAtom, negative, opening, term_of}
-use Rattle.sym_evaluation.specs.Checks.{is_of_kind}
+use Rattle.pure_terms.specs.Pure.{PureTerm, PureAtom, opening, term_of}
 use Rattle.sym_evaluation.specs.Meaning.{HaveValues}
-use Rattle.sym_evaluation.specs.Pure.{PureStore, PureFaultCase, PureGoodCase, PureCases}
-use Rattle.sym_evaluation.specs.Questions.{AsksKind, AsksLength, AsksKinds, AsksAppended, AsksZero, AsksPlace, AsksOne, AsksTwo, IsAskedOf, IsAsked, OnResult, OnConditions, AreEachFrom}
+use Rattle.sym_evaluation.specs.Pure.{PureFaultCase, PureGoodCase, PureCases}
+use Rattle.sym_evaluation.specs.Questions.{IsAsked, OnResult, OnConditions, AreEachFrom}
 use Rattle.sym_model.specs.Forms.{OpensOnly, OpenWhatMatters}
 use Rattle.sym_model.specs.Laws.{IsMeaning, Serves}
 use Rattle.sym_model.specs.Lists.{Each, OneOf}
@@ -30,6 +25,7 @@ use Rattle.sym_paths.specs.Moves.{running_store}
 use Rattle.sym_paths.specs.Pure.{PurePath}
 use Rattle.sym_paths.specs.Settling.{Candidate}
 use Rattle.sym_paths.specs.Valued.{faulted}
+use Rattle.sym_paths.proofs.Closed.{one_asked_closed}
 use Rattle.sym_paths.proofs.Forms.{needs_at}
 use Rattle.sym_paths.proofs.Growing.{all_true-more}
 use Rattle.sym_paths.proofs.Silent.{extended_by}
@@ -37,75 +33,6 @@ use Rattle.sym_steps.specs.Acting.{taken, fresh_where, ActsTo, ActsAsEach, ActsB
 use Rattle.sym_steps.specs.Cases.{AreResults, AreOfCases, AreEvaluated}
 use Rattle.sym_steps.proofs.Acting.{serves as serves_action}
 use Rattle.sym_steps.proofs.Following.{first_true, second_true, good_leads, serves, store_over}
-
--- ---- what is asked of operands is never a literal form
-
-module _ (bs : PureStore) (t : PureTerm) where
-  kind_closed : (k : Kind) (u : PureTerm) → AsksKind k u (opening t) → ⊥
-  kind_closed k u (known, none) = none
-
-  length_closed : (u : PureTerm) → AsksLength u (opening t) → ⊥
-  length_closed u (k, (known, is)) = is_opening is where
-    is_opening : opening t ≡ negative (is_of_kind u k) → ⊥
-    is_opening is = cc
-
-  unary_closed : (op : UnOp) (u : PureTerm) → AsksOne op u (opening t) → ⊥
-  unary_closed UnOp.Not u asks = kind_closed Kind.Bool u asks
-  unary_closed UnOp.Neg u asks = kind_closed Kind.Int u asks
-  unary_closed UnOp.Len u asks = length_closed u asks
-  unary_closed UnOp.Kind u asks = asks
-
-  module _ (u w : PureTerm) where
-    kinds_closed : (j k : Kind) → AsksKinds j k u w (opening t) → ⊥
-    kinds_closed j k (inl asks) = kind_closed j u asks
-    kinds_closed j k (inr (may, asks)) = kind_closed k w asks
-
-    zero_closed : AsksKinds Kind.Int Kind.Int u w (opening t) ⊎ AsksZero u w (opening t) → ⊥
-    zero_closed (inl asks) = kinds_closed Kind.Int Kind.Int asks
-    zero_closed (inr (kinds, other, none)) = none
-
-    place_closed : AsksKinds Kind.List Kind.Int u w (opening t) ⊎ AsksPlace u w (opening t) → ⊥
-    place_closed (inl asks) = kinds_closed Kind.List Kind.Int asks
-    place_closed (inr (kinds, inl (other, none))) = none
-    place_closed (inr (kinds, inr (place, other, none))) = none
-
-    append_closed : AsksAppended u w (opening t) → ⊥
-    append_closed (inl (known_u, known_w, inl none)) = none
-    append_closed (inl (known_u, known_w, inr asks)) = length_closed u asks
-    append_closed (inr (k, (long, inl (known, asks)))) = kind_closed k w asks
-    append_closed (inr (k, (long, inr (known, asks)))) = kind_closed k u asks
-
-    two_closed : (op : BinOp) → AsksTwo op u w (opening t) → ⊥
-    two_closed BinOp.Append asks = append_closed asks
-    two_closed BinOp.Divide asks = zero_closed asks
-    two_closed BinOp.Remainder asks = zero_closed asks
-    two_closed BinOp.Nth asks = place_closed asks
-    two_closed BinOp.Add asks = kinds_closed Kind.Int Kind.Int asks
-    two_closed BinOp.Subtract asks = kinds_closed Kind.Int Kind.Int asks
-    two_closed BinOp.Multiply asks = kinds_closed Kind.Int Kind.Int asks
-    two_closed BinOp.Equal asks = asks
-    two_closed BinOp.Less asks = kinds_closed Kind.Int Kind.Int asks
-    two_closed BinOp.LessOrEqual asks = kinds_closed Kind.Int Kind.Int asks
-    two_closed BinOp.And asks = kinds_closed Kind.Bool Kind.Bool asks
-    two_closed BinOp.Or asks = kinds_closed Kind.Bool Kind.Bool asks
-
-  operator_closed : (e : PureExpr) → IsAskedOf bs (opening t) e → ⊥
-  operator_closed (unary_of op e) (u, (is, asks)) = unary_closed op u asks
-  operator_closed (binary_of op d e) (u, (w, (is_u, is_w, asks))) = two_closed u w op asks
-  operator_closed (literal v) is = is
-  operator_closed (name x) is = is
-  operator_closed (logical x) is = is
-  operator_closed (list_of es) is = is
-
-  one_closed : (es : List PureExpr) → OneOf (IsAskedOf bs (opening t)) es → ⊥
-  one_closed [] one = one
-  one_closed (e ∷ es) (inl here) = operator_closed e here
-  one_closed (e ∷ es) (inr later) = one_closed es later
-
-  asked_closed : (es : List PureExpr) → OneOf (λ e. IsAsked bs e (opening t)) es → ⊥
-  asked_closed [] one = one
-  asked_closed (e ∷ es) (inl here) = one_closed (subexpressions e) here
-  asked_closed (e ∷ es) (inr later) = asked_closed es later
 
 -- ---- candidates
 
@@ -125,7 +52,7 @@ module _ {S : Type 0} (memory : MemoryName) (stands : S → List PureValue → H
   Needs d = NeedsWhatMatters p stands depends path d.path
 
   asked_only : (next : PurePath S) (conds : List PureAtom) → Each Asked conds → Each (Only next) conds
-  asked_only next conds all = each_to Asked (Only next) conds (λ a one t is. absurd (asked_closed (running_store path.stack) t es (subst Asked is one))) all
+  asked_only next conds all = each_to Asked (Only next) conds (λ a one t is. absurd (true≢false (one_asked_closed (running_store path.stack) es (opening t) (subst Asked is one)))) all
 
   needs_only : (next : PurePath S) (added : List PureAtom) → next.conds ≡ path.conds ++ added → Each (Only next) added → NeedsWhatMatters p stands depends path next
   needs_only next added conds all = needs_at p stands depends path c (act x action es) at command next (record { added = added; conds = conds; each = all })
