@@ -7,5 +7,5 @@ mod pieces;
 mod temporaries;
 
 pub use expressions::{null, procedure_literal, temporary_variable, text_literal, truth, variable};
-pub use pieces::{append, code_len, jump, label_after, put, text};
+pub use pieces::{append, code_len, jump, put, sum, text};
 pub use temporaries::{nulls, push_temporaries, temporary};

@@ -55,12 +55,12 @@ pub fn code_len(commands: &Body) -> usize
     commands.len()
 }
 
-/// The label so many commands after another. No body in memory is so long that it doesn't fit.
-pub fn label_after(label: usize, commands: usize) -> Result<usize, AllocError>
-    ensures { IfOk result (λ next. next ≡ label + commands) }
+/// The sum of two counts. No body in memory is so long that it doesn't fit.
+pub fn sum(count: usize, more: usize) -> Result<usize, AllocError>
+    ensures { IfOk result (λ total. total ≡ count + more) }
 {
-    match label.checked_add(commands) {
-        Some(next) => Ok(next),
+    match count.checked_add(more) {
+        Some(total) => Ok(total),
         None => Err(AllocError),
     }
 }

@@ -22,7 +22,7 @@ use Rattle.source_meaning.proofs.Following.{state_at, leaves, Leads, leads, lead
 use Rattle.while_syntax.specs.Pure.{PureLogic, PureInvariant, PureStatement, assign, input, symbol as new_symbol_in, new, lookup, call, mutate, dispose, assert, assume, if_else, while, return, fail, logic, fold_use, unfold_use, assert_that, PureBlock, no_statements, statement_and, PureFunction, find_function}
 use Rattle.while_syntax.specs.Meaning.{Calls, call_found, statement, block}
 use Rattle.while_syntax.specs.Names.{is_source_statement, is_source_block, has_source_invariant}
-use Rattle.while_compiler.specs.Compiled.{invariant_code, invariant_length, block_temporaries, if_code, while_code, statement_code, block_code, compiled_function}
+use Rattle.while_compiler.specs.Compiled.{invariant_code, block_temporaries, if_code, while_code, statement_code, block_code, compiled_function}
 use Rattle.while_compiler.proofs.NewRecords.{TakesForNew, new_runs}
 
 -- one value, and a first and a third one with a text between
@@ -310,30 +310,22 @@ module _ (p : PureParts) (m : Actions) (takes : TakesForNew m) (inputs : List Pu
           ends = omega (arith, length-append off_code (jump at truth (pc + 1 + length off_code + 1 + length on_code) ∷ on_code))
       statement_runs (while e invariant body) pc at store s ext names has =
           loop_runs pc at e invariant (block_temporaries body) code (block functions m inputs loops calls f body) parts.0 has
-          (λ more t ext'. at_place (run p m inputs) least f callers _ _ _ _ (ap (λ k. k + length code) starts)
-          (subst (λ k. Follows least (pc + invariant_length invariant + 2 + length code) (At k more t)
-          (block functions m inputs loops calls f body t)) starts
-          (block_runs body (pc + invariant_length invariant + 2) more t ext' (and_parts (has_source_invariant invariant) _ parts.1).1
-          (subst (λ k. HasAt q.body k code) (sym starts) at_body))))
+          (λ more t ext'. block_runs body start more t ext' (and_parts (has_source_invariant invariant) _ parts.1).1 at_body)
           loops least enough (omega arith) store s ext
         where
-          code : List PureNumberedCommand
-          code = block_code (pc + invariant_length invariant + 2) body
-
           front : List PureNumberedCommand
           front = invariant_code at (block_temporaries body) invariant
+
+          start : ℕ
+          start = pc + length front + 1 + 1
+
+          code : List PureNumberedCommand
+          code = block_code start body
 
           parts : (is_source_expr e ≡ true) × ((has_source_invariant invariant && is_source_block body) ≡ true)
           parts = and_parts _ _ names
 
-          long : (i : Option PureInvariant) → invariant_length i ≡ length (invariant_code at (block_temporaries body) i)
-          long None = refl
-          long (Some i) = refl
-
-          starts : pc + invariant_length invariant + 2 ≡ pc + length front + 1 + 1
-          starts = omega (arith, long invariant)
-
-          at_body : HasAt q.body (pc + length front + 1 + 1) code
+          at_body : HasAt q.body start code
           at_body = has_front q.body _ code _ (has_back q.body pc front _ has).1.1
       statement_runs (return e) pc at store s ext names has =
           value_steps pc (pc + 1) at store s (evaluate e s.store) e _ _ ext names (steps p m inputs f q found callers pc _ store s has.0)

@@ -16,7 +16,7 @@ use Rattle.source_meaning.specs.Names.{temporary, temporaries_from}
 use Rattle.source_meaning.proofs.NumberedNames.{nulls_length}
 use Rattle.while_syntax.specs.Pure as while
 use Rattle.while_syntax.specs.Pure.{PureField, PureInvariant, PureLogic, PureStatement, PureBlock, no_statements, statement_and, PureFunction, PureSource}
-use Rattle.while_compiler.specs.Compiled.{name_literals, field_values_code, fill_code, while_code, invariant_code, invariant_length, statement_code, block_code, block_temporaries, compiled_function, compiled}
+use Rattle.while_compiler.specs.Compiled.{name_literals, field_values_code, fill_code, while_code, invariant_code, statement_code, block_code, block_temporaries, compiled_function, compiled}
 use Rattle.while_compiler.specs.Valid.{has_source_fault, has_source_fault_if_there, source_fault_at, IsValidSource, is_too_long, first_too_long}
 
 -- ---- labels
@@ -57,10 +57,6 @@ fits-logic : (n pc at : ℕ) (c : PureLogic) → Fits n (statement_code pc at (w
 fits-logic n pc at (while.fold_use u) = refl
 fits-logic n pc at (while.unfold_use u) = refl
 fits-logic n pc at (while.assert_that items) = refl
-
-invariant_long : (at written : ℕ) (i : Option PureInvariant) → invariant_length i ≡ length (invariant_code at written i)
-invariant_long at written None = refl
-invariant_long at written (Some i) = refl
 
 mutual
   statement-fits : (c : PureStatement) (n pc at : ℕ) → pc + length (statement_code pc at c) ≤ n → Fits n (statement_code pc at c)
@@ -107,8 +103,8 @@ mutual
       fits-append n front (jump at e (pc + length front + 1 + 1) ∷ second) (fits-invariant n at written invariant)
       (fits-jump n at (pc + length front + 1 + 1) e second (omega (arith, le, long, longer))
       (fits-jump n at (pc + length front + 1 + 1 + length code + 1) truth back (omega (arith, le, long, longer))
-      (fits-append n code (jump at truth pc ∷ []) (block-fits body n (pc + invariant_length invariant + 2)
-      (omega (arith, le, long, longer, invariant_long at written invariant)))
+      (fits-append n code (jump at truth pc ∷ []) (block-fits body n (pc + length front + 1 + 1)
+      (omega (arith, le, long, longer)))
       (fits-jump n at pc truth [] (omega (arith, le)) refl))))
     where
       written : ℕ
@@ -118,7 +114,7 @@ mutual
       front = invariant_code at written invariant
 
       code : List PureNumberedCommand
-      code = block_code (pc + invariant_length invariant + 2) body
+      code = block_code (pc + length front + 1 + 1) body
 
       back : List PureNumberedCommand
       back = code ++ jump at truth pc ∷ []

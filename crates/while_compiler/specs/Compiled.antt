@@ -72,10 +72,6 @@ abbrev pub invariant_code : ℕ → ℕ → Option PureInvariant → List PureNu
 invariant_code at temporaries None = []
 invariant_code at temporaries (Some i) = placed at (loop_invariant (i.names ++ temporaries_from 0 temporaries) i.logicals i.items) ∷ []
 
-abbrev pub invariant_length : Option PureInvariant → ℕ
-invariant_length None = 0
-invariant_length (Some i) = 1
-
 abbrev pub logic_command : PureLogic → PureCommand
 logic_command (while.fold_use u) = fold_use u
 logic_command (while.unfold_use u) = unfold_use u
@@ -100,7 +96,8 @@ abbrev mutual
   statement_code pc at (while.if_else e on off) =
       if_code pc at e (block_code (pc + 1) off) (block_code (pc + 1 + length (block_code (pc + 1) off) + 1) on)
   statement_code pc at (while.while e invariant body) =
-      while_code pc at e (invariant_code at (block_temporaries body) invariant) (block_code (pc + invariant_length invariant + 2) body)
+      while_code pc at e (invariant_code at (block_temporaries body) invariant)
+      (block_code (pc + length (invariant_code at (block_temporaries body) invariant) + 1 + 1) body)
   statement_code pc at (while.return e) = placed at (return e) ∷ []
   statement_code pc at (while.fail e) = placed at (fail e) ∷ []
   statement_code pc at (while.logic c) = placed at (logic_command c) ∷ []

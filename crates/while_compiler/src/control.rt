@@ -6,10 +6,17 @@ ghost use Rattle.while_syntax.specs.View.{invariants_view};
 ghost use Rattle.while_compiler.specs.Compiled as compiled;
 
 use gil_syntax::{Body, Command, Expr};
-use source_meaning::{append, code_len, jump, label_after, push_temporaries, put, truth};
+use source_meaning::{append, code_len, jump, push_temporaries, put, sum, truth};
 use std::alloc::{AllocError, Global};
 use syntax_copy::{copy_assertion, copy_of_expression, copy_params, copy_texts};
 use while_syntax::Invariant;
+
+/// Where a choice at a label goes on where its condition is true: behind a jump, the commands where it is false, and another jump.
+pub(crate) fn then_label(label: usize, off: &Body) -> Result<usize, AllocError>
+    ensures { IfOk result (λ n. n ≡ label + 1 + length (code_view off.now) + 1) }
+{
+    sum(sum(label, 1)?, sum(code_len(off), 1)?)
+}
 
 /// A choice at a label: the commands where the condition is false, and then those where it is true.
 pub(crate) fn if_code(
@@ -23,14 +30,21 @@ pub(crate) fn if_code(
     ensures { IfOk result
         (λ code. code_view code ≡ compiled.if_code label at (expr_view condition.now) (code_view off) (code_view on)) }
 {
-    let start = label_after(label_after(label_after(label, 1)?, code_len(&off))?, 1)?;
-    let end = label_after(start, code_len(&on))?;
+    let start = then_label(label, &off)?;
+    let end = sum(start, code_len(&on))?;
     let mut code = Body::new(alloc);
     jump(&mut code, at, copy_of_expression(alloc, condition)?, start)?;
     append(&mut code, off)?;
     jump(&mut code, at, truth(), end)?;
     append(&mut code, on)?;
     Ok(code)
+}
+
+/// Where the body of a loop at a label begins, behind its invariant and its test.
+pub(crate) fn body_label(label: usize, invariant: &Body) -> Result<usize, AllocError>
+    ensures { IfOk result (λ n. n ≡ label + length (code_view invariant.now) + 1 + 1) }
+{
+    sum(sum(label, code_len(invariant))?, 2)
 }
 
 /// A loop at a label: its invariant, its test, its body, and the jump back.
@@ -45,11 +59,8 @@ pub(crate) fn while_code(
     ensures { IfOk result
         (λ code. code_view code ≡ compiled.while_code label at (expr_view condition.now) (code_view invariant) (code_view body)) }
 {
-    let start = label_after(
-        label_after(label_after(label, code_len(&invariant))?, 1)?,
-        1,
-    )?;
-    let end = label_after(label_after(start, code_len(&body))?, 1)?;
+    let start = body_label(label, &invariant)?;
+    let end = sum(sum(start, code_len(&body))?, 1)?;
     let mut code = invariant;
     jump(&mut code, at, copy_of_expression(alloc, condition)?, start)?;
     jump(&mut code, at, truth(), end)?;
@@ -80,14 +91,4 @@ pub(crate) fn invariant_code(
         )?;
     }
     Ok(code)
-}
-
-/// Where the body of a loop at a label begins.
-pub(crate) fn body_label(label: usize, invariant: &Option<Invariant>) -> Result<usize, AllocError>
-    ensures { IfOk result (λ n. n ≡ label + compiled.invariant_length (invariants_view invariant.now) + 2) }
-{
-    match invariant {
-        Some(_) => label_after(label_after(label, 1)?, 2),
-        None => label_after(label_after(label, 0)?, 2),
-    }
 }

@@ -1,13 +1,11 @@
 //! Functions and programs.
-ghost use Rattle.std.specs.Prelude.{◌≡◌, ◌≢◌, Some, None, true, false, map, IfOk, IfErr, OnOk};
+ghost use Rattle.std.specs.Prelude.{◌≡◌, None, map, IfOk, IfErr, OnOk};
 ghost use Rattle.gil_syntax.specs.View.{parts_view, proc_view};
 ghost use Rattle.source_meaning.specs.Code.{code_view};
-ghost use Rattle.source_meaning.specs.Procedures as procedures;
 ghost use Rattle.while_syntax.specs.View.{block_view, function_view, source_parts_view};
 ghost use Rattle.while_compiler.specs.Compiled as compiled;
 ghost use Rattle.while_compiler.specs.Limits.{IsLimitOf};
-ghost use Rattle.while_compiler.specs.Valid.{is_too_long, first_too_long};
-ghost use Rattle.while_compiler.specs.declared.limits.TooMany.TheVariants.{Memory};
+ghost use Rattle.while_compiler.specs.Valid as valid;
 
 use crate::limits::TooMany;
 use crate::statements::block_code;
@@ -32,7 +30,7 @@ fn body_code(alloc: Global, function: &Function) -> Result<Body, AllocError>
     Ok(code)
 }
 
-/// The procedure of a function, however long it is.
+/// The procedure of a function.
 fn procedure_of(alloc: Global, function: &Function) -> Result<Proc, AllocError>
     ensures { IfOk result (λ proc. proc_view proc ≡ compiled.compiled_function (function_view function.now)) }
 {
@@ -42,21 +40,7 @@ fn procedure_of(alloc: Global, function: &Function) -> Result<Proc, AllocError>
     Ok(Proc { name, params, body })
 }
 
-/// The procedure of a function, where it isn't too long.
-fn procedure(alloc: Global, function: &Function) -> Result<Proc, TooMany>
-    ensures proc { IfOk result (λ proc. proc_view proc ≡ compiled.compiled_function (function_view function.now)) }
-    ensures short { OnOk result (is_too_long (function_view function.now) ≡ false) }
-    ensures long { IfErr result (λ e. e ≢ Memory → is_too_long (function_view function.now) ≡ true) }
-    ensures limit { IfErr result (λ e. IsLimitOf (Some function.now.at) e) }
-{
-    let proc = procedure_of(alloc, function)?;
-    if code_len(&proc.body) > MOST_COMMANDS {
-        return Err(TooMany::Limit(function.at as usize));
-    }
-    Ok(proc)
-}
-
-/// The procedures of functions, however long they are.
+/// The procedures of functions.
 fn procedures_of(alloc: Global, functions: &Functions) -> Result<Procs, AllocError>
     ensures { IfOk result (λ procs. map proc_view procs ≡ map compiled.compiled_function (map function_view functions.now)) }
 {
@@ -82,35 +66,28 @@ pub(crate) fn parts_of(alloc: Global, source: &SourceParts) -> Result<Parts, All
     })
 }
 
-/// The procedures of functions, where none is too long.
-fn procedures(alloc: Global, functions: &Functions) -> Result<Procs, TooMany>
-    ensures procs { IfOk result (λ procs. map proc_view procs ≡ map compiled.compiled_function (map function_view functions.now)) }
-    ensures short { OnOk result (first_too_long (map function_view functions.now) ≡ None) }
-    ensures limit { IfErr result (λ e. IsLimitOf (first_too_long (map function_view functions.now)) e) }
+/// The byte at which the first of the functions begins whose procedure is too long.
+fn first_too_long(functions: &[Function], procs: &[Proc]) -> Option<usize>
+    requires { map proc_view procs.now ≡ map compiled.compiled_function (map function_view functions.now) }
+    ensures { result ≡ valid.first_too_long (map function_view functions.now) }
 {
-    let functions = functions.as_slice();
-    let mut procs = Procs::new(alloc);
-    for function in functions {
-        match procedure(alloc, function) {
-            Ok(proc) => procs.push(proc)?,
-            Err(too_many) => return Err(too_many),
+    for (function, proc) in functions.iter().zip(procs) {
+        if code_len(&proc.body) > MOST_COMMANDS {
+            return Some(function.at as usize);
         }
     }
-    Ok(procs)
+    None
 }
 
-/// The parts of the compiled program.
+/// The parts of the compiled program, where no procedure is too long.
 pub(crate) fn compiled_parts(alloc: Global, source: &SourceParts) -> Result<Parts, TooMany>
     ensures parts { IfOk result (λ parts. parts_view parts ≡ compiled.compiled (source_parts_view source.now)) }
-    ensures short { OnOk result (first_too_long (source_parts_view source.now).functions ≡ None) }
-    ensures limit { IfErr result (λ e. IsLimitOf (first_too_long (source_parts_view source.now).functions) e) }
+    ensures short { OnOk result (valid.first_too_long (source_parts_view source.now).functions ≡ None) }
+    ensures limit { IfErr result (λ e. IsLimitOf (valid.first_too_long (source_parts_view source.now).functions) e) }
 {
-    let procs = procedures(alloc, &source.functions)?;
-    let specs = copy_specs(alloc, &source.specs)?;
-    let preds = copy_preds(alloc, &source.preds)?;
-    Ok(Parts {
-        procs,
-        specs,
-        preds,
-    })
+    let parts = parts_of(alloc, source)?;
+    match first_too_long(source.functions.as_slice(), parts.procs.as_slice()) {
+        Some(at) => Err(TooMany::Limit(at)),
+        None => Ok(parts),
+    }
 }

@@ -11,7 +11,7 @@ ghost use Rattle.while_compiler.specs.Compiled as compiled;
 
 use gil_syntax::{Body, Command, Expr, Exprs};
 use gil_values::Text;
-use source_meaning::{append, label_after, put, temporary, temporary_variable, text, text_literal};
+use source_meaning::{append, put, sum, temporary, temporary_variable, text, text_literal};
 use std::alloc::{AllocError, Global};
 use syntax_copy::copy_of_expression;
 use while_syntax::{Field, Fields};
@@ -99,10 +99,10 @@ fn make_command(alloc: Global, made: usize, fields: &[Field]) -> Result<Command,
 pub(crate) fn new_code(
     alloc: Global,
     at: u32,
-    x: &Text,
+    target: &Text,
     fields: &Fields,
 ) -> Result<Body, AllocError>
-    ensures { IfOk result (λ code. code_view code ≡ compiled.new_code at x.now (map field_view fields.now)) }
+    ensures { IfOk result (λ code. code_view code ≡ compiled.new_code at target.now (map field_view fields.now)) }
 {
     let fields = fields.as_slice();
     let made = fields.len();
@@ -110,9 +110,9 @@ pub(crate) fn new_code(
     put(&mut code, at, make_command(alloc, made, fields)?)?;
     append(
         &mut code,
-        fill_code(alloc, at, made, label_after(made, 1)?, fields)?,
+        fill_code(alloc, at, made, sum(made, 1)?, fields)?,
     )?;
     let record = temporary_variable(alloc, made)?;
-    put(&mut code, at, Command::Assign(x.copy(alloc)?, record))?;
+    put(&mut code, at, Command::Assign(target.copy(alloc)?, record))?;
     Ok(code)
 }

@@ -12,9 +12,7 @@ ghost use Rattle.while_compiler.specs.Compiled.{logic_command, property};
 
 use gil_syntax::{Body, Command, Expr, Exprs};
 use gil_values::{Kind, Text, Value};
-use source_meaning::{
-    jump, label_after, procedure_literal, put, temporary, text, text_literal, variable,
-};
+use source_meaning::{jump, procedure_literal, put, sum, temporary, text, text_literal, variable};
 use std::alloc::{AllocError, Global};
 use syntax_copy::{copy_assertion, copy_of_expression, copy_of_expressions, copy_use};
 use while_syntax::Logic;
@@ -32,45 +30,76 @@ fn one(alloc: Global, at: u32, command: Command) -> Result<Body, AllocError>
 pub(crate) fn assign_code(
     alloc: Global,
     at: u32,
-    x: &Text,
+    target: &Text,
     value: &Expr,
 ) -> Result<Body, AllocError>
-    ensures { IfOk result (λ code. code_view code ≡ placed at (assign x.now (expr_view value.now)) ∷ []) }
+    ensures { IfOk result (λ code. code_view code ≡ placed at (assign target.now (expr_view value.now)) ∷ []) }
 {
     let value = copy_of_expression(alloc, value)?;
-    one(alloc, at, Command::Assign(x.copy(alloc)?, value))
+    one(alloc, at, Command::Assign(target.copy(alloc)?, value))
 }
 
 /// `x = input s`
-pub(crate) fn input_code(alloc: Global, at: u32, x: &Text, kind: Kind) -> Result<Body, AllocError>
-    ensures { IfOk result (λ code. code_view code ≡ placed at (isym x.now kind) ∷ []) }
+pub(crate) fn input_code(
+    alloc: Global,
+    at: u32,
+    target: &Text,
+    kind: Kind,
+) -> Result<Body, AllocError>
+    ensures { IfOk result (λ code. code_view code ≡ placed at (isym target.now kind) ∷ []) }
 {
-    one(alloc, at, Command::Isym(x.copy(alloc)?, kind))
+    one(alloc, at, Command::Isym(target.copy(alloc)?, kind))
 }
 
 /// `x = symbol`
-pub(crate) fn symbol_code(alloc: Global, at: u32, x: &Text) -> Result<Body, AllocError>
-    ensures { IfOk result (λ code. code_view code ≡ placed at (usym x.now) ∷ []) }
+pub(crate) fn symbol_code(alloc: Global, at: u32, target: &Text) -> Result<Body, AllocError>
+    ensures { IfOk result (λ code. code_view code ≡ placed at (usym target.now) ∷ []) }
 {
-    one(alloc, at, Command::Usym(x.copy(alloc)?))
+    one(alloc, at, Command::Usym(target.copy(alloc)?))
 }
 
-/// The arguments of a lookup.
-fn place_arguments(alloc: Global, y: &Text, p: &Text) -> Result<Exprs, AllocError>
-    ensures { IfOk result (λ es. exprs_view es ≡ name y.now ∷ property p.now ∷ []) }
+/// `x = f(e, ..)`
+pub(crate) fn call_code(
+    alloc: Global,
+    at: u32,
+    target: &Text,
+    function: &Text,
+    arguments: &Exprs,
+) -> Result<Body, AllocError>
+    ensures { IfOk result
+        (λ code. code_view code ≡ placed at (call target.now (literal (procedure function.now)) (exprs_view arguments.now)) ∷ []) }
+{
+    let callee = procedure_literal(alloc, function)?;
+    let arguments = copy_of_expressions(alloc, arguments)?;
+    one(
+        alloc,
+        at,
+        Command::Call(target.copy(alloc)?, callee, arguments),
+    )
+}
+
+/// An action of the memory, whose value a variable gets.
+fn act_code(
+    alloc: Global,
+    at: u32,
+    target: Text,
+    action: &str,
+    arguments: Exprs,
+) -> Result<Body, AllocError>
+    requires { IsText action.now }
+    ensures { IfOk result (λ code. code_view code ≡ placed at (act target action.now (exprs_view arguments)) ∷ []) }
+{
+    let action = text(alloc, action)?;
+    one(alloc, at, Command::Act(target, action, arguments))
+}
+
+/// The arguments that name a field of a record.
+fn place_arguments(alloc: Global, record: &Text, field: &Text) -> Result<Exprs, AllocError>
+    ensures { IfOk result (λ es. exprs_view es ≡ name «record».now ∷ property field.now ∷ []) }
 {
     let mut arguments = Exprs::new(alloc);
-    arguments.push(variable(alloc, y)?)?;
-    arguments.push(text_literal(alloc, p)?)?;
-    Ok(arguments)
-}
-
-/// The arguments of a mutation.
-fn written_arguments(alloc: Global, y: &Text, p: &Text, value: &Expr) -> Result<Exprs, AllocError>
-    ensures { IfOk result (λ es. exprs_view es ≡ name y.now ∷ property p.now ∷ expr_view value.now ∷ []) }
-{
-    let mut arguments = place_arguments(alloc, y, p)?;
-    arguments.push(copy_of_expression(alloc, value)?)?;
+    arguments.push(variable(alloc, record)?)?;
+    arguments.push(text_literal(alloc, field)?)?;
     Ok(arguments)
 }
 
@@ -78,51 +107,32 @@ fn written_arguments(alloc: Global, y: &Text, p: &Text, value: &Expr) -> Result<
 pub(crate) fn lookup_code(
     alloc: Global,
     at: u32,
-    x: &Text,
-    y: &Text,
-    p: &Text,
+    target: &Text,
+    record: &Text,
+    field: &Text,
 ) -> Result<Body, AllocError>
-    ensures { IfOk result (λ code. code_view code ≡ placed at (act x.now (codes "lookup") (name y.now ∷ property p.now ∷ [])) ∷ []) }
+    ensures { IfOk result
+        (λ code. code_view code ≡ placed at (act target.now (codes "lookup") (name «record».now ∷ property field.now ∷ [])) ∷ []) }
 {
-    let arguments = place_arguments(alloc, y, p)?;
-    let action = text(alloc, "lookup")?;
-    one(alloc, at, Command::Act(x.copy(alloc)?, action, arguments))
-}
-
-/// `x = f(e, ..)`
-pub(crate) fn call_code(
-    alloc: Global,
-    at: u32,
-    x: &Text,
-    f: &Text,
-    arguments: &Exprs,
-) -> Result<Body, AllocError>
-    ensures { IfOk result (λ code. code_view code ≡ placed at (call x.now (literal (procedure f.now)) (exprs_view arguments.now)) ∷ []) }
-{
-    let callee = procedure_literal(alloc, f)?;
-    let arguments = copy_of_expressions(alloc, arguments)?;
-    one(alloc, at, Command::Call(x.copy(alloc)?, callee, arguments))
+    let arguments = place_arguments(alloc, record, field)?;
+    act_code(alloc, at, target.copy(alloc)?, "lookup", arguments)
 }
 
 /// `y.p = e`
 pub(crate) fn mutate_code(
     alloc: Global,
     at: u32,
-    y: &Text,
-    p: &Text,
+    record: &Text,
+    field: &Text,
     value: &Expr,
 ) -> Result<Body, AllocError>
     ensures { IfOk result
         (λ code. code_view code
-        ≡ placed at (act (pure_temporary 0) (codes "mutate") (name y.now ∷ property p.now ∷ expr_view value.now ∷ [])) ∷ []) }
+        ≡ placed at (act (pure_temporary 0) (codes "mutate") (name «record».now ∷ property field.now ∷ expr_view value.now ∷ [])) ∷ []) }
 {
-    let arguments = written_arguments(alloc, y, p, value)?;
-    let action = text(alloc, "mutate")?;
-    one(
-        alloc,
-        at,
-        Command::Act(temporary(alloc, 0)?, action, arguments),
-    )
+    let mut arguments = place_arguments(alloc, record, field)?;
+    arguments.push(copy_of_expression(alloc, value)?)?;
+    act_code(alloc, at, temporary(alloc, 0)?, "mutate", arguments)
 }
 
 /// `dispose e`
@@ -132,12 +142,7 @@ pub(crate) fn dispose_code(alloc: Global, at: u32, record: &Expr) -> Result<Body
 {
     let mut arguments = Exprs::new(alloc);
     arguments.push(copy_of_expression(alloc, record)?)?;
-    let action = text(alloc, "dispose")?;
-    one(
-        alloc,
-        at,
-        Command::Act(temporary(alloc, 0)?, action, arguments),
-    )
+    act_code(alloc, at, temporary(alloc, 0)?, "dispose", arguments)
 }
 
 /// `return e`
@@ -158,7 +163,7 @@ pub(crate) fn fail_code(alloc: Global, at: u32, value: &Expr) -> Result<Body, Al
     one(alloc, at, Command::Fail(copy_of_expression(alloc, value)?))
 }
 
-/// A logic command
+/// A logic command.
 pub(crate) fn logic_code(alloc: Global, at: u32, logic: &Logic) -> Result<Body, AllocError>
     ensures { IfOk result (λ code. code_view code ≡ placed at (logic_command (logic_view logic.now)) ∷ []) }
 {
@@ -178,7 +183,7 @@ fn jump_past(alloc: Global, label: usize, at: u32, condition: &Expr) -> Result<B
 {
     let mut code = Body::new(alloc);
     let condition = copy_of_expression(alloc, condition)?;
-    jump(&mut code, at, condition, label_after(label, 2)?)?;
+    jump(&mut code, at, condition, sum(label, 2)?)?;
     Ok(code)
 }
 

@@ -4,7 +4,7 @@ ghost use Rattle.source_meaning.specs.Code.{code_view};
 ghost use Rattle.while_syntax.specs.View.{statement_view, block_view};
 ghost use Rattle.while_compiler.specs.Compiled as compiled;
 
-use crate::control::{body_label, if_code, invariant_code, while_code};
+use crate::control::{body_label, if_code, invariant_code, then_label, while_code};
 use crate::records::new_code;
 use crate::simple::{
     assert_code, assign_code, assume_code, call_code, dispose_code, fail_code, input_code,
@@ -12,7 +12,7 @@ use crate::simple::{
 };
 use crate::temporaries::block_temporaries;
 use gil_syntax::Body;
-use source_meaning::{append, code_len, label_after};
+use source_meaning::{append, code_len, sum};
 use std::alloc::{AllocError, Global};
 use while_syntax::{Block, Statement};
 
@@ -27,29 +27,27 @@ fn statement_code(
     ensures { IfOk result (λ code. code_view code ≡ compiled.statement_code label at (statement_view statement.now)) }
 {
     match statement {
-        Statement::Assign(x, value) => assign_code(alloc, at, x, value),
-        Statement::Input(x, kind) => input_code(alloc, at, x, *kind),
-        Statement::Symbol(x) => symbol_code(alloc, at, x),
-        Statement::New(x, fields) => new_code(alloc, at, x, fields),
-        Statement::Lookup(x, y, p) => lookup_code(alloc, at, x, y, p),
-        Statement::Call(x, f, arguments) => call_code(alloc, at, x, f, arguments),
-        Statement::Mutate(y, p, value) => mutate_code(alloc, at, y, p, value),
+        Statement::Assign(target, value) => assign_code(alloc, at, target, value),
+        Statement::Input(target, kind) => input_code(alloc, at, target, *kind),
+        Statement::Symbol(target) => symbol_code(alloc, at, target),
+        Statement::New(target, fields) => new_code(alloc, at, target, fields),
+        Statement::Lookup(target, record, field) => lookup_code(alloc, at, target, record, field),
+        Statement::Call(target, function, arguments) => call_code(
+            alloc, at, target, function, arguments,
+        ),
+        Statement::Mutate(record, field, value) => mutate_code(alloc, at, record, field, value),
         Statement::Dispose(record) => dispose_code(alloc, at, record),
         Statement::Assert(condition) => assert_code(alloc, label, at, condition),
         Statement::Assume(condition) => assume_code(alloc, label, at, condition),
         Statement::If(condition, body, other) => {
-            let first = label_after(label, 1)?;
-            let off = block_code(alloc, first, other)?;
-            let second = label_after(label_after(first, code_len(&off))?, 1)?;
-            let on = block_code(alloc, second, body)?;
+            let off = block_code(alloc, sum(label, 1)?, other)?;
+            let on = block_code(alloc, then_label(label, &off)?, body)?;
             if_code(alloc, label, at, condition, off, on)
         }
         Statement::While(condition, invariant, body) => {
-            let written = block_temporaries(body)?;
-            let first = body_label(label, invariant)?;
-            let code = block_code(alloc, first, body)?;
-            let invariant = invariant_code(alloc, at, written, invariant)?;
-            while_code(alloc, label, at, condition, invariant, code)
+            let invariant = invariant_code(alloc, at, block_temporaries(body)?, invariant)?;
+            let body = block_code(alloc, body_label(label, &invariant)?, body)?;
+            while_code(alloc, label, at, condition, invariant, body)
         }
         Statement::Return(value) => return_code(alloc, at, value),
         Statement::Fail(value) => fail_code(alloc, at, value),
@@ -64,7 +62,7 @@ pub(crate) fn block_code(alloc: Global, label: usize, block: &Block) -> Result<B
 {
     let mut code = Body::new(alloc);
     for placed in block.as_slice() {
-        let start = label_after(label, code_len(&code))?;
+        let start = sum(label, code_len(&code))?;
         let more = statement_code(alloc, start, placed.at, &placed.statement)?;
         append(&mut code, more)?;
     }

@@ -3,7 +3,7 @@ ghost use Rattle.std.specs.Prelude.{◌≡◌, map, IfOk};
 ghost use Rattle.while_syntax.specs.View.{field_view, statement_view, block_view};
 ghost use Rattle.while_compiler.specs.Compiled as compiled;
 
-use source_meaning::label_after;
+use source_meaning::sum;
 use std::alloc::AllocError;
 use while_syntax::{Block, Fields, Statement};
 
@@ -13,7 +13,7 @@ fn field_temporaries(fields: &Fields) -> Result<usize, AllocError>
 {
     match fields.len() {
         0 => Ok(1),
-        some => label_after(some, 2),
+        some => sum(some, 2),
     }
 }
 

@@ -27,8 +27,8 @@ use Rattle.gil_grammar.proofs.CommandReads.{names_again, command_again}
 use Rattle.while_syntax.specs.Pure.{PureField, fold_use, unfold_use, assert_that, PureInvariant, PureStatement, assign, input, symbol, new, lookup, call, mutate, dispose, assert, assume, if_else, while, return, fail, logic, PureBlock, no_statements, statement_and, PurePlacedStatement, from_placed, PureFunction}
 use Rattle.while_grammar.specs.Vocabulary.{equals, dot}
 use Rattle.while_grammar.specs.Statements.{SpellsField, command_of, SpellsInvariant, SpellsStatement, SpellsElse, SpellsBlock, SpellsStatements, SpellsFunction}
-use Rattle.while_grammar.specs.Reading.Statements.{value_at, condition_at, field_at, assign_at, input_at, new_at, lookup_at, call_at, named_at, assigned_at, assignment_at, mutate_at, of_name_at, assert_at, assume_at, logic_at, asserted_at, one_invariant_at, invariant_at, else_at, if_at, while_at, statement_at, placed_at, block_by, block_at, function_at}
-use Rattle.while_grammar.proofs.StatementTakes.{SpellsValue, SpellsCondition, SpellsPlaced}
+use Rattle.while_grammar.specs.Reading.Statements.{value_at, condition_at, claim_at, field_at, assign_at, input_at, new_at, lookup_at, call_at, named_at, assigned_at, assignment_at, mutate_at, of_name_at, logic_at, asserted_at, one_invariant_at, invariant_at, else_at, if_at, while_at, statement_at, placed_at, block_by, block_at, function_at}
+use Rattle.while_grammar.proofs.StatementTakes.{SpellsValue, SpellsCondition, SpellsClaim, SpellsPlaced}
 
 -- ---- pieces
 
@@ -47,6 +47,12 @@ condition_again e ls rest p (inner, is, h) =
       under = nested_tail _ rest read.under;
       shorter = omega (arith, ap length is, read.shorter);
     }
+
+claim_again : Again Nested SpellsClaim claim_at
+unfolding claim_at
+claim_again e ls rest p h =
+    let read = condition_again e ls (semicolon ∷ rest) p h in
+    record { is = rw (read.is, same_sign-refl signs.Semicolon) refl; under = nested_tail _ rest read.under; shorter = omega (arith, read.shorter) }
 
 two_tails : (l m : Lexeme) (ls : List Lexeme) → Nested (l ∷ m ∷ ls) → Nested ls
 two_tails l m ls p = nested_tail m ls (nested_tail l _ p)
@@ -226,16 +232,16 @@ module _ (place : ℕ → ℕ) where
         record { is = rw (is, read.is) refl; under = read.under; shorter = omega (arith, ap length is, read.shorter) }
 
     assert_again : (e : PureExpr) (ls rest : List Lexeme) → Nested ls → Spells (assert e) ls rest → ReadsPlain (assert e) ls rest
-    unfolding statement_at asserted_at assert_at same_sign
+    unfolding statement_at asserted_at same_sign
     assert_again e ls rest p (guard, is, h) =
-        let read = condition_again e (lexemes.Sign signs.LeftParenthesis ∷ guard) (semicolon ∷ rest) (nested_tail _ _ (subst Nested is p)) (guard, refl, h) in
-        record { is = rw (is, read.is) refl; under = nested_tail _ rest read.under; shorter = omega (arith, ap length is, read.shorter) }
+        let read = claim_again e (lexemes.Sign signs.LeftParenthesis ∷ guard) rest (nested_tail _ _ (subst Nested is p)) (guard, refl, h) in
+        record { is = rw (is, read.is) refl; under = read.under; shorter = omega (arith, ap length is, read.shorter) }
 
     assume_again : (e : PureExpr) (ls rest : List Lexeme) → Nested ls → Spells (assume e) ls rest → ReadsPlain (assume e) ls rest
-    unfolding statement_at assume_at same_sign
+    unfolding statement_at
     assume_again e ls rest p (guard, is, h) =
-        let read = condition_again e (lexemes.Sign signs.LeftParenthesis ∷ guard) (semicolon ∷ rest) (nested_tail _ _ (subst Nested is p)) (guard, refl, h) in
-        record { is = rw (is, read.is) refl; under = nested_tail _ rest read.under; shorter = omega (arith, ap length is, read.shorter) }
+        let read = claim_again e (lexemes.Sign signs.LeftParenthesis ∷ guard) rest (nested_tail _ _ (subst Nested is p)) (guard, refl, h) in
+        record { is = rw (is, read.is) refl; under = read.under; shorter = omega (arith, ap length is, read.shorter) }
 
     logic_again : (c : _) (ls rest : List Lexeme) → Nested ls → Spells (logic c) ls rest → ReadsPlain (logic c) ls rest
     unfolding statement_at asserted_at logic_at command_at same_sign

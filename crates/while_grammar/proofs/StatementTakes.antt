@@ -25,7 +25,7 @@ use Rattle.gil_grammar.proofs.CommandLaws.{names_take, logic_takes}
 use Rattle.while_syntax.specs.Pure.{PureField, PureLogic, fold_use, unfold_use, assert_that, PureInvariant, PureStatement, assign, input, symbol, new, lookup, call, mutate, dispose, assert, assume, if_else, while, return, fail, logic, PureBlock, no_statements, statement_and, PurePlacedStatement, from_placed, PureFunction}
 use Rattle.while_grammar.specs.Vocabulary.{equals, dot}
 use Rattle.while_grammar.specs.Statements.{SpellsField, command_of, SpellsInvariant, SpellsStatement, SpellsElse, SpellsBlock, SpellsStatements, SpellsFunction}
-use Rattle.while_grammar.specs.Reading.Statements.{value_at, condition_at, field_at, input_at, new_at, lookup_at, call_at, named_at, assigned_at, assignment_at, mutate_at, of_name_at, assert_at, assume_at, logic_of, logic_at, asserted_at, invariant_of, one_invariant_at, invariant_at, else_at, if_at, while_at, of_word_at, statement_at, placed_at, block_by, block_at, function_at}
+use Rattle.while_grammar.specs.Reading.Statements.{value_at, condition_at, claim_at, field_at, input_at, new_at, lookup_at, call_at, named_at, assigned_at, assignment_at, mutate_at, of_name_at, logic_of, logic_at, asserted_at, invariant_of, one_invariant_at, invariant_at, else_at, if_at, while_at, of_word_at, statement_at, placed_at, block_by, block_at, function_at}
 
 -- ---- pieces
 
@@ -36,6 +36,10 @@ SpellsValue e ls rest = SpellsExpr Command e ls (semicolon ∷ rest)
 -- (e)
 abbrev pub SpellsCondition : PureExpr → List Lexeme → List Lexeme → Type 0
 SpellsCondition e ls rest = (inner : List Lexeme) × (ls ≡ opening_parenthesis ∷ inner) × SpellsExpr Command e inner (closing_parenthesis ∷ rest)
+
+-- (e);
+abbrev pub SpellsClaim : PureExpr → List Lexeme → List Lexeme → Type 0
+SpellsClaim e ls rest = SpellsCondition e ls (semicolon ∷ rest)
 
 value_takes : Takes SpellsValue value_at
 unfolding value_at
@@ -55,6 +59,13 @@ condition_takes ls found e =
       sign_takes signs.LeftParenthesis ls a.0 a.1,
       subst (SpellsExpr Command d.0.0 a.0) (sign_takes signs.RightParenthesis d.0.1 r.0 r.1) (expression_takes Command a.0 d.0 d.1),
     )
+
+claim_takes : Takes SpellsClaim claim_at
+unfolding claim_at
+claim_takes ls found e =
+    let d = bind_some (condition_at ls) _ found e in
+    let r = bind_some (sign_at signs.Semicolon d.0.1) _ found d.2 in
+    in_place SpellsClaim ls d.0.0 r.0 found r.2 (subst (SpellsCondition d.0.0 ls) (sign_takes signs.Semicolon d.0.1 r.0 r.1) (condition_takes ls d.0 d.1))
 
 field_takes : Takes SpellsField field_at
 unfolding field_at
@@ -235,31 +246,17 @@ module _ (place : ℕ → ℕ) where
       let d = bind_some (value_at ls) _ found e in
       in_place (Worded words.Fail) ls (fail d.0.0) d.0.1 found d.2 (ls, refl, value_takes ls d.0 d.1)
 
-  assert_takes : (ls : List Lexeme) (found : PureStatement × List Lexeme) → assert_at ls ≡ Some found → Worded words.Assert found.0 ls found.1
-  unfolding assert_at
+  assert_takes : (ls : List Lexeme) (found : PureStatement × List Lexeme) → (claim_at ls >>= λ d. Some (assert d.0, d.1)) ≡ Some found → Worded words.Assert found.0 ls found.1
   assert_takes ls found e =
-      let d = bind_some (condition_at ls) _ found e in
-      let r = bind_some (sign_at signs.Semicolon d.0.1) _ found d.2 in
-      let says = condition_takes ls d.0 d.1 in
-      let closed : closing_parenthesis ∷ d.0.1 ≡ closing_parenthesis ∷ semicolon ∷ r.0 = ap (λ (l : List Lexeme). closing_parenthesis ∷ l) (sign_takes signs.Semicolon d.0.1 r.0 r.1) in
-      in_place (Worded words.Assert) ls (assert d.0.0) r.0 found r.2 (
-        says.0,
-        ap (λ (l : List Lexeme). lexemes.Word words.Assert ∷ l) says.1,
-        subst (SpellsExpr Command d.0.0 says.0) closed says.2,
-      )
+      let d = bind_some (claim_at ls) _ found e in
+      let says = claim_takes ls d.0 d.1 in
+      in_place (Worded words.Assert) ls (assert d.0.0) d.0.1 found d.2 (says.0, ap (λ (l : List Lexeme). lexemes.Word words.Assert ∷ l) says.1, says.2)
 
-  assume_takes : (ls : List Lexeme) (found : PureStatement × List Lexeme) → assume_at ls ≡ Some found → Worded words.Assume found.0 ls found.1
-  unfolding assume_at
+  assume_takes : (ls : List Lexeme) (found : PureStatement × List Lexeme) → (claim_at ls >>= λ d. Some (assume d.0, d.1)) ≡ Some found → Worded words.Assume found.0 ls found.1
   assume_takes ls found e =
-      let d = bind_some (condition_at ls) _ found e in
-      let r = bind_some (sign_at signs.Semicolon d.0.1) _ found d.2 in
-      let says = condition_takes ls d.0 d.1 in
-      let closed : closing_parenthesis ∷ d.0.1 ≡ closing_parenthesis ∷ semicolon ∷ r.0 = ap (λ (l : List Lexeme). closing_parenthesis ∷ l) (sign_takes signs.Semicolon d.0.1 r.0 r.1) in
-      in_place (Worded words.Assume) ls (assume d.0.0) r.0 found r.2 (
-        says.0,
-        ap (λ (l : List Lexeme). lexemes.Word words.Assume ∷ l) says.1,
-        subst (SpellsExpr Command d.0.0 says.0) closed says.2,
-      )
+      let d = bind_some (claim_at ls) _ found e in
+      let says = claim_takes ls d.0 d.1 in
+      in_place (Worded words.Assume) ls (assume d.0.0) d.0.1 found d.2 (says.0, ap (λ (l : List Lexeme). lexemes.Word words.Assume ∷ l) says.1, says.2)
 
   logic_takes_all : (word : Word) (ls : List Lexeme) (found : PureStatement × List Lexeme) → logic_at word (lexemes.Word word ∷ ls) ≡ Some found → Worded word found.0 ls found.1
   unfolding logic_at

@@ -14,6 +14,7 @@ pub struct Field {
     pub value: Expr,
 }
 
+/// The fields of a new record, in the order in which they are written.
 pub type Fields = Sequence<Field>;
 
 /// What only the proof of a specification looks at.
@@ -112,6 +113,7 @@ pub struct Function {
     pub at: u32,
 }
 
+/// The functions of a program, in the order of its text.
 pub type Functions = Sequence<Function>;
 
 /// The lists of which a program is made.

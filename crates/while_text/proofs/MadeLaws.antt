@@ -23,7 +23,7 @@ use Rattle.while_syntax.specs.Pure as while
 use Rattle.while_syntax.specs.Pure.{PureField, PureInvariant, PureStatement, PureBlock, no_statements, statement_and, PureFunction, PureSource}
 use Rattle.while_grammar.specs.Statements.{SpellsField, SpellsInvariant, SpellsStatement, SpellsElse, SpellsStatements, SpellsFunction}
 use Rattle.while_grammar.specs.Texts.{SourceItem, a_function, a_spec, a_pred, SpellsSourceItem, PlacedItem, SpellsItems, as_function, as_spec, as_pred, source_of, SpellItems, SpellSource}
-use Rattle.while_compiler.specs.Compiled.{block_temporaries, name_literals, field_values_code, fill_code, new_code, if_code, while_code, invariant_code, invariant_length, property, statement_code, block_code, compiled_function, compiled}
+use Rattle.while_compiler.specs.Compiled.{block_temporaries, name_literals, field_values_code, fill_code, new_code, if_code, while_code, invariant_code, property, statement_code, block_code, compiled_function, compiled}
 
 -- ---- commands one after another
 
@@ -207,8 +207,9 @@ module _ (place : ℕ → ℕ) where
         let second = invariant_makes i behind block first.proper.1 a in
         let third = statements_make body inner _ (after _ block inner opens second.proper) b in
         record {
-          is = λ pc at. made-while pc at e (invariant_code at (block_temporaries body) i) (block_code (pc + invariant_length i + 2) body) first.is
-              (second.is at (block_temporaries body)) (third.is (pc + invariant_length i + 2));
+          is = λ pc at. made-while pc at e (invariant_code at (block_temporaries body) i)
+              (block_code (pc + length (invariant_code at (block_temporaries body) i) + 1 + 1) body) first.is
+              (second.is at (block_temporaries body)) (third.is (pc + length (invariant_code at (block_temporaries body) i) + 1 + 1));
           proper = third.proper.1;
         }
     statement_makes (while.return e) ls rest p (value, is, h) =

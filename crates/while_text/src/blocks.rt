@@ -9,10 +9,10 @@ ghost use Rattle.while_grammar.specs.Reading.Statements as read;
 
 use crate::assignments::of_name_at;
 use crate::pieces::{condition_at, invariant_at};
+use crate::places::next_place;
 use crate::worded::{asserted_at, assume_at, dispose_at, fail_at, logic_at, return_at};
 use gil_lexemes::{Cursor, Stop};
 use gil_lexer::{Form, Sign, Token, Word};
-use gil_text::byte_before;
 use std::alloc::Global;
 use while_syntax::{Block, PlacedStatement, Statement};
 
@@ -75,10 +75,7 @@ fn placed_at<'a>(
     ensures { Gives (λ found. (placed_view found.0, found.1)) result
         (read.placed_at (byte_before tokens.now) (read.statement_at (read.block_at (byte_before tokens.now) inner)) cursor.entry) }
 {
-    // So many bytes are more than memory holds.
-    let Ok(at) = u32::try_from(byte_before(tokens, cursor.left())) else {
-        return Err(Stop::Memory);
-    };
+    let at = next_place(tokens, &cursor)?;
     let (statement, cursor) = statement_at(alloc, tokens, inner, cursor)?;
     Ok((PlacedStatement { at, statement }, cursor))
 }

@@ -9,10 +9,11 @@ ghost use Rattle.while_text.specs.Located.{source_item_view};
 
 use crate::blocks::block_at;
 use crate::located::SourceItem;
+use crate::places::next_place;
 use gil_grammar::Extent;
 use gil_lexemes::{Cursor, Stop};
 use gil_lexer::{Sign, Token, Word};
-use gil_text::{byte_before, names_at, pred_at, spec_at, word_of};
+use gil_text::{names_at, pred_at, spec_at, word_of};
 use std::alloc::Global;
 use while_syntax::Function;
 
@@ -25,10 +26,7 @@ fn function_at<'a>(
 ) -> Result<(Function, Cursor<'a>), Stop>
     ensures { Gives (λ found. (function_view found.0, found.1)) result (statements.function_at (byte_before tokens.now) cursor.entry) }
 {
-    // So many bytes are more than memory holds.
-    let Ok(at) = u32::try_from(byte_before(tokens, cursor.left())) else {
-        return Err(Stop::Memory);
-    };
+    let at = next_place(tokens, &cursor)?;
     let (name, cursor) = cursor.behind().name(alloc)?;
     let cursor = cursor.sign(Sign::LeftParenthesis)?;
     let (params, cursor) = names_at(alloc, Sign::RightParenthesis, cursor)?;

@@ -8,9 +8,10 @@ mod laws;
 mod located;
 mod naming;
 mod pieces;
+mod places;
 mod reading;
 mod texts;
 mod worded;
 
 pub use laws::texts_compile_to_well_made_programs;
-pub use texts::{read, read_parts};
+pub use texts::read;

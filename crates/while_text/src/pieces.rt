@@ -40,6 +40,16 @@ pub(crate) fn condition_at<'a>(
     Ok((condition, cursor))
 }
 
+/// `(e);`
+#[tactic(auto, unfolding(while_grammar::specs::Reading::Statements::claim_at))]
+pub(crate) fn claim_at<'a>(alloc: Global, cursor: Cursor<'a>) -> Result<(Expr, Cursor<'a>), Stop>
+    ensures { Gives (λ found. (expr_view found.0, found.1)) result (read.claim_at cursor.entry) }
+{
+    let (condition, cursor) = condition_at(alloc, cursor)?;
+    let cursor = cursor.sign(Sign::Semicolon)?;
+    Ok((condition, cursor))
+}
+
 /// `name: e`
 #[tactic(auto, unfolding(while_grammar::specs::Reading::Statements::field_at))]
 fn field_at<'a>(alloc: Global, cursor: Cursor<'a>) -> Result<(Field, Cursor<'a>), Stop>

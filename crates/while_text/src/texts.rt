@@ -2,7 +2,6 @@
 ghost use Rattle.std.specs.Prelude.{◌≡◌, List, IfOk, IfErr, MatchResult};
 ghost use Rattle.gil_text.specs.declared.refused.RefusedKind.TheVariants.{Memory};
 ghost use Rattle.while_syntax.specs.Pure.{PureSource};
-ghost use Rattle.while_syntax.specs.View.{source_parts_view};
 ghost use Rattle.while_grammar.specs.Texts.{PlacedItem, SpellItems, SpellSource};
 ghost use Rattle.while_text.specs.Located.{located_of, located_view};
 ghost use Rattle.while_compiler.specs.Source.{source_view};
@@ -18,7 +17,6 @@ use gil_syntax::InvalidKind;
 use gil_text::{Refused, RefusedKind, nesting_fault, place_at, place_of, tokens_of};
 use std::alloc::Global;
 use while_compiler::Source;
-use while_syntax::SourceParts;
 
 /// The refusal of a text of which so many tokens are left, or that memory ran out.
 fn stopped(bytes: &[u8], tokens: &Tokens, stop: Stop) -> Refused
@@ -66,21 +64,8 @@ pub(crate) fn read_located(alloc: Global, bytes: &[u8]) -> Result<Located, Refus
     }
 }
 
-/// The trees of the program that the bytes spell. A refusal names the first kind that applies.
-pub fn read_parts(alloc: Global, bytes: &[u8]) -> Result<SourceParts, Refused>
-    // What is read are the trees of the text.
-    ensures ok { IfOk result (λ parts. SpellSource bytes.now (source_parts_view parts)) }
-    // A text of trees is accepted, as these.
-    ensures only { (source : PureSource) → SpellSource bytes.now source
-        → MatchResult result (λ parts. source_parts_view parts ≡ source) (λ refused. refused.kind ≡ Memory) }
-    // The refusal is the first that applies.
-    ensures refused { IfErr result (IsRefusedTree bytes.now) }
-{
-    let located = read_located(alloc, bytes)?;
-    Ok(located.parts)
-}
-
 /// The source that the bytes spell. A refusal names the first kind that applies, and for `Invalid` the byte at which the item begins.
+/// Places have 32 bits: a text of 4 GiB or more may be answered as want of memory.
 pub fn read(alloc: Global, bytes: &[u8]) -> Result<Source, Refused>
     // What is read is the source of the text.
     ensures ok { IfOk result (λ source. SpellSource bytes.now (source_view source)) }

@@ -4,7 +4,7 @@ ghost use Rattle.gil_lexemes.specs.Reading.{Gives};
 ghost use Rattle.while_syntax.specs.View.{statement_view};
 ghost use Rattle.while_grammar.specs.Reading.Statements as read;
 
-use crate::pieces::{condition_at, value_at};
+use crate::pieces::{claim_at, value_at};
 use gil_lexemes::{Cursor, Stop};
 use gil_lexer::{Sign, Word};
 use gil_syntax::Command;
@@ -46,25 +46,21 @@ pub(crate) fn fail_at<'a>(
 }
 
 /// `(e);`, behind `assert`.
-#[tactic(auto, unfolding(while_grammar::specs::Reading::Statements::assert_at))]
 fn assert_at<'a>(alloc: Global, cursor: Cursor<'a>) -> Result<(Statement, Cursor<'a>), Stop>
     ensures { Gives (λ found. (statement_view found.0, found.1)) result (read.assert_at cursor.entry) }
 {
-    let (condition, cursor) = condition_at(alloc, cursor)?;
-    let cursor = cursor.sign(Sign::Semicolon)?;
+    let (condition, cursor) = claim_at(alloc, cursor)?;
     Ok((Statement::Assert(condition), cursor))
 }
 
 /// `(e);`, behind `assume`.
-#[tactic(auto, unfolding(while_grammar::specs::Reading::Statements::assume_at))]
 pub(crate) fn assume_at<'a>(
     alloc: Global,
     cursor: Cursor<'a>,
 ) -> Result<(Statement, Cursor<'a>), Stop>
     ensures { Gives (λ found. (statement_view found.0, found.1)) result (read.assume_at cursor.entry) }
 {
-    let (condition, cursor) = condition_at(alloc, cursor)?;
-    let cursor = cursor.sign(Sign::Semicolon)?;
+    let (condition, cursor) = claim_at(alloc, cursor)?;
     Ok((Statement::Assume(condition), cursor))
 }
 

@@ -33,6 +33,13 @@ condition_at ls = do
   rest ← sign_at RightParenthesis e.1
   Some (e.0, rest)
 
+-- (e);
+unfoldable pub claim_at : List Lexeme → Reading PureExpr
+claim_at ls = do
+  e ← condition_at ls
+  rest ← sign_at Semicolon e.1
+  Some (e.0, rest)
+
 -- name: e
 unfoldable pub field_at : List Lexeme → Reading PureField
 field_at ls = do
@@ -134,17 +141,11 @@ return_at ls = value_at ls >>= λ e. Some (return e.0, e.1)
 abbrev pub fail_at : List Lexeme → Reading PureStatement
 fail_at ls = value_at ls >>= λ e. Some (fail e.0, e.1)
 
-unfoldable pub assert_at : List Lexeme → Reading PureStatement
-assert_at ls = do
-  e ← condition_at ls
-  rest ← sign_at Semicolon e.1
-  Some (assert e.0, rest)
+abbrev pub assert_at : List Lexeme → Reading PureStatement
+assert_at ls = claim_at ls >>= λ e. Some (assert e.0, e.1)
 
-unfoldable pub assume_at : List Lexeme → Reading PureStatement
-assume_at ls = do
-  e ← condition_at ls
-  rest ← sign_at Semicolon e.1
-  Some (assume e.0, rest)
+abbrev pub assume_at : List Lexeme → Reading PureStatement
+assume_at ls = claim_at ls >>= λ e. Some (assume e.0, e.1)
 
 -- what only proofs look at, of the command of GIL
 abbrev pub logic_of : gil.PureCommand → Option PureLogic

@@ -1,5 +1,4 @@
-use Rattle.std.proofs.Common.{sym, ◌∙◌, arith}
-use Rattle.std.specs.Prelude.{max}
+use Rattle.std.proofs.Common.{arith}
 use Rattle.while_compiler.proofs.Counts.{count-read, temporaries-next}
 use Rattle.while_compiler.proofs.temporaries.+counting.Goals as goal
 
@@ -11,7 +10,6 @@ block_temporaries-statement_temporaries-requires t c =
 
 pub block_temporaries-loop-placed-preserved : goal.block_temporaries-loop-placed-preserved
 block_temporaries-loop-placed-preserved t c =
-    c.max-most.ensures
-    ∙ (λ k. max (c.in_ok-statement_temporaries.ensures k) (c.loop-placed.invariant k))
-    ∙ sym (temporaries-next c.as_slice-placed-items.result.now c.loop-placed.placed-index c.placed-item.result c.loop-placed-test.true
-    c.placed-item.is)
+    let next = temporaries-next c.as_slice-placed-items.result.now c.loop-placed.placed-index c.placed-item.result c.loop-placed-test.true
+    c.placed-item.is in
+    omega (arith, next)

@@ -1,6 +1,5 @@
-use Rattle.std.proofs.Common.{◌≡◌, sym, ◌∙◌}
+use Rattle.std.proofs.Common.{sym, ◌∙◌}
 use Rattle.std.proofs.lemmas.Result.{err_from_is_err_and}
-use Rattle.gil_text.specs.declared.refused.RefusedKind.TheVariants.{Invalid}
 use Rattle.while_syntax.specs.View.{source_parts_view}
 use Rattle.while_text.specs.Located.{located_view}
 use Rattle.while_text.proofs.RefusalLemmas.{no_refusal, located_spells, one_source, names_hold, makes_hold, named_is_invalid, located_place, fault_refusal}
