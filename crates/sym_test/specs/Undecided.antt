@@ -158,10 +158,10 @@ IsOutsideAt atoms i = (¬ InFragment atoms) × ((reason : Reason) × (IsFirstOut
 --   not_simple: so no program is left undecided whose commands are all of simple form;
 --   given_suffices and leads: of runs that meet what is assumed, those along the path meet what is asked, and where no literal form is
 --     asked no others do;
---   way: so each term comes from the commands on the way, and not from another one with the same values, and no action needs a literal
+--   way: so each term comes from the commands on the way, or may stand in the place of one that does, and no action needs a literal
 --     form on which what it comes to doesn't depend, wherever the conditions are met;
 --   asks and conds_traced: so no atom is asked that no command asks;
---   given_allowed: so nothing is assumed but what the last command asks of its operands and the memory of its chunks;
+--   given_allowed: so nothing is assumed but what the last command may assume, or an action before it;
 --   outside: so no list is handed out that every decider decides.
 pub record IsUndecided {S : Type 0} (p : PureParts) (m : Actions) (stands : S → List PureValue → Heap → Type 0) (terms : S → StateTerms)
     (asked : List ℕ → List PureTerm → List PureTerm) (depends : S → List ℕ → List PureTerm → List PureValue → Heap → PureTerm → Type 0)

@@ -1,11 +1,14 @@
-//! Tests of symbolic memories, evaluation and paths; the library is empty. `chunks` tests `sym_model`, `notes` tests `least_memory`,
-//! `records` tests `record_sym`, `evaluation` tests `sym_evaluation`, and `paths` tests `sym_paths`.
+//! Tests of symbolic memories, evaluation, paths and exploration; the library is empty. `chunks` tests `sym_model`, `notes` tests
+//! `least_memory`, `records` tests `record_sym`, `evaluation` tests `sym_evaluation`, `paths` tests `sym_paths`, and `exploration` tests
+//! `sym_explore`.
 #![tactic(auto)]
 
 #[cfg(test)]
 mod chunks;
 #[cfg(test)]
 mod evaluation;
+#[cfg(test)]
+mod exploration;
 #[cfg(test)]
 mod notes;
 #[cfg(test)]
