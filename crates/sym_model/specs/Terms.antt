@@ -1,5 +1,5 @@
 -- Terms of states, arguments, conditions and results: which variables they name, and where they come from.
-use Rattle.std.specs.Prelude.{◌≡◌, ◌⊎◌, pos, List, [], ◌++◌, map, Bool, true, false, not, ◌&&◌, ◌||◌, Option, Some, None, IsTrue, ⊤}
+use Rattle.std.specs.Prelude.{◌≡◌, ◌⊎◌, ℤ, pos, List, [], ◌++◌, map, Bool, true, false, not, ◌&&◌, ◌||◌, Option, Some, None, IsTrue, ⊤}
 use Rattle.gil_values.specs.declared.kinds.Kind.{Kind}
 use Rattle.gil_values.specs.declared.operators.UnOp.{UnOp}
 use Rattle.gil_values.specs.declared.operators.BinOp.{BinOp}
@@ -9,7 +9,7 @@ use Rattle.pure_terms.specs.declared.variables.Sort.{Sort}
 use Rattle.pure_terms.specs.declared.variables.Var.{Var}
 use Rattle.pure_terms.specs.Equality.{same_term}
 use Rattle.pure_terms.specs.Folding.{folded_binary}
-use Rattle.pure_terms.specs.Fragment.{is_shift, is_integer_literal}
+use Rattle.pure_terms.specs.Fragment.{is_shift}
 use Rattle.pure_terms.specs.Kinds.{same_sort, allows, known_kind}
 use Rattle.pure_terms.specs.Meaning.{IsOver}
 use Rattle.pure_terms.specs.Naming.{names_only_below}
@@ -64,10 +64,14 @@ is_list_term _ = false
 abbrev pub IsPart : List PureTerm → Option Var → PureTerm → Type 0
 IsPart ts fresh t = IsListed ts t ⊎ (IsTrue (is_literal t) ⊎ ((x : Var) × ((fresh ≡ Some x) × (t ≡ variable x))))
 
--- such a term plus or minus a literal
-abbrev pub IsShifted : List PureTerm → Option Var → PureTerm → Type 0
-IsShifted ts fresh (binary_of op s t) = IsTrue (is_shift op && is_integer_literal t) × IsPart ts fresh s
-IsShifted ts fresh _ = ⊥
+-- such a term plus or minus a literal, folded
+pub record IsShifted (ts : List PureTerm) (fresh : Option Var) (t : PureTerm) : Type 0 where
+  pub op : BinOp
+  pub part : PureTerm
+  pub by : ℤ
+  pub shifts : IsTrue (is_shift op)
+  pub given : IsPart ts fresh part
+  pub folded : folded_binary op part (literal (Literal.Int by)) ≡ t
 
 -- such a term, or a list term of such
 abbrev mutual
