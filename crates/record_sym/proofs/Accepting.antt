@@ -18,8 +18,8 @@ use Rattle.sym_conditions.specs.Alternatives.{equal, kind_is}
 use Rattle.sym_conditions.specs.Comparing.{compared}
 use Rattle.sym_conditions.proofs.Telling.{Compared, are_same, are_different, are_unsure, comparison_of}
 use Rattle.sym_model.specs.Laws.{IsPlainWithin, IsDecidedWithin}
-use Rattle.sym_model.specs.Lists.{Each, IsAmong}
-use Rattle.sym_model.specs.Terms.{are_apart, Asked, form_terms, IsListed, IsNear, is_asked, IsSide, IsOwnCondition}
+use Rattle.sym_model.specs.Lists.{Each}
+use Rattle.sym_model.specs.Terms.{are_apart, Asked, MayNeedForm, IsListed, IsNear, is_asked, IsSide, IsOwnCondition}
 use Rattle.sym_model.proofs.Listed.{listed_elements, side_elements, asked_side}
 use Rattle.record_sym.proofs.NameLists.{elements_over}
 use Rattle.record_sym.proofs.Shapes.{Accepts}
@@ -37,7 +37,7 @@ unsure s t is = unsure_by s t (compared s t) (comparison_of s t) is
 
 -- ---- own conditions
 
-pub own_accepts : (g : Asked) → Accepts (IsOwnCondition g) (IsSide g) (IsListed g.about) (IsNear g) (λ t. IsAmong t (form_terms g))
+pub own_accepts : (g : Asked) → Accepts (IsOwnCondition g) (IsSide g) (IsListed g.about) (IsNear g) (MayNeedForm g)
 own_accepts g = record {
   are_equal = λ s t first second is. let parts = unsure s t is in inl (parts.0, parts.1, inl (first, second));
   are_other = λ s t first second is. let parts = unsure s t is in inl (parts.0, parts.1, inl (first, second));

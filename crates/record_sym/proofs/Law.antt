@@ -1,9 +1,10 @@
 -- The branches of every action keep the laws of a symbolic memory.
-use Rattle.std.proofs.Common.{◌≡◌, ⊎_elim, inl, inr, ℕ, ℤ, ◌-ℤ◌, ◌+ℤ◌, List, [], ◌∷◌, ◌++◌, map, true, false, not, ◌&&◌, Option, Some, None, refl, sym, ap, subst, ◌∙◌, true≢false}
+use Rattle.std.proofs.Common.{◌≡◌, ◌⊎◌, ⊎_elim, inl, inr, ℕ, ℤ, ◌-ℤ◌, ◌+ℤ◌, List, [], ◌∷◌, ◌++◌, map, Bool, true, false, not, ◌&&◌, if◌then◌else◌, Option, Some, None, refl, sym, ap, subst, ◌∙◌, true≢false}
 use Rattle.std.proofs.lemmas.Bool.{and_parts, false≢true}
 use Rattle.gil_values.proofs.OperatorSymbols.{none_contained}
 use Rattle.gil_values.specs.declared.kinds.Kind.{Kind}
 use Rattle.gil_values.specs.declared.operators.BinOp.{BinOp}
+use Rattle.gil_values.specs.Equality.{same_kind}
 use Rattle.gil_values.specs.Pure.{PureValue}
 use Rattle.mem_model.specs.declared.failures.Failure.{Failure}
 use Rattle.mem_model.specs.declared.keys.MemoryName.TheVariants.{Record}
@@ -12,25 +13,26 @@ use Rattle.pure_terms.specs.declared.literals.Literal.{Literal}
 use Rattle.pure_terms.specs.declared.variables.Sort.{Sort}
 use Rattle.pure_terms.specs.declared.variables.Var.{Var}
 use Rattle.pure_terms.specs.Fragment.{is_shift}
-use Rattle.pure_terms.specs.Kinds.{same_sort, kind_of_sort}
+use Rattle.pure_terms.specs.Kinds.{same_sort, kind_of_sort, allows, known_kind}
 use Rattle.pure_terms.specs.Meaning.{IsOver}
-use Rattle.pure_terms.specs.Pure.{PureTerm, literal, variable, list_of, unary_of, binary_of, PureAtom, term_of}
+use Rattle.pure_terms.specs.Pure.{PureTerm, literal, variable, list_of, unary_of, binary_of, PureAtom, positive, term_of}
 use Rattle.record_heap.specs.declared.actions.RecordAction.{RecordAction}
 use Rattle.record_heap.specs.Names.{action_of}
 use Rattle.record_heap.specs.Table.{act_of, record_actions}
 use Rattle.record_sym.specs.Laws.{AreRight}
 use Rattle.record_sym.specs.Plain.{ListsByTerm, ArePlainChunks}
+use Rattle.record_sym.specs.RecordMeaning.{each_asked}
 use Rattle.record_sym.specs.Table.{failure, asked_by, branches_of, unknown_action, table}
-use Rattle.sym_conditions.specs.Alternatives.{Alternatives, always, never, by_kind, of_kind}
+use Rattle.sym_conditions.specs.Alternatives.{Alternatives, always, never, given, kind_is, by_kind, of_kind}
 use Rattle.sym_model.specs.Chunks.{StandFor, placed_in, value_where_described, located_in, terms_of}
 use Rattle.sym_model.specs.Laws.{MayBeAsked, Serves, ActLaw, ActsPlainly, EachTerm, IsPlainWithin, IsDecidedWithin, growth}
 use Rattle.sym_model.specs.Lists.{Each, OneOf, IsAmong}
 use Rattle.sym_model.specs.Meaning.{fresh_symbol}
-use Rattle.sym_model.specs.Pure.{PureSub, sub_terms, PureChunk, result_terms}
-use Rattle.sym_model.specs.Terms.{all_of, AreEachOver, IsFreshOver, is_list_term, IsMadeOf, LocatedTerms, Asked, asked_of, compared_terms, form_terms, IsListed, is_given, locations_of, IsNear, is_next, IsSide, IsOwnCondition}
+use Rattle.sym_model.specs.Pure.{PureSub, shape, sub_terms, PureChunk, result_terms}
+use Rattle.sym_model.specs.Terms.{all_of, AreEachOver, IsFreshOver, is_list_term, IsMadeOf, LocatedTerms, Asked, asked_of, compared_terms, MayNeedForm, IsListed, IsNear, is_next, IsSide, IsOwnCondition}
 use Rattle.sym_model.proofs.ChunkMeaning.{ChunkTerms, chunk_val, chunk_by_chunk, from_chunks}
 use Rattle.sym_model.proofs.Listed.{listed_itself}
-use Rattle.sym_model.proofs.ListLaws.{not_none, each_to, each_left, each_right, each_flattened, each_is_among, one_left, one_right}
+use Rattle.sym_model.proofs.ListLaws.{not_none, each_to, each_left, each_right, each_flattened, each_is_among}
 use Rattle.sym_model.proofs.MadeLaws.{made_of_given, elements_made}
 use Rattle.sym_model.proofs.PlainLaws.{plain_wider, decided_wider}
 use Rattle.record_sym.proofs.Accepting.{own_accepts, over_accepts, plain_accepts, elements_plain, plain_parts}
@@ -39,22 +41,6 @@ use Rattle.record_sym.proofs.LookupLaws.{fails_always, IsRight}
 use Rattle.record_sym.proofs.NameLists.{elements_over}
 use Rattle.record_sym.proofs.Right.{new_is_right, lookup_is_right, mutate_is_right, dispose_is_right}
 use Rattle.record_sym.proofs.Shapes.{ChunkSides, IsFine, shaped}
-
--- ---- the asked arguments are among the arguments
-
-each_asked : (P : PureTerm → Type 0) (op : RecordAction) (args : List PureTerm) → Each P args → Each P (asked_by (Some op) args)
-each_asked P RecordAction.Mutate (l ∷ p ∷ more) all_hold = (all_hold.0, (all_hold.1.0, tt))
-each_asked P RecordAction.Mutate (l ∷ []) all_hold = all_hold
-each_asked P RecordAction.Mutate [] all_hold = all_hold
-each_asked P RecordAction.New args all_hold = all_hold
-each_asked P RecordAction.Lookup args all_hold = all_hold
-each_asked P RecordAction.Dispose args all_hold = all_hold
-
-only_asked : (op : RecordAction) (d : PureTerm) → IsAmong d (asked_by (Some op) (d ∷ []))
-only_asked RecordAction.New d = inl refl
-only_asked RecordAction.Lookup d = inl refl
-only_asked RecordAction.Mutate d = inl refl
-only_asked RecordAction.Dispose d = inl refl
 
 abbrev Anything : PureSub → PureTerm → Type 0
 Anything s t = Unit {0}
@@ -88,14 +74,14 @@ module _ (fresh : Option Var) (args : List PureTerm) (cs : List PureChunk) where
     over_state = each_to (ChunkTerms (IsOver vars)) _ cs (λ c is. record { terms = is; holds = tt }) over_chunks
 
     over_sides : Each (ChunkSides (λ a. IsOver vars (term_of a)) (IsOver vars) (IsOver vars) (IsOver vars) (IsOver vars) (over_accepts vars)) cs
-    over_sides = each_to (ChunkTerms (IsOver vars)) _ cs (λ c is. record { loc = is.places.0; near = λ l near same. is.places.0; places = λ near. is.places.1; described = λ near. is.described; form = λ s a b. chunk_val (IsOver vars) c is }) over_chunks
+    over_sides = each_to (ChunkTerms (IsOver vars)) _ cs (λ c is. record { loc = λ near. is.places.0; near = λ l near same. is.places.0; places = λ near. is.places.1; described = λ near. is.described; form = λ near s a b. chunk_val (IsOver vars) c is }) over_chunks
 
     over_shaped : (o : Option RecordAction) → Each (Shaped (λ a. IsOver vars (term_of a)) OverState (IsOver vars)) (table o fresh args cs)
     over_shaped None = unknown_shaped (λ a. IsOver vars (term_of a)) OverState (IsOver vars) cs over_state (λ k. over_literal (Literal.Str k))
     over_shaped (Some op) =
         shaped (λ a. IsOver vars (term_of a)) (IsOver vars) (IsOver vars) (IsOver vars) (IsOver vars) (over_accepts vars) (IsOver vars) Anything (λ k. over_literal (Literal.Str k)) (over_literal (Literal.Kind Kind.Null)) (over_literal (Literal.Bool true)) (λ ts is. elements_over vars ts is) (λ q t. tt) (λ t. tt) (λ ts. tt)
-        cs over_sides over_state op fresh args (over_fresh fresh fresh_over) (each_asked (IsOver vars) op args over_args) over_args
-        (λ d e no_list. inr (subst (λ xs. Each (IsOver vars) xs) e over_args).0)
+        cs over_sides over_state op fresh args (over_fresh fresh fresh_over) (each_asked (IsOver vars) (Some op) args over_args) over_args
+        (λ d new e no_list. inr (subst (λ xs. Each (IsOver vars) xs) e over_args).0)
 
     over_named : (o : Option RecordAction) → Each (λ b. Each (λ a. IsOver vars (term_of a)) b.conds × EachTerm terms_of (IsOver vars) b) (table o fresh args cs)
     over_named o =
@@ -125,7 +111,7 @@ module _ (fresh : Option Var) (args : List PureTerm) (cs : List PureChunk) where
     made_chunks = chunk_by_chunk Made cs (each_right Made args (all_of (terms_of cs)) made_all)
 
     abbrev MadeState : List PureChunk → Type 0
-    MadeState ds = Each (IsFine (IsOwnCondition asks) (IsSide asks) (IsListed asks.about) (IsNear asks) (λ t. IsAmong t (form_terms asks)) (own_accepts asks) Made Anything (λ k. tt) tt tt (elements_made (args ++ all_of (terms_of cs)) fresh) (λ q t. tt) (λ t. tt) (λ ts. tt)) ds
+    MadeState ds = Each (IsFine (IsOwnCondition asks) (IsSide asks) (IsListed asks.about) (IsNear asks) (MayNeedForm asks) (own_accepts asks) Made Anything (λ k. tt) tt tt (elements_made (args ++ all_of (terms_of cs)) fresh) (λ q t. tt) (λ t. tt) (λ ts. tt)) ds
 
     made_state : MadeState cs
     made_state = each_to (ChunkTerms Made) _ cs (λ c is. record { terms = is; holds = tt }) made_chunks
@@ -135,10 +121,6 @@ module _ (fresh : Option Var) (args : List PureTerm) (cs : List PureChunk) where
 
     listed_chunks : Each (IsListed (compared_terms asks)) ((terms_of cs).placed ++ (terms_of cs).described)
     listed_chunks = each_right (IsListed (compared_terms asks)) (asked_by o args) ((terms_of cs).placed ++ (terms_of cs).described) listed_all
-
-    among_itself : (xs : List PureTerm) → Each (λ t. IsAmong t xs) xs
-    among_itself [] = tt
-    among_itself (x ∷ xs) = (inl refl, each_to (λ t. IsAmong t xs) (λ t. IsAmong t (x ∷ xs)) xs (λ t later. inr later) (among_itself xs))
 
     -- what holds of a chunk's location and of what stands there holds of one of those of the state
     located_one : (P : LocatedTerms → Type 0) (ds : List PureChunk) (c : PureChunk) → IsAmong c ds → P (located_in c) → OneOf P (map located_in ds)
@@ -150,45 +132,69 @@ module _ (fresh : Option Var) (args : List PureTerm) (cs : List PureChunk) where
     location_among (d ∷ ds) c one = ⊎_elim (λ e. inl (ap (λ (b : PureChunk). b.loc) e)) (λ later. inr (location_among ds c later)) one
 
     module _ (c : PureChunk) (there : IsAmong c cs) where
-      sides_there : (ts : List PureTerm) → Each (IsListed (compared_terms asks)) ts → Each (IsListed (located_in c).terms) ts → IsNear asks c.loc → Each (IsSide asks) ts
+      sides_there : (ts : List PureTerm) → Each (IsListed (compared_terms asks)) ts → Each (IsListed (c.loc ∷ (located_in c).terms)) ts → IsNear asks c.loc → Each (IsSide asks) ts
       sides_there [] listed at near = tt
       sides_there (t ∷ ts) listed at near = (
-        record { compared = listed.0; near = inr (located_one (λ p. IsNear asks p.loc × IsListed p.terms t) cs c there (near, at.0)) },
+        record { compared = listed.0; near = inr (located_one (λ p. IsNear asks p.loc × IsListed (p.loc ∷ p.terms) t) cs c there (near, at.0)) },
         sides_there ts listed.1 at.1 near,
       )
 
-      listed_there : Each (IsListed (located_in c).terms) (sub_terms c.sub ++ value_where_described c.sub c.val)
-      listed_there = listed_itself (located_in c).terms
+      listed_there : Each (IsListed (c.loc ∷ (located_in c).terms)) (c.loc ∷ (located_in c).terms)
+      listed_there = listed_itself (c.loc ∷ (located_in c).terms)
 
-      own_chunk : Each (IsListed (compared_terms asks)) (placed_in c) → Each (IsListed (compared_terms asks)) (value_where_described c.sub c.val) → Each (λ t. IsAmong t (form_terms asks)) (value_where_described c.sub c.val)
-          → ChunkSides (IsOwnCondition asks) (IsSide asks) (IsListed asks.about) (IsNear asks) (λ t. IsAmong t (form_terms asks)) (own_accepts asks) c
+      listed_parts : Each (IsListed (c.loc ∷ (located_in c).terms)) (sub_terms c.sub) × Each (IsListed (c.loc ∷ (located_in c).terms)) (value_where_described c.sub c.val)
+      listed_parts =
+          (each_left (IsListed (c.loc ∷ (located_in c).terms)) (sub_terms c.sub) (value_where_described c.sub c.val) listed_there.1, each_right (IsListed (c.loc ∷ (located_in c).terms)) (sub_terms c.sub) (value_where_described c.sub c.val) listed_there.1)
+
+      names_stand : c.sub ≡ shape → IsAmong c.val (located_in c).terms
+      names_stand is = subst (λ s. IsAmong c.val (sub_terms s ++ value_where_described s c.val)) (sym is) (inl refl)
+
+      own_chunk : Each (IsListed (compared_terms asks)) (placed_in c) → Each (IsListed (compared_terms asks)) (value_where_described c.sub c.val) → Each (λ t. IsAmong t (terms_of cs).described) (value_where_described c.sub c.val)
+          → ChunkSides (IsOwnCondition asks) (IsSide asks) (IsListed asks.about) (IsNear asks) (MayNeedForm asks) (own_accepts asks) c
       own_chunk places described forms = record {
-        loc = record { compared = places.0; near = inl (is_given (one_right (λ t. t ≡ c.loc) asks.about (locations_of asks) (location_among cs c there))) };
+        loc = λ near. (sides_there (c.loc ∷ []) (places.0, tt) (listed_there.0, tt) near).0;
         near = λ l near same. is_next near (location_among cs c there) same;
-        places = sides_there (sub_terms c.sub) places.1 (each_left (IsListed (located_in c).terms) (sub_terms c.sub) (value_where_described c.sub c.val) listed_there);
-        described = sides_there (value_where_described c.sub c.val) described (each_right (IsListed (located_in c).terms) (sub_terms c.sub) (value_where_described c.sub c.val) listed_there);
-        form = λ is no_list no_literal. (subst (λ s. Each (λ t. IsAmong t (form_terms asks)) (value_where_described s c.val)) is forms).0;
+        places = sides_there (sub_terms c.sub) places.1 listed_parts.0;
+        described = sides_there (value_where_described c.sub c.val) described listed_parts.1;
+        form = λ near is no_list no_literal. inr (
+          (subst (λ s. Each (λ t. IsAmong t (terms_of cs).described) (value_where_described s c.val)) is forms).0,
+          located_one (λ p. IsNear asks p.loc × IsAmong c.val p.terms) cs c there (near, names_stand is),
+        );
       }
 
-    own_zipped : (ds : List PureChunk) → Each (λ c. IsAmong c cs) ds → Each (λ c. Each (IsListed (compared_terms asks)) (placed_in c)) ds → Each (λ c. Each (IsListed (compared_terms asks)) (value_where_described c.sub c.val)) ds → Each (λ c. Each (λ t. IsAmong t (form_terms asks)) (value_where_described c.sub c.val)) ds
-        → Each (ChunkSides (IsOwnCondition asks) (IsSide asks) (IsListed asks.about) (IsNear asks) (λ t. IsAmong t (form_terms asks)) (own_accepts asks)) ds
+    own_zipped : (ds : List PureChunk) → Each (λ c. IsAmong c cs) ds → Each (λ c. Each (IsListed (compared_terms asks)) (placed_in c)) ds → Each (λ c. Each (IsListed (compared_terms asks)) (value_where_described c.sub c.val)) ds → Each (λ c. Each (λ t. IsAmong t (terms_of cs).described) (value_where_described c.sub c.val)) ds
+        → Each (ChunkSides (IsOwnCondition asks) (IsSide asks) (IsListed asks.about) (IsNear asks) (MayNeedForm asks) (own_accepts asks)) ds
     own_zipped [] there places described forms = tt
     own_zipped (c ∷ ds) there places described forms = (own_chunk c there.0 places.0 described.0 forms.0, own_zipped ds there.1 places.1 described.1 forms.1)
 
-    own_sides : Each (ChunkSides (IsOwnCondition asks) (IsSide asks) (IsListed asks.about) (IsNear asks) (λ t. IsAmong t (form_terms asks)) (own_accepts asks)) cs
+    own_sides : Each (ChunkSides (IsOwnCondition asks) (IsSide asks) (IsListed asks.about) (IsNear asks) (MayNeedForm asks) (own_accepts asks)) cs
     own_sides =
         own_zipped cs (each_is_among cs)
         (each_flattened (IsListed (compared_terms asks)) placed_in cs (each_left (IsListed (compared_terms asks)) (terms_of cs).placed (terms_of cs).described listed_chunks))
         (each_flattened (IsListed (compared_terms asks)) (λ (c : PureChunk). value_where_described c.sub c.val) cs (each_right (IsListed (compared_terms asks)) (terms_of cs).placed (terms_of cs).described listed_chunks))
-        (each_flattened (λ t. IsAmong t (form_terms asks)) (λ (c : PureChunk). value_where_described c.sub c.val) cs (each_right (λ t. IsAmong t (form_terms asks)) (asked_by o args) (terms_of cs).described (among_itself (form_terms asks))))
+        (each_flattened (λ t. IsAmong t (terms_of cs).described) (λ (c : PureChunk). value_where_described c.sub c.val) cs (each_is_among (terms_of cs).described))
+
+  -- `new` asks about its argument, where that may be a list
+  list_asked : (d : PureTerm) (y : Alternatives) (o : Option Kind) → (by_kind o Kind.List always never y ≡ never) ⊎ IsAmong d (if allows o Kind.List then d ∷ [] else [])
+  list_asked d y None = inr (inl refl)
+  list_asked d y (Some k) = by_test (same_kind k Kind.List)
+    where
+      by_test : (b : Bool) → ((if b then always else never) ≡ never) ⊎ IsAmong d (if b then d ∷ [] else [])
+      by_test true = inr (inl refl)
+      by_test false = inl refl
+
+  new_asks : (op : RecordAction) (d : PureTerm) → op ≡ RecordAction.New → args ≡ d ∷ [] → (of_kind d Kind.List ≡ never) ⊎ IsAmong d (asked_by (Some op) args)
+  new_asks op d is e =
+      subst (λ a. (of_kind d Kind.List ≡ never) ⊎ IsAmong d (asked_by (Some a) args)) (sym is)
+      (subst (λ ts. (of_kind d Kind.List ≡ never) ⊎ IsAmong d (asked_by (Some RecordAction.New) ts)) (sym e) (list_asked d (given (positive (kind_is d Kind.List))) (known_kind d)))
 
   made_shaped : (o : Option RecordAction) → Each (Shaped (IsOwnCondition (asks o)) (MadeState o) (Made o)) (table o fresh args cs)
   made_shaped None = unknown_shaped (IsOwnCondition (asks None)) (MadeState None) (Made None) cs (made_state None) (λ k. tt)
   made_shaped (Some op) =
-      shaped (IsOwnCondition (asks (Some op))) (IsSide (asks (Some op))) (IsListed (asks (Some op)).about) (IsNear (asks (Some op))) (λ t. IsAmong t (form_terms (asks (Some op)))) (own_accepts (asks (Some op))) (Made (Some op)) Anything (λ k. tt) tt tt (elements_made (args ++ all_of (terms_of cs)) fresh) (λ q t. tt) (λ t. tt) (λ ts. tt)
+      shaped (IsOwnCondition (asks (Some op))) (IsSide (asks (Some op))) (IsListed (asks (Some op)).about) (IsNear (asks (Some op))) (MayNeedForm (asks (Some op))) (own_accepts (asks (Some op))) (Made (Some op)) Anything (λ k. tt) tt tt (elements_made (args ++ all_of (terms_of cs)) fresh) (λ q t. tt) (λ t. tt) (λ ts. tt)
       cs (own_sides (Some op)) (made_state (Some op)) op fresh args (λ x is. inr (inr (x, (is, refl))))
       (listed_itself (asks (Some op)).about) (made_args (Some op))
-      (λ d e no_list. inr (one_left (λ y. y ≡ d) (asked_by (Some op) args) (terms_of cs).described (subst (λ xs. IsAmong d (asked_by (Some op) xs)) (sym e) (only_asked op d))))
+      (λ d new e no_list. ⊎_elim inl (λ among. inr (inl among)) (new_asks op d new e))
 
   -- ---- plain
 
@@ -208,11 +214,11 @@ module _ (fresh : Option Var) (args : List PureTerm) (cs : List PureChunk) where
 
     plain_sides : Each (ChunkSides (IsDecidedWithin low high) (IsPlainWithin low high) (IsPlainWithin low high) (IsPlainWithin low high) (λ t. ⊥) (plain_accepts low high)) cs
     plain_sides = each_to _ _ cs (λ c fine. record {
-      loc = fine.terms.places.0;
+      loc = λ near. fine.terms.places.0;
       near = λ l near same. fine.terms.places.0;
       places = λ near. fine.terms.places.1;
       described = λ near. fine.terms.described;
-      form = λ is no_list no_literal. true≢false (sym (subst (λ s. ListsByTerm s c.val) is fine.holds) ∙ no_list);
+      form = λ near is no_list no_literal. true≢false (sym (subst (λ s. ListsByTerm s c.val) is fine.holds) ∙ no_list);
     }) plain_state
 
     by_sort : (s : Sort) (y : Alternatives) → same_sort s Sort.Any ≡ false → same_sort s Sort.List ≡ false → by_kind (kind_of_sort s) Kind.List always never y ≡ never
@@ -244,8 +250,8 @@ module _ (fresh : Option Var) (args : List PureTerm) (cs : List PureChunk) where
     plain_shaped None = unknown_shaped (IsDecidedWithin low high) PlainState (IsPlainWithin low high) cs plain_state (λ k. (refl, refl))
     plain_shaped (Some op) =
         shaped (IsDecidedWithin low high) (IsPlainWithin low high) (IsPlainWithin low high) (IsPlainWithin low high) (λ t. ⊥) (plain_accepts low high) (IsPlainWithin low high) ListsByTerm (λ k. (refl, refl)) (refl, refl) (refl, refl) (elements_plain low high) (λ q t. tt) (λ t. tt) (λ ts. refl)
-        cs plain_sides plain_state op fresh args plain_fresh (each_asked (IsPlainWithin low high) op args plain_args) plain_args
-        (λ d e no_list. inl (no_list_kind d (subst (λ xs. Each (IsPlainWithin low high) xs) e plain_args).0 no_list))
+        cs plain_sides plain_state op fresh args plain_fresh (each_asked (IsPlainWithin low high) (Some op) args plain_args) plain_args
+        (λ d new e no_list. inl (no_list_kind d (subst (λ xs. Each (IsPlainWithin low high) xs) e plain_args).0 no_list))
 
 -- ---- the laws
 

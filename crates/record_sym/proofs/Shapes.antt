@@ -1,19 +1,19 @@
 -- The forms of the conditions that are asked, and what states and results are made of.
-use Rattle.std.proofs.Common.{◌≡◌, ◌⊎◌, ⊎_elim, inl, inr, ℕ, zero, suc, ◌+◌, List, [], ◌∷◌, ◌++◌, map, Bool, true, false, not, ◌||◌, Option, Some, None, IsTrue, if◌then◌else◌, slice_get, refl, sym, ap, subst, ◌∙◌, arith}
-use Rattle.std.specs.List.{flat_map, remove}
+use Rattle.std.proofs.Common.{◌≡◌, ◌⊎◌, ⊎_elim, inl, inr, ℕ, zero, suc, ◌+◌, List, [], ◌∷◌, ◌++◌, map, Bool, true, false, not, ◌&&◌, ◌||◌, Option, Some, None, IsTrue, if◌then◌else◌, slice_get, refl, sym, ap, subst, ◌∙◌, true≢false, arith}
+use Rattle.std.specs.List.{flat_map, remove, list_any}
 use Rattle.gil_values.specs.declared.kinds.Kind.{Kind}
 use Rattle.gil_values.specs.Equality.{same_kind}
 use Rattle.mem_model.specs.declared.failures.Failure.{Failure}
 use Rattle.pure_terms.specs.declared.literals.Literal.{Literal}
 use Rattle.pure_terms.specs.declared.variables.Var.{Var}
 use Rattle.pure_terms.specs.Equality.{same_term}
-use Rattle.pure_terms.specs.Kinds.{known_kind}
+use Rattle.pure_terms.specs.Kinds.{allows, known_kind}
 use Rattle.pure_terms.specs.Pure.{PureTerm, literal, variable, list_of, unary_of, binary_of, PureTerms, to_list, PureAtom, positive, negative, opening}
 use Rattle.record_sym.specs.Places.{gone_there, gone_at, key_there, at_key, key_elsewhere, other_key, listed, unlisted, tells_not, lacks, absent_there, absent_at, form_of_names, opened_there, opened_at, undescribed_there, undescribed_at}
 use Rattle.record_heap.specs.declared.actions.RecordAction.{RecordAction}
-use Rattle.record_sym.specs.Table.{RecordBranches, cases, failure, null, true_term, asked_by, branches_of, PureTaking, taking, takings_from, next_takings, missing_name, disposed, dispose_names, dispose_there, dispose_from, dispose, found, lookup, changes_from, mutate, gone_cases, absent_cases, opened_names, missed_names, missed_name, without_property, wrong_number, property_or_fail, faulty, distinct_from, name_chunk, created, made_cases, make}
+use Rattle.record_sym.specs.Table.{RecordBranches, cases, failure, null, true_term, may_be_property, asked_by, act_dispose, branches_of, PureTaking, taking, takings_from, next_takings, missing_name, disposed, dispose_names, dispose_there, dispose_from, dispose, found, lookup, changes_from, mutate, gone_cases, absent_cases, opened_names, missed_names, missed_name, without_property, wrong_number, property_or_fail, faulty, distinct_from, name_chunk, created, made_cases, make}
 use Rattle.sym_conditions.specs.declared.comparing.Comparison.{Comparison}
-use Rattle.sym_conditions.specs.Alternatives.{Alternatives, never, always, given, both, any, all_from, all, equal, same, other, by_comparison, kind_is, by_kind, of_kind, not_of_kind, with_form}
+use Rattle.sym_conditions.specs.Alternatives.{Alternatives, never, always, given, both, any, all_from, all, is_empty, equal, same, other, by_comparison, kind_is, by_kind, of_kind, not_of_kind, with_form}
 use Rattle.sym_conditions.specs.Comparing.{compared}
 use Rattle.sym_model.specs.Chunks.{with_held, value_where_described, value_where_held}
 use Rattle.sym_model.specs.Lists.{Each}
@@ -81,6 +81,14 @@ module _ (Q : PureAtom → Type 0) (Side Given Near Form : PureTerm → Type 0) 
     not_kind_shaped : EachAtom Q (not_of_kind t k)
     not_kind_shaped = by_unknown (known_kind t) refl
 
+  -- a term whose kind is known and another
+  wrong_by : (o : Option Kind) (k : Kind) (x y : Alternatives) → allows o k ≡ false → (by_kind o k always never x ≡ never) × (by_kind o k never always y ≡ always)
+  wrong_by (Some l) k x y wrong = (ap (λ b. if b then always else never) wrong, ap (λ b. if b then never else always) wrong)
+  wrong_by None k x y wrong = absurd (true≢false wrong)
+
+  wrong_kind : (t : PureTerm) (k : Kind) → allows (known_kind t) k ≡ false → (of_kind t k ≡ never) × (not_of_kind t k ≡ always)
+  wrong_kind t k = wrong_by (known_kind t) k (given (positive (kind_is t k))) (given (negative (kind_is t k)))
+
   any_shaped : {A : Type 0} (f : A → Alternatives) (es : List A) → Each (λ e. EachAtom Q (f e)) es → EachAtom Q (any f es)
   any_shaped f es each = each_flat (Each Q) f es each
 
@@ -96,34 +104,55 @@ module _ (Q : PureAtom → Type 0) (Side Given Near Form : PureTerm → Type 0) 
 
   -- ---- chunks
 
-  -- the terms of a chunk that may be compared, and the form of its names
+  -- where the location of a chunk is near, its terms that may be compared, and the form of its names
   pub record ChunkSides (c : PureChunk) : Type 0 where
-    pub loc : Side c.loc
+    pub loc : Near c.loc → Side c.loc
     pub near : (l : PureTerm) → Near l → IsTrue (may_be_same l c.loc) → Near c.loc
     pub places : Near c.loc → Each Side (sub_terms c.sub)
     pub described : Near c.loc → Each Side (value_where_described c.sub c.val)
-    pub form : c.sub ≡ shape → is_list_term c.val ≡ false → is_literal c.val ≡ false → Form c.val
+    pub form : Near c.loc → c.sub ≡ shape → is_list_term c.val ≡ false → is_literal c.val ≡ false → Form c.val
 
   both_never : (x : Alternatives) → both x never ≡ never
   both_never [] = refl
   both_never (conds ∷ x) = both_never x
 
+  ends_always : (x : Alternatives) → list_any is_empty (x ++ always) ≡ true
+  ends_always [] = refl
+  ends_always ([] ∷ x) = refl
+  ends_always ((a ∷ conds) ∷ x) = ends_always x
+
+  -- where a location or a name is known to be of another kind, an action that takes both surely fails
+  wrong_property : (l p : PureTerm) (a b : Bool) → allows (known_kind l) Kind.Sym ≡ a → allows (known_kind p) Kind.Str ≡ b → (a && b) ≡ false
+      → (both (of_kind l Kind.Sym) (of_kind p Kind.Str) ≡ never) × (list_any is_empty (not_of_kind l Kind.Sym ++ not_of_kind p Kind.Str) ≡ true)
+  wrong_property l p false b is_a is_b wrong =
+      (ap (λ x. both x (of_kind p Kind.Str)) (wrong_kind l Kind.Sym is_a).0, ap (λ x. list_any is_empty (x ++ not_of_kind p Kind.Str)) (wrong_kind l Kind.Sym is_a).1)
+  wrong_property l p true false is_a is_b wrong = (
+    ap (both (of_kind l Kind.Sym)) (wrong_kind p Kind.Str is_b).0 ∙ both_never (of_kind l Kind.Sym),
+    ap (λ x. list_any is_empty (not_of_kind l Kind.Sym ++ x)) (wrong_kind p Kind.Str is_b).1 ∙ ends_always (not_of_kind l Kind.Sym),
+  )
+  wrong_property l p true true is_a is_b wrong = absurd (true≢false wrong)
+
   module _ (l p : PureTerm) (side_l : Side l) (near_l : Near l) (side_p : Side p) (c : PureChunk) (sides : ChunkSides c) where
-    loc_same : EachAtom Q (same l c.loc)
-    loc_same = same_shaped l c.loc side_l sides.loc
-
-    loc_other : EachAtom Q (other l c.loc)
-    loc_other = other_shaped l c.loc side_l sides.loc
-
     near_or_by : (a b : Bool) → same_term l c.loc ≡ a → are_apart l c.loc ≡ b
-        → Near c.loc ⊎ (by_comparison (if a then Comparison.Same else if b then Comparison.Different else Comparison.Unsure) always never (given (positive (equal l c.loc))) ≡ never)
+        → Near c.loc ⊎ ((if a then Comparison.Same else if b then Comparison.Different else Comparison.Unsure) ≡ Comparison.Different)
     near_or_by true b is_a is_b = inl (sides.near l near_l (λ i. is_a i || not (is_b i)))
     near_or_by false true is_a is_b = inr refl
     near_or_by false false is_a is_b = inl (sides.near l near_l (λ i. is_a i || not (is_b i)))
 
     -- the chunk's location is near, or it is surely another one
+    near_or_apart : Near c.loc ⊎ (compared l c.loc ≡ Comparison.Different)
+    near_or_apart = near_or_by (same_term l c.loc) (are_apart l c.loc) refl refl
+
     near_or_never : Near c.loc ⊎ (same l c.loc ≡ never)
-    near_or_never = near_or_by (same_term l c.loc) (are_apart l c.loc) refl refl
+    near_or_never = ⊎_elim inl (λ e. inr (ap (λ k. by_comparison k always never (given (positive (equal l c.loc)))) e)) near_or_apart
+
+    loc_same : EachAtom Q (same l c.loc)
+    loc_same = ⊎_elim (λ near. same_shaped l c.loc side_l (sides.loc near)) (λ e. subst (EachAtom Q) (sym e) tt) near_or_never
+
+    loc_other : EachAtom Q (other l c.loc)
+    loc_other =
+        ⊎_elim (λ near. other_shaped l c.loc side_l (sides.loc near))
+        (λ e. subst (λ k. EachAtom Q (by_comparison k never always (given (negative (equal l c.loc))))) (sym e) always_shaped) near_or_apart
 
     where_same : (y : Alternatives) → (Near c.loc → EachAtom Q y) → EachAtom Q (both (same l c.loc) y)
     where_same y shaped_y =
@@ -195,8 +224,16 @@ module _ (Q : PureAtom → Type 0) (Side Given Near Form : PureTerm → Type 0) 
     form_by (unary_of op t) form = form_shaped Q (unary_of op t) (same l c.loc) (accepts.form (unary_of op t) (form refl refl) refl refl) loc_same
     form_by (binary_of op s t) form = form_shaped Q (binary_of op s t) (same l c.loc) (accepts.form (binary_of op s t) (form refl refl) refl refl) loc_same
 
+    never_opened : (t : PureTerm) → EachAtom Q (form_of_names t never)
+    never_opened (list_of ts) = tt
+    never_opened (literal k) = tt
+    never_opened (variable y) = tt
+    never_opened (unary_of op t) = tt
+    never_opened (binary_of op s t) = tt
+
     opened_by : (s : PureSub) → c.sub ≡ s → EachAtom Q (opened_there l c.loc s c.val)
-    opened_by shape is = form_by c.val (sides.form is)
+    opened_by shape is =
+        ⊎_elim (λ near. form_by c.val (sides.form near is)) (λ e. subst (λ x. EachAtom Q (form_of_names c.val x)) (sym e) (never_opened c.val)) near_or_never
     opened_by s is = tt
 
     opened_shaped : EachAtom Q (opened_at l c)
@@ -238,6 +275,10 @@ module _ (Q : PureAtom → Type 0) (Side Given Near Form : PureTerm → Type 0) 
     module _ (cs : List PureChunk) (sides : Each ChunkSides cs) (state : State cs) where
       failed_shaped : (when : Alternatives) (why : Failure) → EachAtom Q when → Shapes (cases when cs (failure why))
       failed_shaped when why conds = shaped_cases Q State R when cs (failure why) conds state (r_text _, tt)
+
+      surely_shaped : (when : Alternatives) (why : Failure) → list_any is_empty when ≡ true → Shapes (cases when cs (failure why))
+      surely_shaped when why is =
+          subst (λ b. Shapes (map (λ conds. record { conds = conds; state = cs; result = failure why }) (if b then always else when))) (sym is) (failed_shaped always why always_shaped)
 
       each_chunk : (f : PureChunk → Alternatives) → ((c : PureChunk) → ChunkSides c → EachAtom Q (f c)) → Each (λ c. EachAtom Q (f c)) cs
       each_chunk f is = each_to ChunkSides (λ c. EachAtom Q (f c)) cs is sides
@@ -296,6 +337,35 @@ module _ (Q : PureAtom → Type 0) (Side Given Near Form : PureTerm → Type 0) 
           (failed_shaped (not_of_kind l Kind.Sym ++ not_of_kind p Kind.Str) Failure.Kind (each_append (Each Q) (not_of_kind l Kind.Sym) (not_of_kind p Kind.Str) (not_kind_shaped l Kind.Sym asked_l refl) (not_kind_shaped p Kind.Str asked_p refl)))
           (is (both (of_kind l Kind.Sym) (of_kind p Kind.Str)) (both_shaped Q (of_kind l Kind.Sym) (of_kind p Kind.Str) (kind_shaped l Kind.Sym asked_l refl) (kind_shaped p Kind.Str asked_p refl)))
 
+      -- ---- where no alternative is left
+
+      module _ (l p : PureTerm) where
+        never_without : Shapes (without_property never l p cs)
+        never_without = each_append (Shaped Q State R) (opened_names never l p cs) (missed_names never l p cs) (never_taken (any (opened_at l) cs) cs (missed_name l p)) tt
+
+        never_found : (ds : List PureChunk) → Shapes (flat_map (found never l p cs) ds)
+        never_found [] = tt
+        never_found (c ∷ ds) = never_found ds
+
+        never_looked_up : Shapes (lookup never l p cs)
+        never_looked_up = each_append (Shaped Q State R) (flat_map (found never l p cs) cs) (without_property never l p cs) (never_found cs) never_without
+
+        never_changes : (t : PureTerm) (i : ℕ) (ds : List PureChunk) → Shapes (changes_from never l p t cs i ds)
+        never_changes t i [] = tt
+        never_changes t i (c ∷ ds) = never_changes t (i + 1) ds
+
+        never_mutated : (t : PureTerm) → Shapes (mutate never l p t cs)
+        never_mutated t = each_append (Shaped Q State R) (changes_from never l p t cs 0 cs) (without_property never l p cs) (never_changes t 0 cs) never_without
+
+      property_shaped : (l p : PureTerm) (b : Bool) → may_be_property l p ≡ b → Each Given (if b then l ∷ p ∷ [] else []) → (branches : Alternatives → RecordBranches)
+          → (Given l → Given p → (when : Alternatives) → EachAtom Q when → Shapes (branches when)) → Shapes (branches never) → Shapes (property_or_fail l p cs branches)
+      property_shaped l p true is asked branches shapes none = or_fail_shaped l p asked.0 asked.1.0 branches (shapes asked.0 asked.1.0)
+      property_shaped l p false is asked branches shapes none =
+          let wrong = wrong_property l p (allows (known_kind l) Kind.Sym) (allows (known_kind p) Kind.Str) refl refl is in
+          each_append (Shaped Q State R) (cases (not_of_kind l Kind.Sym ++ not_of_kind p Kind.Str) cs (failure Failure.Kind)) (branches (both (of_kind l Kind.Sym) (of_kind p Kind.Str)))
+          (surely_shaped (not_of_kind l Kind.Sym ++ not_of_kind p Kind.Str) Failure.Kind wrong.1)
+          (subst (λ x. Shapes (branches x)) (sym wrong.0) none)
+
       wrong_shaped : Shapes (wrong_number cs)
       wrong_shaped = failed_shaped always Failure.Arity always_shaped
 
@@ -353,6 +423,23 @@ module _ (Q : PureAtom → Type 0) (Side Given Near Form : PureTerm → Type 0) 
       make_shaped x r_x (unary_of op t) asked r_d form = unlisted_shaped x r_x (unary_of op t) asked (form_of_argument (unary_of op t) asked (⊎_elim inl (λ is. inr (accepts.form (unary_of op t) is refl refl)) (form refl)))
       make_shaped x r_x (binary_of op s t) asked r_d form = unlisted_shaped x r_x (binary_of op s t) asked (form_of_argument (binary_of op s t) asked (⊎_elim inl (λ is. inr (accepts.form (binary_of op s t) is refl refl)) (form refl)))
 
+      unlisted_fails : (x : Var) (d : PureTerm) → allows (known_kind d) Kind.List ≡ false → Shapes (cases (not_of_kind d Kind.List) cs (failure Failure.Kind) ++ cases (with_form d (of_kind d Kind.List)) cs (done (variable x)))
+      unlisted_fails x d wrong =
+          each_append (Shaped Q State R) (cases (not_of_kind d Kind.List) cs (failure Failure.Kind)) (cases (with_form d (of_kind d Kind.List)) cs (done (variable x)))
+          (surely_shaped (not_of_kind d Kind.List) Failure.Kind (ap (list_any is_empty) (wrong_kind d Kind.List wrong).1))
+          (subst (λ y. Shapes (cases (with_form d y) cs (done (variable x)))) (sym (wrong_kind d Kind.List wrong).0) tt)
+
+      never_made : (x : Var) (d : PureTerm) → allows (known_kind d) Kind.List ≡ false → Shapes (make x d cs)
+      never_made x (list_of ts) wrong = absurd (true≢false wrong)
+      never_made x (literal k) wrong = unlisted_fails x (literal k) wrong
+      never_made x (variable y) wrong = unlisted_fails x (variable y) wrong
+      never_made x (unary_of op t) wrong = unlisted_fails x (unary_of op t) wrong
+      never_made x (binary_of op s t) wrong = unlisted_fails x (binary_of op s t) wrong
+
+      new_shaped : (x : Var) → R (variable x) → (d : PureTerm) (b : Bool) → allows (known_kind d) Kind.List ≡ b → Each Given (if b then d ∷ [] else []) → R d → (is_list_term d ≡ false → (of_kind d Kind.List ≡ never) ⊎ Form d) → Shapes (make x d cs)
+      new_shaped x r_x d true is asked r_d form = make_shaped x r_x d asked.0 r_d form
+      new_shaped x r_x d false is asked r_d form = never_made x d is
+
       -- ---- `dispose`
 
       record IsFineTaking (k : PureTaking) : Type 0 where
@@ -402,8 +489,8 @@ module _ (Q : PureAtom → Type 0) (Side Given Near Form : PureTerm → Type 0) 
             let r_val : R (list_of ts) = subst R is_list (chunk_val R c fine.terms) in
             ⊎_elim
             (λ near.
-            names_shaped c.loc c_sides.loc near fine.terms.places.0 (to_list ts) (accepts.elements ts (subst Side is_list (side_of_val l l side_l near_l side_l c c_sides is near))) (r_elements ts r_val) (taking (both when (same l c.loc)) (remove cs i))
-            (fine_taking (both when (same l c.loc)) (remove cs i) (both_shaped Q when (same l c.loc) conds (same_shaped l c.loc side_l c_sides.loc)) (each_removed IsFine cs i state) (each_removed ChunkSides cs i sides)))
+            names_shaped c.loc (c_sides.loc near) near fine.terms.places.0 (to_list ts) (accepts.elements ts (subst Side is_list (side_of_val l l side_l near_l side_l c c_sides is near))) (r_elements ts r_val) (taking (both when (same l c.loc)) (remove cs i))
+            (fine_taking (both when (same l c.loc)) (remove cs i) (both_shaped Q when (same l c.loc) conds (loc_same l l side_l near_l side_l c c_sides)) (each_removed IsFine cs i state) (each_removed ChunkSides cs i sides)))
             (λ e. subst (λ x. Shapes (dispose_names cs c.loc (to_list ts) (taking x (remove cs i)))) (sym (ap (both when) e ∙ both_never when)) (never_disposed c.loc (to_list ts)))
             (near_or_never l l side_l near_l side_l c c_sides)
         there_shaped i c c_sides fine shape is (literal k) is_list = tt
@@ -424,8 +511,8 @@ module _ (Q : PureAtom → Type 0) (Side Given Near Form : PureTerm → Type 0) 
             (there_shaped i c all_sides.0 fine.0 c.sub refl c.val refl) (from_shaped (i + 1) ds all_sides.1 fine.1)
 
         undescribed_by : (c : PureChunk) → ChunkSides c → (s : PureSub) → EachAtom Q (undescribed_there l c.loc s)
-        undescribed_by c c_sides shape = other_shaped l c.loc side_l c_sides.loc
-        undescribed_by c c_sides gone = other_shaped l c.loc side_l c_sides.loc
+        undescribed_by c c_sides shape = loc_other l l side_l near_l side_l c c_sides
+        undescribed_by c c_sides gone = loc_other l l side_l near_l side_l c c_sides
         undescribed_by c c_sides (named q) = always_shaped
         undescribed_by c c_sides (cell q) = always_shaped
         undescribed_by c c_sides bound = always_shaped
@@ -442,30 +529,63 @@ module _ (Q : PureAtom → Type 0) (Side Given Near Form : PureTerm → Type 0) 
             (shaped_cases Q State R (both when (all (undescribed_at l) cs)) cs (missed (record { loc = l; sub = shape })) (both_shaped Q when (all (undescribed_at l) cs) conds (all_shaped always (undescribed_at l) cs always_shaped (each_chunk (undescribed_at l) (λ c c_sides. undescribed_by c c_sides c.sub)))) state (r_l, tt))
             (from_shaped 0 cs sides state)))
 
+      module _ (l : PureTerm) where
+        never_there : (i : ℕ) (loc : PureTerm) (s : PureSub) (t : PureTerm) → Shapes (dispose_there never l cs i loc s t)
+        never_there i loc shape (list_of ts) = never_disposed loc (to_list ts)
+        never_there i loc shape (literal k) = tt
+        never_there i loc shape (variable y) = tt
+        never_there i loc shape (unary_of op t) = tt
+        never_there i loc shape (binary_of op s t) = tt
+        never_there i loc (named q) t = tt
+        never_there i loc (cell q) t = tt
+        never_there i loc bound t = tt
+        never_there i loc dom t = tt
+        never_there i loc proto t = tt
+        never_there i loc gone t = tt
+
+        never_from : (i : ℕ) (ds : List PureChunk) → Shapes (dispose_from never l cs i ds)
+        never_from i [] = tt
+        never_from i (c ∷ ds) = each_append (Shaped Q State R) (dispose_there never l cs i c.loc c.sub c.val) (dispose_from never l cs (i + 1) ds) (never_there i c.loc c.sub c.val) (never_from (i + 1) ds)
+
+        never_all_disposed : Shapes (dispose never l cs)
+        never_all_disposed =
+            each_append (Shaped Q State R) (cases (both (any (opened_at l) cs) never) cs (done true_term)) (dispose_from never l cs 0 cs) (never_taken (any (opened_at l) cs) cs (done true_term)) (never_from 0 cs)
+
+        location_shaped : (b : Bool) → allows (known_kind l) Kind.Sym ≡ b → Each Given (if b then l ∷ [] else []) → R l → Shapes (act_dispose (l ∷ []) cs)
+        location_shaped true is asked r_l =
+            each_append (Shaped Q State R) (cases (not_of_kind l Kind.Sym) cs (failure Failure.Kind)) (dispose (of_kind l Kind.Sym) l cs)
+            (failed_shaped (not_of_kind l Kind.Sym) Failure.Kind (not_kind_shaped l Kind.Sym asked.0 refl))
+            (dispose_shaped l (accepts.asked_side l asked.0) (accepts.asked_near l asked.0) r_l (of_kind l Kind.Sym) (kind_shaped l Kind.Sym asked.0 refl))
+        location_shaped false is asked r_l =
+            each_append (Shaped Q State R) (cases (not_of_kind l Kind.Sym) cs (failure Failure.Kind)) (dispose (of_kind l Kind.Sym) l cs)
+            (surely_shaped (not_of_kind l Kind.Sym) Failure.Kind (ap (list_any is_empty) (wrong_kind l Kind.Sym is).1))
+            (subst (λ x. Shapes (dispose x l cs)) (sym (wrong_kind l Kind.Sym is).0) never_all_disposed)
+
       -- ---- every action
 
       pub shaped : (op : RecordAction) (fresh : Option Var) (args : List PureTerm) → ((x : Var) → fresh ≡ Some x → R (variable x)) → Each Given (asked_by (Some op) args) → Each R args
-          → ((d : PureTerm) → args ≡ d ∷ [] → is_list_term d ≡ false → (of_kind d Kind.List ≡ never) ⊎ Form d) → Shapes (branches_of op fresh args cs)
-      shaped RecordAction.New (Some x) (d ∷ []) r_x all_asked all_r form = make_shaped x (r_x x refl) d all_asked.0 all_r.0 (form d refl)
+          → ((d : PureTerm) → op ≡ RecordAction.New → args ≡ d ∷ [] → is_list_term d ≡ false → (of_kind d Kind.List ≡ never) ⊎ Form d) → Shapes (branches_of op fresh args cs)
+      shaped RecordAction.New (Some x) (d ∷ []) r_x all_asked all_r form = new_shaped x (r_x x refl) d (allows (known_kind d) Kind.List) refl all_asked all_r.0 (form d refl refl)
       shaped RecordAction.New None (d ∷ []) r_x all_asked all_r form = tt
       shaped RecordAction.New (Some x) [] r_x all_asked all_r form = wrong_shaped
       shaped RecordAction.New None [] r_x all_asked all_r form = wrong_shaped
       shaped RecordAction.New (Some x) (d ∷ e ∷ more) r_x all_asked all_r form = wrong_shaped
       shaped RecordAction.New None (d ∷ e ∷ more) r_x all_asked all_r form = wrong_shaped
       shaped RecordAction.Lookup fresh (l ∷ p ∷ []) r_x all_asked all_r form =
-          or_fail_shaped l p all_asked.0 all_asked.1.0 (λ when. lookup when l p cs) (λ when conds. lookup_shaped l p (accepts.asked_side l all_asked.0) (accepts.asked_near l all_asked.0) (accepts.asked_side p all_asked.1.0) all_r.0 all_r.1.0 when conds)
+          property_shaped l p (may_be_property l p) refl all_asked (λ when. lookup when l p cs)
+          (λ asked_l asked_p when conds. lookup_shaped l p (accepts.asked_side l asked_l) (accepts.asked_near l asked_l) (accepts.asked_side p asked_p) all_r.0 all_r.1.0 when conds)
+          (never_looked_up l p)
       shaped RecordAction.Lookup fresh [] r_x all_asked all_r form = wrong_shaped
       shaped RecordAction.Lookup fresh (l ∷ []) r_x all_asked all_r form = wrong_shaped
       shaped RecordAction.Lookup fresh (l ∷ p ∷ t ∷ more) r_x all_asked all_r form = wrong_shaped
       shaped RecordAction.Mutate fresh (l ∷ p ∷ t ∷ []) r_x all_asked all_r form =
-          or_fail_shaped l p all_asked.0 all_asked.1.0 (λ when. mutate when l p t cs) (λ when conds. mutate_shaped l p (accepts.asked_side l all_asked.0) (accepts.asked_near l all_asked.0) (accepts.asked_side p all_asked.1.0) all_r.0 all_r.1.0 when conds t all_r.1.1.0)
+          property_shaped l p (may_be_property l p) refl all_asked (λ when. mutate when l p t cs)
+          (λ asked_l asked_p when conds. mutate_shaped l p (accepts.asked_side l asked_l) (accepts.asked_near l asked_l) (accepts.asked_side p asked_p) all_r.0 all_r.1.0 when conds t all_r.1.1.0)
+          (never_mutated l p t)
       shaped RecordAction.Mutate fresh [] r_x all_asked all_r form = wrong_shaped
       shaped RecordAction.Mutate fresh (l ∷ []) r_x all_asked all_r form = wrong_shaped
       shaped RecordAction.Mutate fresh (l ∷ p ∷ []) r_x all_asked all_r form = wrong_shaped
       shaped RecordAction.Mutate fresh (l ∷ p ∷ t ∷ s ∷ more) r_x all_asked all_r form = wrong_shaped
-      shaped RecordAction.Dispose fresh (l ∷ []) r_x all_asked all_r form =
-          each_append (Shaped Q State R) (cases (not_of_kind l Kind.Sym) cs (failure Failure.Kind)) (dispose (of_kind l Kind.Sym) l cs)
-          (failed_shaped (not_of_kind l Kind.Sym) Failure.Kind (not_kind_shaped l Kind.Sym all_asked.0 refl))
-          (dispose_shaped l (accepts.asked_side l all_asked.0) (accepts.asked_near l all_asked.0) all_r.0 (of_kind l Kind.Sym) (kind_shaped l Kind.Sym all_asked.0 refl))
+      shaped RecordAction.Dispose fresh (l ∷ []) r_x all_asked all_r form = location_shaped l (allows (known_kind l) Kind.Sym) refl all_asked all_r.0
       shaped RecordAction.Dispose fresh [] r_x all_asked all_r form = wrong_shaped
       shaped RecordAction.Dispose fresh (l ∷ p ∷ more) r_x all_asked all_r form = wrong_shaped

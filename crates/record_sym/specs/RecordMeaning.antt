@@ -1,17 +1,17 @@
 -- The states of symbolic records have a meaning.
-use Rattle.std.specs.Prelude.{◌∷◌, List, [], Option, Some, None, refl}
-use Rattle.std.proofs.Common.{inl, inr}
+use Rattle.std.specs.Prelude.{◌∷◌, List, [], Option, Some, None}
+use Rattle.std.proofs.Common.{inl}
 use Rattle.mem_model.specs.declared.keys.MemoryName.TheVariants.{Record}
 use Rattle.pure_terms.specs.Pure.{PureTerm}
 use Rattle.record_heap.specs.declared.actions.RecordAction.{RecordAction}
 use Rattle.record_heap.specs.Names.{action_of}
 use Rattle.record_sym.specs.Plain.{record_stands, record_terms, record_asked}
-use Rattle.record_sym.specs.Table.{asked_by}
+use Rattle.record_sym.specs.Table.{may_be_taken, unstored, asked_by}
 use Rattle.record_sym.specs.View.{state_view}
 use Rattle.sym_model.specs.Laws.{IsMeaning, AsksItsArguments}
 use Rattle.sym_model.specs.Lists.{Each, IsAmong}
 use Rattle.sym_model.proofs.ChunkMeaning.{chunks_have_meaning}
-use Rattle.sym_model.proofs.ListLaws.{each_to, each_is_among}
+use Rattle.sym_model.proofs.ListLaws.{each_if, each_to, each_is_among}
 
 pub record_meaning : IsMeaning Record record_stands record_terms
 record_meaning = let chunks = chunks_have_meaning Record in record {
@@ -22,15 +22,20 @@ record_meaning = let chunks = chunks_have_meaning Record in record {
   offsets_placed = λ s. chunks.offsets_placed (state_view s);
 }
 
-asked_are_given : (op : Option RecordAction) (args : List PureTerm) → Each (λ t. IsAmong t args) (asked_by op args)
-asked_are_given (Some RecordAction.Mutate) (l ∷ p ∷ more) = (inl refl, (inr (inl refl), tt))
-asked_are_given (Some RecordAction.Mutate) (l ∷ []) = (inl refl, tt)
-asked_are_given (Some RecordAction.Mutate) [] = tt
-asked_are_given (Some RecordAction.New) args = each_is_among args
-asked_are_given (Some RecordAction.Lookup) args = each_is_among args
-asked_are_given (Some RecordAction.Dispose) args = each_is_among args
-asked_are_given None args = each_is_among args
+-- what holds of each argument holds of those that are asked about
+module _ (P : PureTerm → Type 0) where
+  each_unstored : (op : RecordAction) (args : List PureTerm) → Each P args → Each P (unstored op args)
+  each_unstored RecordAction.Mutate (l ∷ p ∷ more) all = (all.0, (all.1.0, tt))
+  each_unstored RecordAction.Mutate (l ∷ []) all = all
+  each_unstored RecordAction.Mutate [] all = all
+  each_unstored RecordAction.New args all = all
+  each_unstored RecordAction.Lookup args all = all
+  each_unstored RecordAction.Dispose args all = all
+
+  pub each_asked : (op : Option RecordAction) (args : List PureTerm) → Each P args → Each P (asked_by op args)
+  each_asked (Some op) args all = each_if P (may_be_taken op args) (unstored op args) (each_unstored op args all)
+  each_asked None args all = tt
 
 pub record_asks_its_arguments : AsksItsArguments record_asked
 record_asks_its_arguments action args =
-    let asked = asked_by (action_of action) args in each_to (λ t. IsAmong t args) _ asked (λ t among. inl among) (asked_are_given (action_of action) args)
+    each_to (λ t. IsAmong t args) _ (record_asked action args) (λ t among. inl among) (each_asked (λ t. IsAmong t args) (action_of action) args (each_is_among args))

@@ -1,11 +1,12 @@
 -- The branches of the actions of records. Each case has the conditions under which it comes, the chunks after it and its result.
-use Rattle.std.specs.Prelude.{ℕ, ◌+◌, true, List, [], ◌∷◌, ◌++◌, map, Option, Some, None}
+use Rattle.std.specs.Prelude.{ℕ, ◌+◌, Bool, true, false, ◌&&◌, if◌then◌else◌, List, [], ◌∷◌, ◌++◌, map, Option, Some, None}
 use Rattle.std.specs.List.{flat_map, remove}
 use Rattle.gil_values.specs.declared.kinds.Kind.{Kind}
 use Rattle.mem_model.specs.declared.failures.Failure.{Failure}
 use Rattle.mem_model.specs.Tables.{failure_text}
 use Rattle.pure_terms.specs.declared.literals.Literal.{Literal}
 use Rattle.pure_terms.specs.declared.variables.Var.{Var}
+use Rattle.pure_terms.specs.Kinds.{allows, known_kind}
 use Rattle.pure_terms.specs.Pure.{PureTerm, literal, variable, list_of, to_list}
 use Rattle.record_heap.specs.declared.actions.RecordAction.{RecordAction}
 use Rattle.record_sym.specs.Places.{gone_at, at_key, other_key, lacks, absent_at, opened_at, undescribed_at}
@@ -190,10 +191,27 @@ branches_of RecordAction.Dispose fresh args cs = act_dispose args cs
 abbrev pub unknown_action : List PureChunk → RecordBranches
 unknown_action cs = cases always cs (failure Failure.Action)
 
--- the arguments that an action asks about: all but the value that `mutate` stores
+-- the kinds of a location and a name, where they are known
+abbrev pub may_be_property : PureTerm → PureTerm → Bool
+may_be_property l p = allows (known_kind l) Kind.Sym && allows (known_kind p) Kind.Str
+
+-- there are as many arguments as the action takes, and those whose kinds are known are of the right ones
+abbrev pub may_be_taken : RecordAction → List PureTerm → Bool
+may_be_taken RecordAction.New (d ∷ []) = allows (known_kind d) Kind.List
+may_be_taken RecordAction.Lookup (l ∷ p ∷ []) = may_be_property l p
+may_be_taken RecordAction.Mutate (l ∷ p ∷ t ∷ []) = may_be_property l p
+may_be_taken RecordAction.Dispose (l ∷ []) = allows (known_kind l) Kind.Sym
+may_be_taken op args = false
+
+-- all but the value that `mutate` stores
+abbrev pub unstored : RecordAction → List PureTerm → List PureTerm
+unstored RecordAction.Mutate (l ∷ p ∷ more) = l ∷ p ∷ []
+unstored op args = args
+
+-- the arguments that an action asks about; none where its name, their number or a known kind makes it fail
 abbrev pub asked_by : Option RecordAction → List PureTerm → List PureTerm
-asked_by (Some RecordAction.Mutate) (l ∷ p ∷ more) = l ∷ p ∷ []
-asked_by op args = args
+asked_by (Some op) args = if may_be_taken op args then unstored op args else []
+asked_by None args = []
 
 abbrev pub table : Option RecordAction → Option Var → List PureTerm → List PureChunk → RecordBranches
 table (Some op) fresh args cs = branches_of op fresh args cs

@@ -5,5 +5,6 @@ pub mod Listed
 pub mod ListLaws
 pub mod MadeLaws
 pub mod PlainLaws
+pub mod Unasked
 pub mod Unions
 pub mod Wider

@@ -1,5 +1,5 @@
 -- What holds of each element of a list, or of one of them, as lists are joined, mapped and read by place.
-use Rattle.std.proofs.Common.{◌≡◌, ◌⊎◌, ⊎_elim, inl, inr, ℕ, zero, suc, List, [], ◌∷◌, ◌++◌, map, Some, None, is_some, slice_get, refl, sym, ap, subst, true≢false}
+use Rattle.std.proofs.Common.{◌≡◌, ◌⊎◌, ⊎_elim, inl, inr, ℕ, zero, suc, List, [], ◌∷◌, ◌++◌, map, Bool, true, false, if◌then◌else◌, Some, None, is_some, slice_get, refl, sym, ap, subst, true≢false}
 use Rattle.std.specs.List.{flat_map}
 use Rattle.sym_model.specs.Lists.{Each, OneOf, IsAmong}
 
@@ -46,6 +46,10 @@ module _ {A : Type 0} where
   pub one_with : {C : Type 0} (P Q : A → Type 0) (xs : List A) → Each P xs → OneOf Q xs → ((x : A) → P x → Q x → C) → C
   one_with P Q [] all one f = absurd one
   one_with P Q (x ∷ xs) all one f = ⊎_elim (λ here. f x all.0 here) (λ later. one_with P Q xs all.1 later f) one
+
+  pub each_if : (P : A → Type 0) (b : Bool) (xs : List A) → Each P xs → Each P (if b then xs else [])
+  each_if P true xs all = all
+  each_if P false xs all = tt
 
   pub each_by_place : (P : A → Type 0) (xs : List A) → ((i : ℕ) (x : A) → slice_get xs i ≡ Some x → P x) → Each P xs
   each_by_place P [] f = tt

@@ -10,12 +10,12 @@ use Rattle.mem_model.specs.Heaps.{Heap, Holds, HasKey}
 use Rattle.pure_terms.specs.declared.variables.Sort.{Sort}
 use Rattle.pure_terms.specs.declared.variables.Var.{Var}
 use Rattle.pure_terms.specs.Meaning.{value}
-use Rattle.pure_terms.specs.Pure.{PureTerm}
+use Rattle.pure_terms.specs.Pure.{PureTerm, PureAtom}
 use Rattle.sym_model.specs.Chunks.{IsEntry, IsUnion, StandFor, with_held, terms_of}
 use Rattle.sym_model.specs.Laws.{IsMeaning, MayBeAsked, Serves}
 use Rattle.sym_model.specs.Meaning.{fresh_symbol}
 use Rattle.sym_model.specs.Pure.{PureChunk}
-use Rattle.sym_model.specs.Terms.{StateTerms}
+use Rattle.sym_model.specs.Terms.{StateTerms, asked_of, IsOwnCondition}
 
 -- Lists of chunks have a meaning, whatever the memory.
 abbrev pub ChunksAreMeaning : Type 0
@@ -38,6 +38,10 @@ pub record UnionsChange : Type 0 where
       → slice_get cs i ≡ Some c → IsEntry v c k w → IsUnion v (remove_at cs i) (remove h k)
   pub added : (v : List PureValue) (cs : List PureChunk) (h : Heap) (c : PureChunk) (k : Key) (w : PureValue) → IsUnion v cs h
       → IsEntry v c k w → ¬ HasKey h k → IsUnion v (cs ++ c ∷ []) (insert h k w)
+
+-- Where nothing is asked about, a memory may give no condition.
+abbrev pub NothingAskedGivesNoCondition : Type 0
+NothingAskedGivesNoCondition = (state : StateTerms) (a : PureAtom) → ¬ IsOwnCondition (asked_of [] state) a
 
 -- Where a valuation serves, the concrete action may be asked of the heap and the values that it gives.
 abbrev pub ServingMayAct : {S : Type 0} → (S → List PureValue → Heap → Type 0) → (S → StateTerms) → Actions → Type 0

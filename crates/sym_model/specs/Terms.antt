@@ -1,5 +1,5 @@
 -- Terms of states, arguments, conditions and results: which variables they name, and where they come from.
-use Rattle.std.specs.Prelude.{◌≡◌, ◌⊎◌, ℤ, pos, List, [], ◌++◌, map, Bool, true, false, not, ◌&&◌, ◌||◌, Option, Some, None, IsTrue, ⊤}
+use Rattle.std.specs.Prelude.{◌≡◌, ◌⊎◌, ℤ, pos, List, [], ◌∷◌, ◌++◌, map, Bool, true, false, not, ◌&&◌, ◌||◌, Option, Some, None, IsTrue, ⊤}
 use Rattle.gil_values.specs.declared.kinds.Kind.{Kind}
 use Rattle.gil_values.specs.declared.operators.UnOp.{UnOp}
 use Rattle.gil_values.specs.declared.operators.BinOp.{BinOp}
@@ -117,10 +117,6 @@ asked_of about s = record { about = about; state = s }
 abbrev pub compared_terms : Asked → List PureTerm
 compared_terms g = g.about ++ (g.state.placed ++ g.state.described)
 
--- the terms whose literal form may be needed
-abbrev pub form_terms : Asked → List PureTerm
-form_terms g = g.about ++ g.state.described
-
 -- two terms that are the same or don't surely differ
 abbrev pub may_be_same : PureTerm → PureTerm → Bool
 may_be_same s t = same_term s t || not (are_apart s t)
@@ -133,21 +129,25 @@ pub data IsNear (g : Asked) : PureTerm → Type 0 where
   is_asked : {t : PureTerm} → IsListed g.about t → IsNear g t
   is_next : {s t : PureTerm} → IsNear g s → IsAmong t (locations_of g) → IsTrue (may_be_same s t) → IsNear g t
 
--- A side of `=` is a term that may be compared: one that is asked about, a location, or one that stands at a location that is near.
+-- A side of `=` is a term that may be compared: one that is asked about, a location that is near, or one that stands there.
 pub record IsSide (g : Asked) (t : PureTerm) : Type 0 where
   pub compared : IsListed (compared_terms g) t
-  pub near : IsListed (g.about ++ locations_of g) t ⊎ OneOf (λ p. IsNear g p.loc × IsListed p.terms t) g.state.located
+  pub near : IsListed g.about t ⊎ OneOf (λ p. IsNear g p.loc × IsListed (p.loc ∷ p.terms) t) g.state.located
+
+-- the term stands at a location that is near
+abbrev pub StandsNear : Asked → PureTerm → Type 0
+StandsNear g t = OneOf (λ p. IsNear g p.loc × IsAmong t p.terms) g.state.located
 
 abbrev pub one : PureTerm
 one = literal (Literal.Int (pos 1))
 
 -- an offset plus 1
 abbrev pub IsNextOffset : Asked → PureTerm → Type 0
-IsNextOffset g t = OneOf (λ u. folded_binary BinOp.Add u one ≡ t) g.state.offsets
+IsNextOffset g t = OneOf (λ u. StandsNear g u × (folded_binary BinOp.Add u one ≡ t)) g.state.offsets
 
 -- an offset or what a descriptor holds, as a bound; or a literal that is asked about
 abbrev pub IsLimit : Asked → PureTerm → Type 0
-IsLimit g t = IsAmong t (g.state.offsets ++ g.state.described) ⊎ (IsAmong t g.about × IsTrue (is_literal t))
+IsLimit g t = (IsAmong t (g.state.offsets ++ g.state.described) × StandsNear g t) ⊎ (IsAmong t g.about × IsTrue (is_literal t))
 
 -- an offset plus 1, and a limit
 abbrev pub IsNextToLimit : Asked → PureTerm → PureTerm → Type 0
@@ -190,11 +190,16 @@ abbrev pub IsQuestion : Asked → PureTerm → Type 0
 IsQuestion g (binary_of op s t) = AreCompared g op s t ⊎ ((op ≡ BinOp.Equal) × IsKindQuestion g s t)
 IsQuestion g _ = ⊥
 
--- a term that is no list term and no literal, where its literal form is needed
-abbrev pub IsFormAsked : Asked → PureTerm → Type 0
-IsFormAsked g t = IsAmong t (form_terms g) × (is_list_term t ≡ false) × (is_literal t ≡ false)
+-- a term whose literal form may be needed: one that is asked about, or what a descriptor holds at a location that is near
+abbrev pub MayNeedForm : Asked → PureTerm → Type 0
+MayNeedForm g t = IsAmong t g.about ⊎ (IsAmong t g.state.described × StandsNear g t)
 
--- The conditions that a memory may give: comparisons, kinds, and terms whose literal form is needed.
+-- such a term that is no list term and no literal, where its literal form is needed
+abbrev pub IsFormAsked : Asked → PureTerm → Type 0
+IsFormAsked g t = MayNeedForm g t × (is_list_term t ≡ false) × (is_literal t ≡ false)
+
+-- The conditions that a memory may give: comparisons, kinds, and terms whose literal form is needed. Each speaks of what is asked
+-- about or near to it, so that there is none where nothing is asked about.
 abbrev pub IsOwnCondition : Asked → PureAtom → Type 0
 IsOwnCondition g (positive t) = IsQuestion g t
 IsOwnCondition g (negative t) = IsQuestion g t

@@ -11,6 +11,9 @@ mod path_conditions;
 pub use branches::{Branch, Branches, SymResult};
 pub use chunks::{Chunk, SymFrag};
 pub use keys::{SymKey, SymSub};
-pub use laws::{chunks_have_a_meaning, serving_valuations_may_act, unions_change};
+pub use laws::{
+    chunks_have_a_meaning, nothing_asked_gives_no_condition, serving_valuations_may_act,
+    unions_change,
+};
 pub use memory::SymMemory;
 pub use path_conditions::PathCond;
