@@ -1,12 +1,12 @@
 -- Reading the items of a text one after another, as a loop does.
-use Rattle.std.proofs.Common.{◌≡◌, ℕ, zero, suc, ◌-◌, ◌+◌, ◌≤◌, ◌<◌, List, [], ◌∷◌, ◌++◌, length, Option, Some, None, refl, sym, ap, ◌∙◌, subst, append_assoc, arith}
+use Rattle.std.proofs.Common.{◌≡◌, ℕ, zero, suc, ◌-◌, ◌+◌, ◌≤◌, ◌<◌, List, [], ◌∷◌, ◌++◌, length, Option, Some, None, refl, sym, ap, ◌∙◌, append_assoc, arith}
 use Rattle.std.specs.Prelude.{option_map}
 use Rattle.std.proofs.lemmas.List.{append-nil}
 use Rattle.gil_lexer.specs.declared.forms.Token.{Token}
 use Rattle.gil_lexemes.specs.declared.standing.Lexeme.{Lexeme}
 use Rattle.gil_lexemes.specs.declared.stops.Stop.{Stop}
 use Rattle.gil_lexemes.specs.declared.stops.Stop.TheVariants as stops
-use Rattle.gil_lexemes.specs.Reading.{◌>>=◌, Fails}
+use Rattle.gil_lexemes.specs.Reading.{Fails}
 use Rattle.gil_syntax.specs.declared.parts.Proc.{Proc}
 use Rattle.gil_syntax.specs.Pure.{PureProc}
 use Rattle.gil_syntax.specs.Valid.{ProgramItem}

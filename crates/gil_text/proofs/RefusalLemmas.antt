@@ -1,5 +1,5 @@
 -- Why a text is refused, from what its readers answer.
-use Rattle.std.proofs.Common.{◌≡◌, ◌≢◌, ◌+◌, ◌<◌, ◌≤◌, true, ℕ, suc, List, [], ◌∷◌, ◌++◌, length, map, Option, Some, None, refl, sym, ap, ◌∙◌, subst, arith, slice_get, length-append}
+use Rattle.std.proofs.Common.{◌≡◌, ◌≢◌, ◌+◌, ◌<◌, true, ℕ, suc, List, [], ◌∷◌, ◌++◌, length, map, Option, Some, None, refl, sym, ap, subst, arith, slice_get, length-append}
 use Rattle.std.specs.Prelude.{option_map}
 use Rattle.std.specs.List.{filter_map, cons_option}
 use Rattle.std.proofs.lemmas.List.{length-map}
@@ -14,7 +14,7 @@ use Rattle.gil_lexer.specs.Texts.{AreTokensOf}
 use Rattle.gil_lexemes.specs.declared.standing.Lexeme.{Lexeme}
 use Rattle.gil_lexemes.specs.Lexemes.{StandForAll}
 use Rattle.gil_grammar.specs.Nesting.{IsNested}
-use Rattle.gil_grammar.specs.Texts.{PlacedItem, SpellsItems, BeginsWithProc, Spell, SpellProgram, as_proc, as_spec, as_pred, place_if, parts_of, places_of}
+use Rattle.gil_grammar.specs.Texts.{PlacedItem, Spell, SpellProgram, as_proc, as_spec, as_pred, place_if, parts_of, places_of}
 use Rattle.gil_grammar.specs.Reading.Texts.{program_at}
 use Rattle.gil_syntax.specs.WellMade.{is_well_made}
 use Rattle.gil_grammar.proofs.MadeLaws.{text_makes}
@@ -22,7 +22,7 @@ use Rattle.gil_grammar.proofs.TextLaws.{program_takes, program_again, nested_who
 use Rattle.gil_text.specs.declared.refused.RefusedKind.{RefusedKind}
 use Rattle.gil_text.specs.declared.refused.RefusedKind.TheVariants as refusals
 use Rattle.gil_text.specs.Located.{PureLocated, located_parts, located_of}
-use Rattle.gil_text.specs.Refusals.{lexical, HasNoTokens, AreLexemesOf, IsRefusedFor}
+use Rattle.gil_text.specs.Refusals.{lexical, HasNoTokens, IsRefusedFor}
 
 pub lexical_refusal : (kind : LexKind) (bytes : List ℕ) (at : ℕ) → (kind ≢ kinds.Memory → (tokens : List Token) → AreTokensOf tokens bytes → ⊥) → IsRefusedFor bytes at (lexical kind)
 lexical_refusal kinds.Memory bytes at h = tt

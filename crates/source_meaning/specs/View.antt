@@ -1,5 +1,5 @@
 -- The pure data of what the trees of every source language have.
-use Rattle.std.specs.Prelude.{List, map, Option, Some, None}
+use Rattle.std.specs.Prelude.{map, Option, Some, None}
 use Rattle.gil_syntax.specs.View.{pred_use_view, assertion_view, spec_view, pred_def_view}
 use Rattle.source_meaning.specs.Pure.{PureLogic, fold_use, unfold_use, assert_that, PureInvariant, PureSource}
 use Rattle.source_meaning.specs.declared.trees.Logic.{Logic}

@@ -1,5 +1,5 @@
 -- What a text spells compiles to a well made program, where its functions do.
-use Rattle.std.proofs.Common.{◌≡◌, ℕ, ◌+◌, Bool, true, ◌&&◌, List, [], ◌∷◌, ◌++◌, map, Option, Some, None, refl, subst, ◌∙◌}
+use Rattle.std.proofs.Common.{◌≡◌, ℕ, Bool, true, List, [], ◌∷◌, map, Option, Some, None, refl, subst}
 use Rattle.std.specs.List.{list_all, cons_option}
 use Rattle.std.proofs.lemmas.Bool.{and_from, and_parts}
 use Rattle.gil_lexemes.specs.declared.standing.Lexeme.{Lexeme}
@@ -10,7 +10,7 @@ use Rattle.gil_grammar.specs.Texts.{byte_before}
 use Rattle.gil_grammar.proofs.MadeLaws.{AreProper, Makes, command_makes, spec_makes, pred_makes, tokens_proper}
 use Rattle.source_meaning.specs.Compiled.{invariant_code, logic_command}
 use Rattle.source_meaning.specs.Procedures.{placed}
-use Rattle.source_meaning.specs.Pure.{PureLogic, fold_use, unfold_use, assert_that, PureInvariant}
+use Rattle.source_meaning.specs.Pure.{PureLogic, PureInvariant}
 use Rattle.source_meaning.proofs.Made.{AreMade, made_one, made_invariant}
 use Rattle.source_text.specs.Logic.{SpellsLogic, SpellsInvariant}
 use Rattle.source_text.specs.Texts.{SourceItem, a_function, a_spec, a_pred, SpellsSourceItem, PlacedItem, SpellsItems, as_function, as_spec, as_pred, source_of, SpellItems}

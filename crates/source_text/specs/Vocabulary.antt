@@ -1,5 +1,5 @@
 -- The signs that source languages have besides those of GIL, as lexemes, and the names that a source text may have.
-use Rattle.std.specs.Prelude.{ℕ, Bool, true, List}
+use Rattle.std.specs.Prelude.{Bool, true, List}
 use Rattle.std.specs.List.{list_all}
 use Rattle.gil_lexer.specs.declared.signs.Sign.TheVariants as signs
 use Rattle.gil_lexemes.specs.declared.standing.Lexeme.{Lexeme}

@@ -1,5 +1,5 @@
 -- The commands of each statement follow what the statement does.
-use Rattle.std.proofs.Common.{◌≡◌, ℕ, zero, suc, ◌+◌, ◌-◌, ◌≤◌, List, [], ◌∷◌, ◌++◌, pos, Bool, true, false, cond, Option, Some, None, Ok, Err, length, slice_get, refl, sym, ap, subst, ◌∙◌, arith, length-append}
+use Rattle.std.proofs.Common.{◌≡◌, ℕ, suc, ◌+◌, ◌-◌, ◌≤◌, List, [], ◌∷◌, ◌++◌, Bool, true, false, cond, Option, Some, None, Ok, Err, length, slice_get, refl, sym, ap, subst, ◌∙◌, arith, length-append}
 use Rattle.std.specs.Prelude.{codes, ◌==◌, ◌&&◌}
 use Rattle.std.specs.Option.{option_map}
 use Rattle.std.proofs.lemmas.Bool.{and_parts}
@@ -10,16 +10,16 @@ use Rattle.gil_syntax.specs.Pure.{PureExpr, name, PureNumberedCommand, PureProc,
 use Rattle.gil_syntax.specs.Programs.{find_proc}
 use Rattle.gil_syntax.specs.Evaluation.{Store, bind, both, evaluate, evaluate_all}
 use Rattle.mem_model.specs.Actions.{Actions}
-use Rattle.gil_machine.specs.State.{Frame, State, Step, goes_on, vanished}
+use Rattle.gil_machine.specs.State.{Frame, State, Step}
 use Rattle.gil_machine.specs.Step as machine
 use Rattle.gil_machine.specs.Run.{run}
 use Rattle.source_meaning.specs.Compiled.{invariant_code}
-use Rattle.source_meaning.specs.Completions.{Situation, Completion, normal, returns, over, unfinished, then_do, end_of, fails, sets, with_value, after_action, draws_input, new_symbol, turns, after_body, back_in}
+use Rattle.source_meaning.specs.Completions.{Situation, Completion, normal, fails, sets, with_value, after_action, draws_input, new_symbol, after_body, back_in}
 use Rattle.source_meaning.specs.Names.{is_source_expr, is_source_name, has_source_invariant, temporary, IsExtendedBy}
 use Rattle.source_meaning.proofs.Branches.{is_there, assert_runs, assume_runs, if_runs, loop_runs, logic_runs}
 use Rattle.source_meaning.proofs.Stores.{same_value, same_elements, extended_both, extended_more}
 use Rattle.source_meaning.proofs.Stretches.{HasAt, has_front, has_back}
-use Rattle.source_meaning.proofs.Following.{state_at, leaves, Leads, leads, leads_on, stays, Runs, Finishes, fewer, runs_after, runs_then, at_place, call_runs, Matches, value_matches, input_matches, steps, one_step, matched, value_runs, values_run, choice_runs, outcome_runs}
+use Rattle.source_meaning.proofs.Following.{state_at, leaves, leads, Runs, Finishes, fewer, runs_then, at_place, call_runs, Matches, value_matches, input_matches, steps, one_step, matched, value_runs, values_run, outcome_runs}
 use Rattle.while_syntax.specs.Pure.{PureStatement, assign, input, symbol as new_symbol_in, new, lookup, call, mutate, dispose, assert, assume, if_else, while, return, fail, logic, PureBlock, no_statements, statement_and, PureFunction, find_function}
 use Rattle.while_syntax.specs.Meaning.{Calls, call_found, statement, block}
 use Rattle.while_syntax.specs.Names.{is_source_statement, is_source_block}

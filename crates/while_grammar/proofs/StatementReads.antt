@@ -1,5 +1,5 @@
 -- What is spelled as statements, blocks and functions is read so, where no more brackets are open than may be.
-use Rattle.std.proofs.Common.{◌≡◌, ◌≤◌, ◌<◌, ℕ, zero, suc, true, false, List, [], ◌∷◌, length, Option, Some, None, refl, sym, ap, ◌∙◌, subst, arith, inl, inr}
+use Rattle.std.proofs.Common.{◌≡◌, ◌≤◌, ℕ, zero, suc, true, false, List, [], ◌∷◌, length, Option, Some, refl, sym, ap, ◌∙◌, subst, arith, inl, inr}
 use Rattle.gil_values.specs.declared.kinds.Kind.TheVariants as kinds
 use Rattle.gil_values.specs.declared.operators.UnOp.TheVariants as unary
 use Rattle.gil_values.specs.declared.operators.BinOp.TheVariants as binary
@@ -9,13 +9,12 @@ use Rattle.gil_lexer.specs.declared.words.Word.TheVariants as words
 use Rattle.gil_lexer.specs.declared.signs.Sign.TheVariants as signs
 use Rattle.gil_lexemes.specs.declared.standing.Lexeme.{Lexeme}
 use Rattle.gil_lexemes.specs.declared.standing.Lexeme.TheVariants as lexemes
-use Rattle.gil_lexemes.specs.Reading.{Reading, behind, first_form, same_sign, same_word, is_sign, is_word}
+use Rattle.gil_lexemes.specs.Reading.{Reading, first_form, same_sign, is_sign}
 use Rattle.gil_lexemes.proofs.ReadingLaws.{same_sign-refl, same_word-refl}
 use Rattle.gil_syntax.specs.Pure.{PureExpr, literal, name, logical, list_of, unary_of, binary_of}
 use Rattle.gil_grammar.specs.declared.positions.Position.TheVariants.{Command}
-use Rattle.gil_grammar.specs.Expressions.{SpellsExpr}
 use Rattle.gil_grammar.specs.Lists.{SpellsEach}
-use Rattle.gil_grammar.specs.Vocabulary.{closing_parenthesis, closing_brace, semicolon, literal_lexeme, IsNameAt}
+use Rattle.gil_grammar.specs.Vocabulary.{closing_brace, semicolon, literal_lexeme, IsNameAt}
 use Rattle.gil_grammar.proofs.ListLaws.{Again, Reads, ReadsList, NeverBegins, found_is, separated_again, each_again}
 use Rattle.gil_grammar.proofs.VocabularyLaws.{input_again}
 use Rattle.gil_grammar.proofs.NestingLaws.{Nested, nested_tail, expression_again}
@@ -23,7 +22,7 @@ use Rattle.gil_grammar.proofs.AssertionReads.{parenthesis_closes, expressions_ag
 use Rattle.gil_grammar.proofs.CommandReads.{names_again}
 use Rattle.source_meaning.specs.Pure.{PureLogic, fold_use, unfold_use, assert_that, PureInvariant}
 use Rattle.source_text.specs.Logic as logics
-use Rattle.source_text.specs.Vocabulary.{equals, dot}
+use Rattle.source_text.specs.Vocabulary.{equals}
 use Rattle.source_text.proofs.LogicLaws as laws
 use Rattle.source_text.proofs.LogicLaws.{invariant_again}
 use Rattle.while_syntax.specs.Pure.{PureField, PureStatement, assign, input, symbol, new, lookup, call, mutate, dispose, assert, assume, if_else, while, return, fail, logic, PureBlock, no_statements, statement_and, PurePlacedStatement, from_placed, PureFunction}

@@ -1,5 +1,5 @@
 -- What is read as statements, blocks and functions is spelled so.
-use Rattle.std.proofs.Common.{◌≡◌, ℕ, zero, suc, List, [], ◌∷◌, length, Option, Some, None, refl, sym, ap, ◌∙◌, subst, inl, inr}
+use Rattle.std.proofs.Common.{◌≡◌, ℕ, zero, suc, List, [], ◌∷◌, length, Some, refl, sym, ap, ◌∙◌, subst, inl, inr}
 use Rattle.gil_lexer.specs.declared.words.Word.{Word}
 use Rattle.gil_lexer.specs.declared.words.Word.TheVariants as words
 use Rattle.gil_lexer.specs.declared.signs.Sign.TheVariants as signs
@@ -13,11 +13,11 @@ use Rattle.gil_grammar.specs.declared.positions.Position.TheVariants.{Command}
 use Rattle.gil_grammar.specs.Commands.{SpellsNames}
 use Rattle.gil_grammar.specs.Expressions.{SpellsExpr, SpellsExprs}
 use Rattle.gil_grammar.specs.Lists.{SpellsEach, SpellsSeparated}
-use Rattle.gil_grammar.specs.Vocabulary.{opening_parenthesis, closing_parenthesis, opening_brace, closing_brace, comma, semicolon}
+use Rattle.gil_grammar.specs.Vocabulary.{opening_parenthesis, closing_parenthesis, closing_brace, comma, semicolon}
 use Rattle.gil_grammar.specs.Reading.Assertions.{expression_at, expressions_at}
 use Rattle.gil_grammar.specs.Reading.Commands.{names_at}
 use Rattle.gil_grammar.specs.Reading.Vocabulary.{word_of, input_of_word}
-use Rattle.gil_grammar.proofs.ListLaws.{Takes, found_is, cond_cases, separated_takes, each_takes}
+use Rattle.gil_grammar.proofs.ListLaws.{Takes, cond_cases, separated_takes, each_takes}
 use Rattle.gil_grammar.proofs.VocabularyLaws.{input_takes}
 use Rattle.gil_grammar.proofs.AssertionLaws.{in_place, word_of_takes, expression_takes, expressions_take}
 use Rattle.gil_grammar.proofs.CommandLaws.{names_take}
@@ -25,7 +25,7 @@ use Rattle.source_text.specs.Logic as logics
 use Rattle.source_text.specs.Logic.{invariant_at}
 use Rattle.source_text.specs.Vocabulary.{equals, dot}
 use Rattle.source_text.proofs.LogicLaws.{invariant_takes, logic_takes}
-use Rattle.while_syntax.specs.Pure.{PureField, PureStatement, assign, input, symbol, new, lookup, call, mutate, dispose, assert, assume, if_else, while, return, fail, logic, PureBlock, no_statements, statement_and, PurePlacedStatement, from_placed, PureFunction}
+use Rattle.while_syntax.specs.Pure.{PureStatement, assign, input, symbol, new, lookup, call, mutate, dispose, assert, assume, if_else, while, return, fail, logic, PureBlock, no_statements, PurePlacedStatement, from_placed, PureFunction}
 use Rattle.while_grammar.specs.Statements.{SpellsField, SpellsStatement, SpellsElse, SpellsBlock, SpellsStatements, SpellsFunction}
 use Rattle.while_grammar.specs.Reading.Statements.{value_at, condition_at, claim_at, field_at, input_at, new_at, lookup_at, call_at, named_at, assigned_at, assignment_at, mutate_at, of_name_at, logic_at, asserted_at, else_at, if_at, while_at, of_word_at, statement_at, placed_at, block_by, block_at, function_at}
 

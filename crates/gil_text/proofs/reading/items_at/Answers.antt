@@ -1,4 +1,4 @@
-use Rattle.std.proofs.Common.{◌≡◌, ◌<◌, sym, ◌∙◌, ap, arith, length}
+use Rattle.std.proofs.Common.{◌≡◌, ◌<◌, ◌∙◌, ap, arith, length}
 use Rattle.std.proofs.lemmas.Result.{err_from_is_err_and}
 use Rattle.gil_syntax.specs.View.{proc_view}
 use Rattle.gil_grammar.specs.Texts as text

@@ -1,7 +1,3 @@
-use Rattle.std.proofs.Common.{sym, ◌∙◌}
-use Rattle.gil_lexemes.specs.Lexemes.{StandForAll}
-use Rattle.gil_grammar.specs.Nesting.{IsNested}
-use Rattle.gil_grammar.specs.Reading.Texts.{program_at}
 use Rattle.gil_syntax.specs.View.{proc_view}
 use Rattle.gil_text.specs.Located.{located_view}
 use Rattle.gil_text.proofs.RefusalLemmas.{items_spell, syntax_refusal}

@@ -1,4 +1,4 @@
-use Rattle.std.proofs.Common.{◌≡◌, ◌≢◌, refl, sym, ◌∙◌, ap}
+use Rattle.std.proofs.Common.{◌≢◌, sym, ◌∙◌}
 use Rattle.std.proofs.lemmas.Result.{err_from_is_err_and}
 use denote.Enum.Bare.{same_false}
 use Rattle.gil_syntax.specs.contracts.validity.InvalidKind.{the_type}
