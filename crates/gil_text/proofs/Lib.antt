@@ -1,5 +1,6 @@
 pub mod BlockLoop
 pub mod BodyLoop
 pub mod ItemLoop
+pub mod LocatedLemmas
 pub mod RefusalLemmas
 pub mod AnnotationLemmas

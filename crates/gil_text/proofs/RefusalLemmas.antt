@@ -1,5 +1,5 @@
 -- Why a text is refused, from what its readers answer.
-use Rattle.std.proofs.Common.{◌≡◌, ◌≢◌, ◌+◌, ◌<◌, ◌≤◌, true, ℕ, suc, List, [], ◌∷◌, ◌++◌, length, map, Option, Some, None, refl, sym, ap, ◌∙◌, subst, arith, slice_get, length-append}
+use Rattle.std.proofs.Common.{◌≡◌, ◌≢◌, ◌+◌, ◌<◌, true, ℕ, suc, List, [], ◌∷◌, ◌++◌, length, map, Option, Some, None, refl, sym, ap, subst, arith, slice_get, length-append}
 use Rattle.std.specs.Prelude.{option_map}
 use Rattle.std.specs.List.{filter_map, cons_option}
 use Rattle.std.proofs.lemmas.List.{length-map}
@@ -14,15 +14,15 @@ use Rattle.gil_lexer.specs.Texts.{AreTokensOf}
 use Rattle.gil_lexemes.specs.declared.standing.Lexeme.{Lexeme}
 use Rattle.gil_lexemes.specs.Lexemes.{StandForAll}
 use Rattle.gil_grammar.specs.Nesting.{IsNested}
-use Rattle.gil_grammar.specs.Texts.{PlacedItem, SpellsItems, BeginsWithProc, Spell, SpellProgram, as_proc, as_spec, as_pred, place_if, parts_of, places_of}
+use Rattle.gil_grammar.specs.Texts.{PlacedItem, Spell, SpellProgram, as_proc, as_spec, as_pred, place_if, parts_of, places_of}
 use Rattle.gil_grammar.specs.Reading.Texts.{program_at}
 use Rattle.gil_syntax.specs.WellMade.{is_well_made}
 use Rattle.gil_grammar.proofs.MadeLaws.{text_makes}
 use Rattle.gil_grammar.proofs.TextLaws.{program_takes, program_again, nested_whole, spelled_as_read, one_program}
 use Rattle.gil_text.specs.declared.refused.RefusedKind.{RefusedKind}
 use Rattle.gil_text.specs.declared.refused.RefusedKind.TheVariants as refusals
-use Rattle.gil_text.specs.Located.{PureLocated, located_of}
-use Rattle.gil_text.specs.Refusals.{lexical, HasNoTokens, AreLexemesOf, IsRefusedFor}
+use Rattle.gil_text.specs.Located.{PureLocated, located_parts, located_of}
+use Rattle.gil_text.specs.Refusals.{lexical, HasNoTokens, IsRefusedFor}
 
 pub lexical_refusal : (kind : LexKind) (bytes : List ℕ) (at : ℕ) → (kind ≢ kinds.Memory → (tokens : List Token) → AreTokensOf tokens bytes → ⊥) → IsRefusedFor bytes at (lexical kind)
 lexical_refusal kinds.Memory bytes at h = tt
@@ -47,7 +47,7 @@ map_none f (Some x) e = absurd cc
 map_none f None e = refl
 
 -- the items that were read are those of the text
-pub items_spell : (bytes : List ℕ) (tokens : List Token) (ls : List Lexeme) (located : PureLocated) → AreTokensOf tokens bytes → StandForAll bytes tokens ls → IsNested ls
+pub items_spell : (bytes : List ℕ) (tokens : List Token) (ls : List Lexeme) (located : PureLocated PureProc) → AreTokensOf tokens bytes → StandForAll bytes tokens ls → IsNested ls
     → option_map located_of (program_at tokens ls) ≡ Some located → (items : List PlacedItem) × Spell bytes items × (located ≡ located_of items)
 items_spell bytes tokens ls located text stand nested e =
     let found = map_some located_of (program_at tokens ls) located e in
@@ -131,19 +131,30 @@ no_place items kind i named none =
 -- ---- programs
 
 -- the parts that were read are well made, and of one program
-pub located_makes : (bytes : List ℕ) (located : PureLocated) (items : List PlacedItem) → Spell bytes items → located ≡ located_of items → is_well_made located.parts ≡ true
+pub located_makes : (bytes : List ℕ) (located : PureLocated PureProc) (items : List PlacedItem) → Spell bytes items → located ≡ located_of items → is_well_made (located_parts located) ≡ true
 located_makes bytes located items s is = rw is (text_makes bytes items s)
 
-pub located_spells : (bytes : List ℕ) (located : PureLocated) (items : List PlacedItem) → Spell bytes items → located ≡ located_of items → SpellProgram bytes located.parts
-located_spells bytes located items s is = (items, s, ap (λ (l : PureLocated). l.parts) (sym is))
+pub located_spells : (bytes : List ℕ) (located : PureLocated PureProc) (items : List PlacedItem) → Spell bytes items → located ≡ located_of items → SpellProgram bytes (located_parts located)
+located_spells bytes located items s is = (items, s, ap (λ (l : PureLocated PureProc). located_parts l) (sym is))
 
 -- an item at fault has a place in the lists that were read
-pub located_place : (located : PureLocated) (items : List PlacedItem) (kind : InvalidKind) (i : ℕ) → located ≡ located_of items → IsNamedFault located.parts kind i
-    → slice_get (located.procs_at ++ located.specs_at ++ located.preds_at) i ≡ None → ⊥
+pub located_place : (located : PureLocated PureProc) (items : List PlacedItem) (kind : InvalidKind) (i : ℕ) → located ≡ located_of items → IsNamedFault (located_parts located) kind i
+    → slice_get (located.functions_at ++ located.specs_at ++ located.preds_at) i ≡ None → ⊥
 located_place located items kind i is named none =
-    let named' : IsNamedFault (parts_of items) kind i = subst (λ (l : PureLocated). IsNamedFault l.parts kind i) is named in
-    let none' : slice_get (places_of items) i ≡ None = subst (λ (l : PureLocated). slice_get (l.procs_at ++ l.specs_at ++ l.preds_at) i ≡ None) is none in
+    let named' : IsNamedFault (parts_of items) kind i = subst (λ (l : PureLocated PureProc). IsNamedFault (located_parts l) kind i) is named in
+    let none' : slice_get (places_of items) i ≡ None = subst (λ (l : PureLocated PureProc). slice_get (l.functions_at ++ l.specs_at ++ l.preds_at) i ≡ None) is none in
     no_place items kind i named' none'
+
+-- the refusal of a text whose program has a fault
+pub fault_refusal : (located : PureLocated PureProc) (items : List PlacedItem) (kind : InvalidKind) (i : ℕ) → located ≡ located_of items → IsNamedFault (located_parts located) kind i
+    → (bytes : List ℕ) (at : ℕ) → Spell bytes items → slice_get (located.functions_at ++ located.specs_at ++ located.preds_at) i ≡ Some at → IsRefusedFor bytes at (refusals.Invalid kind)
+fault_refusal located items kind i is named bytes at s some = (
+  items,
+  i,
+  s,
+  subst (λ (l : PureLocated PureProc). IsNamedFault (located_parts l) kind i) is named,
+  subst (λ (l : PureLocated PureProc). slice_get (l.functions_at ++ l.specs_at ++ l.preds_at) i ≡ Some at) is some,
+)
 
 -- a program with a fault that is named isn't valid
 pub named_is_invalid : (p program : PureParts) (kind : InvalidKind) (i : ℕ) → p ≡ program → IsNamedFault p kind i → IsValid program → ⊥

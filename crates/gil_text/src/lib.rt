@@ -18,6 +18,7 @@ mod vocabulary;
 pub use annotations::{Annotation, annotation_at, read_assertions};
 pub use assertions::{expression_at, expressions_at};
 pub use commands::{logic_at, names_at};
+pub use located::{Located, Places, TextItem};
 pub use nesting::nesting_fault;
 pub use places::place_at;
 pub use programs::{pred_at, spec_at};

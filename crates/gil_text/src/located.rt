@@ -1,15 +1,16 @@
-//! The lists of a program as they are read, with the byte at which each item begins.
+//! The lists of a text as they are read, with the byte at which each item begins. A text of GIL has procedures, and one of a source
+//! language has functions.
 ghost use Rattle.std.specs.Prelude.{◌≡◌, [], OnOk};
-ghost use Rattle.gil_text.specs.Located.{located_of, located_view, text_item_view, with_item};
+ghost use Rattle.gil_text.specs.Located.{no_items, with_added};
 
-use gil_syntax::{Parts, PredDef, Proc, Spec};
+use gil_syntax::{PredDef, PredDefs, Spec, Specs};
 use sequence::Sequence;
 use std::alloc::{AllocError, Global};
 
-/// An item of a text.
+/// An item of a text whose procedures or functions are of the type `F`.
 #[derive(Debug, Drop)]
-pub(crate) enum TextItem {
-    Proc(Proc),
+pub enum TextItem<F> {
+    Function(F),
     Spec(Spec),
     Pred(PredDef),
 }
@@ -17,47 +18,49 @@ pub(crate) enum TextItem {
 /// The byte at which something begins.
 pub type Places = Sequence<usize>;
 
-/// The lists of a program, and the bytes at which their items begin.
+/// The lists of a text, and the bytes at which their items begin.
 #[derive(Debug, Drop)]
-pub struct Located {
-    pub parts: Parts,
-    pub procs_at: Places,
+pub struct Located<F> {
+    pub functions: Sequence<F>,
+    pub specs: Specs,
+    pub preds: PredDefs,
+    pub functions_at: Places,
     pub specs_at: Places,
     pub preds_at: Places,
 }
 
-impl Located {
+impl<F> Located<F> {
     /// Lists without items.
-    pub(crate) fn new(alloc: Global) -> Located
-        ensures { located_view result ≡ located_of [] }
+    pub fn new(alloc: Global) -> Located<F>
+        ensures { result ≡ no_items }
     {
         Located {
-            parts: Parts {
-                procs: Sequence::new(alloc),
-                specs: Sequence::new(alloc),
-                preds: Sequence::new(alloc),
-            },
-            procs_at: Sequence::new(alloc),
+            functions: Sequence::new(alloc),
+            specs: Sequence::new(alloc),
+            preds: Sequence::new(alloc),
+            functions_at: Sequence::new(alloc),
             specs_at: Sequence::new(alloc),
             preds_at: Sequence::new(alloc),
         }
     }
+}
 
+impl<F: Drop> Located<F> {
     /// Adds an item that begins at a byte to its list.
-    pub(crate) fn add(&mut self, item: TextItem, at: usize) -> Result<(), AllocError>
-        ensures { OnOk result (located_view self.new ≡ with_item (located_view self.old) (record { item = text_item_view item; at = at })) }
+    pub fn add(&mut self, item: TextItem<F>, at: usize) -> Result<(), AllocError>
+        ensures { OnOk result (self.new ≡ with_added self.old item at) }
     {
         match item {
-            TextItem::Proc(procedure) => {
-                self.parts.procs.push(procedure)?;
-                self.procs_at.push(at)
+            TextItem::Function(function) => {
+                self.functions.push(function)?;
+                self.functions_at.push(at)
             }
             TextItem::Spec(specification) => {
-                self.parts.specs.push(specification)?;
+                self.specs.push(specification)?;
                 self.specs_at.push(at)
             }
             TextItem::Pred(predicate) => {
-                self.parts.preds.push(predicate)?;
+                self.preds.push(predicate)?;
                 self.preds_at.push(at)
             }
         }

@@ -109,15 +109,15 @@ pub fn pred_at<'a>(
 }
 
 /// The procedure at the front.
-fn a_proc_at<'a>(alloc: Global, cursor: Cursor<'a>) -> Result<(TextItem, Cursor<'a>), Stop>
+fn a_proc_at<'a>(alloc: Global, cursor: Cursor<'a>) -> Result<(TextItem<Proc>, Cursor<'a>), Stop>
     ensures { Gives (λ found. (text_item_view found.0, found.1)) result (read.a_proc_at cursor.entry) }
 {
     let (procedure, cursor) = proc_at(alloc, cursor.behind())?;
-    Ok((TextItem::Proc(procedure), cursor))
+    Ok((TextItem::Function(procedure), cursor))
 }
 
 /// The specification at the front.
-fn a_spec_at<'a>(alloc: Global, cursor: Cursor<'a>) -> Result<(TextItem, Cursor<'a>), Stop>
+fn a_spec_at<'a>(alloc: Global, cursor: Cursor<'a>) -> Result<(TextItem<Proc>, Cursor<'a>), Stop>
     ensures { Gives (λ found. (text_item_view found.0, found.1)) result (read.a_spec_at cursor.entry) }
 {
     let (specification, cursor) = spec_at(alloc, Extent::Whole, cursor.behind())?;
@@ -125,7 +125,7 @@ fn a_spec_at<'a>(alloc: Global, cursor: Cursor<'a>) -> Result<(TextItem, Cursor<
 }
 
 /// The predicate at the front.
-fn a_pred_at<'a>(alloc: Global, cursor: Cursor<'a>) -> Result<(TextItem, Cursor<'a>), Stop>
+fn a_pred_at<'a>(alloc: Global, cursor: Cursor<'a>) -> Result<(TextItem<Proc>, Cursor<'a>), Stop>
     ensures { Gives (λ found. (text_item_view found.0, found.1)) result (read.a_pred_at cursor.entry) }
 {
     let (predicate, cursor) = pred_at(alloc, Extent::Whole, cursor.behind())?;
@@ -134,7 +134,10 @@ fn a_pred_at<'a>(alloc: Global, cursor: Cursor<'a>) -> Result<(TextItem, Cursor<
 
 /// The item at the front.
 #[tactic(auto, unfolding(gil_grammar::specs::Reading::Programs::item_at))]
-pub(crate) fn item_at<'a>(alloc: Global, cursor: Cursor<'a>) -> Result<(TextItem, Cursor<'a>), Stop>
+pub(crate) fn item_at<'a>(
+    alloc: Global,
+    cursor: Cursor<'a>,
+) -> Result<(TextItem<Proc>, Cursor<'a>), Stop>
     ensures { Gives (λ found. (text_item_view found.0, found.1)) result (read.item_at cursor.entry) }
 {
     match word_of(cursor.first()) {

@@ -1,6 +1,7 @@
 //! Reading the items of a whole text.
 ghost use Rattle.std.specs.Prelude.{◌≡◌, length, option_map};
 ghost use Rattle.gil_lexemes.specs.Reading.{Gives};
+ghost use Rattle.gil_syntax.specs.View.{proc_view};
 ghost use Rattle.gil_grammar.specs.Texts as text;
 ghost use Rattle.gil_grammar.specs.Reading.Texts as read;
 ghost use Rattle.gil_text.specs.Located.{located_of, located_view};
@@ -9,6 +10,7 @@ use crate::located::Located;
 use crate::programs::item_at;
 use gil_lexemes::{Cursor, Stop};
 use gil_lexer::{Token, Word};
+use gil_syntax::Proc;
 use std::alloc::Global;
 
 /// The byte at which the last tokens begin, so many of them.
@@ -22,8 +24,8 @@ pub fn byte_before(tokens: &[Token], left: usize) -> usize
 }
 
 /// The items of which the text consists.
-fn items_at(alloc: Global, tokens: &[Token], cursor: Cursor<'_>) -> Result<Located, Stop>
-    ensures { Gives located_view result (option_map located_of (read.items_at tokens.now (length cursor.entry) cursor.entry)) }
+fn items_at(alloc: Global, tokens: &[Token], cursor: Cursor<'_>) -> Result<Located<Proc>, Stop>
+    ensures { Gives (located_view proc_view) result (option_map located_of (read.items_at tokens.now (length cursor.entry) cursor.entry)) }
 {
     let mut located = Located::new(alloc);
     let mut rest = cursor;
@@ -51,8 +53,8 @@ pub(crate) fn program_at(
     alloc: Global,
     tokens: &[Token],
     cursor: Cursor<'_>,
-) -> Result<Located, Stop>
-    ensures { Gives located_view result (option_map located_of (read.program_at tokens.now cursor.entry)) }
+) -> Result<Located<Proc>, Stop>
+    ensures { Gives (located_view proc_view) result (option_map located_of (read.program_at tokens.now cursor.entry)) }
 {
     if !cursor.is_at_word(Word::Proc) {
         return Err(Stop::Syntax(cursor.left()));

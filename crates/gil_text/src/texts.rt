@@ -3,6 +3,7 @@ ghost use Rattle.std.specs.Prelude.{◌≡◌, List, All, IfOk, IfErr, MatchResu
 ghost use Rattle.gil_lexer.specs.Texts.{AreTokensOf, IsSlice};
 ghost use Rattle.gil_syntax.specs.Pure.{PureParts};
 ghost use Rattle.gil_syntax.specs.Valid.{IsValid};
+ghost use Rattle.gil_syntax.specs.View.{proc_view};
 ghost use Rattle.gil_program.specs.Program.{prog_view};
 ghost use Rattle.gil_grammar.specs.Texts.{PlacedItem, Spell, SpellProgram};
 ghost use Rattle.gil_text.specs.declared.refused.RefusedKind.TheVariants.{Memory};
@@ -17,7 +18,7 @@ use crate::refused::{Refused, RefusedKind};
 use gil_lexemes::{Cursor, Stop};
 use gil_lexer::{LexKind, Token, Tokens, lex};
 use gil_program::Prog;
-use gil_syntax::InvalidKind;
+use gil_syntax::{InvalidKind, Parts, Proc};
 use std::alloc::Global;
 
 /// The kind of refusal of a text with this fault.
@@ -58,8 +59,8 @@ pub fn place_of(bytes: &[u8], tokens: &[Token], left: usize) -> usize
 }
 
 /// The items of the program that the text spells.
-pub(crate) fn read_located(alloc: Global, bytes: &[u8]) -> Result<Located, Refused>
-    ensures ok { IfOk result (λ located. (items : List PlacedItem) × Spell bytes.now items × (located_view located ≡ located_of items)) }
+pub(crate) fn read_located(alloc: Global, bytes: &[u8]) -> Result<Located<Proc>, Refused>
+    ensures ok { IfOk result (λ located. (items : List PlacedItem) × Spell bytes.now items × (located_view proc_view located ≡ located_of items)) }
     ensures refused { IfErr result (IsRefused bytes.now) }
 {
     let tokens = tokens_of(alloc, bytes)?;
@@ -100,11 +101,18 @@ pub fn read_prog(alloc: Global, bytes: &[u8]) -> Result<Prog, Refused>
     ensures refused { IfErr result (IsRefused bytes.now) }
 {
     let Located {
-        parts,
-        procs_at,
+        functions: procs,
+        specs,
+        preds,
+        functions_at: procs_at,
         specs_at,
         preds_at,
     } = read_located(alloc, bytes)?;
+    let parts = Parts {
+        procs,
+        specs,
+        preds,
+    };
     let invalid = match Prog::new(alloc, parts) {
         Ok(prog) => return Ok(prog),
         Err(invalid) => invalid,

@@ -11,8 +11,9 @@ use crate::refusals::{Refusal, RefusalKind, Stop, stop_of};
 use gil_program::Prog;
 use gil_text::read_prog;
 use gillian_words::{Language, Words};
+use source_meaning::TooMany;
 use std::alloc::Global;
-use while_compiler::{TooMany, compile};
+use while_compiler::compile;
 use while_text::read;
 
 /// The program of a text, for a mode that accepts nothing but texts with a program.

@@ -1,5 +1,10 @@
+pub mod Branches
 pub mod Following
+pub mod Labels
 pub mod Longer
+pub mod Made
 pub mod NumberedNames
 pub mod Stores
 pub mod Stretches
+pub mod TooLong
+pub mod Validity

@@ -1,5 +1,10 @@
 pub mod Code
+pub mod Compiled
 pub mod Completions
+pub mod Limits
 pub mod Names
 pub mod Procedures
+pub mod Pure
 pub mod SameEnds
+pub mod Valid
+pub mod View

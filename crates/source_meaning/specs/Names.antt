@@ -1,9 +1,10 @@
 -- Names of source programs, and names that only compiled programs have. A name of a source program has no '$'.
-use Rattle.std.specs.Prelude.{◌≡◌, ℕ, zero, suc, ◌+◌, List, [], ◌∷◌, ◌++◌, Bool, true, false, not, ◌&&◌, nat_eq, IsTrue, codes}
-use Rattle.std.specs.List.{list_any}
+use Rattle.std.specs.Prelude.{◌≡◌, ℕ, zero, suc, ◌+◌, List, [], ◌∷◌, ◌++◌, Bool, true, false, not, ◌&&◌, nat_eq, Option, Some, None, IsTrue, codes}
+use Rattle.std.specs.List.{list_all, list_any}
 use Rattle.gil_values.specs.Printed.{numeral}
 use Rattle.gil_syntax.specs.Pure.{PureExpr, literal, name, logical, list_of, unary_of, binary_of, PureExprs, no_exprs, expr_and}
 use Rattle.gil_syntax.specs.Evaluation.{Store, value_of}
+use Rattle.source_meaning.specs.Pure.{PureInvariant}
 
 abbrev pub is_source_name : List ℕ → Bool
 is_source_name x = not (list_any (nat_eq 36) x)
@@ -21,6 +22,11 @@ abbrev mutual
   pub are_source_exprs : PureExprs → Bool
   are_source_exprs no_exprs = true
   are_source_exprs (expr_and e es) = is_source_expr e && are_source_exprs es
+
+-- an invariant of a source program: the variables that may change are its own
+abbrev pub has_source_invariant : Option PureInvariant → Bool
+has_source_invariant None = true
+has_source_invariant (Some i) = list_all is_source_name i.names
 
 -- the temporary of a number: t$0, t$1 and so on
 abbrev pub temporary : ℕ → List ℕ

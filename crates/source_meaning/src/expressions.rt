@@ -1,5 +1,6 @@
 //! Expressions that compiled commands have.
 ghost use Rattle.std.specs.Prelude.{◌≡◌, IfOk};
+ghost use Rattle.gil_values.specs.Characters.{IsText};
 ghost use Rattle.gil_values.specs.Pure.{text, procedure};
 ghost use Rattle.gil_syntax.specs.Pure.{literal, name as pure_name};
 ghost use Rattle.gil_syntax.specs.View.{expr_view};
@@ -7,6 +8,7 @@ ghost use Rattle.source_meaning.specs.Code as code;
 ghost use Rattle.source_meaning.specs.Procedures as procedures;
 ghost use Rattle.source_meaning.specs.Names as names;
 
+use crate::pieces;
 use crate::temporaries::temporary;
 use gil_syntax::Expr;
 use gil_values::{Kind, Text, Value};
@@ -38,6 +40,14 @@ pub fn temporary_variable(alloc: Global, number: usize) -> Result<Expr, AllocErr
     ensures { IfOk result (λ e. expr_view e ≡ pure_name (names.temporary number)) }
 {
     Ok(Expr::Name(temporary(alloc, number)?))
+}
+
+/// A literal text with these characters.
+pub(crate) fn text_value(alloc: Global, characters: &str) -> Result<Expr, AllocError>
+    requires { IsText characters.now }
+    ensures { IfOk result (λ e. expr_view e ≡ literal (text characters.now)) }
+{
+    Ok(Expr::Lit(Value::Str(pieces::text(alloc, characters)?)))
 }
 
 /// A literal text.

@@ -28,6 +28,15 @@ pub fn put(commands: &mut Body, at: u32, command: Command) -> Result<(), AllocEr
     commands.push(NumberedCommand { command, at })
 }
 
+/// One command, with a place.
+pub fn one(alloc: Global, at: u32, command: Command) -> Result<Body, AllocError>
+    ensures { IfOk result (λ code. code_view code ≡ placed at (command_view command) ∷ []) }
+{
+    let mut code = Body::new(alloc);
+    put(&mut code, at, command)?;
+    Ok(code)
+}
+
 /// A jump after the other commands. No body in memory is so long that its labels don't fit.
 pub fn jump(commands: &mut Body, at: u32, condition: Expr, label: usize) -> Result<(), AllocError>
     ensures { OnOk result (code_view commands.new ≡ code_view commands.old ++ code.jump at (expr_view condition) label ∷ []) }

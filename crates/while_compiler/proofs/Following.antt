@@ -1,5 +1,5 @@
 -- The commands of each statement follow what the statement does.
-use Rattle.std.proofs.Common.{◌≡◌, ℕ, zero, suc, ◌+◌, ◌-◌, ◌≤◌, List, [], ◌∷◌, ◌++◌, pos, Bool, true, false, cond, Option, Some, None, Ok, Err, length, slice_get, refl, sym, ap, subst, ◌∙◌, arith, length-append}
+use Rattle.std.proofs.Common.{◌≡◌, ℕ, suc, ◌+◌, ◌-◌, ◌≤◌, List, [], ◌∷◌, ◌++◌, Bool, true, false, cond, Option, Some, None, Ok, Err, length, slice_get, refl, sym, ap, subst, ◌∙◌, arith, length-append}
 use Rattle.std.specs.Prelude.{codes, ◌==◌, ◌&&◌}
 use Rattle.std.specs.Option.{option_map}
 use Rattle.std.proofs.lemmas.Bool.{and_parts}
@@ -10,19 +10,20 @@ use Rattle.gil_syntax.specs.Pure.{PureExpr, name, PureNumberedCommand, PureProc,
 use Rattle.gil_syntax.specs.Programs.{find_proc}
 use Rattle.gil_syntax.specs.Evaluation.{Store, bind, both, evaluate, evaluate_all}
 use Rattle.mem_model.specs.Actions.{Actions}
-use Rattle.gil_machine.specs.State.{Frame, State, Step, goes_on, vanished}
+use Rattle.gil_machine.specs.State.{Frame, State, Step}
 use Rattle.gil_machine.specs.Step as machine
 use Rattle.gil_machine.specs.Run.{run}
-use Rattle.source_meaning.specs.Completions.{Situation, Completion, normal, returns, over, unfinished, then_do, end_of, fails, sets, with_value, after_action, draws_input, new_symbol, turns, after_body, back_in}
-use Rattle.source_meaning.specs.Names.{is_source_expr, is_source_name, temporary, IsExtendedBy}
-use Rattle.source_meaning.specs.Code.{truth, jump}
+use Rattle.source_meaning.specs.Compiled.{invariant_code}
+use Rattle.source_meaning.specs.Completions.{Situation, Completion, normal, fails, sets, with_value, after_action, draws_input, new_symbol, after_body, back_in}
+use Rattle.source_meaning.specs.Names.{is_source_expr, is_source_name, has_source_invariant, temporary, IsExtendedBy}
+use Rattle.source_meaning.proofs.Branches.{is_there, assert_runs, assume_runs, if_runs, loop_runs, logic_runs}
 use Rattle.source_meaning.proofs.Stores.{same_value, same_elements, extended_both, extended_more}
 use Rattle.source_meaning.proofs.Stretches.{HasAt, has_front, has_back}
-use Rattle.source_meaning.proofs.Following.{state_at, leaves, Leads, leads, leads_on, stays, Runs, Finishes, fewer, runs_after, runs_then, at_place, call_runs, Matches, value_matches, input_matches, steps, one_step, matched, value_runs, values_run, choice_runs, outcome_runs}
-use Rattle.while_syntax.specs.Pure.{PureLogic, PureInvariant, PureStatement, assign, input, symbol as new_symbol_in, new, lookup, call, mutate, dispose, assert, assume, if_else, while, return, fail, logic, fold_use, unfold_use, assert_that, PureBlock, no_statements, statement_and, PureFunction, find_function}
+use Rattle.source_meaning.proofs.Following.{state_at, leaves, leads, Runs, Finishes, fewer, runs_then, at_place, call_runs, Matches, value_matches, input_matches, steps, one_step, matched, value_runs, values_run, outcome_runs}
+use Rattle.while_syntax.specs.Pure.{PureStatement, assign, input, symbol as new_symbol_in, new, lookup, call, mutate, dispose, assert, assume, if_else, while, return, fail, logic, PureBlock, no_statements, statement_and, PureFunction, find_function}
 use Rattle.while_syntax.specs.Meaning.{Calls, call_found, statement, block}
-use Rattle.while_syntax.specs.Names.{is_source_statement, is_source_block, has_source_invariant}
-use Rattle.while_compiler.specs.Compiled.{invariant_code, block_temporaries, if_code, while_code, statement_code, block_code, compiled_function}
+use Rattle.while_syntax.specs.Names.{is_source_statement, is_source_block}
+use Rattle.while_compiler.specs.Compiled.{block_temporaries, statement_code, block_code, compiled_function}
 use Rattle.while_compiler.proofs.NewRecords.{TakesForNew, new_runs}
 
 -- one value, and a first and a third one with a text between
@@ -74,20 +75,6 @@ module _ (p : PureParts) (m : Actions) (takes : TakesForNew m) (inputs : List Pu
         (is ∙ ap (λ o. machine.with_value o (Here at) (At pc store s) then') (same_value e s.store store ext names))
         (value_matches f callers pc pc' store s (Here at) (evaluate e s.store) then then' match)
 
-    -- an unconditional jump
-    jumps : (pc label at : ℕ) (store : Store) (s : Situation) → slice_get q.body pc ≡ Some (jump at truth label)
-        → Leads (run p m inputs) (At pc store s) (goes_on (At label store s))
-    jumps pc label at store s has = leads _ _ _ (one_step p m inputs f q found callers _ _
-        (steps p m inputs f q found callers pc _ store s has))
-
-    -- commands, and a jump after them
-    then_jumps : (some pc pc' at : ℕ) (st : State) (c : Completion) → slice_get q.body pc ≡ Some (jump at truth pc')
-        → Follows some pc st c → Follows some pc' st c
-    then_jumps some pc pc' at st (normal s) has r = (r.0, r.1, leads_on _ _ _ _ r.2 (jumps pc pc' at r.0 s has))
-    then_jumps some pc pc' at st (returns v s) has r = r
-    then_jumps some pc pc' at st (over e) has r = r
-    then_jumps some pc pc' at st unfinished has r = r
-
     -- an action that takes no symbol
     act_runs : (pc pc' at : ℕ) (a x : List ℕ) (args : List PureValue) (store : Store) (s : Situation)
         (then : PureValue → Situation → Completion) → m.takes_symbol a ≡ false
@@ -99,10 +86,6 @@ module _ (p : PureParts) (m : Actions) (takes : TakesForNew m) (inputs : List Pu
         (At pc store s) (m.act a None args s.heap).outcome then
         (is ∙ ap (λ b. machine.do_action b m x a args (Here at) (At pc store s)) off)
         (λ v. next v _ refl)
-
-    -- where commands have come to their end
-    is_there : (pc : ℕ) (store : Store) (s : Situation) → IsExtendedBy s.store store → Follows least pc (At pc store s) (normal s)
-    is_there pc store s ext = (store, ext, stays (run p m inputs) _)
 
     -- a call of a function, of none, or with another number of arguments
     called : (pc at : ℕ) (x g : List ℕ) (o : Option PureFunction) (args : List PureValue) (store : Store) (s : Situation)
@@ -126,77 +109,6 @@ module _ (p : PureParts) (m : Actions) (takes : TakesForNew m) (inputs : List Pu
             (state_at h.name 0 (caller ∷ callers) (machine.bind_all h.params args) s) (calls h args s) ext
             (one_step p m inputs f q found callers _ _ goes) (calls_follow g h args (caller ∷ callers) s there))
         by_arity false goes = (leads _ _ _ (one_step p m inputs f q found callers _ _ goes), tt)
-
-    -- a loop of at most n turns
-    loop_runs : (pc at : ℕ) (e : PureExpr) (invariant : Option PureInvariant) (written : ℕ) (code : List PureNumberedCommand)
-        (body : Situation → Completion) → is_source_expr e ≡ true
-        → HasAt q.body pc (while_code pc at e (invariant_code at written invariant) code)
-        → ((store : Store) (s : Situation) → IsExtendedBy s.store store
-        → Follows least (pc + length (invariant_code at written invariant) + 1 + 1 + length code)
-        (At (pc + length (invariant_code at written invariant) + 1 + 1) store s) (body s))
-        → (n some : ℕ) → some ≤ n → some ≤ least → (store : Store) (s : Situation) → IsExtendedBy s.store store
-        → Follows some (pc + length (while_code pc at e (invariant_code at written invariant) code)) (At pc store s)
-        (turns n (λ t. evaluate e t.store) (Here at) body s)
-    loop_runs pc at e invariant written code body names has follows zero some le le' store s ext = (0, omega arith, refl)
-    loop_runs pc at e invariant written code body names has follows (suc n) some le le' store s ext =
-        runs_after (run p m inputs) some f callers end _ _ _ (passes invariant has)
-        (fewer (run p m inputs) some (suc (some - 1)) f callers end _ _ (omega arith)
-        (choice_runs p m inputs f q found callers (some - 1) pc1 (pc1 + 1 + 1) end store s (Here at) (evaluate e s.store) _ _
-        (steps p m inputs f q found callers pc1 _ store s at_test.0
-        ∙ ap (λ o. machine.with_value o (Here at) (At pc1 store s)
-        (λ v. machine.branch v (pos (pc1 + 1 + 1)) (Here at) (At pc1 store s))) (same_value e s.store store ext names))
-        (turned (λ more t ext'. loop_runs pc at e invariant written code body names has follows n (some - 1) (omega arith)
-        (omega arith) more t ext'))
-        (store, ext, jumps (pc1 + 1) end at store s (at_test.1.0 ∙ ap (λ k. Some (jump at truth k)) ends))))
-      where
-        front : List PureNumberedCommand
-        front = invariant_code at written invariant
-
-        back : List PureNumberedCommand
-        back = code ++ jump at truth pc ∷ []
-
-        pc1 : ℕ
-        pc1 = pc + length front
-
-        end : ℕ
-        end = pc + length (while_code pc at e front code)
-
-        at_test : HasAt q.body pc1 (jump at e (pc1 + 1 + 1) ∷ jump at truth (pc1 + 1 + 1 + length code + 1) ∷ back)
-        at_test = has_back q.body pc front _ has
-
-        ends : pc1 + 1 + 1 + length code + 1 ≡ end
-        ends = omega (
-          arith,
-          length-append front (jump at e (pc1 + 1 + 1) ∷ jump at truth
-              (pc1 + 1 + 1 + length code + 1) ∷ back),
-          length-append code (jump at truth pc ∷ []),
-        )
-
-        passes : (i : Option PureInvariant) → HasAt q.body pc (while_code pc at e (invariant_code at written i) code)
-            → Leads (run p m inputs) (At pc store s) (goes_on (At (pc + length (invariant_code at written i)) store s))
-        passes None there = let e : pc ≡ pc + 0 = omega arith in subst
-            (λ k. Leads (run p m inputs) (At pc store s) (goes_on (At k store s))) e (stays (run p m inputs) _)
-        passes (Some i) there = leads _ _ _ (one_step p m inputs f q found callers _ _
-            (steps p m inputs f q found callers pc _ store s there.0))
-
-        -- the body, the jump back, and the other turns
-        turned : ((more : Store) (t : Situation) → IsExtendedBy t.store more
-            → Follows (some - 1) end (At pc more t) (turns n (λ t. evaluate e t.store) (Here at) body t))
-            → Follows (some - 1) end (At (pc1 + 1 + 1) store s) (then_do (body s) (turns n (λ t. evaluate e t.store) (Here at) body))
-        turned again = runs_then (run p m inputs) (some - 1) f callers (pc1 + 1 + 1 + length code) end _ (body s) _
-            (fewer (run p m inputs) (some - 1) least f callers _ _ _ (omega arith) (follows store s ext))
-            (λ more t ext'. runs_after (run p m inputs) (some - 1) f callers end _ _ _
-            (jumps (pc1 + 1 + 1 + length code) pc at more t (has_back q.body (pc1 + 1 + 1) code _ at_test.1.1).0)
-            (again more t ext'))
-
-    logic_runs : (pc at : ℕ) (c : PureLogic) (store : Store) (s : Situation) → IsExtendedBy s.store store
-        → HasAt q.body pc (statement_code pc at (logic c)) → Follows least (pc + 1) (At pc store s) (normal s)
-    logic_runs pc at (fold_use u) store s ext has = matched p m inputs f q found callers least (pc + 1) _ _ (normal s)
-        (steps p m inputs f q found callers pc _ store s has.0) (store, ext, refl)
-    logic_runs pc at (unfold_use u) store s ext has = matched p m inputs f q found callers least (pc + 1) _ _ (normal s)
-        (steps p m inputs f q found callers pc _ store s has.0) (store, ext, refl)
-    logic_runs pc at (assert_that items) store s ext has = matched p m inputs f q found callers least (pc + 1) _ _ (normal s)
-        (steps p m inputs f q found callers pc _ store s has.0) (store, ext, refl)
 
     mutual
       pub statement_runs : (c : PureStatement) (pc at : ℕ) (store : Store) (s : Situation) → IsExtendedBy s.store store
@@ -224,7 +136,7 @@ module _ (p : PureParts) (m : Actions) (takes : TakesForNew m) (inputs : List Pu
           (λ v. machine.do_action (m.takes_symbol (codes "lookup")) m x (codes "lookup") (v ∷ text prop ∷ []) (Here at)
           (At pc store s))) (same_value (name y) s.store store ext (and_parts (is_source_name x) _ names).1))
           (λ l is. act_runs pc (pc + 1) at (codes "lookup") x (l ∷ text prop ∷ []) store s _ takes.lookup is
-          (λ v t same. is_there (pc + 1) (bind x v store) (sets x v t)
+          (λ v t same. is_there p m inputs f q found callers least (pc + 1) (bind x v store) (sets x v t)
           (extended_both x v t.store store (subst (λ st. IsExtendedBy st store) (sym same) ext))))
       statement_runs (call x g es) pc at store s ext names has =
           values_run p m inputs f q found callers least pc (pc + 1) store s (Here at) (evaluate_all es s.store) _ _
@@ -247,7 +159,7 @@ module _ (p : PureParts) (m : Actions) (takes : TakesForNew m) (inputs : List Pu
           (λ w. machine.do_action (m.takes_symbol (codes "mutate")) m (temporary 0) (codes "mutate") (l ∷ text prop ∷ w ∷ [])
           (Here at) (At pc store s))) (same_value e s.store store ext (and_parts (is_source_name y) _ names).1))
           (λ v is'. act_runs pc (pc + 1) at (codes "mutate") (temporary 0) (l ∷ text prop ∷ v ∷ []) store s _ takes.mutate is'
-          (λ w t same. is_there (pc + 1) (bind (temporary 0) w store) t
+          (λ w t same. is_there p m inputs f q found callers least (pc + 1) (bind (temporary 0) w store) t
           (extended_more 0 w t.store store (subst (λ st. IsExtendedBy st store) (sym same) ext)))))
       statement_runs (dispose e) pc at store s ext names has =
           value_runs p m inputs f q found callers least pc (pc + 1) store s (Here at) (evaluate e s.store) _ _
@@ -256,37 +168,18 @@ module _ (p : PureParts) (m : Actions) (takes : TakesForNew m) (inputs : List Pu
           (λ v. machine.do_action (m.takes_symbol (codes "dispose")) m (temporary 0) (codes "dispose") (v ∷ []) (Here at)
           (At pc store s))) (same_value e s.store store ext names))
           (λ l is. act_runs pc (pc + 1) at (codes "dispose") (temporary 0) (l ∷ []) store s _ takes.dispose is
-          (λ w t same. is_there (pc + 1) (bind (temporary 0) w store) t
+          (λ w t same. is_there p m inputs f q found callers least (pc + 1) (bind (temporary 0) w store) t
           (extended_more 0 w t.store store (subst (λ st. IsExtendedBy st store) (sym same) ext))))
       statement_runs (assert e) pc at store s ext names has =
-          fewer (run p m inputs) least (suc least) f callers (pc + 2) _ _ (omega arith)
-          (choice_runs p m inputs f q found callers least pc (pc + 2) (pc + 2) store s (Here at) (evaluate e s.store) _ _
-          (steps p m inputs f q found callers pc _ store s has.0
-          ∙ ap (λ o. machine.with_value o (Here at) (At pc store s)
-          (λ v. machine.branch v (pos (pc + 2)) (Here at) (At pc store s))) (same_value e s.store store ext names))
-          (is_there (pc + 2) store s ext)
-          (matched p m inputs f q found callers least (pc + 2) _ _ (fails (text (codes "assert")) (Here at) s)
-          (steps p m inputs f q found callers (pc + 1) _ store s has.1.0) (refl, tt)))
+          assert_runs p m inputs f q found callers least pc at e store s (evaluate e s.store) (same_value e s.store store ext names) ext has
       statement_runs (assume e) pc at store s ext names has =
-          fewer (run p m inputs) least (suc least) f callers (pc + 2) _ _ (omega arith)
-          (choice_runs p m inputs f q found callers least pc (pc + 2) (pc + 2) store s (Here at) (evaluate e s.store) _ _
-          (steps p m inputs f q found callers pc _ store s has.0
-          ∙ ap (λ o. machine.with_value o (Here at) (At pc store s)
-          (λ v. machine.branch v (pos (pc + 2)) (Here at) (At pc store s))) (same_value e s.store store ext names))
-          (is_there (pc + 2) store s ext)
-          (matched p m inputs f q found callers least (pc + 2) _ _ (over (end_of vanished s))
-          (steps p m inputs f q found callers (pc + 1) _ store s has.1.0) (refl, tt)))
+          assume_runs p m inputs f q found callers least pc at e store s (evaluate e s.store) (same_value e s.store store ext names) ext has
       statement_runs (if_else e on off) pc at store s ext names has =
-          fewer (run p m inputs) least (suc least) f callers end _ _ (omega arith)
-          (choice_runs p m inputs f q found callers least pc (pc + 1 + length off_code + 1) end store s (Here at) (evaluate e s.store) _ _
-          (steps p m inputs f q found callers pc _ store s has.0
-          ∙ ap (λ o. machine.with_value o (Here at) (At pc store s)
-          (λ v. machine.branch v (pos (pc + 1 + length off_code + 1)) (Here at) (At pc store s)))
-          (same_value e s.store store ext parts.0))
-          (at_place (run p m inputs) least f callers _ end _ _ ends
-          (block_runs on (pc + 1 + length off_code + 1) store s ext sides.0 at_on.1))
-          (then_jumps least (pc + 1 + length off_code) end at _ _ (at_on.0 ∙ ap (λ k. Some (jump at truth k)) ends)
-          (block_runs off (pc + 1) store s ext sides.1 (has_front q.body (pc + 1) off_code _ has.1))))
+          if_runs p m inputs f q found callers least pc at e off_code on_code store s (evaluate e s.store)
+          (block functions m inputs loops calls f on) (block functions m inputs loops calls f off)
+          (same_value e s.store store ext parts.0) has
+          (λ at_on. block_runs on (pc + 1 + length off_code + 1) store s ext sides.0 at_on)
+          (block_runs off (pc + 1) store s ext sides.1 (has_front q.body (pc + 1) off_code _ has.1))
         where
           off_code : List PureNumberedCommand
           off_code = block_code (pc + 1) off
@@ -294,22 +187,13 @@ module _ (p : PureParts) (m : Actions) (takes : TakesForNew m) (inputs : List Pu
           on_code : List PureNumberedCommand
           on_code = block_code (pc + 1 + length off_code + 1) on
 
-          end : ℕ
-          end = pc + length (if_code pc at e off_code on_code)
-
           parts : (is_source_expr e ≡ true) × ((is_source_block on && is_source_block off) ≡ true)
           parts = and_parts _ _ names
 
           sides : (is_source_block on ≡ true) × (is_source_block off ≡ true)
           sides = and_parts _ _ parts.1
-
-          at_on : HasAt q.body (pc + 1 + length off_code) (jump at truth (pc + 1 + length off_code + 1 + length on_code) ∷ on_code)
-          at_on = has_back q.body (pc + 1) off_code _ has.1
-
-          ends : pc + 1 + length off_code + 1 + length on_code ≡ end
-          ends = omega (arith, length-append off_code (jump at truth (pc + 1 + length off_code + 1 + length on_code) ∷ on_code))
       statement_runs (while e invariant body) pc at store s ext names has =
-          loop_runs pc at e invariant (block_temporaries body) code (block functions m inputs loops calls f body) parts.0 has
+          loop_runs p m inputs f q found callers least pc at e invariant (block_temporaries body) code (block functions m inputs loops calls f body) parts.0 has
           (λ more t ext'. block_runs body start more t ext' (and_parts (has_source_invariant invariant) _ parts.1).1 at_body)
           loops least enough (omega arith) store s ext
         where
@@ -333,13 +217,13 @@ module _ (p : PureParts) (m : Actions) (takes : TakesForNew m) (inputs : List Pu
       statement_runs (fail e) pc at store s ext names has =
           value_steps pc (pc + 1) at store s (evaluate e s.store) e _ _ ext names
           (steps p m inputs f q found callers pc _ store s has.0) (λ v. (refl, tt))
-      statement_runs (logic c) pc at store s ext names has = logic_runs pc at c store s ext has
+      statement_runs (logic c) pc at store s ext names has = logic_runs p m inputs f q found callers least pc at c store s ext has
 
       pub block_runs : (b : PureBlock) (pc : ℕ) (store : Store) (s : Situation) → IsExtendedBy s.store store → is_source_block b ≡ true
           → HasAt q.body pc (block_code pc b) → Follows least (pc + length (block_code pc b)) (At pc store s)
           (block functions m inputs loops calls f b s)
       block_runs no_statements pc store s ext names has =
-          at_place (run p m inputs) least f callers pc (pc + 0) _ (normal s) (omega arith) (is_there pc store s ext)
+          at_place (run p m inputs) least f callers pc (pc + 0) _ (normal s) (omega arith) (is_there p m inputs f q found callers least pc store s ext)
       block_runs (statement_and at c rest) pc store s ext names has =
           at_place (run p m inputs) least f callers _ _ _ _ ends
           (runs_then (run p m inputs) least f callers (pc + length code)

@@ -1,14 +1,14 @@
 -- The GIL program that a While program is compiled to. The commands of a statement have the byte at which it begins as their
 -- place; labels are indices of the procedure's commands. Temporaries are numbered anew in each statement, in the order in which
 -- they are assigned.
-use Rattle.std.specs.Prelude.{ℕ, suc, ◌+◌, List, [], ◌∷◌, ◌++◌, map, length, Option, Some, None, codes, max}
+use Rattle.std.specs.Prelude.{ℕ, suc, ◌+◌, List, [], ◌∷◌, ◌++◌, map, length, codes, max}
 use Rattle.gil_values.specs.Pure.{text, procedure}
-use Rattle.gil_syntax.specs.Pure.{PureExpr, literal, name, list_of, from_list, assign, call, act, usym, isym, return, fail, vanish, fold_use, unfold_use, assert_that, loop_invariant, PureCommand, PureNumberedCommand, PureProc, PureParts}
-use Rattle.source_meaning.specs.Code.{truth, jump}
-use Rattle.source_meaning.specs.Names.{temporary, temporaries_from}
+use Rattle.gil_syntax.specs.Pure.{PureExpr, literal, name, list_of, from_list, assign, call, act, usym, isym, return, fail, PureNumberedCommand, PureProc, PureParts}
+use Rattle.source_meaning.specs.Compiled.{if_code, while_code, assert_code, assume_code, invariant_code, logic_command}
+use Rattle.source_meaning.specs.Names.{temporary}
 use Rattle.source_meaning.specs.Procedures.{placed, procedure_of}
 use Rattle.while_syntax.specs.Pure as while
-use Rattle.while_syntax.specs.Pure.{PureField, PureLogic, PureInvariant, PureStatement, PureBlock, no_statements, statement_and, PureFunction, PureSource}
+use Rattle.while_syntax.specs.Pure.{PureField, PureStatement, PureBlock, no_statements, statement_and, PureFunction, PureSource}
 
 -- ---- temporaries
 
@@ -55,28 +55,6 @@ new_code at x fields =
     ∷ (fill_code at (length fields) (length fields + 1) 0 fields
     ++ placed at (assign x (name (temporary (length fields)))) ∷ []))
 
--- Of a condition at a place: where it is true, the second commands, and else the first.
-abbrev pub if_code : ℕ → ℕ → PureExpr → List PureNumberedCommand → List PureNumberedCommand → List PureNumberedCommand
-if_code pc at e off on =
-    jump at e (pc + 1 + length off + 1) ∷ (off ++ (jump at truth (pc + 1 + length off + 1 + length on) ∷ on))
-
-abbrev pub while_code : ℕ → ℕ → PureExpr → List PureNumberedCommand → List PureNumberedCommand → List PureNumberedCommand
-while_code pc at e invariant body =
-    invariant
-    ++ (jump at e (pc + length invariant + 1 + 1)
-    ∷ jump at truth (pc + length invariant + 1 + 1 + length body + 1)
-    ∷ (body ++ jump at truth pc ∷ []))
-
--- the invariant of a loop, which may change the temporaries that are assigned in the loop too
-abbrev pub invariant_code : ℕ → ℕ → Option PureInvariant → List PureNumberedCommand
-invariant_code at temporaries None = []
-invariant_code at temporaries (Some i) = placed at (loop_invariant (i.names ++ temporaries_from 0 temporaries) i.logicals i.items) ∷ []
-
-abbrev pub logic_command : PureLogic → PureCommand
-logic_command (while.fold_use u) = fold_use u
-logic_command (while.unfold_use u) = unfold_use u
-logic_command (while.assert_that items) = assert_that items
-
 abbrev pub property : List ℕ → PureExpr
 property p = literal (text p)
 
@@ -91,8 +69,8 @@ abbrev mutual
   statement_code pc at (while.call x f es) = placed at (call x (literal (procedure f)) es) ∷ []
   statement_code pc at (while.mutate y p e) = placed at (act (temporary 0) (codes "mutate") (name y ∷ property p ∷ e ∷ [])) ∷ []
   statement_code pc at (while.dispose e) = placed at (act (temporary 0) (codes "dispose") (e ∷ [])) ∷ []
-  statement_code pc at (while.assert e) = jump at e (pc + 2) ∷ placed at (fail (literal (text (codes "assert")))) ∷ []
-  statement_code pc at (while.assume e) = jump at e (pc + 2) ∷ placed at vanish ∷ []
+  statement_code pc at (while.assert e) = assert_code pc at e
+  statement_code pc at (while.assume e) = assume_code pc at e
   statement_code pc at (while.if_else e on off) =
       if_code pc at e (block_code (pc + 1) off) (block_code (pc + 1 + length (block_code (pc + 1) off) + 1) on)
   statement_code pc at (while.while e invariant body) =

@@ -5,6 +5,7 @@ use Rattle.gil_values.specs.Pure.{integer, text, procedure}
 use Rattle.gil_syntax.specs.Pure.{PureExpr, literal, name, list_of, from_list, PurePredUse, assign, call, act, usym, isym, return, fail, vanish, fold_use, loop_invariant, PureNumberedCommand}
 use Rattle.source_meaning.specs.Code.{truth, jump}
 use Rattle.source_meaning.specs.Names.{temporary}
+use Rattle.source_meaning.specs.Pure as trees
 use Rattle.source_meaning.specs.Procedures.{null, placed}
 use Rattle.while_syntax.specs.Pure as while
 use Rattle.while_syntax.specs.Pure.{no_statements, statement_and, PurePlacedStatement, PureFunction, PureSource}
@@ -56,7 +57,7 @@ every_statement = record {
       (statement_and 11 (while.input (codes "x") Int)
       (statement_and 12 (while.symbol (codes "x"))
       (statement_and 13 (while.assign (codes "x") y)
-      (statement_and 14 (while.logic (while.fold_use used))
+      (statement_and 14 (while.logic (trees.fold_use used))
       (statement_and 15 (while.fail y) no_statements)))))))))));
   at = 0;
 }

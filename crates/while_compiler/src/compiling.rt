@@ -1,17 +1,17 @@
 //! Compiling a source.
 ghost use Rattle.std.specs.Prelude.{◌≡◌, None, IfOk, IfErr, OnOk};
 ghost use Rattle.gil_program.specs.Program.{prog_view};
+ghost use Rattle.source_meaning.specs.Limits.{IsLimitOf};
 ghost use Rattle.while_compiler.specs.Compiled.{compiled};
-ghost use Rattle.while_compiler.specs.Limits.{IsLimitOf};
 ghost use Rattle.while_compiler.specs.SameEnds.{HasSameEnds};
 ghost use Rattle.while_compiler.specs.Source.{source_view};
 ghost use Rattle.while_compiler.specs.Valid.{first_too_long};
 
-use crate::limits::TooMany;
 use crate::programs::compiled_parts;
 use crate::source::Source;
 use gil_program::Prog;
 use gil_syntax::InvalidKind;
+use source_meaning::TooMany;
 use std::alloc::Global;
 
 /// The compiled program of a source. From every proper start, with any inputs, the two have the same ends.

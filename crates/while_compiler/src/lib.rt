@@ -2,9 +2,7 @@
 #![tactic(auto)]
 
 mod compiling;
-mod control;
 mod examples;
-mod limits;
 mod making;
 mod programs;
 mod records;
@@ -15,5 +13,4 @@ mod temporaries;
 
 pub use compiling::compile;
 pub use examples::{a_return_stands_last, statements_have_their_commands};
-pub use limits::TooMany;
 pub use source::Source;

@@ -12,13 +12,14 @@ ghost use Rattle.while_compiler.specs.Source.{source_view};
 use crate::programs::parts_of;
 use crate::source::Source;
 use gil_program::{Invalid, check_but_length};
+use source_meaning::SourceParts;
 use std::alloc::Global;
-use while_syntax::SourceParts;
+use while_syntax::Function;
 
 impl Source {
     /// The source of trees. A fault is one of the compiled program, the number of a procedure's commands aside, and its item is
     /// counted through the functions, then the specifications, then the predicates.
-    pub fn new(alloc: Global, parts: SourceParts) -> Result<Source, Invalid>
+    pub fn new(alloc: Global, parts: SourceParts<Function>) -> Result<Source, Invalid>
         requires named { list_all (λ f. is_source_function f) (source_parts_view parts).functions ≡ true }
         requires well_made { IsTrue (is_well_made (compiled (source_parts_view parts))) }
         ensures source { IfOk result (λ source. source_view source ≡ source_parts_view parts) }

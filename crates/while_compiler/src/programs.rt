@@ -2,22 +2,18 @@
 ghost use Rattle.std.specs.Prelude.{◌≡◌, None, map, IfOk, IfErr, OnOk};
 ghost use Rattle.gil_syntax.specs.View.{parts_view, proc_view};
 ghost use Rattle.source_meaning.specs.Code.{code_view};
+ghost use Rattle.source_meaning.specs.Limits.{IsLimitOf};
 ghost use Rattle.while_syntax.specs.View.{block_view, function_view, source_parts_view};
 ghost use Rattle.while_compiler.specs.Compiled as compiled;
-ghost use Rattle.while_compiler.specs.Limits.{IsLimitOf};
 ghost use Rattle.while_compiler.specs.Valid as valid;
 
-use crate::limits::TooMany;
 use crate::statements::block_code;
 use crate::temporaries::block_temporaries;
 use gil_syntax::{Body, Command, Parts, Proc, Procs};
-use source_meaning::{append, code_len, null, nulls, put};
+use source_meaning::{SourceParts, TooMany, append, first_too_long, null, nulls, put};
 use std::alloc::{AllocError, Global};
 use syntax_copy::{copy_preds, copy_specs, copy_texts};
-use while_syntax::{Function, Functions, SourceParts};
-
-/// How many commands a procedure may have.
-const MOST_COMMANDS: usize = 1000;
+use while_syntax::{Function, Functions};
 
 /// The commands of a function: its temporaries begin with Null, and at its end it returns Null.
 fn body_code(alloc: Global, function: &Function) -> Result<Body, AllocError>
@@ -53,7 +49,7 @@ fn procedures_of(alloc: Global, functions: &Functions) -> Result<Procs, AllocErr
 }
 
 /// The parts of the compiled program, however long its procedures are.
-pub(crate) fn parts_of(alloc: Global, source: &SourceParts) -> Result<Parts, AllocError>
+pub(crate) fn parts_of(alloc: Global, source: &SourceParts<Function>) -> Result<Parts, AllocError>
     ensures { IfOk result (λ parts. parts_view parts ≡ compiled.compiled (source_parts_view source.now)) }
 {
     let procs = procedures_of(alloc, &source.functions)?;
@@ -67,26 +63,25 @@ pub(crate) fn parts_of(alloc: Global, source: &SourceParts) -> Result<Parts, All
 }
 
 /// The byte at which the first of the functions begins whose procedure is too long.
-fn first_too_long(functions: &[Function], procs: &[Proc]) -> Option<usize>
+fn too_long_at(functions: &[Function], procs: &[Proc]) -> Option<usize>
     requires { map proc_view procs.now ≡ map compiled.compiled_function (map function_view functions.now) }
     ensures { result ≡ valid.first_too_long (map function_view functions.now) }
 {
-    for (function, proc) in functions.iter().zip(procs) {
-        if code_len(&proc.body) > MOST_COMMANDS {
-            return Some(function.at as usize);
-        }
-    }
-    None
+    let function = functions.get(first_too_long(procs)?)?;
+    Some(function.at as usize)
 }
 
 /// The parts of the compiled program, where no procedure is too long.
-pub(crate) fn compiled_parts(alloc: Global, source: &SourceParts) -> Result<Parts, TooMany>
+pub(crate) fn compiled_parts(
+    alloc: Global,
+    source: &SourceParts<Function>,
+) -> Result<Parts, TooMany>
     ensures parts { IfOk result (λ parts. parts_view parts ≡ compiled.compiled (source_parts_view source.now)) }
     ensures short { OnOk result (valid.first_too_long (source_parts_view source.now).functions ≡ None) }
     ensures limit { IfErr result (λ e. IsLimitOf (valid.first_too_long (source_parts_view source.now).functions) e) }
 {
     let parts = parts_of(alloc, source)?;
-    match first_too_long(source.functions.as_slice(), parts.procs.as_slice()) {
+    match too_long_at(source.functions.as_slice(), parts.procs.as_slice()) {
         Some(at) => Err(TooMany::Limit(at)),
         None => Ok(parts),
     }

@@ -1,30 +1,19 @@
 //! Statements that one command stands for.
-ghost use Rattle.std.specs.Prelude.{◌≡◌, ◌+◌, [], ◌∷◌, length, IfOk, codes};
+ghost use Rattle.std.specs.Prelude.{◌≡◌, [], ◌∷◌, IfOk, codes};
 ghost use Rattle.gil_values.specs.Characters.{IsText};
-ghost use Rattle.gil_values.specs.Pure.{procedure, text};
-ghost use Rattle.gil_syntax.specs.Pure.{literal, name, assign, call, act, usym, isym, return, fail, vanish, PureCommand};
-ghost use Rattle.gil_syntax.specs.View.{command_view, expr_view, exprs_view};
-ghost use Rattle.source_meaning.specs.Code.{code_view, jump as jump_to};
+ghost use Rattle.gil_values.specs.Pure.{procedure};
+ghost use Rattle.gil_syntax.specs.Pure.{literal, name, assign, call, act, usym, isym, return, fail};
+ghost use Rattle.gil_syntax.specs.View.{expr_view, exprs_view};
+ghost use Rattle.source_meaning.specs.Code.{code_view};
 ghost use Rattle.source_meaning.specs.Names.{temporary as pure_temporary};
 ghost use Rattle.source_meaning.specs.Procedures.{placed};
-ghost use Rattle.while_syntax.specs.View.{logic_view};
-ghost use Rattle.while_compiler.specs.Compiled.{logic_command, property};
+ghost use Rattle.while_compiler.specs.Compiled.{property};
 
 use gil_syntax::{Body, Command, Expr, Exprs};
-use gil_values::{Kind, Text, Value};
-use source_meaning::{jump, procedure_literal, put, sum, temporary, text, text_literal, variable};
+use gil_values::{Kind, Text};
+use source_meaning::{one, procedure_literal, temporary, text, text_literal, variable};
 use std::alloc::{AllocError, Global};
-use syntax_copy::{copy_assertion, copy_of_expression, copy_of_expressions, copy_use};
-use while_syntax::Logic;
-
-/// One command.
-fn one(alloc: Global, at: u32, command: Command) -> Result<Body, AllocError>
-    ensures { IfOk result (λ code. code_view code ≡ placed at (command_view command) ∷ []) }
-{
-    let mut code = Body::new(alloc);
-    put(&mut code, at, command)?;
-    Ok(code)
-}
+use syntax_copy::{copy_of_expression, copy_of_expressions};
 
 /// `x = e`
 pub(crate) fn assign_code(
@@ -161,68 +150,4 @@ pub(crate) fn fail_code(alloc: Global, at: u32, value: &Expr) -> Result<Body, Al
     ensures { IfOk result (λ code. code_view code ≡ placed at (fail (expr_view value.now)) ∷ []) }
 {
     one(alloc, at, Command::Fail(copy_of_expression(alloc, value)?))
-}
-
-/// A logic command.
-pub(crate) fn logic_code(alloc: Global, at: u32, logic: &Logic) -> Result<Body, AllocError>
-    ensures { IfOk result (λ code. code_view code ≡ placed at (logic_command (logic_view logic.now)) ∷ []) }
-{
-    match logic {
-        Logic::Fold(used) => one(alloc, at, Command::Fold(copy_use(alloc, used)?)),
-        Logic::Unfold(used) => one(alloc, at, Command::Unfold(copy_use(alloc, used)?)),
-        Logic::Assert(assertion) => {
-            let assertion = copy_assertion(alloc, assertion)?;
-            one(alloc, at, Command::AssertThat(assertion))
-        }
-    }
-}
-
-/// A jump past the next command where a condition is true.
-fn jump_past(alloc: Global, label: usize, at: u32, condition: &Expr) -> Result<Body, AllocError>
-    ensures { IfOk result (λ code. code_view code ≡ jump_to at (expr_view condition.now) (label + 2) ∷ []) }
-{
-    let mut code = Body::new(alloc);
-    let condition = copy_of_expression(alloc, condition)?;
-    jump(&mut code, at, condition, sum(label, 2)?)?;
-    Ok(code)
-}
-
-/// `assert(e)`, at a label
-pub(crate) fn assert_code(
-    alloc: Global,
-    label: usize,
-    at: u32,
-    condition: &Expr,
-) -> Result<Body, AllocError>
-    ensures { IfOk result
-        (λ code. code_view code
-        ≡ jump_to at (expr_view condition.now) (label + 2) ∷ placed at (fail (literal (text (codes "assert")))) ∷ []) }
-{
-    let mut code = jump_past(alloc, label, at, condition)?;
-    let value = text_value(alloc, "assert")?;
-    put(&mut code, at, Command::Fail(value))?;
-    Ok(code)
-}
-
-/// `assume(e)`, at a label
-pub(crate) fn assume_code(
-    alloc: Global,
-    label: usize,
-    at: u32,
-    condition: &Expr,
-) -> Result<Body, AllocError>
-    ensures { IfOk result
-        (λ code. code_view code ≡ jump_to at (expr_view condition.now) (label + 2) ∷ placed at vanish ∷ []) }
-{
-    let mut code = jump_past(alloc, label, at, condition)?;
-    put(&mut code, at, Command::Vanish)?;
-    Ok(code)
-}
-
-/// A literal text with these characters.
-fn text_value(alloc: Global, characters: &str) -> Result<Expr, AllocError>
-    requires { IsText characters.now }
-    ensures { IfOk result (λ e. expr_view e ≡ literal (text characters.now)) }
-{
-    Ok(Expr::Lit(Value::Str(text(alloc, characters)?)))
 }

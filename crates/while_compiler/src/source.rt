@@ -7,13 +7,14 @@ ghost use Rattle.while_syntax.specs.View.{source_parts_view};
 ghost use Rattle.while_compiler.specs.Compiled.{compiled};
 ghost use Rattle.while_compiler.specs.Valid.{IsValidSource};
 
-use while_syntax::SourceParts;
+use source_meaning::SourceParts;
+use while_syntax::Function;
 
 /// A While program. Contracts see it as its tree, by `source_view`. It names what a source text can name, and its compiled
 /// program is well made, and valid where no function gives too many commands.
 #[derive(Debug, Drop)]
 pub struct Source {
-    pub parts: SourceParts,
+    pub parts: SourceParts<Function>,
     pub ghost named: { list_all (λ f. is_source_function f) (source_parts_view parts).functions ≡ true },
     pub ghost well_made: { IsTrue (is_well_made (compiled (source_parts_view parts))) },
     pub ghost valid: { IsValidSource (source_parts_view parts) },

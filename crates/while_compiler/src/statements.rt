@@ -4,15 +4,17 @@ ghost use Rattle.source_meaning.specs.Code.{code_view};
 ghost use Rattle.while_syntax.specs.View.{statement_view, block_view};
 ghost use Rattle.while_compiler.specs.Compiled as compiled;
 
-use crate::control::{body_label, if_code, invariant_code, then_label, while_code};
 use crate::records::new_code;
 use crate::simple::{
-    assert_code, assign_code, assume_code, call_code, dispose_code, fail_code, input_code,
-    logic_code, lookup_code, mutate_code, return_code, symbol_code,
+    assign_code, call_code, dispose_code, fail_code, input_code, lookup_code, mutate_code,
+    return_code, symbol_code,
 };
 use crate::temporaries::block_temporaries;
 use gil_syntax::Body;
-use source_meaning::{append, code_len, sum};
+use source_meaning::{
+    append, assert_code, assume_code, body_label, code_len, if_code, invariant_code, logic_code,
+    sum, then_label, while_code,
+};
 use std::alloc::{AllocError, Global};
 use while_syntax::{Block, Statement};
 

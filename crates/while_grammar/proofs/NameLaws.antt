@@ -1,59 +1,24 @@
--- A tree that lexemes without '$' spell names only what a source text can name.
-use Rattle.std.proofs.Common.{◌≡◌, ℕ, Bool, true, false, List, [], ◌∷◌, ◌++◌, Option, Some, None, refl, sym, subst, inl, inr}
+-- A function that lexemes without '$' spell names only what a source text can name.
+use Rattle.std.proofs.Common.{◌≡◌, ℕ, List, [], ◌∷◌, refl, subst, inl, inr}
 use Rattle.std.specs.Prelude.{◌&&◌, IsTrue}
-use Rattle.std.specs.List.{list_all, cons_option}
+use Rattle.std.specs.List.{list_all}
 use Rattle.std.proofs.lemmas.Bool.{and_from}
 use Rattle.gil_values.specs.declared.operators.BinOp.{BinOp}
 use Rattle.gil_values.specs.declared.operators.BinOp.TheVariants as binary
 use Rattle.gil_lexemes.specs.declared.standing.Lexeme.{Lexeme}
 use Rattle.gil_lexemes.specs.declared.standing.Lexeme.TheVariants as lexemes
-use Rattle.gil_syntax.specs.Pure as gil
 use Rattle.gil_syntax.specs.Pure.{PureExpr, literal, name, logical, list_of, unary_of, binary_of, PureExprs, no_exprs, expr_and, from_list}
 use Rattle.gil_grammar.specs.declared.positions.Position.TheVariants.{Command}
-use Rattle.gil_grammar.specs.Annotations as annotations
-use Rattle.gil_grammar.specs.Commands.{SpellsName, SpellsNames}
 use Rattle.gil_grammar.specs.Expressions.{SpellsExpr, SpellsElements, SpellsMoreElements, SpellsExprs}
 use Rattle.gil_grammar.specs.Lists.{SpellsMore, SpellsSeparated}
 use Rattle.gil_grammar.specs.Vocabulary.{opening_parenthesis, closing_parenthesis, closing_bracket, closing_brace, comma, semicolon, colon, before_operands, between_operands}
-use Rattle.gil_grammar.proofs.RestLaws.{IsRest, annotation_leaves}
-use Rattle.source_meaning.specs.Names.{is_source_name, is_source_expr, are_source_exprs}
+use Rattle.source_meaning.specs.Names.{is_source_name, is_source_expr, are_source_exprs, has_source_invariant}
+use Rattle.source_text.specs.Vocabulary.{equals, dot}
+use Rattle.source_text.proofs.NameLaws.{Kept, tail, named, past, names_named, logic_kept, invariant_named}
 use Rattle.while_syntax.specs.Meaning.{field_values}
-use Rattle.while_syntax.specs.Names.{has_source_invariant, is_source_statement, is_source_block, is_source_function}
-use Rattle.while_syntax.specs.Pure.{PureField, fold_use, unfold_use, assert_that, PureInvariant, PureStatement, assign, input, symbol, new, lookup, call, mutate, dispose, assert, assume, if_else, while, return, fail, logic, PureBlock, no_statements, statement_and, PureFunction}
-use Rattle.while_grammar.specs.Vocabulary.{equals, dot, is_source_lexeme, are_source_lexemes}
-use Rattle.while_grammar.specs.Statements.{SpellsField, SpellsInvariant, SpellsStatement, SpellsElse, SpellsStatements, SpellsFunction}
-use Rattle.while_grammar.specs.Texts.{SourceItem, a_function, a_spec, a_pred, SpellsSourceItem, PlacedItem, SpellsItems, as_function, source_of}
-
--- a sign and a reserved word are kept by themselves: what is kept behind them is what is kept with them
-abbrev Kept : List Lexeme → Type 0
-Kept ls = IsTrue (are_source_lexemes ls)
-
-first_part : (a b : Bool) → IsTrue (a && b) → IsTrue a
-first_part true b e = refl
-first_part false b e = absurd cc
-
-second_part : (a b : Bool) → IsTrue (a && b) → IsTrue b
-second_part true b e = e
-second_part false b e = absurd cc
-
-head : (l : Lexeme) (ls : List Lexeme) → Kept (l ∷ ls) → IsTrue (is_source_lexeme l)
-head l ls k = first_part (is_source_lexeme l) (are_source_lexemes ls) k
-
-tail : (l : Lexeme) (ls : List Lexeme) → Kept (l ∷ ls) → Kept ls
-tail l ls k = second_part (is_source_lexeme l) (are_source_lexemes ls) k
-
-named : (x : List ℕ) (ls : List Lexeme) → Kept (lexemes.Name x ∷ ls) → IsTrue (is_source_name x)
-named x ls k = head (lexemes.Name x) ls k
-
-past : (x : List ℕ) (ls : List Lexeme) → Kept (lexemes.Name x ∷ ls) → Kept ls
-past x ls k = tail (lexemes.Name x) ls k
-
-kept_suffix : (front rest : List Lexeme) → Kept (front ++ rest) → Kept rest
-kept_suffix [] rest k = k
-kept_suffix (l ∷ front) rest k = kept_suffix front rest (tail l (front ++ rest) k)
-
-kept_rest : (ls rest : List Lexeme) → IsRest ls rest → Kept ls → Kept rest
-kept_rest ls rest h k = kept_suffix h.front rest (subst Kept h.is k)
+use Rattle.while_syntax.specs.Names.{is_source_statement, is_source_block, is_source_function}
+use Rattle.while_syntax.specs.Pure.{PureField, PureStatement, assign, input, symbol, new, lookup, call, mutate, dispose, assert, assume, if_else, while, return, fail, logic, PureBlock, no_statements, statement_and, PureFunction}
+use Rattle.while_grammar.specs.Statements.{SpellsField, SpellsStatement, SpellsElse, SpellsStatements, SpellsFunction}
 
 -- ---- expressions
 
@@ -123,31 +88,7 @@ fields_named (f ∷ fields) ls rest (after, (value, begins, h), j) k =
     let q = more_fields_named fields after rest j p.1 in
     (and_from (is_source_expr f.value) (are_source_exprs (from_list (field_values fields))) p.0 q.0, q.1)
 
-more_names_named : (xs : List (List ℕ)) (ls rest : List Lexeme) → SpellsMore SpellsName comma xs ls rest → Kept ls → IsTrue (list_all is_source_name xs) × Kept rest
-more_names_named [] ls rest is k = (refl, subst Kept is k)
-more_names_named (x ∷ xs) ls rest (inner, after, is, h, j) k =
-    let whole = subst Kept h (subst Kept is k) in
-    let q = more_names_named xs after rest j (past x after whole) in
-    (and_from (is_source_name x) (list_all is_source_name xs) (named x after whole) q.0, q.1)
-
-names_named : (xs : List (List ℕ)) (ls rest : List Lexeme) → SpellsNames xs ls rest → Kept ls → IsTrue (list_all is_source_name xs) × Kept rest
-names_named [] ls rest is k = (refl, subst Kept is k)
-names_named (x ∷ xs) ls rest (after, h, j) k =
-    let whole = subst Kept h k in
-    let q = more_names_named xs after rest j (past x after whole) in
-    (and_from (is_source_name x) (list_all is_source_name xs) (named x after whole) q.0, q.1)
-
 -- ---- statements
-
-logic_kept : (c : gil.PureCommand) (ls rest : List Lexeme) → annotations.SpellsAnnotation (annotations.logic c) ls rest → Kept ls → Kept rest
-logic_kept c ls rest h k = kept_rest ls rest (annotation_leaves (annotations.logic c) ls rest h) k
-
-invariant_named : (i : Option PureInvariant) (ls rest : List Lexeme) → SpellsInvariant i ls rest → Kept ls → IsTrue (has_source_invariant i) × Kept rest
-invariant_named None ls rest is k = (refl, subst Kept is k)
-invariant_named (Some i) ls rest (names, variables, block, is, a, b, d) k = (
-  (names_named i.names names (closing_parenthesis ∷ variables) a (subst Kept is k)).0,
-  logic_kept (gil.loop_invariant i.names i.logicals i.items) ls rest (refl, (names, variables, block, is, a, b, d)) k,
-)
 
 module _ (place : ℕ → ℕ) where
   mutual
@@ -194,9 +135,7 @@ module _ (place : ℕ → ℕ) where
         (and_from (is_source_expr e) (has_source_invariant i && is_source_block body) p.0 (and_from (has_source_invariant i) (is_source_block body) q.0 r.0), r.1)
     statement_named (return e) ls rest (value, is, h) k = expr_named e value (semicolon ∷ rest) h (subst Kept is k)
     statement_named (fail e) ls rest (value, is, h) k = expr_named e value (semicolon ∷ rest) h (subst Kept is k)
-    statement_named (logic (fold_use u)) ls rest h k = (refl, logic_kept (gil.fold_use u) ls (semicolon ∷ rest) (refl, h) k)
-    statement_named (logic (unfold_use u)) ls rest h k = (refl, logic_kept (gil.unfold_use u) ls (semicolon ∷ rest) (refl, h) k)
-    statement_named (logic (assert_that items)) ls rest h k = (refl, logic_kept (gil.assert_that items) ls (semicolon ∷ rest) (refl, h) k)
+    statement_named (logic c) ls rest h k = (refl, logic_kept c ls rest h k)
 
     otherwise_named : (off : PureBlock) (ls rest : List Lexeme) → SpellsElse place off ls rest → Kept ls → IsTrue (is_source_block off) × Kept rest
     otherwise_named no_statements ls rest (inl (none, is, ends)) k = (refl, subst Kept is k)
@@ -214,25 +153,8 @@ module _ (place : ℕ → ℕ) where
         let q = statements_named body after rest more p.1 in
         (and_from (is_source_statement c) (is_source_block body) p.0 q.0, q.1)
 
-  -- ---- texts
-
-  function_named : (f : PureFunction) (ls rest : List Lexeme) → SpellsFunction place f ls rest → Kept ls → IsTrue (is_source_function f) × Kept rest
+  pub function_named : (f : PureFunction) (ls rest : List Lexeme) → SpellsFunction place f ls rest → Kept ls → IsTrue (is_source_function f) × Kept rest
   function_named f ls rest (params, body, at, is, a, (inner, opens, b)) k =
       let p = names_named f.params params (closing_parenthesis ∷ body) a (past f.name (opening_parenthesis ∷ params) (subst Kept is k)) in
       let q = statements_named f.body inner (closing_brace ∷ rest) b (subst Kept opens p.1) in
       (and_from (list_all is_source_name f.params) (is_source_block f.body) p.0 q.0, q.1)
-
-  abbrev AreNamed : List PureFunction → Type 0
-  AreNamed fs = IsTrue (list_all (λ f. is_source_function f) fs)
-
-  item_named : (item : SourceItem) (fs : List PureFunction) (ls after : List Lexeme) → SpellsSourceItem place item ls after → Kept ls → (Kept after → AreNamed fs)
-      → AreNamed (cons_option (as_function item) fs)
-  item_named (a_function f) fs ls after h k others =
-      let p = function_named f ls after h k in
-      and_from (is_source_function f) (list_all (λ g. is_source_function g) fs) p.0 (others p.1)
-  item_named (a_spec s) fs ls after h k others = others (kept_rest ls after (annotation_leaves (annotations.specification s) ls after h) k)
-  item_named (a_pred d) fs ls after h k others = others (kept_rest ls after (annotation_leaves (annotations.predicate d) ls after h) k)
-
-  pub items_named : (items : List PlacedItem) (ls : List Lexeme) → SpellsItems place items ls → Kept ls → AreNamed (source_of items).functions
-  items_named [] ls is k = refl
-  items_named (i ∷ items) ls (after, one, at, more) k = item_named i.item (source_of items).functions ls after one k (λ kept. items_named items after more kept)

@@ -1,5 +1,5 @@
 -- What is spelled as statements, blocks and functions is read so, where no more brackets are open than may be.
-use Rattle.std.proofs.Common.{◌≡◌, ◌≤◌, ◌<◌, ℕ, zero, suc, true, false, List, [], ◌∷◌, length, Option, Some, None, refl, sym, ap, ◌∙◌, subst, arith, inl, inr}
+use Rattle.std.proofs.Common.{◌≡◌, ◌≤◌, ℕ, zero, suc, true, false, List, [], ◌∷◌, length, Option, Some, refl, sym, ap, ◌∙◌, subst, arith, inl, inr}
 use Rattle.gil_values.specs.declared.kinds.Kind.TheVariants as kinds
 use Rattle.gil_values.specs.declared.operators.UnOp.TheVariants as unary
 use Rattle.gil_values.specs.declared.operators.BinOp.TheVariants as binary
@@ -9,25 +9,25 @@ use Rattle.gil_lexer.specs.declared.words.Word.TheVariants as words
 use Rattle.gil_lexer.specs.declared.signs.Sign.TheVariants as signs
 use Rattle.gil_lexemes.specs.declared.standing.Lexeme.{Lexeme}
 use Rattle.gil_lexemes.specs.declared.standing.Lexeme.TheVariants as lexemes
-use Rattle.gil_lexemes.specs.Reading.{Reading, behind, first_form, same_sign, same_word, is_sign, is_word}
+use Rattle.gil_lexemes.specs.Reading.{Reading, first_form, same_sign, is_sign}
 use Rattle.gil_lexemes.proofs.ReadingLaws.{same_sign-refl, same_word-refl}
-use Rattle.gil_syntax.specs.Pure as gil
 use Rattle.gil_syntax.specs.Pure.{PureExpr, literal, name, logical, list_of, unary_of, binary_of}
 use Rattle.gil_grammar.specs.declared.positions.Position.TheVariants.{Command}
-use Rattle.gil_grammar.specs.Commands.{SpellsCommand}
-use Rattle.gil_grammar.specs.Expressions.{SpellsExpr}
 use Rattle.gil_grammar.specs.Lists.{SpellsEach}
-use Rattle.gil_grammar.specs.Vocabulary.{closing_parenthesis, closing_brace, semicolon, literal_lexeme, IsNameAt}
-use Rattle.gil_grammar.specs.Reading.Commands.{command_at}
+use Rattle.gil_grammar.specs.Vocabulary.{closing_brace, semicolon, literal_lexeme, IsNameAt}
 use Rattle.gil_grammar.proofs.ListLaws.{Again, Reads, ReadsList, NeverBegins, found_is, separated_again, each_again}
 use Rattle.gil_grammar.proofs.VocabularyLaws.{input_again}
 use Rattle.gil_grammar.proofs.NestingLaws.{Nested, nested_tail, expression_again}
 use Rattle.gil_grammar.proofs.AssertionReads.{parenthesis_closes, expressions_again}
-use Rattle.gil_grammar.proofs.CommandReads.{names_again, command_again}
-use Rattle.while_syntax.specs.Pure.{PureField, fold_use, unfold_use, assert_that, PureInvariant, PureStatement, assign, input, symbol, new, lookup, call, mutate, dispose, assert, assume, if_else, while, return, fail, logic, PureBlock, no_statements, statement_and, PurePlacedStatement, from_placed, PureFunction}
-use Rattle.while_grammar.specs.Vocabulary.{equals, dot}
-use Rattle.while_grammar.specs.Statements.{SpellsField, command_of, SpellsInvariant, SpellsStatement, SpellsElse, SpellsBlock, SpellsStatements, SpellsFunction}
-use Rattle.while_grammar.specs.Reading.Statements.{value_at, condition_at, claim_at, field_at, assign_at, input_at, new_at, lookup_at, call_at, named_at, assigned_at, assignment_at, mutate_at, of_name_at, logic_at, asserted_at, one_invariant_at, invariant_at, else_at, if_at, while_at, statement_at, placed_at, block_by, block_at, function_at}
+use Rattle.gil_grammar.proofs.CommandReads.{names_again}
+use Rattle.source_meaning.specs.Pure.{PureLogic, fold_use, unfold_use, assert_that, PureInvariant}
+use Rattle.source_text.specs.Logic as logics
+use Rattle.source_text.specs.Vocabulary.{equals}
+use Rattle.source_text.proofs.LogicLaws as laws
+use Rattle.source_text.proofs.LogicLaws.{invariant_again}
+use Rattle.while_syntax.specs.Pure.{PureField, PureStatement, assign, input, symbol, new, lookup, call, mutate, dispose, assert, assume, if_else, while, return, fail, logic, PureBlock, no_statements, statement_and, PurePlacedStatement, from_placed, PureFunction}
+use Rattle.while_grammar.specs.Statements.{SpellsField, SpellsStatement, SpellsElse, SpellsBlock, SpellsStatements, SpellsFunction}
+use Rattle.while_grammar.specs.Reading.Statements.{value_at, condition_at, claim_at, field_at, assign_at, input_at, new_at, lookup_at, call_at, named_at, assigned_at, assignment_at, mutate_at, of_name_at, asserted_at, else_at, if_at, while_at, statement_at, placed_at, block_by, block_at, function_at}
 use Rattle.while_grammar.proofs.StatementTakes.{SpellsValue, SpellsCondition, SpellsClaim, SpellsPlaced}
 
 -- ---- pieces
@@ -68,23 +68,6 @@ field_again f ls rest p (value, is, h) =
 
 field_never : NeverBegins SpellsField signs.RightBrace
 field_never f ls rest (value, is, h) = rw is refl
-
-invariant_again : (i : Option PureInvariant) (ls rest : List Lexeme) → Nested ls → SpellsInvariant i ls rest → is_sign signs.LeftBrace (first_form rest) ≡ true
-    → ReadsList Nested invariant_at i ls rest
-unfolding invariant_at one_invariant_at command_at
-invariant_again None ls [] p is braced = absurd (cc braced)
-invariant_again None ls (lexemes.Sign s ∷ rest) p is braced = record { is = rw is refl; under = subst Nested is p; shorter = omega (arith, ap length is) }
-invariant_again None ls (lexemes.Name x ∷ rest) p is braced = absurd (cc braced)
-invariant_again None ls (lexemes.Word w ∷ rest) p is braced = absurd (cc braced)
-invariant_again None ls (lexemes.Logical x ∷ rest) p is braced = absurd (cc braced)
-invariant_again None ls (lexemes.Procedure x ∷ rest) p is braced = absurd (cc braced)
-invariant_again None ls (lexemes.Number n ∷ rest) p is braced = absurd (cc braced)
-invariant_again None ls (lexemes.Literal x ∷ rest) p is braced = absurd (cc braced)
-invariant_again (Some i) ls rest p (names, variables, block, is, a, b, d) braced =
-    let c = gil.loop_invariant i.names i.logicals i.items in
-    let read = command_again c ls rest p (names, variables, block, is, a, b, d) in
-    let read_is = subst (λ (l : List Lexeme). command_at l ≡ Some (c, rest)) is read.is in
-    record { is = rw (is, same_word-refl words.Invariant, read_is) refl; under = read.under; shorter = omega (arith, read.shorter) }
 
 -- ---- an expression and its `;` are assigned
 
@@ -243,21 +226,21 @@ module _ (place : ℕ → ℕ) where
         let read = claim_again e (lexemes.Sign signs.LeftParenthesis ∷ guard) rest (nested_tail _ _ (subst Nested is p)) (guard, refl, h) in
         record { is = rw (is, read.is) refl; under = read.under; shorter = omega (arith, ap length is, read.shorter) }
 
-    logic_again : (c : _) (ls rest : List Lexeme) → Nested ls → Spells (logic c) ls rest → ReadsPlain (logic c) ls rest
-    unfolding statement_at asserted_at logic_at command_at same_sign
+    logic_again : (c : PureLogic) (ls rest : List Lexeme) → Nested ls → Spells (logic c) ls rest → ReadsPlain (logic c) ls rest
+    unfolding statement_at asserted_at same_sign
     logic_again (fold_use u) ls rest p (inner, is, h) =
-        let read = command_again (gil.fold_use u) ls _ p (inner, is, h) in
-        let read_is = subst (λ (l : List Lexeme). command_at l ≡ Some (gil.fold_use u, semicolon ∷ rest)) is read.is in
-        record { is = rw (is, read_is) refl; under = nested_tail _ rest read.under; shorter = omega (arith, read.shorter) }
+        let read = laws.logic_again (fold_use u) ls rest p (inner, is, h) in
+        let read_is = subst (λ (l : List Lexeme). logics.logic_at words.Fold l ≡ Some (fold_use u, rest)) is read.is in
+        record { is = rw (is, read_is) refl; under = read.under; shorter = read.shorter }
     logic_again (unfold_use u) ls rest p (inner, is, h) =
-        let read = command_again (gil.unfold_use u) ls _ p (inner, is, h) in
-        let read_is = subst (λ (l : List Lexeme). command_at l ≡ Some (gil.unfold_use u, semicolon ∷ rest)) is read.is in
-        record { is = rw (is, read_is) refl; under = nested_tail _ rest read.under; shorter = omega (arith, read.shorter) }
+        let read = laws.logic_again (unfold_use u) ls rest p (inner, is, h) in
+        let read_is = subst (λ (l : List Lexeme). logics.logic_at words.Unfold l ≡ Some (unfold_use u, rest)) is read.is in
+        record { is = rw (is, read_is) refl; under = read.under; shorter = read.shorter }
     logic_again (assert_that items) ls rest p (block, is, (inner, braced, h)) =
-        let read = command_again (gil.assert_that items) ls _ p (block, is, (inner, braced, h)) in
+        let read = laws.logic_again (assert_that items) ls rest p (block, is, (inner, braced, h)) in
         let whole = is ∙ ap (λ (l : List Lexeme). lexemes.Word words.Assert ∷ l) braced in
-        let read_is = subst (λ (l : List Lexeme). command_at l ≡ Some (gil.assert_that items, semicolon ∷ rest)) whole read.is in
-        record { is = rw (whole, read_is) refl; under = nested_tail _ rest read.under; shorter = omega (arith, read.shorter) }
+        let read_is = subst (λ (l : List Lexeme). logics.logic_at words.Assert l ≡ Some (assert_that items, rest)) whole read.is in
+        record { is = rw (whole, read_is) refl; under = read.under; shorter = read.shorter }
 
     -- ---- statements with blocks
 

@@ -1,5 +1,5 @@
 -- What is read as statements, blocks and functions is spelled so.
-use Rattle.std.proofs.Common.{◌≡◌, ℕ, zero, suc, List, [], ◌∷◌, length, Option, Some, None, refl, sym, ap, ◌∙◌, subst, inl, inr}
+use Rattle.std.proofs.Common.{◌≡◌, ℕ, zero, suc, List, [], ◌∷◌, length, Some, refl, sym, ap, ◌∙◌, subst, inl, inr}
 use Rattle.gil_lexer.specs.declared.words.Word.{Word}
 use Rattle.gil_lexer.specs.declared.words.Word.TheVariants as words
 use Rattle.gil_lexer.specs.declared.signs.Sign.TheVariants as signs
@@ -8,24 +8,26 @@ use Rattle.gil_lexemes.specs.declared.standing.Lexeme.TheVariants as lexemes
 use Rattle.gil_lexemes.specs.Lists.{separated_at, each_until}
 use Rattle.gil_lexemes.specs.Reading.{Reading, ◌>>=◌, behind, first_form, is_sign, is_word, sign_at, name_at}
 use Rattle.gil_lexemes.proofs.ReadingLaws.{bind_some, sign_takes, name_takes, at_word_is}
-use Rattle.gil_syntax.specs.Pure as gil
 use Rattle.gil_syntax.specs.Pure.{PureExpr}
 use Rattle.gil_grammar.specs.declared.positions.Position.TheVariants.{Command}
-use Rattle.gil_grammar.specs.Commands.{SpellsCommand, SpellsNames}
+use Rattle.gil_grammar.specs.Commands.{SpellsNames}
 use Rattle.gil_grammar.specs.Expressions.{SpellsExpr, SpellsExprs}
 use Rattle.gil_grammar.specs.Lists.{SpellsEach, SpellsSeparated}
-use Rattle.gil_grammar.specs.Vocabulary.{opening_parenthesis, closing_parenthesis, opening_brace, closing_brace, comma, semicolon}
+use Rattle.gil_grammar.specs.Vocabulary.{opening_parenthesis, closing_parenthesis, closing_brace, comma, semicolon}
 use Rattle.gil_grammar.specs.Reading.Assertions.{expression_at, expressions_at}
-use Rattle.gil_grammar.specs.Reading.Commands.{names_at, logic_by}
+use Rattle.gil_grammar.specs.Reading.Commands.{names_at}
 use Rattle.gil_grammar.specs.Reading.Vocabulary.{word_of, input_of_word}
-use Rattle.gil_grammar.proofs.ListLaws.{Takes, found_is, cond_cases, separated_takes, each_takes}
+use Rattle.gil_grammar.proofs.ListLaws.{Takes, cond_cases, separated_takes, each_takes}
 use Rattle.gil_grammar.proofs.VocabularyLaws.{input_takes}
 use Rattle.gil_grammar.proofs.AssertionLaws.{in_place, word_of_takes, expression_takes, expressions_take}
-use Rattle.gil_grammar.proofs.CommandLaws.{names_take, logic_takes}
-use Rattle.while_syntax.specs.Pure.{PureField, PureLogic, fold_use, unfold_use, assert_that, PureInvariant, PureStatement, assign, input, symbol, new, lookup, call, mutate, dispose, assert, assume, if_else, while, return, fail, logic, PureBlock, no_statements, statement_and, PurePlacedStatement, from_placed, PureFunction}
-use Rattle.while_grammar.specs.Vocabulary.{equals, dot}
-use Rattle.while_grammar.specs.Statements.{SpellsField, command_of, SpellsInvariant, SpellsStatement, SpellsElse, SpellsBlock, SpellsStatements, SpellsFunction}
-use Rattle.while_grammar.specs.Reading.Statements.{value_at, condition_at, claim_at, field_at, input_at, new_at, lookup_at, call_at, named_at, assigned_at, assignment_at, mutate_at, of_name_at, logic_of, logic_at, asserted_at, invariant_of, one_invariant_at, invariant_at, else_at, if_at, while_at, of_word_at, statement_at, placed_at, block_by, block_at, function_at}
+use Rattle.gil_grammar.proofs.CommandLaws.{names_take}
+use Rattle.source_text.specs.Logic as logics
+use Rattle.source_text.specs.Logic.{invariant_at}
+use Rattle.source_text.specs.Vocabulary.{equals, dot}
+use Rattle.source_text.proofs.LogicLaws.{invariant_takes, logic_takes}
+use Rattle.while_syntax.specs.Pure.{PureStatement, assign, input, symbol, new, lookup, call, mutate, dispose, assert, assume, if_else, while, return, fail, logic, PureBlock, no_statements, PurePlacedStatement, from_placed, PureFunction}
+use Rattle.while_grammar.specs.Statements.{SpellsField, SpellsStatement, SpellsElse, SpellsBlock, SpellsStatements, SpellsFunction}
+use Rattle.while_grammar.specs.Reading.Statements.{value_at, condition_at, claim_at, field_at, input_at, new_at, lookup_at, call_at, named_at, assigned_at, assignment_at, mutate_at, of_name_at, logic_at, asserted_at, else_at, if_at, while_at, of_word_at, statement_at, placed_at, block_by, block_at, function_at}
 
 -- ---- pieces
 
@@ -78,35 +80,6 @@ field_takes ls found e =
       name_takes ls p.0 p.1 ∙ ap (λ (l : List Lexeme). lexemes.Name p.0.0 ∷ l) (sign_takes signs.Colon p.0.1 a.0 a.1),
       expression_takes Command a.0 d.0 d.1,
     )
-
-invariant_is : (c : gil.PureCommand) (i : PureInvariant) → invariant_of c ≡ Some i → c ≡ gil.loop_invariant i.names i.logicals i.items
-invariant_is (gil.loop_invariant xs ps items) i e = let same = found_is _ i e in ap (λ (j : PureInvariant). gil.loop_invariant j.names j.logicals j.items) same
-invariant_is _ i e = absurd cc
-
-logic_is : (c : gil.PureCommand) (l : PureLogic) → logic_of c ≡ Some l → c ≡ command_of l
-logic_is (gil.fold_use u) l e = ap command_of (found_is _ l e)
-logic_is (gil.unfold_use u) l e = ap command_of (found_is _ l e)
-logic_is (gil.assert_that items) l e = ap command_of (found_is _ l e)
-logic_is _ l e = absurd cc
-
-one_invariant_takes : (ls : List Lexeme) (found : Option PureInvariant × List Lexeme) → one_invariant_at (lexemes.Word words.Invariant ∷ ls) ≡ Some found
-    → SpellsInvariant found.0 (lexemes.Word words.Invariant ∷ ls) found.1
-unfolding one_invariant_at
-one_invariant_takes ls found e =
-    let c = bind_some (logic_by words.Invariant (lexemes.Word words.Invariant ∷ ls)) _ found e in
-    let i = bind_some (invariant_of c.0.0) _ found c.2 in
-    in_place SpellsInvariant _ (Some i.0) c.0.1 found i.2
-    (subst (λ (d : gil.PureCommand). SpellsCommand d (lexemes.Word words.Invariant ∷ ls) c.0.1) (invariant_is c.0.0 i.0 i.1) (logic_takes words.Invariant ls c.0 c.1))
-
-invariant_takes : Takes SpellsInvariant invariant_at
-unfolding invariant_at
-invariant_takes ls found e =
-    cond_cases (is_word words.Invariant (first_form ls)) _ _ found e
-    (λ test one.
-    let is = at_word_is words.Invariant ls test in
-    subst (λ (l : List Lexeme). SpellsInvariant found.0 l found.1) (sym is)
-    (one_invariant_takes (behind ls) found (subst (λ (l : List Lexeme). one_invariant_at l ≡ Some found) is one)))
-    (λ test none. in_place SpellsInvariant ls None ls found none refl)
 
 module _ (place : ℕ → ℕ) where
   abbrev Spells : PureStatement → List Lexeme → List Lexeme → Type 0
@@ -259,14 +232,9 @@ module _ (place : ℕ → ℕ) where
       in_place (Worded words.Assume) ls (assume d.0.0) d.0.1 found d.2 (says.0, ap (λ (l : List Lexeme). lexemes.Word words.Assume ∷ l) says.1, says.2)
 
   logic_takes_all : (word : Word) (ls : List Lexeme) (found : PureStatement × List Lexeme) → logic_at word (lexemes.Word word ∷ ls) ≡ Some found → Worded word found.0 ls found.1
-  unfolding logic_at
   logic_takes_all word ls found e =
-      let c = bind_some (logic_by word (lexemes.Word word ∷ ls)) _ found e in
-      let l = bind_some (logic_of c.0.0) _ found c.2 in
-      let r = bind_some (sign_at signs.Semicolon c.0.1) _ found l.2 in
-      let says : SpellsCommand (command_of l.0) (lexemes.Word word ∷ ls) c.0.1 =
-      subst (λ (d : gil.PureCommand). SpellsCommand d (lexemes.Word word ∷ ls) c.0.1) (logic_is c.0.0 l.0 l.1) (logic_takes word ls c.0 c.1) in
-      in_place (Worded word) ls (logic l.0) r.0 found r.2 (subst (SpellsCommand (command_of l.0) (lexemes.Word word ∷ ls)) (sign_takes signs.Semicolon c.0.1 r.0 r.1) says)
+      let l = bind_some (logics.logic_at word (lexemes.Word word ∷ ls)) _ found e in
+      in_place (Worded word) ls (logic l.0.0) l.0.1 found l.2 (logic_takes word ls l.0 l.1)
 
   asserted_takes : (ls : List Lexeme) (found : PureStatement × List Lexeme) → asserted_at (lexemes.Word words.Assert ∷ ls) ≡ Some found → Worded words.Assert found.0 ls found.1
   unfolding asserted_at

@@ -1,154 +1,46 @@
--- What is read as a text's items is spelled so, and what is spelled so is read; so one text has one reading.
-use Rattle.std.proofs.Common.{◌≡◌, ◌≤◌, ℕ, zero, suc, true, false, List, [], ◌∷◌, length, Some, refl, sym, ap, ◌∙◌, subst, arith}
-use Rattle.gil_lexer.specs.declared.forms.Token.{Token}
-use Rattle.gil_lexer.specs.declared.words.Word.{Word}
+-- Functions of While are read as they are spelled, and texts name only what source texts can name.
+use Rattle.std.proofs.Common.{◌≡◌, ℕ, false, List, refl, sym, ap, ◌∙◌, subst}
+use Rattle.std.specs.Prelude.{IsTrue}
+use Rattle.std.specs.List.{list_all}
 use Rattle.gil_lexer.specs.declared.words.Word.TheVariants as words
-use Rattle.gil_lexer.specs.declared.signs.Sign.TheVariants as signs
-use Rattle.gil_lexer.specs.Texts.{AreTokensOf}
-use Rattle.gil_lexer.proofs.TextLaws.{one_list}
 use Rattle.gil_lexemes.specs.declared.standing.Lexeme.{Lexeme}
-use Rattle.gil_lexemes.specs.declared.standing.Lexeme.TheVariants as lexemes
-use Rattle.gil_lexemes.specs.Lexemes.{StandForAll}
-use Rattle.gil_lexemes.specs.Reading.{◌>>=◌, behind, first_form, is_sign, is_word}
-use Rattle.gil_lexemes.proofs.ReadingLaws.{bind_some, if_some, at_word_is, same_word-refl}
-use Rattle.gil_lexemes.proofs.StandingLemmas.{stand_once}
-use Rattle.gil_grammar.specs.declared.positions.Extent.TheVariants.{Whole}
-use Rattle.gil_grammar.specs.Nesting.{IsNested}
-use Rattle.gil_grammar.specs.Reading.Programs.{spec_at, pred_at}
+use Rattle.gil_lexemes.specs.Reading.{first_form, behind, same_word, is_word}
+use Rattle.gil_lexemes.proofs.ReadingLaws.{at_word_is, same_word-refl}
 use Rattle.gil_grammar.specs.Texts.{byte_before}
-use Rattle.gil_grammar.proofs.AssertionLaws.{in_place}
-use Rattle.gil_grammar.proofs.ListLaws.{Takes, Reads, found_is}
-use Rattle.gil_grammar.proofs.NestingLaws.{Nested}
-use Rattle.gil_grammar.proofs.ProgramLaws.{spec_takes, pred_takes, spec_again, pred_again}
-use Rattle.while_syntax.specs.Pure.{PureFunction}
-use Rattle.while_grammar.specs.Texts.{SourceItem, a_function, a_spec, a_pred, SpellsSourceItem, PlacedItem, SpellsItems, BeginsWithFunction, SpellItems}
+use Rattle.source_text.specs.Grammar.{HasReading}
+use Rattle.source_text.proofs.NameLaws.{items_named}
+use Rattle.while_syntax.specs.Names.{is_source_function}
+use Rattle.while_syntax.specs.Pure.{PureSource}
 use Rattle.while_grammar.specs.Reading.Statements.{function_at}
-use Rattle.while_grammar.specs.Reading.Texts.{item_by, item_at, items_at, source_at}
-use Rattle.while_grammar.proofs.StatementTakes.{function_takes}
+use Rattle.while_grammar.specs.Statements.{SpellsFunction}
+use Rattle.while_grammar.specs.Texts.{SpellSource}
+use Rattle.while_grammar.proofs.NameLaws.{function_named}
 use Rattle.while_grammar.proofs.StatementReads.{function_again}
+use Rattle.while_grammar.proofs.StatementTakes.{function_takes}
 
-module _ (place : ℕ → ℕ) where
-  -- ---- one item
+no_spec : same_word words.Spec words.Func ≡ false
+unfolding same_word
+no_spec = refl
 
-  item_by_takes : (word : Word) (ls : List Lexeme) (found : SourceItem × List Lexeme) → item_by place word (lexemes.Word word ∷ ls) ≡ Some found
-      → SpellsSourceItem place found.0 (lexemes.Word word ∷ ls) found.1
-  item_by_takes words.Func ls found e =
-      let f = bind_some (function_at place (lexemes.Word words.Func ∷ ls)) _ found e in
-      in_place (SpellsSourceItem place) _ (a_function f.0.0) f.0.1 found f.2 (function_takes place ls f.0 f.1)
-  item_by_takes words.Spec ls found e =
-      let s = bind_some (spec_at Whole ls) _ found e in
-      in_place (SpellsSourceItem place) _ (a_spec s.0.0) s.0.1 found s.2 (spec_takes Whole ls s.0 s.1)
-  item_by_takes words.Pred ls found e =
-      let d = bind_some (pred_at Whole ls) _ found e in
-      in_place (SpellsSourceItem place) _ (a_pred d.0.0) d.0.1 found d.2 (pred_takes Whole ls d.0 d.1)
-  item_by_takes _ ls found e = absurd cc
+no_pred : same_word words.Pred words.Func ≡ false
+unfolding same_word
+no_pred = refl
 
-  item_takes : Takes (SpellsSourceItem place) (item_at place)
-  unfolding item_at
-  item_takes (lexemes.Word word ∷ ls) found e = item_by_takes word ls found e
-  item_takes _ found e = absurd cc
+pub functions_read : HasReading words.Func SpellsFunction function_at
+functions_read = record {
+  no_spec = no_spec;
+  no_pred = no_pred;
+  begins = λ place f ls rest h. ap (λ (l : List Lexeme). is_word words.Func (first_form l)) (h.3) ∙ same_word-refl words.Func;
+  takes = λ place ls found test e.
+      let is = at_word_is words.Func ls test in
+      subst (λ (l : List Lexeme). SpellsFunction place found.0 l found.1) (sym is)
+      (function_takes place (behind ls) found (sym (ap (function_at place) is) ∙ e));
+  again = λ place f ls rest count nested h.
+      let read = function_again place f ls rest (record { count = count; nested = nested }) h in
+      (read.is, (read.under.count, read.under.nested), read.shorter);
+}
 
-  -- an item behind which no opening brace follows
-  item_again : (item : SourceItem) (ls rest : List Lexeme) → Nested ls → SpellsSourceItem place item ls rest → is_sign signs.LeftBrace (first_form rest) ≡ false
-      → Reads Nested (item_at place) item ls rest
-  unfolding item_at
-  item_again (a_function f) ls rest p (params, body, at, is, a, b) ends =
-      let read = function_again place f ls rest p (params, body, at, is, a, b) in
-      let read_is = subst (λ (l : List Lexeme). function_at place l ≡ Some (f, rest)) is read.is in
-      record { is = rw (is, read_is) refl; under = read.under; shorter = read.shorter }
-  item_again (a_spec s) ls rest p h ends =
-      let read = spec_again Whole s ls rest p h ends in
-      record { is = rw (read.1, read.2.is) refl; under = read.2.under; shorter = omega (arith, ap length (read.1), read.2.shorter) }
-  item_again (a_pred d) ls rest p h ends =
-      let read = pred_again Whole d ls rest p h ends in
-      record { is = rw (read.1, read.2.is) refl; under = read.2.under; shorter = omega (arith, ap length (read.1), read.2.shorter) }
-
-  -- an item begins with no opening brace
-  item_never : (item : SourceItem) (ls rest : List Lexeme) → SpellsSourceItem place item ls rest → is_sign signs.LeftBrace (first_form ls) ≡ false
-  item_never (a_function f) ls rest h = rw (h.3) refl
-  item_never (a_spec s) ls rest h = rw (h.4) refl
-  item_never (a_pred d) ls rest h = rw (h.6) refl
-
-  -- ---- items
-
-  pub items_take : (n : ℕ) (ls : List Lexeme) (items : List PlacedItem) → items_at place n ls ≡ Some items → SpellsItems place items ls
-  unfolding items_at
-  items_take zero [] items e = subst (λ is. SpellsItems place is []) (found_is [] items e) refl
-  items_take (suc n) [] items e = subst (λ is. SpellsItems place is []) (found_is [] items e) refl
-  items_take zero (l ∷ ls) items e = absurd cc
-  items_take (suc n) (l ∷ ls) items e =
-      let x = bind_some (item_at place (l ∷ ls)) _ items e in
-      let others = bind_some (items_at place n x.0.1) _ items x.2 in
-      subst (λ is. SpellsItems place is (l ∷ ls)) (found_is _ items others.2)
-      (x.0.1, item_takes (l ∷ ls) x.0 x.1, refl, items_take n x.0.1 others.0 others.1)
-
-  items_never : (items : List PlacedItem) (ls : List Lexeme) → SpellsItems place items ls → is_sign signs.LeftBrace (first_form ls) ≡ false
-  items_never [] ls is = rw is refl
-  items_never (i ∷ items) ls (after, one, at, more) = item_never i.item ls after one
-
-  some_left : (l : Lexeme) (ls : List Lexeme) → length (l ∷ ls) ≤ 0 → ⊥
-  some_left l ls h = omega arith
-
-  pub items_again : (items : List PlacedItem) (n : ℕ) (ls : List Lexeme) → length ls ≤ n → Nested ls → SpellsItems place items ls → items_at place n ls ≡ Some items
-  unfolding items_at
-  items_again [] zero ls within p is = rw is refl
-  items_again [] (suc n) ls within p is = rw is refl
-  items_again (i ∷ items) n [] within p (after, one, at, more) =
-      absurd (let read = item_again i.item [] after p one (items_never items after more) in omega (arith, read.shorter))
-  items_again (i ∷ items) zero (l ∷ ls) within p (after, one, at, more) = absurd (some_left l ls within)
-  items_again (i ∷ items) (suc n) (l ∷ ls) within p (after, one, at, more) =
-      let read = item_again i.item (l ∷ ls) after p one (items_never items after more) in
-      let others = items_again items n after (omega (arith, read.shorter)) read.under more in
-      rw (read.is, others) (ap (λ k. Some (record { item = i.item; at = k } ∷ items)) (sym at))
-
-  -- ---- texts
-
-  function_first : (n : ℕ) (ls : List Lexeme) (items : List PlacedItem) → items_at place n (lexemes.Word words.Func ∷ ls) ≡ Some items → BeginsWithFunction items
-  unfolding items_at item_at
-  function_first zero ls items e = absurd cc
-  function_first (suc n) ls items e =
-      let x = bind_some (function_at place (lexemes.Word words.Func ∷ ls) >>= λ f. Some (a_function f.0, f.1)) _ items e in
-      let f = bind_some (function_at place (lexemes.Word words.Func ∷ ls)) _ x.0 x.1 in
-      let others = bind_some (items_at place n x.0.1) _ items x.2 in
-      subst BeginsWithFunction (found_is _ items others.2) (f.0.0, ap (λ (p : SourceItem × List Lexeme). p.0) (sym (found_is _ x.0 f.2)))
-
-  pub source_takes : (ls : List Lexeme) (items : List PlacedItem) → source_at place ls ≡ Some items → SpellsItems place items ls × BeginsWithFunction items
-  unfolding source_at
-  source_takes ls items e =
-      let read = if_some (is_word words.Func (first_form ls)) _ items e in
-      let is = at_word_is words.Func ls read.0 in
-      let again : items_at place (length ls) (lexemes.Word words.Func ∷ behind ls) ≡ Some items = subst (λ (l : List Lexeme). items_at place (length ls) l ≡ Some items) is read.1 in
-      (items_take (length ls) ls items read.1, function_first (length ls) (behind ls) items again)
-
-  is_at_function : (item : SourceItem) (f : PureFunction) (ls rest : List Lexeme) → item ≡ a_function f → SpellsSourceItem place item ls rest → is_word words.Func (first_form ls) ≡ true
-  is_at_function (a_function g) f ls rest is h = rw (h.3) (same_word-refl words.Func)
-  is_at_function (a_spec s) f ls rest is h = absurd (cc is)
-  is_at_function (a_pred d) f ls rest is h = absurd (cc is)
-
-  pub source_again : (ls : List Lexeme) (items : List PlacedItem) → Nested ls → SpellsItems place items ls → BeginsWithFunction items → source_at place ls ≡ Some items
-  unfolding source_at
-  source_again ls [] p h first = absurd first
-  source_again ls (i ∷ items) p h first =
-      rw (is_at_function i.item first.0 ls _ first.1 h.1) (items_again (i ∷ items) (length ls) ls (omega arith) p h)
-
--- ---- one text has one reading
-
-pub nested_whole : (ls : List Lexeme) → IsNested ls → Nested ls
-nested_whole ls h = record { count = 0; nested = h }
-
--- a text that is spelled has that spelling's tokens and lexemes, whatever tokens and lexemes were read of it
-pub spelled_as_read : (bytes : List ℕ) (tokens : List Token) (ls : List Lexeme) (items : List PlacedItem) → AreTokensOf tokens bytes → StandForAll bytes tokens ls → SpellItems bytes items
-    → IsNested ls × SpellsItems (byte_before tokens) items ls × BeginsWithFunction items
-spelled_as_read bytes tokens ls items text stand s =
-    let same_tokens : s.tokens ≡ tokens = one_list s.tokens tokens bytes s.text text in
-    let stand' : StandForAll bytes tokens s.lexemes = subst (λ ts. StandForAll bytes ts s.lexemes) same_tokens s.stand in
-    let same : s.lexemes ≡ ls = stand_once bytes tokens s.lexemes ls stand' stand in
-    let spelled : SpellsItems (byte_before tokens) items s.lexemes = subst (λ ts. SpellsItems (byte_before ts) items s.lexemes) same_tokens s.spelled in
-    (subst IsNested same s.nested, subst (SpellsItems (byte_before tokens) items) same spelled, s.first)
-
-pub one_reading : (bytes : List ℕ) (items others : List PlacedItem) → SpellItems bytes items → SpellItems bytes others → items ≡ others
-one_reading bytes items others s t =
-    let again = spelled_as_read bytes s.tokens s.lexemes others s.text s.stand t in
-    let p = nested_whole s.lexemes s.nested in
-    found_is items others
-    (sym (source_again (byte_before s.tokens) s.lexemes items p s.spelled s.first) ∙ source_again (byte_before s.tokens) s.lexemes others p again.1 again.2)
+pub source_named : (bytes : List ℕ) (source : PureSource) → SpellSource bytes source → IsTrue (list_all (λ f. is_source_function f) source.functions)
+source_named bytes source (items, s, is) =
+    subst (λ (p : PureSource). IsTrue (list_all (λ f. is_source_function f) p.functions)) is
+    (items_named SpellsFunction (byte_before s.tokens) (λ f. is_source_function f) (function_named (byte_before s.tokens)) items s.lexemes s.spelled s.names)

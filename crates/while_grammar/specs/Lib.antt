@@ -1,4 +1,3 @@
-pub mod Vocabulary
 pub mod Statements
 pub mod Texts
 pub mod Reading

@@ -1,38 +1,23 @@
 -- The lexemes of statements, blocks and functions. Expressions, specifications, predicates and what only proofs look at are those of
 -- GIL.
-use Rattle.std.specs.Prelude.{◌≡◌, ◌⊎◌, ℕ, false, List, ◌∷◌, length, Option, Some, None}
+use Rattle.std.specs.Prelude.{◌≡◌, ◌⊎◌, ℕ, false, List, ◌∷◌, length, Some}
 use Rattle.gil_lexer.specs.declared.words.Word.{Word}
 use Rattle.gil_lexer.specs.declared.words.Word.TheVariants as words
 use Rattle.gil_lexemes.specs.declared.standing.Lexeme.{Lexeme}
 use Rattle.gil_lexemes.specs.declared.standing.Lexeme.TheVariants.{Name, Word as OfWord}
 use Rattle.gil_lexemes.specs.Reading.{first_form, is_word}
-use Rattle.gil_syntax.specs.Pure as gil
 use Rattle.gil_grammar.specs.declared.positions.Position.TheVariants.{Command}
-use Rattle.gil_grammar.specs.Commands.{SpellsCommand, SpellsNames}
+use Rattle.gil_grammar.specs.Commands.{SpellsNames}
 use Rattle.gil_grammar.specs.Expressions.{SpellsExpr, SpellsExprs}
 use Rattle.gil_grammar.specs.Lists.{SpellsSeparated}
 use Rattle.gil_grammar.specs.Vocabulary.{opening_parenthesis, closing_parenthesis, opening_brace, closing_brace, comma, semicolon, colon, input_word}
-use Rattle.while_syntax.specs.Pure.{PureField, PureLogic, fold_use, unfold_use, assert_that, PureInvariant, PureStatement, assign, input, symbol, new, lookup, call, mutate, dispose, assert, assume, if_else, while, return, fail, logic, PureBlock, no_statements, statement_and, PureFunction}
-use Rattle.while_grammar.specs.Vocabulary.{equals, dot}
+use Rattle.source_text.specs.Logic.{SpellsLogic, SpellsInvariant, Braced}
+use Rattle.source_text.specs.Vocabulary.{equals, dot}
+use Rattle.while_syntax.specs.Pure.{PureField, PureStatement, assign, input, symbol, new, lookup, call, mutate, dispose, assert, assume, if_else, while, return, fail, logic, PureBlock, no_statements, statement_and, PureFunction}
 
 -- name: e
 abbrev pub SpellsField : PureField → List Lexeme → List Lexeme → Type 0
 SpellsField f from rest = (value : List Lexeme) × (from ≡ Name f.name ∷ colon ∷ value) × SpellsExpr Command f.value value rest
-
--- what only proofs look at, as the command of GIL
-abbrev pub command_of : PureLogic → gil.PureCommand
-command_of (fold_use u) = gil.fold_use u
-command_of (unfold_use u) = gil.unfold_use u
-command_of (assert_that items) = gil.assert_that items
-
--- the invariant of a loop, where it has one
-abbrev pub SpellsInvariant : Option PureInvariant → List Lexeme → List Lexeme → Type 0
-SpellsInvariant None from rest = from ≡ rest
-SpellsInvariant (Some i) from rest = SpellsCommand (gil.loop_invariant i.names i.logicals i.items) from rest
-
--- { .. }, of what is spelled within
-abbrev pub Braced : (List Lexeme → List Lexeme → Type 0) → List Lexeme → List Lexeme → Type 0
-Braced spells from rest = (inner : List Lexeme) × (from ≡ opening_brace ∷ inner) × spells inner (closing_brace ∷ rest)
 
 -- else { .. }. Without it the block has no statement, and no `else` follows, with which no statement begins.
 abbrev pub Otherwise : PureBlock → (List Lexeme → List Lexeme → Type 0) → List Lexeme → List Lexeme → Type 0
@@ -81,7 +66,7 @@ module _ (place : ℕ → ℕ) where
         (value : List Lexeme) × (from ≡ OfWord words.Return ∷ value) × SpellsExpr Command e value (semicolon ∷ rest)
     SpellsStatement (fail e) from rest =
         (value : List Lexeme) × (from ≡ OfWord words.Fail ∷ value) × SpellsExpr Command e value (semicolon ∷ rest)
-    SpellsStatement (logic c) from rest = SpellsCommand (command_of c) from (semicolon ∷ rest)
+    SpellsStatement (logic c) from rest = SpellsLogic c from rest
 
     -- statements one after another, each with the byte at which it begins
     pub SpellsStatements : PureBlock → List Lexeme → List Lexeme → Type 0

@@ -1,78 +1,17 @@
--- The texts of While programs: their items one after another, a function first.
-use Rattle.std.specs.Prelude.{◌≡◌, ℕ, ◌≤◌, List, [], ◌∷◌, length, Option, Some, None, IsTrue}
-use Rattle.std.specs.List.{filter_map}
-use Rattle.gil_lexer.specs.declared.forms.Token.{Token}
-use Rattle.gil_lexer.specs.Texts.{AreTokensOf}
-use Rattle.gil_lexemes.specs.declared.standing.Lexeme.{Lexeme}
-use Rattle.gil_lexemes.specs.Lexemes.{StandForAll}
-use Rattle.gil_syntax.specs.Pure.{PureSpec, PurePredDef}
-use Rattle.gil_grammar.specs.Nesting.{IsNested}
-use Rattle.gil_grammar.specs.Programs.{SpellsSpec, SpellsPred}
-use Rattle.gil_grammar.specs.Texts.{byte_before}
+-- The texts of While programs.
+use Rattle.std.specs.Prelude.{ℕ, List}
+use Rattle.source_text.specs.Texts as texts
 use Rattle.while_syntax.specs.Pure.{PureFunction, PureSource}
 use Rattle.while_grammar.specs.Statements.{SpellsFunction}
-use Rattle.while_grammar.specs.Vocabulary.{are_source_lexemes}
 
--- an item of a text
-pub data SourceItem : Type 0 where
-  a_function : PureFunction → SourceItem
-  a_spec : PureSpec → SourceItem
-  a_pred : PurePredDef → SourceItem
+-- an item of a text, and the byte at which it begins
+abbrev pub PlacedItem : Type 0
+PlacedItem = texts.PlacedItem PureFunction
 
--- an item, and the byte at which it begins
-pub record PlacedItem : Type 0 where
-  pub item : SourceItem
-  pub at : ℕ
-
-abbrev pub SpellsSourceItem : (ℕ → ℕ) → SourceItem → List Lexeme → List Lexeme → Type 0
-SpellsSourceItem place (a_function f) from rest = SpellsFunction place f from rest
-SpellsSourceItem place (a_spec s) from rest = SpellsSpec s from rest
-SpellsSourceItem place (a_pred d) from rest = SpellsPred d from rest
-
--- the lexemes are those of the items, one after another, each of which begins at its byte
-abbrev pub SpellsItems : (ℕ → ℕ) → List PlacedItem → List Lexeme → Type 0
-SpellsItems place [] from = from ≡ []
-SpellsItems place (i ∷ items) from =
-    (after : List Lexeme) × SpellsSourceItem place i.item from after × (i.at ≡ place (length from)) × SpellsItems place items after
-
-abbrev pub BeginsWithFunction : List PlacedItem → Type 0
-BeginsWithFunction [] = ⊥
-BeginsWithFunction (i ∷ items) = (f : PureFunction) × (i.item ≡ a_function f)
-
--- The bytes are tokens and blanks, no more brackets are open than may be, no name has a '$', and the lexemes that the tokens stand for
--- are those of the items, of which a function is the first.
-pub record SpellItems (bytes : List ℕ) (items : List PlacedItem) : Type 0 where
-  pub tokens : List Token
-  pub lexemes : List Lexeme
-  pub text : AreTokensOf tokens bytes
-  pub stand : StandForAll bytes tokens lexemes
-  pub nested : IsNested lexemes
-  pub names : IsTrue (are_source_lexemes lexemes)
-  pub spelled : SpellsItems (byte_before tokens) items lexemes
-  pub first : BeginsWithFunction items
-
--- ---- the source of the items
-
-abbrev pub as_function : SourceItem → Option PureFunction
-as_function (a_function f) = Some f
-as_function _ = None
-
-abbrev pub as_spec : SourceItem → Option PureSpec
-as_spec (a_spec s) = Some s
-as_spec _ = None
-
-abbrev pub as_pred : SourceItem → Option PurePredDef
-as_pred (a_pred d) = Some d
-as_pred _ = None
-
--- its functions, its specifications and its predicates, each in the order of the text
-abbrev pub source_of : List PlacedItem → PureSource
-source_of items = record {
-  functions = filter_map (λ i. as_function i.item) items;
-  specs = filter_map (λ i. as_spec i.item) items;
-  preds = filter_map (λ i. as_pred i.item) items;
-}
+-- The bytes are a text of these items.
+abbrev pub SpellItems : List ℕ → List PlacedItem → Type 0
+SpellItems bytes items = texts.SpellItems SpellsFunction bytes items
 
 -- The bytes are a text of the source.
 abbrev pub SpellSource : List ℕ → PureSource → Type 0
-SpellSource bytes source = (items : List PlacedItem) × SpellItems bytes items × (source_of items ≡ source)
+SpellSource bytes source = texts.SpellSource SpellsFunction bytes source

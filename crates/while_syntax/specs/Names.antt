@@ -1,14 +1,10 @@
 -- Whether a tree names only what a source text can name: no name has a '$', and expressions name no logical variable.
-use Rattle.std.specs.Prelude.{Bool, true, ◌&&◌, Option, Some, None}
+use Rattle.std.specs.Prelude.{Bool, true, ◌&&◌}
 use Rattle.std.specs.List.{list_all}
 use Rattle.gil_syntax.specs.Pure.{from_list}
-use Rattle.source_meaning.specs.Names.{is_source_name, is_source_expr, are_source_exprs}
-use Rattle.while_syntax.specs.Pure.{PureInvariant, PureStatement, assign, input, symbol, new, lookup, call, mutate, dispose, assert, assume, if_else, while, return, fail, logic, PureBlock, no_statements, statement_and, PureFunction}
+use Rattle.source_meaning.specs.Names.{is_source_name, is_source_expr, are_source_exprs, has_source_invariant}
+use Rattle.while_syntax.specs.Pure.{PureStatement, assign, input, symbol, new, lookup, call, mutate, dispose, assert, assume, if_else, while, return, fail, logic, PureBlock, no_statements, statement_and, PureFunction}
 use Rattle.while_syntax.specs.Meaning.{field_values}
-
-abbrev pub has_source_invariant : Option PureInvariant → Bool
-has_source_invariant None = true
-has_source_invariant (Some i) = list_all is_source_name i.names
 
 abbrev mutual
   pub is_source_statement : PureStatement → Bool

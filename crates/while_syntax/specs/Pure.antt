@@ -2,25 +2,14 @@
 use Rattle.std.specs.Prelude.{ℕ, List, [], ◌∷◌, Option, Some, None, if◌then◌else◌}
 use Rattle.std.specs.Str.{bytes_eq}
 use Rattle.gil_values.specs.declared.kinds.Kind.{Kind}
-use Rattle.gil_syntax.specs.declared.assertions.Param.{Param}
-use Rattle.gil_syntax.specs.Pure.{PureExpr, PurePredUse, PureItem, PureSpec, PurePredDef}
+use Rattle.gil_syntax.specs.Pure.{PureExpr}
+use Rattle.source_meaning.specs.Pure as trees
+use Rattle.source_meaning.specs.Pure.{PureLogic, PureInvariant}
 
 -- a field of a new record and its first value
 pub record PureField : Type 0 where
   pub name : List ℕ
   pub value : PureExpr
-
--- what only the proof of a specification looks at
-pub data PureLogic : Type 0 where
-  fold_use : PurePredUse → PureLogic
-  unfold_use : PurePredUse → PureLogic
-  assert_that : List PureItem → PureLogic
-
--- the invariant of a loop: the variables that may change, the logical variables, and the assertion
-pub record PureInvariant : Type 0 where
-  pub names : List (List ℕ)
-  pub logicals : List Param
-  pub items : List PureItem
 
 mutual
   pub data PureStatement : Type 0 where
@@ -61,10 +50,8 @@ pub record PureFunction : Type 0 where
   pub body : PureBlock
   pub at : ℕ
 
-pub record PureSource : Type 0 where
-  pub functions : List PureFunction
-  pub specs : List PureSpec
-  pub preds : List PurePredDef
+abbrev pub PureSource : Type 0
+PureSource = trees.PureSource PureFunction
 
 abbrev pub find_function : List PureFunction → List ℕ → Option PureFunction
 find_function [] f = None

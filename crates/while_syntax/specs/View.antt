@@ -1,31 +1,19 @@
 -- The pure data of While programs.
-use Rattle.std.specs.Prelude.{List, map, Option, Some, None}
-use Rattle.gil_syntax.specs.View.{expr_view, exprs_view, pred_use_view, assertion_view, spec_view, pred_def_view}
-use Rattle.while_syntax.specs.Pure.{PureField, PureLogic, fold_use, unfold_use, assert_that, PureInvariant, PureStatement, assign, input, symbol, new, lookup, call, mutate, dispose, assert, assume, if_else, while, return, fail, logic, PureBlock, PureFunction, PureSource, PurePlacedStatement, from_placed}
+use Rattle.std.specs.Prelude.{List, map}
+use Rattle.gil_syntax.specs.View.{expr_view, exprs_view}
+use Rattle.source_meaning.specs.View as trees
+use Rattle.source_meaning.specs.View.{logic_view, invariants_view}
+use Rattle.source_meaning.specs.declared.trees.SourceParts.{SourceParts}
+use Rattle.while_syntax.specs.Pure.{PureField, PureStatement, assign, input, symbol, new, lookup, call, mutate, dispose, assert, assume, if_else, while, return, fail, logic, PureBlock, PureFunction, PureSource, PurePlacedStatement, from_placed}
 use Rattle.while_syntax.specs.declared.tree.Field.{Field}
-use Rattle.while_syntax.specs.declared.tree.Logic.{Logic}
-use Rattle.while_syntax.specs.declared.tree.Invariant.{Invariant}
 use Rattle.while_syntax.specs.declared.tree.Statement.{Statement, fold-Statement}
 use Rattle.while_syntax.specs.declared.tree.Block.{Block, fold-Block}
 use Rattle.while_syntax.specs.declared.tree.PlacedStatement.{PlacedStatement, fold-PlacedStatement}
 use Rattle.while_syntax.specs.declared.tree.Statement.TheOpen.{Statement-F, PlacedStatement-F, Block-F}
 use Rattle.while_syntax.specs.declared.tree.Function.{Function}
-use Rattle.while_syntax.specs.declared.tree.SourceParts.{SourceParts}
 
 abbrev pub field_view : Field → PureField
 field_view f = record { name = f.name; value = expr_view f.value }
-
-abbrev pub logic_view : Logic → PureLogic
-logic_view (Logic.Fold u) = fold_use (pred_use_view u)
-logic_view (Logic.Unfold u) = unfold_use (pred_use_view u)
-logic_view (Logic.Assert items) = assert_that (assertion_view items)
-
-abbrev pub invariant_view : Invariant → PureInvariant
-invariant_view i = record { names = i.names; logicals = i.logicals; items = assertion_view i.assertion }
-
-abbrev pub invariants_view : Option Invariant → Option PureInvariant
-invariants_view None = None
-invariants_view (Some i) = Some (invariant_view i)
 
 -- one level of a statement, with each block already seen as its pure data
 abbrev pub statement_step : Statement-F PureStatement (List PurePlacedStatement) PurePlacedStatement → PureStatement
@@ -70,5 +58,5 @@ block_view b = from_placed (placed_statements_view b)
 abbrev pub function_view : Function → PureFunction
 function_view f = record { name = f.name; params = f.params; body = block_view f.body; at = f.at }
 
-abbrev pub source_parts_view : SourceParts → PureSource
-source_parts_view s = record { functions = map function_view s.functions; specs = map spec_view s.specs; preds = map pred_def_view s.preds }
+abbrev pub source_parts_view : SourceParts Function → PureSource
+source_parts_view s = trees.source_parts_view function_view s

@@ -10,7 +10,4 @@ pub use examples::{
     the_first_field_fails,
 };
 pub use laws::ends_stay;
-pub use tree::{
-    Block, Field, Fields, Function, Functions, Invariant, Logic, PlacedStatement, SourceParts,
-    Statement,
-};
+pub use tree::{Block, Field, Fields, Function, Functions, PlacedStatement, Statement};

@@ -2,9 +2,10 @@
 ghost use Rattle.std.specs.Prelude.{◌≡◌, [], ◌∷◌, ◌++◌, OnOk, OnErr, map};
 ghost use Rattle.while_syntax.specs.View.{placed_statements_view, placed_view};
 
-use gil_syntax::{Assertion, Expr, Exprs, Params, PredDefs, PredUse, Specs, Texts};
+use gil_syntax::{Expr, Exprs, Texts};
 use gil_values::{Kind, Text};
 use sequence::Sequence;
+use source_meaning::{Invariant, Logic};
 use std::alloc::{AllocError, Global};
 
 /// A field of a new record, and its first value.
@@ -16,22 +17,6 @@ pub struct Field {
 
 /// The fields of a new record, in the order in which they are written.
 pub type Fields = Sequence<Field>;
-
-/// What only the proof of a specification looks at.
-#[derive(Debug, Drop)]
-pub enum Logic {
-    Fold(PredUse),
-    Unfold(PredUse),
-    Assert(Assertion),
-}
-
-/// The invariant of a loop: the variables that may change, the logical variables, and the assertion.
-#[derive(Debug, Drop)]
-pub struct Invariant {
-    pub names: Texts,
-    pub logicals: Params,
-    pub assertion: Assertion,
-}
 
 /// A statement. Contracts see it as its pure data, by `statement_view`.
 #[cycle(statement)]
@@ -115,11 +100,3 @@ pub struct Function {
 
 /// The functions of a program, in the order of its text.
 pub type Functions = Sequence<Function>;
-
-/// The lists of which a program is made.
-#[derive(Debug, Drop)]
-pub struct SourceParts {
-    pub functions: Functions,
-    pub specs: Specs,
-    pub preds: PredDefs,
-}

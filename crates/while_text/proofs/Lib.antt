@@ -1,4 +1,2 @@
-mod ItemLoop
 pub mod MadeLaws
-mod NamingLemmas
-mod RefusalLemmas
+mod Reading

@@ -1,3 +1,1 @@
-pub mod Located
-pub mod Naming
 pub mod Refusals

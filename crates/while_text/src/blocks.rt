@@ -8,11 +8,11 @@ ghost use Rattle.while_syntax.specs.View.{block_view, placed_statements_view, pl
 ghost use Rattle.while_grammar.specs.Reading.Statements as read;
 
 use crate::assignments::of_name_at;
-use crate::pieces::{condition_at, invariant_at};
-use crate::places::next_place;
+use crate::pieces::condition_at;
 use crate::worded::{asserted_at, assume_at, dispose_at, fail_at, logic_at, return_at};
 use gil_lexemes::{Cursor, Stop};
 use gil_lexer::{Form, Sign, Token, Word};
+use source_text::{invariant_at, next_place};
 use std::alloc::Global;
 use while_syntax::{Block, PlacedStatement, Statement};
 

@@ -3,13 +3,9 @@
 
 mod assignments;
 mod blocks;
-mod items;
+mod functions;
 mod laws;
-mod located;
-mod naming;
 mod pieces;
-mod places;
-mod reading;
 mod texts;
 mod worded;
 

@@ -4,17 +4,17 @@ ghost use Rattle.gil_lexer.specs.declared.signs.Sign.TheVariants as signs;
 ghost use Rattle.gil_lexemes.specs.Lists.{more_at, separated_at, with_front};
 ghost use Rattle.gil_lexemes.specs.Reading.{Gives};
 ghost use Rattle.gil_syntax.specs.View.{expr_view};
-ghost use Rattle.while_syntax.specs.View.{field_view, invariants_view};
+ghost use Rattle.while_syntax.specs.View.{field_view};
 ghost use Rattle.while_grammar.specs.Reading.Statements as read;
 
 use gil_grammar::Position;
 use gil_lexemes::{Cursor, Stop};
-use gil_lexer::{Sign, Word};
-use gil_syntax::{Command, Expr};
-use gil_text::{expression_at, logic_at};
+use gil_lexer::Sign;
+use gil_syntax::Expr;
+use gil_text::expression_at;
 use sequence::Sequence;
 use std::alloc::Global;
-use while_syntax::{Field, Fields, Invariant};
+use while_syntax::{Field, Fields};
 
 /// `e;`
 #[tactic(auto, unfolding(while_grammar::specs::Reading::Statements::value_at))]
@@ -97,41 +97,4 @@ fn more_fields<'a>(
         rest = behind;
     }
     Ok((list, rest))
-}
-
-/// The invariant at the front, from its word on.
-#[tactic(auto, unfolding(while_grammar::specs::Reading::Statements::one_invariant_at))]
-fn one_invariant_at<'a>(
-    alloc: Global,
-    cursor: Cursor<'a>,
-) -> Result<(Option<Invariant>, Cursor<'a>), Stop>
-    ensures { Gives (λ found. (invariants_view found.0, found.1)) result (read.one_invariant_at cursor.entry) }
-{
-    let left = cursor.left();
-    let (command, cursor) = logic_at(alloc, Word::Invariant, cursor)?;
-    match command {
-        Command::LoopInvariant(names, logicals, assertion) => {
-            let invariant = Invariant {
-                names,
-                logicals,
-                assertion,
-            };
-            Ok((Some(invariant), cursor))
-        }
-        _ => Err(Stop::Syntax(left)),
-    }
-}
-
-/// An invariant, where one comes next.
-#[tactic(auto, unfolding(while_grammar::specs::Reading::Statements::invariant_at))]
-pub(crate) fn invariant_at<'a>(
-    alloc: Global,
-    cursor: Cursor<'a>,
-) -> Result<(Option<Invariant>, Cursor<'a>), Stop>
-    ensures { Gives (λ found. (invariants_view found.0, found.1)) result (read.invariant_at cursor.entry) }
-{
-    if !cursor.is_at_word(Word::Invariant) {
-        return Ok((None, cursor));
-    }
-    one_invariant_at(alloc, cursor)
 }

@@ -7,10 +7,8 @@ ghost use Rattle.while_grammar.specs.Reading.Statements as read;
 use crate::pieces::{claim_at, value_at};
 use gil_lexemes::{Cursor, Stop};
 use gil_lexer::{Sign, Word};
-use gil_syntax::Command;
-use gil_text::logic_at as command_at;
 use std::alloc::Global;
-use while_syntax::{Logic, Statement};
+use while_syntax::Statement;
 
 /// `e;`, behind `dispose`.
 pub(crate) fn dispose_at<'a>(
@@ -64,8 +62,7 @@ pub(crate) fn assume_at<'a>(
     Ok((Statement::Assume(condition), cursor))
 }
 
-/// The statement of which assertions are made, from its word on.
-#[tactic(auto, unfolding(while_grammar::specs::Reading::Statements::logic_at))]
+/// What only proofs look at, from its word on.
 pub(crate) fn logic_at<'a>(
     alloc: Global,
     word: Word,
@@ -73,15 +70,7 @@ pub(crate) fn logic_at<'a>(
 ) -> Result<(Statement, Cursor<'a>), Stop>
     ensures { Gives (λ found. (statement_view found.0, found.1)) result (read.logic_at word cursor.entry) }
 {
-    let left = cursor.left();
-    let (command, cursor) = command_at(alloc, word, cursor)?;
-    let logic = match command {
-        Command::Fold(pred_use) => Logic::Fold(pred_use),
-        Command::Unfold(pred_use) => Logic::Unfold(pred_use),
-        Command::AssertThat(assertion) => Logic::Assert(assertion),
-        _ => return Err(Stop::Syntax(left)),
-    };
-    let cursor = cursor.sign(Sign::Semicolon)?;
+    let (logic, cursor) = source_text::logic_at(alloc, word, cursor)?;
     Ok((Statement::Logic(logic), cursor))
 }
 

@@ -8,13 +8,14 @@ use Rattle.gil_lexer.specs.declared.signs.Sign.TheVariants.{LeftParenthesis, Rig
 use Rattle.gil_lexemes.specs.declared.standing.Lexeme.{Lexeme}
 use Rattle.gil_lexemes.specs.Lists.{separated_at, each_until}
 use Rattle.gil_lexemes.specs.Reading.{Reading, ◌>>=◌, first_form, behind, is_sign, is_word, sign_at, name_at}
-use Rattle.gil_syntax.specs.Pure as gil
 use Rattle.gil_syntax.specs.Pure.{PureExpr}
 use Rattle.gil_grammar.specs.declared.positions.Position.TheVariants.{Command}
 use Rattle.gil_grammar.specs.Reading.Assertions.{expression_at, expressions_at}
-use Rattle.gil_grammar.specs.Reading.Commands.{names_at, logic_by}
+use Rattle.gil_grammar.specs.Reading.Commands.{names_at}
 use Rattle.gil_grammar.specs.Reading.Vocabulary.{word_of, input_of_word}
-use Rattle.while_syntax.specs.Pure.{PureField, PureLogic, fold_use, unfold_use, assert_that, PureInvariant, PureStatement, assign, input, symbol, new, lookup, call, mutate, dispose, assert, assume, if_else, while, return, fail, logic, PureBlock, no_statements, PurePlacedStatement, from_placed, PureFunction}
+use Rattle.source_text.specs.Logic as logics
+use Rattle.source_text.specs.Logic.{invariant_at}
+use Rattle.while_syntax.specs.Pure.{PureField, PureStatement, assign, input, symbol, new, lookup, call, mutate, dispose, assert, assume, if_else, while, return, fail, logic, PureBlock, no_statements, PurePlacedStatement, from_placed, PureFunction}
 
 -- ---- pieces
 
@@ -147,40 +148,15 @@ assert_at ls = claim_at ls >>= λ e. Some (assert e.0, e.1)
 abbrev pub assume_at : List Lexeme → Reading PureStatement
 assume_at ls = claim_at ls >>= λ e. Some (assume e.0, e.1)
 
--- what only proofs look at, of the command of GIL
-abbrev pub logic_of : gil.PureCommand → Option PureLogic
-logic_of (gil.fold_use u) = Some (fold_use u)
-logic_of (gil.unfold_use u) = Some (unfold_use u)
-logic_of (gil.assert_that items) = Some (assert_that items)
-logic_of _ = None
-
--- from the word on
-unfoldable pub logic_at : Word → List Lexeme → Reading PureStatement
-logic_at word ls = do
-  c ← logic_by word ls
-  l ← logic_of c.0
-  rest ← sign_at Semicolon c.1
-  Some (logic l, rest)
+-- what only proofs look at, from the word on
+abbrev pub logic_at : Word → List Lexeme → Reading PureStatement
+logic_at word ls = logics.logic_at word ls >>= λ l. Some (logic l.0, l.1)
 
 -- from the word `assert` on
 unfoldable pub asserted_at : List Lexeme → Reading PureStatement
 asserted_at ls = if is_sign LeftBrace (first_form (behind ls)) then logic_at words.Assert ls else assert_at (behind ls)
 
 -- ---- statements with blocks, which are read by blocks
-
-abbrev pub invariant_of : gil.PureCommand → Option PureInvariant
-invariant_of (gil.loop_invariant xs ps items) = Some (record { names = xs; logicals = ps; items = items })
-invariant_of _ = None
-
-unfoldable pub one_invariant_at : List Lexeme → Reading (Option PureInvariant)
-one_invariant_at ls = do
-  c ← logic_by words.Invariant ls
-  i ← invariant_of c.0
-  Some (Some i, c.1)
-
--- an invariant, where the word `invariant` comes next
-unfoldable pub invariant_at : List Lexeme → Reading (Option PureInvariant)
-invariant_at ls = if is_word words.Invariant (first_form ls) then one_invariant_at ls else Some (None, ls)
 
 module _ (blocks : List Lexeme → Reading PureBlock) where
   -- else block

@@ -1,7 +1,4 @@
-use Rattle.std.proofs.Common.{sym, ◌∙◌}
-use Rattle.gil_lexemes.specs.Lexemes.{StandForAll}
-use Rattle.gil_grammar.specs.Nesting.{IsNested}
-use Rattle.gil_grammar.specs.Reading.Texts.{program_at}
+use Rattle.gil_syntax.specs.View.{proc_view}
 use Rattle.gil_text.specs.Located.{located_view}
 use Rattle.gil_text.proofs.RefusalLemmas.{items_spell, syntax_refusal}
 use Rattle.gil_text.proofs.texts.read_located.Goals as goal
@@ -11,7 +8,7 @@ returns-in-Ok-clause-ok c =
     let stand = rw c.as_slice.ensures at c.new-cursor.ensures in
     let nested = rw c.copy.ensures at c.in_default.ensures.none in
     let read = rw c.as_slice-2.ensures at c.in-Ok.ensures in
-    items_spell c.args.bytes.now c.in_ok-tokens.tokens c.new-cursor.result (located_view c.in-Ok.located) c.in_ok-tokens.ensures.tokens stand nested read
+    items_spell c.args.bytes.now c.in_ok-tokens.tokens c.new-cursor.result (located_view proc_view c.in-Ok.located) c.in_ok-tokens.ensures.tokens stand nested read
 
 pub returns-in-Err-Syntax-clause-refused : goal.returns-in-Err-Syntax-clause-refused
 returns-in-Err-Syntax-clause-refused c =

@@ -1,47 +1,55 @@
-use Rattle.std.proofs.Common.{sym, ◌∙◌}
+use Rattle.std.proofs.Common.{sym, [], ◌∙◌}
 use Rattle.std.proofs.lemmas.Result.{err_from_is_err_and}
-use Rattle.while_syntax.specs.View.{source_parts_view}
-use Rattle.while_text.specs.Located.{located_view}
-use Rattle.while_text.proofs.RefusalLemmas.{no_refusal, located_spells, one_source, names_hold, makes_hold, named_is_invalid, located_place, fault_refusal}
+use Rattle.gil_lexer.specs.declared.words.Word.TheVariants.{Func}
+use Rattle.gil_text.specs.Located.{located_view}
+use Rattle.source_text.specs.Located.{located_source}
+use Rattle.source_text.proofs.RefusalLemmas.{no_refusal, located_spells, one_source, located_place, fault_refusal}
+use Rattle.while_syntax.specs.View.{function_view}
+use Rattle.while_grammar.specs.Reading.Statements.{function_at}
+use Rattle.while_grammar.specs.Statements.{SpellsFunction}
+use Rattle.while_grammar.proofs.TextLaws.{functions_read}
+use Rattle.while_compiler.specs.Compiled.{compiled}
+use Rattle.while_text.proofs.Reading.{names_hold, makes_hold, named_is_invalid, counted}
 use Rattle.while_text.proofs.texts.read.Goals as goal
 
-pub returns-in_err-parts-clause-only : goal.returns-in_err-parts-clause-only
-returns-in_err-parts-clause-only c =
+pub returns-in_err-functions-clause-only : goal.returns-in_err-functions-clause-only
+returns-in_err-functions-clause-only c =
     let p = err_from_is_err_and c.from_residual.result c.from_residual.ensures.1 in
-    let refused = c.in_err-parts.field-0.0 in
-    rw (p.1, p.2) (λ source spells valid. no_refusal c.args.bytes.now refused.kind source c.in_err-parts.ensures.refused spells)
+    let refused = c.in_err-functions.field-0.0 in
+    rw (p.1, p.2) (λ source spells valid. no_refusal SpellsFunction c.args.bytes.now refused.kind source c.in_err-functions.ensures.refused spells)
 
 pub new-requires-clause-named : goal.new-requires-clause-named
 new-requires-clause-named c =
-    let read = c.in_ok-parts.ensures.ok in
-    names_hold c.args.bytes.now (located_view c.in_ok-parts.field-0) read.0 read.1 read.2
+    let read = c.in_ok-functions.ensures.ok in
+    names_hold c.args.bytes.now (located_view function_view c.in_ok-functions.field-0) read.0 read.1 read.2
 
 pub new-requires-clause-well_made : goal.new-requires-clause-well_made
 new-requires-clause-well_made c =
-    let read = c.in_ok-parts.ensures.ok in
-    makes_hold c.args.bytes.now (located_view c.in_ok-parts.field-0) read.0 read.1 read.2
+    let read = c.in_ok-functions.ensures.ok in
+    makes_hold c.args.bytes.now (located_view function_view c.in_ok-functions.field-0) read.0 read.1 read.2
 
 pub returns-in-Ok-clause-only : goal.returns-in-Ok-clause-only
 returns-in-Ok-clause-only c =
-    let read = c.in_ok-parts.ensures.ok in
-    let spelled = located_spells c.args.bytes.now (located_view c.in_ok-parts.field-0) read.0 read.1 read.2 in
-    λ source spells valid. c.in-Ok.ensures.source ∙ one_source c.args.bytes.now (source_parts_view c.in_ok-parts.field-0.parts) source spelled spells
+    let read = c.in_ok-functions.ensures.ok in
+    let located = located_view function_view c.in_ok-functions.field-0 in
+    let spelled = located_spells SpellsFunction c.args.bytes.now located read.0 read.1 read.2 in
+    λ source spells valid. c.in-Ok.ensures.source ∙ one_source SpellsFunction Func function_at functions_read c.args.bytes.now (located_source located) source spelled spells
 
 pub returns-in-Some : goal.returns-in-Some
 returns-in-Some c =
-    let read = c.in_ok-parts.ensures.ok in
-    let located = located_view c.in_ok-parts.field-0 in
-    let spelled = located_spells c.args.bytes.now located read.0 read.1 read.2 in
+    let read = c.in_ok-functions.ensures.ok in
+    let located = located_view function_view c.in_ok-functions.field-0 in
+    let spelled = located_spells SpellsFunction c.args.bytes.now located read.0 read.1 read.2 in
     let named = c.in-Err.ensures.invalid c.in_default.not-Memory in
     record {
       ok = tt;
-      only = λ source spells valid. absurd (named_is_invalid (source_parts_view c.in_ok-parts.field-0.parts) source c.in-Err.invalid.kind c.in-Err.invalid.item
-          (one_source c.args.bytes.now (source_parts_view c.in_ok-parts.field-0.parts) source spelled spells) named valid);
-      refused = fault_refusal located read.0 c.in-Err.invalid.kind c.in-Err.invalid.item read.2 named c.args.bytes.now c.in-Some.at read.1 (sym c.place_at.ensures ∙ c.in-Some.is);
+      only = λ source spells valid. absurd (named_is_invalid (located_source located) source c.in-Err.invalid.kind c.in-Err.invalid.item
+          (one_source SpellsFunction Func function_at functions_read c.args.bytes.now (located_source located) source spelled spells) named valid);
+      refused = fault_refusal compiled [] counted located read.0 c.in-Err.invalid.kind c.in-Err.invalid.item read.2 named SpellsFunction c.args.bytes.now c.in-Some.at read.1 (sym c.place_at.ensures ∙ c.in-Some.is);
     }
 
 pub unreachable-requires : goal.unreachable-requires
 unreachable-requires c =
-    let read = c.in_ok-parts.ensures.ok in
-    located_place (located_view c.in_ok-parts.field-0) read.0 c.in-Err.invalid.kind c.in-Err.invalid.item read.2
+    let read = c.in_ok-functions.ensures.ok in
+    located_place compiled [] counted (located_view function_view c.in_ok-functions.field-0) read.0 c.in-Err.invalid.kind c.in-Err.invalid.item read.2
     (c.in-Err.ensures.invalid c.in_default.not-Memory) (sym c.place_at.ensures ∙ c.in-None.is)

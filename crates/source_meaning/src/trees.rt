@@ -1,0 +1,28 @@
+//! What the trees of every source language have.
+use gil_syntax::{Assertion, Params, PredDefs, PredUse, Specs, Texts};
+use sequence::Sequence;
+
+/// What only the proof of a specification looks at. Contracts see it as its pure data, by `logic_view`.
+#[derive(Debug, Drop)]
+pub enum Logic {
+    Fold(PredUse),
+    Unfold(PredUse),
+    Assert(Assertion),
+}
+
+/// The invariant of a loop: the variables that may change, the logical variables, and the assertion. Contracts see it as its pure
+/// data, by `invariant_view`.
+#[derive(Debug, Drop)]
+pub struct Invariant {
+    pub names: Texts,
+    pub logicals: Params,
+    pub assertion: Assertion,
+}
+
+/// The lists of which a program is made, in the order of its text, with functions of the type `F`.
+#[derive(Debug, Drop)]
+pub struct SourceParts<F> {
+    pub functions: Sequence<F>,
+    pub specs: Specs,
+    pub preds: PredDefs,
+}

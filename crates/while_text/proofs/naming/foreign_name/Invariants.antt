@@ -1,5 +1,0 @@
-use Rattle.while_text.proofs.NamingLemmas.{SoFar}
-use Rattle.while_text.proofs.naming.foreign_name.Given as goal
-
-abbrev pub invariant-loop : goal.invariant-loop
-invariant-loop l = SoFar l.fn.cursor l.rest l.counter
