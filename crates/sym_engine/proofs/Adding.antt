@@ -26,7 +26,7 @@ use Rattle.sym_steps.specs.Acting.{Acts, IsAskedByAction}
 use Rattle.sym_steps.specs.Calls.{Calls, call_cases, IsAskedByCall}
 use Rattle.sym_steps.specs.Cases.{AreResults, AreOfCases, AreEvaluated}
 use Rattle.sym_steps.specs.Copies.{IsCopied, AreCopied}
-use Rattle.sym_steps.specs.Guards.{for_side, Turns, IsAskedByGuard}
+use Rattle.sym_steps.specs.Guards.{for_side, Turns, IsAskedByGuard, IsGuardEvaluated}
 use Rattle.sym_steps.proofs.Acting.{actions_keep_the_laws}
 use Rattle.sym_steps.proofs.Calling.{calls_keep_the_laws}
 use Rattle.sym_steps.proofs.Copying.{copies_keep_the_laws}
@@ -88,7 +88,7 @@ module _ {S : Type 0} (stands : S → List PureValue → Heap → Type 0) (terms
 
   module _ (asked : List ℕ → List PureTerm → List PureTerm) (m : Actions) (path : PurePath S) (here : Place) where
     pub guard_lawful : (cases : PureCases PureTerm) (faults all last : List (Candidate S)) → AreCopied stands terms depends plain (map (faulted path here) cases.faults) faults → Adds last faults all
-        → (e : PureExpr) (label : ℤ) → IsEvaluated (running_store path.stack) e cases → AreResults (Turns path label here) cases.good last → AreLawful stands terms asked m path here (ifgoto e label) all
+        → (e : PureExpr) (label : ℤ) → IsGuardEvaluated (running_store path.stack) e cases → AreResults (Turns path label here) cases.good last → AreLawful stands terms asked m path here (ifgoto e label) all
     guard_lawful cases faults all last copies adds e label evaluated result p c over no_end at command place =
         let whole : AreCopied stands terms depends plain (map (faulted path here) cases.faults ++ last) all = adds (map (faulted path here) cases.faults) copies in (
           copies_keep_the_laws stands terms depends plain p m (IsAskedByGuard (running_store path.stack) e) path (map (faulted path here) cases.faults ++ last) all

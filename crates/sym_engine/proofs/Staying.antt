@@ -21,7 +21,7 @@ use Rattle.sym_engine.proofs.Plain.{within_held_numbers, copies_plain, sure_plai
 use Rattle.sym_engine.proofs.Texts.{command_texts, first_text, later_texts}
 use Rattle.sym_evaluation.specs.Plainly.{IsPlain, IsPlainStore, text_bound, has_text_numbers, IsSureFault, IsSureResult, AnswersPlainly, AllAnswerPlainly, IsPlainGuard, GuardsPlainly, AreDecided}
 use Rattle.sym_evaluation.specs.Pure.{PureFaultCase, PureGoodCase, PureCases, PureSides}
-use Rattle.sym_evaluation.specs.Questions.{IsFrom, AreEachFrom, OnResult}
+use Rattle.sym_evaluation.specs.Questions.{IsTermOf, AreTermsOf, OnResult}
 use Rattle.sym_model.specs.Laws.{ActsPlainly}
 use Rattle.sym_model.specs.Lists.{Each}
 use Rattle.sym_model.specs.Pure.{PureBranch}
@@ -119,7 +119,7 @@ module _ {S : Type 0} (stands : S → List PureValue → Heap → Type 0) (terms
   -- ---- calls and actions
 
   pub call_plain : (p : PureParts) (callee : PureCases PureTerm) (args : PureCases (List PureTerm)) (before last : List (Candidate S)) → Copies (Faults (call_cases callee args).faults) before → (x : List ℕ) (e : PureExpr) (es : List PureExpr)
-      → OnResult (IsFrom (running_store path.stack) e) callee.good → AnswersPlainly (running_store path.stack) e callee → AllAnswerPlainly (running_store path.stack) es args → AreResults (Calls path x here p) (call_cases callee args).good last
+      → OnResult (IsTermOf (running_store path.stack) e) callee.good → AnswersPlainly (running_store path.stack) e callee → AllAnswerPlainly (running_store path.stack) es args → AreResults (Calls path x here p) (call_cases callee args).good last
       → StayPlainIn plain p path (call x e es) (before ++ last)
   call_plain p callee args before last copies x e es origin answers all_answer result c b valid at command simple small from =
       let texts : list_all has_text_numbers (exprs_of c.command) ≡ true = command_texts p path.stack c valid at in
@@ -135,14 +135,14 @@ module _ {S : Type 0} (stands : S → List PureValue → Heap → Type 0) (terms
   abbrev pub ActsInPlain : Bool → List ℕ → List ℕ → PureGoodCase (List PureTerm) → List (Candidate S) → Type 0
   ActsInPlain takes x action g ds = (bs : List (PureBranch S)) × (ActsPlainly plain action g.result path.memory bs × ActsAsEach path x here takes g bs ds)
 
-  pub act_plain : (takes : Bool) (cases : PureCases (List PureTerm)) (before last : List (Candidate S)) → Copies (Faults cases.faults) before → (x action : List ℕ) (es : List PureExpr) → OnResult (AreEachFrom (running_store path.stack) es) cases.good
+  pub act_plain : (takes : Bool) (cases : PureCases (List PureTerm)) (before last : List (Candidate S)) → Copies (Faults cases.faults) before → (x action : List ℕ) (es : List PureExpr) → OnResult (AreTermsOf (running_store path.stack) es) cases.good
       → AllAnswerPlainly (running_store path.stack) es cases → AreResults (ActsInPlain takes x action) cases.good last → StayPlain plain path (act x action es) (before ++ last)
   act_plain takes cases before last copies x action es origin answers result p c b valid at command simple small from =
       let (sized, simple_args) = and_parts (list_all (λ d. is_literal_expr d || not (bytes_eq action (codes "alloc"))) es) (list_all is_simple_value es) simple in
       let texts : list_all has_text_numbers es ≡ true = subst (λ ds. list_all has_text_numbers ds ≡ true) (ap exprs_of command) (command_texts p path.stack c valid at) in
       copies_plain stands terms depends plain (b + step_growth) (Faults cases.faults ++ last) (before ++ last)
-      (sure_plain plain b path from here (λ ts. AreEachFrom (running_store path.stack) es ts × Each (IsPlain (b + text_bound)) ts) (ActsInPlain takes x action) cases last
-      (sure_with (Each (IsPlain (b + text_bound))) (AreEachFrom (running_store path.stack) es) cases origin (answers b (within_held_numbers b small) (store_of b from) simple_args texts)) result
+      (sure_plain plain b path from here (λ ts. AreTermsOf (running_store path.stack) es ts × Each (IsPlain (b + text_bound)) ts) (ActsInPlain takes x action) cases last
+      (sure_with (Each (IsPlain (b + text_bound))) (AreTermsOf (running_store path.stack) es) cases origin (answers b (within_held_numbers b small) (store_of b from) simple_args texts)) result
       (λ ts fine ds (bs, (plainly, each)).
       acts_each plain b path from here x action takes ts fine.1 (λ is. literal_sizes action (running_store path.stack) es ts sized is fine.0) bs ds
       (branches_plain plain b path from here x action takes ts fine.1 (λ is. literal_sizes action (running_store path.stack) es ts sized is fine.0) bs plainly) each))

@@ -1,5 +1,4 @@
 pub mod Forms
-pub mod Guards
 pub mod Lawful
 pub mod Placed
 pub mod Plain

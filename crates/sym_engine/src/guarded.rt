@@ -1,5 +1,5 @@
 //! The candidates of `ifgoto`.
-ghost use Rattle.std.specs.Prelude.{◌≡◌, ℕ, ◌+◌, ◌<◌, ◌^◌, ◌++◌, ◌∷◌, codes, IfOk, IsTrue};
+ghost use Rattle.std.specs.Prelude.{◌≡◌, ◌+◌, ◌<◌, ◌^◌, ◌++◌, ◌∷◌, codes, IfOk, IsTrue};
 ghost use Rattle.std.specs.List.{list_all};
 ghost use Rattle.std.specs.Option.{option_map};
 ghost use Rattle.gil_syntax.specs.Pure.{ifgoto as pure_ifgoto};
@@ -11,10 +11,9 @@ ghost use Rattle.pure_terms.specs.Kinds.{allows, known_kind};
 ghost use Rattle.pure_terms.specs.Rewriting.{Replaces};
 ghost use Rattle.pure_terms.specs.View.{term_view, atoms_view};
 ghost use Rattle.sym_engine.specs.Lawful.{AddsCopies, AreLawful, MayAdvance};
-ghost use Rattle.sym_engine.specs.Guards.{connects, negates, stands_as_it_is};
 ghost use Rattle.sym_engine.specs.Plain.{StayPlain};
 ghost use Rattle.sym_engine.specs.View.{candidate_view, candidates_view};
-ghost use Rattle.sym_evaluation.specs.Plainly.{IsPlainGuard};
+ghost use Rattle.sym_evaluation.specs.Questions.{connects, negates, stands_as_it_is, MayStandForGuard};
 ghost use Rattle.sym_evaluation.specs.View.{good_view, sides_view};
 ghost use Rattle.sym_paths.specs.Moves.{advanced, running_store};
 ghost use Rattle.sym_paths.specs.View.{frames_view, path_view};
@@ -61,7 +60,7 @@ fn is_connective(op: BinOp) -> bool
 /// A part of a guard, simplified where it is asked about and no atom of the fragment.
 fn simpler_part(alloc: Global, rules: &RuleBook, term: &Term) -> Result<Term, AllocError>
     ensures replaces { IfOk result (λ t. Replaces (term_view term.now) (term_view t)) }
-    ensures plain { IfOk result (λ t. IsTrue (stands_as_it_is (term_view term.now)) → term_view t ≡ term_view term.now) }
+    ensures same { IfOk result (λ t. IsTrue (stands_as_it_is (term_view term.now)) → term_view t ≡ term_view term.now) }
 {
     let said = Atom::Holds(term.copy(alloc)?);
     if said.has_fragment_form() || !may_be_boolean(term) {
@@ -72,8 +71,7 @@ fn simpler_part(alloc: Global, rules: &RuleBook, term: &Term) -> Result<Term, Al
 
 /// The term of a guard, each part of which is simplified where it is no atom of the fragment.
 fn simpler(alloc: Global, rules: &RuleBook, term: &Term) -> Result<Term, AllocError>
-    ensures replaces { IfOk result (λ t. Replaces (term_view term.now) (term_view t)) }
-    ensures plain { IfOk result (λ t. (b : ℕ) → IsPlainGuard b (term_view term.now) → term_view t ≡ term_view term.now) }
+    ensures { IfOk result (λ t. MayStandForGuard (term_view term.now) (term_view t)) }
 {
     match term {
         Term::Lit(_) => term.copy(alloc),

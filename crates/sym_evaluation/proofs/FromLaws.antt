@@ -1,5 +1,5 @@
--- Results are from their expressions, and conditions are what these ask.
-use Rattle.std.proofs.Common.{◌≡◌, ◌⊎◌, ⊎_elim, inl, inr, pos, int_lt, List, [], ◌∷◌, Bool, true, false, not, ◌&&◌, if◌then◌else◌, Option, Some, None, refl, sym, ap, subst, true≢false}
+-- Results are the terms of their expressions, and conditions are what these ask.
+use Rattle.std.proofs.Common.{◌≡◌, ◌⊎◌, ⊎_elim, inl, inr, pos, int_lt, List, [], ◌∷◌, Bool, true, false, not, ◌&&◌, if◌then◌else◌, Option, Some, None, refl, sym, ap, true≢false}
 use Rattle.std.specs.Option.{option_and_then, option_map}
 use Rattle.gil_values.specs.declared.kinds.Kind.{Kind}
 use Rattle.gil_values.specs.declared.operators.UnOp.{UnOp}
@@ -14,12 +14,11 @@ use Rattle.pure_terms.specs.Kinds.{allows, known_kind}
 use Rattle.pure_terms.specs.Pure.{PureTerm, literal, variable, list_of, unary_of, binary_of, from_list, PureAtom, positive, negative}
 use Rattle.sym_model.specs.Lists.{Each, OneOf}
 use Rattle.sym_model.specs.Terms.{is_literal}
-use Rattle.sym_model.proofs.ListLaws.{same_some, not_none, each_append, one_left, one_right, one_parts}
+use Rattle.sym_model.proofs.ListLaws.{not_none, each_append, one_left, one_right, one_parts}
 use Rattle.sym_evaluation.specs.Checks.{PureCheck, passes, fails, asks, decided, needs, needs_not, is_of_kind, none_of, kind_check_by, kind_check, has_length, kinds_with_length, kinds_without_length, length_check_by, length_check, are_of_one_kind, append_check_by, append_check, is_zero, is_negative, divisor_check, start_check, length_of, is_below, end_check_by, end_check, PureStage, failing, required_from, required_at, required, kinds_required, unary_required, binary_required}
 use Rattle.sym_evaluation.specs.Evaluating.{spelled, literal_term, given_or, finished_by, followed, followed_by, at_stage, cases_after, all_cases_after}
 use Rattle.sym_evaluation.specs.Pure.{PureStore, term_at, PureFaultCase, PureGoodCase, PureCases}
-use Rattle.sym_evaluation.specs.Questions.{substituted, all_substituted, IsTermOf, AreTermsOf, IsAbout, AsksKind, AsksLength, AsksKinds, MayBeOfKinds, AsksAppended, AsksZero, may_be_place, AsksPlace, AsksOne, AsksTwo, IsAskedOf, IsAsked, OnResult, EachCondition, ComesFrom, HasTerm, AreEachFrom, AllComeFrom}
-use Rattle.sym_evaluation.proofs.Replacing.{replaces_itself, some_of, some_mapped}
+use Rattle.sym_evaluation.specs.Questions.{all_substituted, IsTermOf, IsAbout, AsksKind, AsksLength, AsksKinds, MayBeOfKinds, AsksAppended, AsksZero, may_be_place, AsksPlace, AsksOne, AsksTwo, IsAskedOf, IsAsked, OnResult, EachCondition, ComesFrom, AllComeFrom}
 
 -- ---- checks that are not sure to fail
 
@@ -315,27 +314,11 @@ on_result (Some g) f on = f g.result on
 on_result None f on = tt
 
 pub comes_from : (bs : PureStore) (e : PureExpr) → ComesFrom bs e (cases_after bs [] [] e)
-comes_from bs e =
-    let found = from_after (IsAsked bs e) bs e [] [] (λ a asked. asked) tt tt in
-    (found.0, on_result (cases_after bs [] [] e).good (λ t is. (t, (is, replaces_itself t))) found.1)
-
--- the result is the term of the expression
-pub has_term : (bs : PureStore) (e : PureExpr) → HasTerm bs e (cases_after bs [] [] e)
-has_term bs e = (from_after (IsAsked bs e) bs e [] [] (λ a asked. asked) tt tt).1
+comes_from bs e = from_after (IsAsked bs e) bs e [] [] (λ a asked. asked) tt tt
 
 asked_by_one : (bs : PureStore) (a : PureAtom) (es : List PureExpr) → OneOf (IsAskedOf bs a) (subexpressions_of_all (exprs_from es)) → OneOf (λ e. IsAsked bs e a) es
 asked_by_one bs a [] one = absurd one
 asked_by_one bs a (e ∷ es) one = ⊎_elim inl (λ later. inr (asked_by_one bs a es later)) (one_parts (IsAskedOf bs a) (subexpressions e) (subexpressions_of_all (exprs_from es)) one)
 
-each_from : (bs : PureStore) (es : List PureExpr) (ts : List PureTerm) → AreTermsOf bs es ts → AreEachFrom bs es ts
-each_from bs [] ts is = subst (AreEachFrom bs []) (same_some is) tt
-each_from bs (e ∷ es) ts is =
-    let (u, (first, rest)) = some_of (λ t. option_map (λ ts. t ∷ ts) (all_substituted bs (exprs_from es))) (substituted bs e) ts is in
-    let (us, (second, whole)) = some_mapped (λ ts. u ∷ ts) (all_substituted bs (exprs_from es)) ts rest in
-    subst (AreEachFrom bs (e ∷ es)) whole ((u, (first, replaces_itself u)), each_from bs es us second)
-
 pub all_come_from : (bs : PureStore) (es : List PureExpr) → AllComeFrom bs es (all_cases_after bs [] [] (exprs_from es))
-all_come_from bs es =
-    let cases = all_cases_after bs [] [] (exprs_from es) in
-    let found = all_from_after (λ a. OneOf (λ e. IsAsked bs e a) es) bs (exprs_from es) [] [] (λ a one. asked_by_one bs a es one) tt tt in
-    (found.0, on_result cases.good (λ ts is. each_from bs es ts is) found.1)
+all_come_from bs es = all_from_after (λ a. OneOf (λ e. IsAsked bs e a) es) bs (exprs_from es) [] [] (λ a one. asked_by_one bs a es one) tt tt

@@ -1,8 +1,10 @@
+pub mod AskedAtoms
 pub mod CheckLaws
 pub mod EvaluationLaws
 pub mod Found
 pub mod FromLaws
 pub mod GuardLaws
+pub mod GuardTerms
 pub mod Listing
 pub mod NameLaws
 pub mod OperatorLaws

@@ -1,5 +1,5 @@
 -- Where parts of a term are replaced, the term is.
-use Rattle.std.proofs.Common.{◌≡◌, ⊎_elim, inl, inr, ◌<◌, List, ◌++◌, true, ◌&&◌, Option, Some, None, refl, sym, ap, subst, ◌∙◌, arith, true≢false}
+use Rattle.std.proofs.Common.{◌≡◌, ⊎_elim, inl, inr, ◌<◌, List, ◌++◌, true, ◌&&◌, Option, Some, None, refl, sym, ap, ◌∙◌, arith, true≢false}
 use Rattle.std.specs.List.{Contains}
 use Rattle.std.specs.Option.{option_and_then, option_map}
 use Rattle.std.specs.Result.{result_ok}
@@ -19,20 +19,6 @@ use Rattle.sym_model.proofs.ListLaws.{same_some, not_none}
 
 pub replaces_itself : (t : PureTerm) → Replaces t t
 replaces_itself t = record { value_kept = λ vars v w proper over is. is; no_more_names = λ x has. has; simple_stays = λ simple. simple; no_larger = inl refl }
-
-no_larger_by : (t u w : PureTerm) → IsSameOrSmaller t u → IsSameOrSmaller u w → IsSameOrSmaller t w
-no_larger_by t u w (inl same) (inl also) = inl (also ∙ same)
-no_larger_by t u w (inl same) (inr less) = inr (subst (λ x. size w < size x) same less)
-no_larger_by t u w (inr less) (inl also) = inr (subst (λ x. size x < size t) (sym also) less)
-no_larger_by t u w (inr less) (inr more) = inr (omega (arith, less, more))
-
-pub replaces_on : (t u w : PureTerm) → Replaces t u → Replaces u w → Replaces t w
-replaces_on t u w first second = record {
-  value_kept = λ vars v a proper over is. second.value_kept vars v a proper (λ x has. over x (first.no_more_names x has)) (first.value_kept vars v a proper over is);
-  no_more_names = λ x has. first.no_more_names x (second.no_more_names x has);
-  simple_stays = λ simple. second.simple_stays (first.simple_stays simple);
-  no_larger = no_larger_by t u w first.no_larger second.no_larger;
-}
 
 -- ---- operators
 
@@ -58,7 +44,7 @@ replaces_operand op t u is = record {
   no_larger = unary_smaller op t u is.no_larger;
 }
 
-positive_size : (t : PureTerm) → 0 < size t
+pub positive_size : (t : PureTerm) → 0 < size t
 positive_size (literal l) = omega arith
 positive_size (variable x) = omega arith
 positive_size (list_of ts) = omega arith

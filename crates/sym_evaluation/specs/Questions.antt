@@ -1,5 +1,5 @@
--- Where the terms and conditions of an evaluation come from: what may be asked of the operands of an expression.
-use Rattle.std.specs.Prelude.{◌≡◌, ◌⊎◌, pos, int_lt, List, [], ◌∷◌, ◌++◌, Bool, true, false, not, ◌&&◌, Option, Some, None, IsTrue}
+-- Where the terms and conditions of an evaluation come from: what may be asked of the operands of an expression, and of a guard.
+use Rattle.std.specs.Prelude.{◌≡◌, ◌⊎◌, pos, int_lt, List, [], ◌∷◌, ◌++◌, Bool, true, false, not, ◌&&◌, ◌||◌, MatchBool, Option, Some, None, IsTrue}
 use Rattle.std.specs.Option.{option_map, option_and_then}
 use Rattle.gil_values.specs.declared.kinds.Kind.{Kind}
 use Rattle.gil_values.specs.declared.operators.UnOp.{UnOp}
@@ -10,7 +10,7 @@ use Rattle.pure_terms.specs.declared.literals.Literal.{Literal}
 use Rattle.pure_terms.specs.declared.variables.Sort.{Sort}
 use Rattle.pure_terms.specs.declared.variables.Var.{Var}
 use Rattle.pure_terms.specs.Folding.{folded_unary, folded_binary}
-use Rattle.pure_terms.specs.Fragment.{is_variable_of}
+use Rattle.pure_terms.specs.Fragment.{is_variable_of, has_fragment_form}
 use Rattle.pure_terms.specs.Kinds.{allows, known_kind}
 use Rattle.pure_terms.specs.Meaning.{IsOver}
 use Rattle.pure_terms.specs.Pure.{PureTerm, literal, variable, list_of, unary_of, binary_of, from_list, PureAtom, positive, negative, opening, term_of}
@@ -41,12 +41,9 @@ abbrev mutual
 abbrev pub IsTermOf : PureStore → PureExpr → PureTerm → Type 0
 IsTermOf bs e t = substituted bs e ≡ Some t
 
+-- the terms of a list of expressions
 abbrev pub AreTermsOf : PureStore → List PureExpr → List PureTerm → Type 0
 AreTermsOf bs es ts = all_substituted bs (exprs_from es) ≡ Some ts
-
--- The term is from the expression: it is the term of the expression, or may stand in the place of that.
-abbrev pub IsFrom : PureStore → PureExpr → PureTerm → Type 0
-IsFrom bs e t = (u : PureTerm) × (IsTermOf bs e u × Replaces u t)
 
 -- ---- questions
 
@@ -141,22 +138,13 @@ OnConditions P (Some g) = Each P g.conds
 abbrev pub EachCondition : {X : Type 0} → (PureAtom → Type 0) → PureCases X → Type 0
 EachCondition P cases = Each (λ c. Each P c.conds) cases.faults × OnConditions P cases.good
 
--- Each condition is one that the expression asks, and the result is from the expression.
+-- Each condition is one that the expression asks, and the result is the term of the expression.
 abbrev pub ComesFrom : PureStore → PureExpr → PureCases PureTerm → Type 0
-ComesFrom bs e cases = EachCondition (IsAsked bs e) cases × OnResult (IsFrom bs e) cases.good
-
--- The result is the term of the expression.
-abbrev pub HasTerm : PureStore → PureExpr → PureCases PureTerm → Type 0
-HasTerm bs e cases = OnResult (IsTermOf bs e) cases.good
-
-abbrev pub AreEachFrom : PureStore → List PureExpr → List PureTerm → Type 0
-AreEachFrom bs [] [] = Unit {0}
-AreEachFrom bs (e ∷ es) (t ∷ ts) = IsFrom bs e t × AreEachFrom bs es ts
-AreEachFrom bs _ _ = ⊥
+ComesFrom bs e cases = EachCondition (IsAsked bs e) cases × OnResult (IsTermOf bs e) cases.good
 
 -- the same of a list of expressions
 abbrev pub AllComeFrom : PureStore → List PureExpr → PureCases (List PureTerm) → Type 0
-AllComeFrom bs es cases = EachCondition (λ a. OneOf (λ e. IsAsked bs e a) es) cases × OnResult (AreEachFrom bs es) cases.good
+AllComeFrom bs es cases = EachCondition (λ a. OneOf (λ e. IsAsked bs e a) es) cases × OnResult (AreTermsOf bs es) cases.good
 
 -- conditions and result name only variables of the table, where the store does
 abbrev pub NameNoOthers : {X : Type 0} → (List Sort → X → Type 0) → PureStore → PureCases X → Type 0
@@ -166,7 +154,41 @@ NameNoOthers Over bs cases =
 abbrev pub AreEachOver : List Sort → List PureTerm → Type 0
 AreEachOver vars ts = Each (IsOver vars) ts
 
--- ---- guards
+-- ---- what may stand for a guard's term
+
+abbrev pub negates : UnOp → Bool
+negates UnOp.Not = true
+negates op = false
+
+-- `and` and `or`
+abbrev pub connects : BinOp → Bool
+connects BinOp.And = true
+connects BinOp.Or = true
+connects op = false
+
+-- The term by itself is an atom of the fragment, or surely no boolean.
+abbrev pub stands_as_it_is : PureTerm → Bool
+stands_as_it_is t = has_fragment_form (positive t) || not (allows (known_kind t) Kind.Bool)
+
+-- what may stand for a part of a guard: the part itself, where it stands as it is; for any other one, what may be put in its place
+abbrev pub MayStandForPart : PureTerm → PureTerm → Type 0
+MayStandForPart u t = MatchBool (stands_as_it_is u) (t ≡ u) (Replaces u t)
+
+-- What may stand for a guard's term: under `not`, `and` and `or` the same form over what may stand for the operands.
+abbrev pub MayStandForGuard : PureTerm → PureTerm → Type 0
+MayStandForGuard (unary_of op u) t =
+    MatchBool (negates op) ((w : PureTerm) × ((t ≡ unary_of op w) × MayStandForGuard u w)) (MayStandForPart (unary_of op u) t)
+MayStandForGuard (binary_of op p q) t =
+    MatchBool (connects op)
+    ((r : PureTerm) × ((s : PureTerm) × ((t ≡ binary_of op r s) × MayStandForGuard p r × MayStandForGuard q s)))
+    (MayStandForPart (binary_of op p q) t)
+MayStandForGuard u t = MayStandForPart u t
+
+-- the term may stand for that of the guard's expression
+abbrev pub IsGuardTerm : PureStore → PureExpr → PureTerm → Type 0
+IsGuardTerm bs e t = (u : PureTerm) × (IsTermOf bs e u × MayStandForGuard u t)
+
+-- ---- what is asked of guards
 
 -- a term, and its parts under `and` and `or`; `not` turns what is asked of its operand
 abbrev pub boolean_parts : PureTerm → List PureTerm
@@ -192,7 +214,7 @@ abbrev pub AsksBoolean : PureTerm → PureAtom → Type 0
 AsksBoolean t a = (known_kind t ≡ None) × IsAbout (is_of_kind t Kind.Bool) a
 
 -- The condition says that the guard or a part of it is true or false, or asks whether the guard is a boolean where its kind is open.
--- Nothing is asked of a literal, nor of a guard that is sure to be no boolean.
+-- Nothing is asked of a guard that is a literal, nor of one that is sure to be no boolean.
 abbrev pub IsGuardCondition : PureTerm → PureAtom → Type 0
 IsGuardCondition t a =
     (is_literal t ≡ false) × IsTrue (allows (known_kind t) Kind.Bool) × (OneOf (SaysPart a) (boolean_parts t) ⊎ AsksBoolean t a)

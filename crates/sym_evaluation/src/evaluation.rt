@@ -18,7 +18,7 @@ ghost use Rattle.sym_evaluation.specs.Meaning.{AreCasesOf, AreCasesOfAll};
 ghost use Rattle.pure_terms.specs.Meaning.{IsOver};
 ghost use Rattle.sym_evaluation.specs.Plainly.{AnswersPlainly, AllAnswerPlainly, GuardsPlainly};
 ghost use Rattle.sym_evaluation.specs.Pure.{term_at};
-ghost use Rattle.sym_evaluation.specs.Questions.{ComesFrom, HasTerm, AllComeFrom, NameNoOthers, AreEachOver};
+ghost use Rattle.sym_evaluation.specs.Questions.{ComesFrom, AllComeFrom, NameNoOthers, AreEachOver};
 ghost use Rattle.sym_evaluation.specs.View.{store_view, fault_view, faults_view, cases_view, all_cases_view};
 
 use crate::cases::{Cases, FaultCase, FaultCases, GoodCase};
@@ -42,7 +42,6 @@ pub fn evaluate(
     requires { IsTrue (list_all is_spellable (literals_of (expr_view expression.now))) }
     ensures cases { IfOk result (λ c. AreCasesOf (store_view store.now) (expr_view expression.now) (cases_view c)) }
     ensures origin { IfOk result (λ c. ComesFrom (store_view store.now) (expr_view expression.now) (cases_view c)) }
-    ensures term { IfOk result (λ c. HasTerm (store_view store.now) (expr_view expression.now) (cases_view c)) }
     ensures names { IfOk result (λ c. NameNoOthers IsOver (store_view store.now) (cases_view c)) }
     ensures plain { IfOk result (λ c. AnswersPlainly (store_view store.now) (expr_view expression.now) (cases_view c)) }
     ensures guard { IfOk result (λ c. GuardsPlainly (store_view store.now) (expr_view expression.now) (cases_view c)) }

@@ -1,5 +1,5 @@
 -- What trails keep, and what they say in the words of the laws.
-use Rattle.std.proofs.Common.{◌≡◌, ◌⊎◌, ⊎_elim, inl, inr, ℕ, ◌+◌, List, [], ◌∷◌, length, Bool, true, false, Some, None, refl, sym, subst, arith}
+use Rattle.std.proofs.Common.{◌≡◌, ⊎_elim, inl, inr, ℕ, ◌+◌, List, [], ◌∷◌, length, Bool, true, false, Some, None, refl, sym, subst, arith}
 use Rattle.gil_values.specs.Pure.{PureValue}
 use Rattle.gil_syntax.specs.Pure.{PureParts, PureNumberedCommand}
 use Rattle.mem_model.specs.Actions.{Actions}
@@ -7,8 +7,8 @@ use Rattle.mem_model.specs.Heaps.{Heap}
 use Rattle.pure_terms.specs.Meaning.{Satisfies}
 use Rattle.pure_terms.specs.Pure.{PureTerm, PureAtom}
 use Rattle.sym_engine.specs.Lawful.{IsOwnAt}
-use Rattle.sym_explore.specs.Laws.{EndsAreOfRuns, IsTraced, MayBeAssumedInAction, IsAssumedOn, TrailsReplay, TrailsHoldAlong, TrailsMayEndBefore, TrailsKeep}
-use Rattle.sym_explore.specs.Trails.{IsNextPath, IsTrail, MayBeAssumedAt}
+use Rattle.sym_explore.specs.Laws.{EndsAreOfRuns, IsTraced, TrailsReplay, TrailsHoldAlong, TrailsMayEndBefore, TrailsKeep}
+use Rattle.sym_explore.specs.Trails.{IsNextPath, IsTrail, MayBeAssumedInAction, IsAssumedOn}
 use Rattle.sym_explore.proofs.RunSteps.{ends_are_of_runs, ends_stay}
 use Rattle.sym_explore.proofs.Trails.{trail_over, replay, replay_choices, never_cut, along, back}
 use Rattle.sym_model.specs.Lists.{Each, OneOf, IsAmong}
@@ -66,19 +66,6 @@ module _ {S : Type 0} (p : PureParts) (m : Actions) (stands : S → List PureVal
       (each_append (λ a. IsAmong a path.conds) before.given next.growth.new_given
       (each_to (λ a. IsAmong a before.conds) (λ a. IsAmong a path.conds) before.given (among_more before path next) (all_assumed start before earlier trail had)) next.growth.assumed)
 
-  abbrev Allowed : List (PurePath S) → PureAtom → Type 0
-  Allowed earlier a = OneOf (λ before. MayBeAssumedAt p m stands terms asked before a) earlier
-
-  all_allowed : (start path : PurePath S) (earlier : List (PurePath S)) → IsTrailOf start earlier path → start.given ≡ [] → Each (Allowed earlier) path.given
-  all_allowed start path [] trail none = subst (λ (q : PurePath S). Each (Allowed []) q.given) (sym trail) (subst (Each (Allowed [])) (sym none) tt)
-  all_allowed start path (before ∷ earlier) (next, trail) none =
-      let (c, at) = next.at_command in
-      let new = next.assumes in
-      subst (Each (Allowed (before ∷ earlier))) (sym new.given)
-      (each_append (Allowed (before ∷ earlier)) before.given new.added
-      (each_to (Allowed earlier) (Allowed (before ∷ earlier)) before.given (λ a later. inr later) (all_allowed start before earlier trail none))
-      (each_to (MayAssume (IsOwnAt stands terms asked m p before) (running_store before.stack) c.command) (Allowed (before ∷ earlier)) new.added (λ a may. inl (c, (at, may))) (new.each c at)))
-
   -- before a path that goes on only actions assumed something
   abbrev InActions : List (PurePath S) → PureAtom → Type 0
   InActions earlier a = OneOf (λ before. MayBeAssumedInAction p m stands terms asked before a) earlier
@@ -127,7 +114,6 @@ module _ {S : Type 0} (p : PureParts) (m : Actions) (stands : S → List PureVal
     over = λ start path earlier trail over. trail_over p m stands terms asked start earlier path trail over;
     traced = all_traced;
     assumed = all_assumed;
-    allowed = all_allowed;
     assumed_on = all_assumed_on;
     satisfiable = all_met;
   }

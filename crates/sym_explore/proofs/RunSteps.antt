@@ -18,8 +18,9 @@ use Rattle.mem_model.specs.Actions.{Actions, ActionResult}
 use Rattle.mem_model.specs.Pure.{PureOutcome, done, failed as action_failed, miss}
 use Rattle.sym_explore.specs.Runs.{EndsAfter}
 use Rattle.sym_model.proofs.ListLaws.{same_some, not_none}
+use Rattle.sym_paths.proofs.Recording.{symbols_taken}
 use Rattle.sym_paths.proofs.Silent.{step-is, choice-is}
-use Rattle.sym_paths.specs.Steps.{symbols_taken, makes_choice}
+use Rattle.sym_paths.specs.Steps.{makes_choice}
 
 -- ---- one more step
 

@@ -23,7 +23,8 @@ use Rattle.sym_model.specs.Terms.{StateTerms}
 use Rattle.sym_model.proofs.ListLaws.{same_some, not_none}
 use Rattle.sym_paths.specs.Meaning.{Stands, StandsForStep, IsOverTable}
 use Rattle.sym_paths.specs.Pure.{PureEnd, cut, PurePath}
-use Rattle.sym_paths.specs.Steps.{AreNext, Extends, IsUnknown, IsChosen, GoesOnAs, drawn_from, draws_past, fresh_count, symbols_taken}
+use Rattle.sym_paths.specs.Steps.{AreNext, Extends, IsUnknown, IsChosen, GoesOnAs, drawn_from, draws_past, fresh_count}
+use Rattle.sym_paths.proofs.Recording.{symbols_recorded, symbols_taken}
 use Rattle.sym_paths.proofs.Silent.{stands_at}
 
 module _ {S : Type 0} (p : PureParts) (m : Actions) (stands : S → List PureValue → Heap → Type 0) (terms : S → StateTerms)
@@ -56,7 +57,7 @@ module _ {S : Type 0} (p : PureParts) (m : Actions) (stands : S → List PureVal
     goes_there before path v w n s t next at still goes is =
         let does = step_does p m inputs s t next.at_command.0 (command_there before path v s next at.stands_for) goes in
         let taken : t.counter ≡ s.counter + symbols_taken m next.at_command.0.command = does.counter_is in
-        let recorded : fresh_count path.vars ≡ fresh_count before.vars + symbols_taken m next.at_command.0.command = next.recorded.symbols next.at_command.0 next.at_command.1 still in
+        let recorded : fresh_count path.vars ≡ fresh_count before.vars + symbols_taken m next.at_command.0.command = symbols_recorded p m before path next.recorded next.at_command.0 next.at_command.1 still in
         let counted : s.counter + fresh_count start.vars ≡ s0.counter + fresh_count before.vars = at.symbols in
         let drawn : length path.drawn ≡ length before.drawn + length (drawn_from (length before.vars) next.growth.new_vars) = ap length next.growth.drawn ∙ length-append before.drawn (drawn_from (length before.vars) next.growth.new_vars) in
         let new_draws : length (drawn_from (length before.vars) next.growth.new_vars) ≡ draw_count next.growth.new_vars = drawn_length (length before.vars) next.growth.new_vars in

@@ -1,7 +1,7 @@
 -- What holds of every path with a trail.
 use Rattle.std.specs.Prelude.{◌≡◌, ◌⊎◌, ℕ, ◌+◌, ◌≤◌, List, [], ◌∷◌, length, false, Some, None, IsTrue}
 use Rattle.gil_values.specs.Pure.{PureValue}
-use Rattle.gil_syntax.specs.Pure.{PureParts, PureNumberedCommand}
+use Rattle.gil_syntax.specs.Pure.{PureParts}
 use Rattle.gil_machine.specs.Run.{run}
 use Rattle.gil_machine.specs.State.{State, End, IsOver}
 use Rattle.mem_model.specs.Actions.{Actions}
@@ -10,13 +10,13 @@ use Rattle.pure_terms.specs.Meaning.{all_true, Satisfies}
 use Rattle.pure_terms.specs.Pure.{PureTerm, PureAtom}
 use Rattle.sym_engine.specs.Lawful.{IsOwnAt}
 use Rattle.sym_explore.specs.Runs.{EndsAfter, ComesTo, MakesChoices, StandsAfter}
-use Rattle.sym_explore.specs.Trails.{IsTrail, MayBeAssumedAt}
+use Rattle.sym_explore.specs.Trails.{IsTrail, IsAssumedOn}
 use Rattle.sym_model.specs.Lists.{Each, OneOf, IsAmong}
 use Rattle.sym_model.specs.Meaning.{has_open}
 use Rattle.sym_model.specs.Terms.{StateTerms}
-use Rattle.sym_paths.specs.Meaning.{Stands, IsOverTable, command_of_path}
+use Rattle.sym_paths.specs.Meaning.{Stands, IsOverTable}
 use Rattle.sym_paths.specs.Pure.{cut, PurePath}
-use Rattle.sym_paths.specs.Steps.{Extends, IsUnknown, is_action}
+use Rattle.sym_paths.specs.Steps.{Extends, IsUnknown}
 
 -- What a run within n steps came to is its end, with every larger bound too if it isn't cut.
 abbrev pub EndsAreOfRuns : Type 0
@@ -70,17 +70,6 @@ module _ {S : Type 0} (p : PureParts) (m : Actions) (stands : S → List PureVal
   IsTraced start earlier a =
       IsAmong a start.conds ⊎ OneOf (λ path. IsOwnAt stands terms asked m p path a) earlier
 
-  -- an action at which the path stands may assume the atom
-  abbrev pub MayBeAssumedInAction : PurePath S → PureAtom → Type 0
-  MayBeAssumedInAction path a =
-      MayBeAssumedAt p m stands terms asked path a
-      × ((c : PureNumberedCommand) × ((command_of_path p path ≡ Some c) × IsTrue (is_action c.command)))
-
-  -- the command of the last step may assume the atom, or an action of an earlier one
-  abbrev pub IsAssumedOn : List (PurePath S) → PureAtom → Type 0
-  IsAssumedOn [] a = ⊥
-  IsAssumedOn (last ∷ earlier) a = MayBeAssumedAt p m stands terms asked last a ⊎ OneOf (λ path. MayBeAssumedInAction path a) earlier
-
   -- what holds of a path by its trail alone
   pub record TrailsKeep : Type 0 where
     pub steps : (start path : PurePath S) (earlier : List (PurePath S)) → IsTrail p m stands terms asked start earlier path
@@ -91,10 +80,8 @@ module _ {S : Type 0} (p : PureParts) (m : Actions) (stands : S → List PureVal
         → Each (IsTraced start earlier) path.conds
     pub assumed : (start path : PurePath S) (earlier : List (PurePath S)) → IsTrail p m stands terms asked start earlier path
         → Each (λ a. IsAmong a start.conds) start.given → Each (λ a. IsAmong a path.conds) path.given
-    pub allowed : (start path : PurePath S) (earlier : List (PurePath S)) → IsTrail p m stands terms asked start earlier path
-        → start.given ≡ [] → Each (λ a. OneOf (λ before. MayBeAssumedAt p m stands terms asked before a) earlier) path.given
     pub assumed_on : (start path : PurePath S) (earlier : List (PurePath S)) → IsTrail p m stands terms asked start earlier path
-        → start.given ≡ [] → Each (IsAssumedOn earlier) path.given
+        → start.given ≡ [] → Each (IsAssumedOn p m stands terms asked earlier) path.given
     pub satisfiable : (start path : PurePath S) (earlier : List (PurePath S)) (v : List PureValue)
         → IsTrail p m stands terms asked start earlier path → Satisfies start.vars v start.conds → ¬ IsUnknown path.ending
         → (w : List PureValue) × Satisfies path.vars w path.conds

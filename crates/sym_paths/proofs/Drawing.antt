@@ -13,7 +13,7 @@ use Rattle.pure_terms.specs.Kinds.{has_sort}
 use Rattle.pure_terms.specs.Pure.{variable}
 use Rattle.sym_model.proofs.ListLaws.{same_some, not_none}
 use Rattle.sym_paths.specs.Moves.{draw_sort}
-use Rattle.sym_paths.specs.Steps.{IsNext, IsNewSort, fresh_count, drawn_from, IsInputFault, HasInput}
+use Rattle.sym_paths.specs.Steps.{IsNext, IsNewSort, drawn_from, IsInputFault, HasInput}
 
 by_draw : (P : Kind → Sort → Type 0) → P Kind.Int Sort.Int → P Kind.Bool Sort.Bool → P Kind.Str Sort.Str → (k : Kind) (sort : Sort) → draw_sort k ≡ Some sort → P k sort
 by_draw P number truth characters Kind.Int sort is = subst (P Kind.Int) (same_some is) number
@@ -31,9 +31,6 @@ drawn_is = by_draw (λ k sort. (n : ℕ) → drawn_from n (sort ∷ []) ≡ vari
 
 pub new_sort : (k : Kind) (sort : Sort) → draw_sort k ≡ Some sort → IsNewSort sort
 new_sort = by_draw (λ k sort. IsNewSort sort) tt tt tt
-
-pub none_fresh : (k : Kind) (sort : Sort) → draw_sort k ≡ Some sort → fresh_count (sort ∷ []) ≡ 0
-none_fresh = by_draw (λ k sort. fresh_count (sort ∷ []) ≡ 0) refl refl refl
 
 pub drawn_next : (k : Kind) (sort : Sort) → draw_sort k ≡ Some sort → (inputs : List PureValue) (n d : ℕ) (w : PureValue) → IsNext inputs n d sort w → slice_get inputs d ≡ Some w
 drawn_next = by_draw (λ k sort. (inputs : List PureValue) (n d : ℕ) (w : PureValue) → IsNext inputs n d sort w → slice_get inputs d ≡ Some w)

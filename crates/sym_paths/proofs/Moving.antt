@@ -32,9 +32,9 @@ use Rattle.sym_paths.specs.Meaning.{AreFrames, Stands, StandsForEnd, StandsForSt
 use Rattle.sym_paths.specs.Moves.{NoOwn, IsLogic, running_store, advanced, draw_sort, vanishing, passing, next_variable, with_fresh, with_draw, AskNothing}
 use Rattle.sym_paths.specs.Pure.{PureFrame, PureEnd, vanished, PurePath}
 use Rattle.sym_paths.specs.Frames.{drawn_by}
-use Rattle.sym_paths.specs.Steps.{HasInput, IsUnknown, AreNext, IsNext, symbols_taken, new_sorts, makes_choice, AreNextPaths}
+use Rattle.sym_paths.specs.Steps.{HasInput, IsUnknown, AreNext, IsNext, new_sorts, makes_choice, AreNextPaths}
 use Rattle.sym_paths.proofs.Binding.{agree_bound, each_bound}
-use Rattle.sym_paths.proofs.Drawing.{drawn_is, new_sort, none_fresh, drawn_next, next_drawn, not_fresh, some_fits, fits_kind, kind_fits, no_symbols, no_symbol_below, draws_this, input_there}
+use Rattle.sym_paths.proofs.Drawing.{drawn_is, new_sort, drawn_next, next_drawn, not_fresh, some_fits, fits_kind, kind_fits, no_symbols, no_symbol_below, draws_this, input_there}
 use Rattle.sym_paths.proofs.Growing.{path_stands, path_over}
 use Rattle.sym_paths.proofs.Origins.{advanced_moved, logic_moves, follows_ended, follows_going}
 use Rattle.sym_paths.proofs.Recording.{records_by, same_records, ended_records}
@@ -137,12 +137,12 @@ logic_chooses_nothing p m (return e) s logic = absurd logic
 logic_chooses_nothing p m (fail e) s logic = absurd logic
 logic_chooses_nothing p m vanish s logic = absurd logic
 
--- they take no symbol, make no choice and add no variable
-logic_is_quiet : (m : Actions) (k : PureCommand) → IsLogic k → (symbols_taken m k ≡ 0) × (makes_choice k ≡ false) × (new_sorts m k ≡ [])
-logic_is_quiet m (fold_use u) logic = (refl, refl, refl)
-logic_is_quiet m (unfold_use u) logic = (refl, refl, refl)
-logic_is_quiet m (assert_that items) logic = (refl, refl, refl)
-logic_is_quiet m (loop_invariant xs ps items) logic = (refl, refl, refl)
+-- they make no choice and add no variable
+logic_is_quiet : (m : Actions) (k : PureCommand) → IsLogic k → (makes_choice k ≡ false) × (new_sorts m k ≡ [])
+logic_is_quiet m (fold_use u) logic = (refl, refl)
+logic_is_quiet m (unfold_use u) logic = (refl, refl)
+logic_is_quiet m (assert_that items) logic = (refl, refl)
+logic_is_quiet m (loop_invariant xs ps items) logic = (refl, refl)
 logic_is_quiet m (assign x e) logic = absurd logic
 logic_is_quiet m (call x e es) logic = absurd logic
 logic_is_quiet m (act x a es) logic = absurd logic
@@ -243,7 +243,7 @@ module _ {S : Type 0} (memory : MemoryName) (stands : S → List PureValue → H
         (record {
           leads = λ inputs v ws s is in_turn proper. passed_leads logic inputs v ws s is (none_next inputs s.counter s.draws ws in_turn);
           exists = λ inputs v s is has. ([], (tt, proper_as_it_is path.vars v is.proper));
-          records = let (symbols, choice, new) = logic_is_quiet m c.command logic in same_records p m path (passing path) c at new symbols choice refl refl;
+          records = let (choice, new) = logic_is_quiet m c.command logic in same_records p m path (passing path) c at new choice refl refl;
           chooses_nothing = λ v s is. choice-is p m [] s c c.command (standing v s is) refl ∙ logic_chooses_nothing p m c.command s logic;
           may_follow = λ v proper. ([], proper_as_it_is path.vars v proper);
         })
@@ -315,7 +315,7 @@ module _ {S : Type 0} (memory : MemoryName) (stands : S → List PureValue → H
           (record {
             leads = symbol_leads command;
             exists = λ inputs v s is has. (symbol s.counter ∷ [], ((refl, tt), (next_fresh path.vars v s.counter is.proper is.symbols_below).0));
-            records = records_by p m path (with_fresh path bs) c at (Sort.Fresh ∷ []) None refl (sym (ap (new_sorts m) command)) (sym (ap (symbols_taken m) command)) (same_and_none path.choices path.choices refl) (λ n none. not_none none) (sym (ap makes_choice command));
+            records = records_by p m path (with_fresh path bs) c at (Sort.Fresh ∷ []) None refl (sym (ap (new_sorts m) command)) (same_and_none path.choices path.choices refl) (λ n none. not_none none) (sym (ap makes_choice command));
             chooses_nothing = λ v s is. choice-is p m [] s c (usym x) (standing v s is) command;
             may_follow = λ v proper. let (n, below) = above (symbols_of_all v) in (symbol n ∷ [], (next_fresh path.vars v n proper below).0);
           })
@@ -399,7 +399,7 @@ module _ {S : Type 0} (memory : MemoryName) (stands : S → List PureValue → H
           (record {
             leads = draw_leads command;
             exists = draw_exists command;
-            records = records_by p m path (with_draw path sort bs) c at (sort ∷ []) None refl (sym (ap (new_sorts m) command ∙ ap drawn_by drawable)) (none_fresh k sort drawable ∙ sym (ap (symbols_taken m) command)) (same_and_none path.choices path.choices refl) (λ n none. not_none none) (sym (ap makes_choice command));
+            records = records_by p m path (with_draw path sort bs) c at (sort ∷ []) None refl (sym (ap (new_sorts m) command ∙ ap drawn_by drawable)) (same_and_none path.choices path.choices refl) (λ n none. not_none none) (sym (ap makes_choice command));
             chooses_nothing = λ v s is. choice-is p m [] s c (isym x k) (standing v s is) command;
             may_follow = λ v proper. let (w, fits) = some_fits k sort drawable in (w ∷ [], later_variables_are_proper.drawn path.vars v sort w proper (not_fresh k sort drawable) fits);
           })

@@ -85,7 +85,6 @@ module _ {S : Type 0} (p : PureParts) (m : Actions) (stands : S → List PureVal
   recorded_on c next recorded (inl kept) = subst (IsRecorded p m path) (sym kept.is) recorded
   recorded_on c next recorded (inr left) =
       subst (IsRecorded p m path) (sym left.is) (record {
-        symbols = λ d there going. not_none (sym going);
         variables = λ d there. ⊎_elim inl (λ (same : (c.path.vars ≡ path.vars) × ¬ (c.path.ending ≡ None)). inr (same.0, λ going. not_none (sym going))) (recorded.variables d there);
         choice = λ d there. let (chosen, (choices, may, made)) = recorded.choice d there in (chosen, (choices, may, ⊎_elim (λ going. not_none (sym going)) (λ needs. made (inr needs))));
       })

@@ -22,7 +22,7 @@ use Rattle.pure_terms.specs.declared.literals.Literal.{Literal}
 use Rattle.pure_terms.specs.Pure.{PureTerm, literal, PureAtom, term_of}
 use Rattle.sym_evaluation.specs.Meaning.{IsTaken, IsClosed, IsGood, SayOutcome, HasValue}
 use Rattle.sym_evaluation.specs.Pure.{PureStore, term_at, PureFaultCase, PureGoodCase, PureCases}
-use Rattle.sym_evaluation.specs.Questions.{IsAsked, IsFrom, OnConditions, OnResult}
+use Rattle.sym_evaluation.specs.Questions.{IsAsked, IsTermOf, OnConditions, OnResult}
 use Rattle.sym_model.specs.Lists.{Each, OneOf, IsAmong}
 use Rattle.sym_model.specs.Meaning.{has_open}
 use Rattle.sym_model.specs.Terms.{StateTerms}
@@ -34,10 +34,11 @@ use Rattle.sym_paths.specs.Moves.{running_store}
 use Rattle.sym_paths.specs.Origins.{Follows}
 use Rattle.sym_paths.specs.Pure.{PureFrame, failed, PurePath}
 use Rattle.sym_paths.specs.Settling.{Candidate, ended_unknown, AssumesRightly, AreCandidates}
-use Rattle.sym_paths.specs.Steps.{Extends, IsUnknown, IsChosen, GoesOnAs, Grows, IsRecorded, symbols_taken, new_sorts, makes_choice, AddsOwn, MayAssume, IsExact, HoldsAlong}
+use Rattle.sym_paths.specs.Steps.{Extends, IsUnknown, IsChosen, GoesOnAs, Grows, IsRecorded, new_sorts, makes_choice, AddsOwn, MayAssume, IsExact, HoldsAlong}
 use Rattle.sym_paths.proofs.Assuming.{assumes_rightly}
 use Rattle.sym_paths.proofs.Binding.{agree_bound, each_bound}
-use Rattle.sym_paths.proofs.Closed.{NeedsNone, asked_closed, closed_each, closed_both}
+use Rattle.sym_evaluation.proofs.AskedAtoms.{NeedsNone, asked_closed}
+use Rattle.sym_paths.proofs.Closed.{closed_each, closed_both}
 use Rattle.sym_paths.proofs.Growing.{later_among}
 use Rattle.sym_paths.proofs.Moving.{nothing_more, none_next, advanced_frames, running_stands, running_each, advanced_each, open_is_known}
 use Rattle.sym_paths.proofs.Origins.{follows_going, follows_failing}
@@ -241,13 +242,13 @@ module _ {S : Type 0} (stands : S → List PureValue → Heap → Type 0) (terms
       follows_failing p m terms path (faulted path here fc).path c at k command (literal (Literal.Str (fault_text fc.fault))) here refl
       (inl (fault_text fc.fault, refl))
 
-  result_from : (g : PureGoodCase PureTerm) → cases.good ≡ Some g → IsFrom (running_store path.stack) e g.result
-  result_from g is_good = subst (OnResult (IsFrom (running_store path.stack) e)) is_good evaluated.origin.1
+  result_from : (g : PureGoodCase PureTerm) → cases.good ≡ Some g → IsTermOf (running_store path.stack) e g.result
+  result_from g is_good = subst (OnResult (IsTermOf (running_store path.stack) e)) is_good evaluated.origin.1
 
   -- ---- the result
 
   module _ (x : List ℕ) (goes_to : (here : Place) (s : State) (a : PureValue) → go_on here s a ≡ machine_step.assigned x a s) (g : PureGoodCase PureTerm) (bs : PureStore) (is_good : cases.good ≡ Some g) (bound : IsBound (running_store path.stack) x g.result bs)
-      (quiet : (symbols_taken m k ≡ 0) × (makes_choice k ≡ false) × (new_sorts m k ≡ [])) (kind : k ≡ assign x e) where
+      (quiet : (makes_choice k ≡ false) × (new_sorts m k ≡ [])) (kind : k ≡ assign x e) where
     abbrev gp : PurePath S
     gp = (assigned path bs g).path
 
@@ -324,7 +325,7 @@ module _ {S : Type 0} (stands : S → List PureValue → Heap → Type 0) (terms
     assigned_keeps : GoodLaws stands terms p m (IsAsked (running_store path.stack) e) path g (assigned path bs g)
     assigned_keeps = record {
       growth = (good_grows, later_among path.conds g.conds);
-      recorded = same_records p m path gp c at (ap (new_sorts m) command ∙ quiet.2) (ap (symbols_taken m) command ∙ quiet.0) (ap makes_choice command ∙ quiet.1) refl refl;
+      recorded = same_records p m path gp c at (ap (new_sorts m) command ∙ quiet.1) (ap makes_choice command ∙ quiet.0) refl refl;
       known = open_is_known path.ending no_end;
       vars = refl;
       conds = refl;
@@ -490,7 +491,7 @@ valued_candidates {S} stands terms = record {
   of_assignment = λ p m path c x e cases cs over no_end at command evaluated.
       are_candidates stands terms p m path c e cases over no_end at (assign x e) (λ here s a. machine_step.assigned x a s) command (λ inputs here s. refl) (λ s. refl) evaluated (λ a is. is) (Assigns path x)
       (λ g d is_good (made : Assigns path x g d). subst (GoodLaws stands terms p m (IsAsked (running_store path.stack) e) path g) (sym made.1.1)
-      (assigned_keeps stands terms p m path c e cases over no_end at (assign x e) (λ here s a. machine_step.assigned x a s) command (λ inputs here s. refl) (λ s. refl) evaluated (λ a is. is) x (λ here s a. refl) g made.0 is_good made.1.0 (refl, refl, refl) refl)) cs;
+      (assigned_keeps stands terms p m path c e cases over no_end at (assign x e) (λ here s a. machine_step.assigned x a s) command (λ inputs here s. refl) (λ s. refl) evaluated (λ a is. is) x (λ here s a. refl) g made.0 is_good made.1.0 (refl, refl) refl)) cs;
   of_failure = λ p m path c e cases cs over no_end at command evaluated.
       are_candidates stands terms p m path c e cases over no_end at (fail e) (λ here s a. fails_with a here s) command (λ inputs here s. refl) (λ s. refl) evaluated (λ a is. is) (Fails path (place_at path.stack c))
       (λ g d is_good (made : Fails path (place_at path.stack c) g d). subst (GoodLaws stands terms p m (IsAsked (running_store path.stack) e) path g) (sym made)

@@ -6,7 +6,7 @@ use Rattle.gil_machine.specs.State.{State}
 use Rattle.mem_model.specs.Heaps.{Heap}
 use Rattle.pure_terms.specs.Meaning.{Satisfies}
 use Rattle.pure_terms.specs.Pure.{PureTerm, PureAtom}
-use Rattle.sym_evaluation.specs.Questions.{AreEachFrom}
+use Rattle.sym_evaluation.specs.Questions.{AreTermsOf}
 pub use Rattle.sym_model.specs.Forms.{OpensOnly}
 use Rattle.sym_model.specs.Lists.{Each}
 use Rattle.sym_paths.specs.Frames.{running_store}
@@ -16,11 +16,11 @@ use Rattle.sym_paths.specs.Steps.{Extends}
 
 module _ {S : Type 0} (p : PureParts) (stands : S → List PureValue → Heap → Type 0)
     (depends : S → List ℕ → List PureTerm → List PureValue → Heap → PureTerm → Type 0) (path next : PurePath S) where
-  -- There are arguments from the expressions such that, in each state that the path stands for, under each valuation that meets all
+  -- With the terms of the expressions as arguments, in each state that the path stands for, under each valuation that meets all
   -- conditions of the next path, what the action comes to depends on the literal form of the term.
   abbrev pub Matters : List ℕ → List PureExpr → PureTerm → Type 0
   Matters action es t =
-      (args : List PureTerm) × (AreEachFrom (running_store path.stack) es args
+      (args : List PureTerm) × (AreTermsOf (running_store path.stack) es args
       × ((inputs v w : List PureValue) (s : State) → Stands stands path v s → Extends inputs s path next v w
       → Satisfies next.vars w next.conds → depends path.memory action args w s.heap t))
 

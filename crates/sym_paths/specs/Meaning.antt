@@ -2,6 +2,7 @@
 -- Gillian, Part I (PLDI 2020).
 use Rattle.std.specs.FinMap.{empty}
 use Rattle.std.specs.Prelude.{◌≡◌, ℕ, List, [], ◌∷◌, length, Option, Some, None, IsTrue, codes, ⊤}
+use Rattle.gil_values.specs.declared.places.Place.{Place}
 use Rattle.gil_values.specs.Pure.{PureValue, text}
 use Rattle.gil_values.specs.Symbols.{AreBelow}
 use Rattle.gil_syntax.specs.Pure.{PureParts, PureNumberedCommand}
@@ -61,6 +62,13 @@ abbrev pub command_of_path : {S : Type 0} → PureParts → PurePath S → Optio
 command_of_path p path = command_of_frames p path.stack
 
 -- ---- ends
+
+-- the path fails at this place, or is unknown there
+abbrev pub EndsAt : Place → PureEnd → Type 0
+EndsAt place (failed t here) = here ≡ place
+EndsAt place (missed k here) = here ≡ place
+EndsAt place (unknown here reason) = here ≡ place
+EndsAt place _ = ⊥
 
 -- Under the valuation the end of a path is that of the run whose last step was done from the state s. The key of a miss is the one
 -- that is missed there.

@@ -1,5 +1,5 @@
--- Where the terms of a next path come from. A name that a command gives a term has one from the command's right side, from what is handed
--- over or handed back, from what an action answers, or a new variable; every other name keeps its term, and so does the memory but in an
+-- Where the terms of a next path come from. A name that a command gives a term has that of the command's right side, of what is handed
+-- over or handed back, one that an action answers, or a new variable; every other name keeps its term, and so does the memory but in an
 -- action.
 use Rattle.std.specs.Prelude.{◌≡◌, ◌⊎◌, ℕ, List, ◌∷◌, ◌++◌, Some, None}
 use Rattle.gil_values.specs.declared.places.Place.{Place}
@@ -10,7 +10,7 @@ use Rattle.pure_terms.specs.declared.literals.Literal.{Literal}
 use Rattle.pure_terms.specs.declared.variables.Sort.{Sort}
 use Rattle.pure_terms.specs.Pure.{PureTerm, literal}
 use Rattle.sym_evaluation.specs.Pure.{PureStore}
-use Rattle.sym_evaluation.specs.Questions.{IsFrom, AreEachFrom}
+use Rattle.sym_evaluation.specs.Questions.{IsTermOf, AreTermsOf}
 use Rattle.sym_model.specs.Lists.{Each}
 use Rattle.sym_model.specs.Terms.{StateTerms, all_of, IsMadeOf}
 use Rattle.sym_paths.specs.Frames.{running_store, advanced, AreMoved, IsBound, IsFirstStore, waiting, called_frame, Resumes, draw_sort, next_variable, fresh_where}
@@ -28,11 +28,11 @@ module _ {S : Type 0} (m : Actions) (terms : S → StateTerms) (path : PurePath 
   abbrev pub IsAnswered : List ℕ → List PureTerm → PureTerm → Type 0
   IsAnswered action args t = IsMadeOf (args ++ all_of (terms path.memory)) (fresh_where (m.takes_symbol action) path.vars) t
 
-  -- the term is one with which the path fails at this command without a fault: from the expression of `fail`, or an action's answer
+  -- the term is one with which the path fails at this command without a fault: that of the expression of `fail`, or an action's answer
   abbrev pub IsFailing : PureCommand → PureTerm → Type 0
-  IsFailing (fail e) t = IsFrom (running_store path.stack) e t
+  IsFailing (fail e) t = IsTermOf (running_store path.stack) e t
   IsFailing (act x action es) t =
-      (args : List PureTerm) × (AreEachFrom (running_store path.stack) es args × IsAnswered action args t)
+      (args : List PureTerm) × (AreTermsOf (running_store path.stack) es args × IsAnswered action args t)
   IsFailing _ t = ⊥
 
 -- ---- where the path goes on
@@ -45,26 +45,26 @@ module _ {S : Type 0} (p : PureParts) (m : Actions) (terms : S → StateTerms) (
   abbrev pub HasNow : List ℕ → PureTerm → Type 0
   HasNow x t = (bs : PureStore) × (IsBound (running_store path.stack) x t bs × (next.stack ≡ advanced bs path.stack))
 
-  -- a procedure begins with terms from the arguments for its parameters
+  -- a procedure begins with the terms of the arguments for its parameters
   pub record HandsOver (x : List ℕ) (e : PureExpr) (es : List PureExpr) : Type 0 where
     pub callee : List ℕ
-    pub named : IsFrom (running_store path.stack) e (literal (Literal.Proc callee))
+    pub named : IsTermOf (running_store path.stack) e (literal (Literal.Proc callee))
     pub procedure : PureProc
     pub found : find_proc p.procs callee ≡ Some procedure
     pub args : List PureTerm
-    pub from : AreEachFrom (running_store path.stack) es args
+    pub from : AreTermsOf (running_store path.stack) es args
     pub store : PureStore
     pub first : IsFirstStore procedure.params args store
     pub stack : next.stack ≡ called_frame procedure store ∷ waiting x path.stack
 
-  -- the frame that waited goes on with a term from what is returned
+  -- the frame that waited goes on with the term of what is returned
   pub record HandsBack (e : PureExpr) : Type 0 where
     pub frame : PureFrame
     pub caller : PureFrame
     pub callers : List PureFrame
     pub stack : path.stack ≡ frame ∷ caller ∷ callers
     pub term : PureTerm
-    pub from : IsFrom (running_store path.stack) e term
+    pub from : IsTermOf (running_store path.stack) e term
     pub resumed : PureFrame
     pub resumes : Resumes term caller resumed
     pub next_stack : next.stack ≡ resumed ∷ callers
@@ -72,7 +72,7 @@ module _ {S : Type 0} (p : PureParts) (m : Actions) (terms : S → StateTerms) (
   -- the name has the action's answer, and the memory's terms are made of the same
   pub record IsActed (x action : List ℕ) (es : List PureExpr) : Type 0 where
     pub args : List PureTerm
-    pub from : AreEachFrom (running_store path.stack) es args
+    pub from : AreTermsOf (running_store path.stack) es args
     pub result : PureTerm
     pub made : IsAnswered m terms path action args result
     pub has_now : HasNow x result
@@ -80,7 +80,7 @@ module _ {S : Type 0} (p : PureParts) (m : Actions) (terms : S → StateTerms) (
 
   -- what a path that goes on has after this command
   abbrev pub GoesOnFrom : PureCommand → Type 0
-  GoesOnFrom (assign x e) = KeepsMemory × ((t : PureTerm) × (IsFrom (running_store path.stack) e t × HasNow x t))
+  GoesOnFrom (assign x e) = KeepsMemory × ((t : PureTerm) × (IsTermOf (running_store path.stack) e t × HasNow x t))
   GoesOnFrom (usym x) = KeepsMemory × HasNow x (next_variable path Sort.Fresh)
   GoesOnFrom (isym x k) = KeepsMemory × ((sort : Sort) × ((draw_sort k ≡ Some sort) × HasNow x (next_variable path sort)))
   GoesOnFrom (call x e es) = KeepsMemory × HandsOver x e es

@@ -1,5 +1,5 @@
 -- What a step of a path must do: the laws of the paths that it answers, of which each extends the old one.
-use Rattle.std.specs.Prelude.{◌≡◌, ◌⊎◌, ℕ, suc, ◌+◌, ◌<◌, ◌≤◌, ◌^◌, ℤ, pos, neg_ℤ, ◌≤ℤ◌, List, [], ◌∷◌, ◌++◌, length, slice_get, Bool, true, false, if◌then◌else◌, Option, Some, None, IsTrue, ⊤}
+use Rattle.std.specs.Prelude.{◌≡◌, ◌⊎◌, ℕ, suc, ◌+◌, ◌<◌, ◌≤◌, ◌^◌, ℤ, pos, neg_ℤ, ◌≤ℤ◌, List, [], ◌∷◌, ◌++◌, length, slice_get, Bool, true, false, Option, Some, None, IsTrue, ⊤}
 use Rattle.std.specs.Option.{is_some}
 use Rattle.gil_values.specs.declared.places.Place.{Place}
 use Rattle.gil_values.specs.Pure.{PureValue, symbol}
@@ -16,7 +16,7 @@ use Rattle.pure_terms.specs.Fragment.{InFragment}
 use Rattle.pure_terms.specs.Meaning.{all_true, Satisfies}
 use Rattle.pure_terms.specs.Pure.{PureTerm, variable, PureAtom}
 use Rattle.sym_evaluation.specs.Pure.{PureStore}
-use Rattle.sym_evaluation.specs.Questions.{IsAsked, IsFrom, AsksBoolean}
+use Rattle.sym_evaluation.specs.Questions.{IsAsked, IsGuardTerm, AsksBoolean}
 use Rattle.sym_model.specs.Laws.{IsPlainWithin, IsDecidedWithin}
 use Rattle.sym_model.specs.Lists.{Each, OneOf, IsAmong}
 use Rattle.sym_model.specs.Meaning.{has_open}
@@ -113,12 +113,6 @@ IsChosen path next chosen = next.choices ≡ path.choices ++ with_choice chosen 
 abbrev pub fresh_count : List Sort → ℕ
 fresh_count vars = counter_past vars 0
 
--- how many symbols a command takes
-abbrev pub symbols_taken : Actions → PureCommand → ℕ
-symbols_taken m (usym x) = 1
-symbols_taken m (act x a es) = if m.takes_symbol a then 1 else 0
-symbols_taken m _ = 0
-
 -- the sorts of the variables that a command adds: one for a symbol that it takes, and one for a draw
 abbrev pub new_sorts : Actions → PureCommand → List Sort
 new_sorts m (usym x) = Sort.Fresh ∷ []
@@ -198,8 +192,6 @@ pub record Grows {S : Type 0} (terms : S → StateTerms) (path next : PurePath S
 -- need a literal form, has a choice more exactly where the command makes one; any other one has at most one choice more, which is one of
 -- the command's.
 pub record IsRecorded {S : Type 0} (p : PureParts) (m : Actions) (path next : PurePath S) : Type 0 where
-  pub symbols : (c : PureNumberedCommand) → command_of_path p path ≡ Some c → next.ending ≡ None
-      → fresh_count next.vars ≡ fresh_count path.vars + symbols_taken m c.command
   pub variables : (c : PureNumberedCommand) → command_of_path p path ≡ Some c
       → (next.vars ≡ path.vars ++ new_sorts m c.command) ⊎ ((next.vars ≡ path.vars) × ¬ (next.ending ≡ None))
   pub choice : (c : PureNumberedCommand) → command_of_path p path ≡ Some c
@@ -215,7 +207,7 @@ pub record AddsOwn {S : Type 0} (own : PureAtom → Type 0) (path next : PurePat
 -- What may be assumed at a command, where `own` are the conditions that are its own: at a guard what its expression asks, or that it is a
 -- boolean, but never which way it goes; at a call what its expressions ask, but not that its callee has a literal form.
 abbrev pub MayAssume : (PureAtom → Type 0) → PureStore → PureCommand → PureAtom → Type 0
-MayAssume own bs (ifgoto e i) a = IsAsked bs e a ⊎ ((t : PureTerm) × (IsFrom bs e t × AsksBoolean t a))
+MayAssume own bs (ifgoto e i) a = IsAsked bs e a ⊎ ((t : PureTerm) × (IsGuardTerm bs e t × AsksBoolean t a))
 MayAssume own bs (call x e es) a = IsAsked bs e a ⊎ OneOf (λ d. IsAsked bs d a) es
 MayAssume own bs _ a = own a
 

@@ -12,7 +12,7 @@ use Rattle.pure_terms.specs.Meaning.{IsOver}
 use Rattle.pure_terms.specs.Pure.{PureTerm, literal}
 use Rattle.sym_evaluation.specs.Meaning.{AreCasesOf}
 use Rattle.sym_evaluation.specs.Pure.{PureStore, PureFaultCase, PureGoodCase, PureCases}
-use Rattle.sym_evaluation.specs.Questions.{IsAsked, ComesFrom, NameNoOthers}
+use Rattle.sym_evaluation.specs.Questions.{IsAsked, IsTermOf, OnResult, EachCondition, NameNoOthers}
 use Rattle.sym_model.specs.Terms.{StateTerms}
 use Rattle.sym_paths.specs.Laws.{IsBound}
 use Rattle.sym_paths.specs.Meaning.{IsOverTable, command_of_path}
@@ -75,11 +75,14 @@ abbrev pub AreForCases : {S : Type 0} → PurePath S → Place → (PureGoodCase
 AreForCases {S} path here Makes cases cs =
     (last : List (Candidate S)) × ((cs ≡ map (faulted path here) cases.faults ++ last) × IsResult Makes cases.good last)
 
--- what the cases of an expression promise
-pub record IsEvaluated (bs : PureStore) (e : PureExpr) (cases : PureCases PureTerm) : Type 0 where
+-- what the cases of an expression promise, where P holds of the result
+pub record IsEvaluatedTo (P : PureTerm → Type 0) (bs : PureStore) (e : PureExpr) (cases : PureCases PureTerm) : Type 0 where
   pub are_cases : AreCasesOf bs e cases
-  pub origin : ComesFrom bs e cases
+  pub origin : EachCondition (IsAsked bs e) cases × OnResult P cases.good
   pub names : NameNoOthers IsOver bs cases
+
+abbrev pub IsEvaluated : PureStore → PureExpr → PureCases PureTerm → Type 0
+IsEvaluated bs e cases = IsEvaluatedTo (IsTermOf bs e) bs e cases
 
 -- Where the cases are those of the expression, these candidates keep the laws, and ask what the expression asks.
 pub record ValuedCandidates {S : Type 0} (stands : S → List PureValue → Heap → Type 0) (terms : S → StateTerms) : Type 0 where

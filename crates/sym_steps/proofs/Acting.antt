@@ -1,5 +1,5 @@
 -- The candidates of an action keep the laws.
-use Rattle.std.proofs.Common.{◌≡◌, ◌⊎◌, ⊎_elim, inl, inr, ℕ, suc, ◌+◌, ◌<◌, List, [], ◌∷◌, ◌++◌, length, Bool, true, false, if◌then◌else◌, slice_get, Option, Some, None, Ok, Err, IsTrue, codes, zero, refl, sym, ap, subst, ◌∙◌, arith}
+use Rattle.std.proofs.Common.{◌≡◌, ◌⊎◌, ⊎_elim, inl, inr, ℕ, suc, ◌+◌, ◌<◌, List, [], ◌∷◌, ◌++◌, length, Bool, true, false, slice_get, Option, Some, None, Ok, Err, IsTrue, codes, zero, refl, sym, ap, subst, ◌∙◌, arith}
 use Rattle.std.specs.Option.{option_and_then, option_map}
 use Rattle.std.proofs.lemmas.List.{append-nil}
 use Rattle.std.proofs.lemmas.List.Elements.{Contains-push_cases}
@@ -26,7 +26,7 @@ use Rattle.pure_terms.specs.Pure.{PureTerm, from_list, PureAtom, term_of}
 use Rattle.pure_terms.proofs.VariableLaws.{stay_when_tables_grow}
 use Rattle.sym_evaluation.specs.Meaning.{HaveValues}
 use Rattle.sym_evaluation.specs.Pure.{PureStore, PureGoodCase, PureCases}
-use Rattle.sym_evaluation.specs.Questions.{IsAsked, OnResult, AreEachFrom, AreEachOver, EachCondition, OnConditions}
+use Rattle.sym_evaluation.specs.Questions.{IsAsked, OnResult, AreTermsOf, AreEachOver, EachCondition, OnConditions}
 use Rattle.sym_model.specs.Laws.{IsMeaning, ActLaw, Serves, EachTerm}
 use Rattle.sym_model.specs.Lists.{Each, OneOf, IsAmong}
 use Rattle.sym_model.specs.Meaning.{location_of, fresh_symbol, has_open, IsOutcome, IsBranchFor}
@@ -41,10 +41,10 @@ use Rattle.sym_paths.specs.Origins.{Follows}
 use Rattle.sym_paths.specs.Pure.{PureFrame, PureEnd, PurePath}
 use Rattle.sym_paths.specs.Pure as path_end
 use Rattle.sym_paths.specs.Settling.{Candidate, AreCandidates}
-use Rattle.sym_paths.specs.Steps.{AreNext, drawn_from, IsNewSort, fresh_count, symbols_taken, new_sorts, is_action, makes_choice, IsUnknown, IsChosen, MayChoose, MayAssume}
+use Rattle.sym_paths.specs.Steps.{AreNext, drawn_from, IsNewSort, new_sorts, is_action, makes_choice, IsUnknown, IsChosen, MayChoose, MayAssume}
 use Rattle.sym_paths.proofs.Assuming.{assumes_rightly}
 use Rattle.sym_paths.proofs.Binding.{agree_bound, each_bound}
-use Rattle.sym_paths.proofs.Closed.{NeedsNone, one_asked_closed}
+use Rattle.sym_evaluation.proofs.AskedAtoms.{NeedsNone, one_asked_closed}
 use Rattle.sym_paths.proofs.Growing.{path_stands, path_over, later_among}
 use Rattle.sym_paths.proofs.Moving.{none_next, advanced_frames, running_stands, running_each, advanced_each}
 use Rattle.sym_paths.proofs.Origins.{follows_ended, follows_going, follows_failing}
@@ -72,10 +72,6 @@ one_symbol : (inputs : List PureValue) (n d : ℕ) (ws : List PureValue) → Are
 one_symbol inputs n d [] next = absurd next
 one_symbol inputs n d (w ∷ []) next = ap (λ u. u ∷ []) next.0
 one_symbol inputs n d (w ∷ u ∷ ws) next = absurd next.1
-
-as_many_taken : (takes : Bool) → fresh_count (taken takes) ≡ (if takes then 1 else 0)
-as_many_taken true = refl
-as_many_taken false = refl
 
 no_draw : (takes : Bool) (k : ℕ) → drawn_from k (taken takes) ≡ []
 no_draw true k = refl
@@ -216,8 +212,8 @@ module _ {S : Type 0} (memory : MemoryName) (stands : S → List PureValue → H
         (each_to (IsOver path.vars) (IsOver vars') g.result (λ t. stay_when_tables_grow.over t path.vars (taken takes)) args_over)
         more_over.memory
 
-    from : AreEachFrom (running_store path.stack) es g.result
-    from = subst (OnResult (AreEachFrom (running_store path.stack) es)) is_good evaluated.origin.1
+    from : AreTermsOf (running_store path.stack) es g.result
+    from = subst (OnResult (AreTermsOf (running_store path.stack) es)) is_good evaluated.origin.1
 
     pub serves : (inputs v ws : List PureValue) (s : State) (args : List PureValue) → Stands stands path v s → AreNext inputs s.counter s.draws (taken takes) ws → IsProper vars' (v ++ ws) → HaveValues v g.result args
         → Serves stands terms vars' (v ++ ws) fresh g.result path.memory args s.heap
@@ -299,7 +295,7 @@ module _ {S : Type 0} (memory : MemoryName) (stands : S → List PureValue → H
             },
             tt,
           );
-          recorded = records_by p m path d.path c at (taken takes) (Some k) refl (sym (ap (new_sorts m) command)) (as_many_taken takes ∙ sym (ap (symbols_taken m) command)) refl may_choose (sym (ap makes_choice command));
+          recorded = records_by p m path d.path c at (taken takes) (Some k) refl (sym (ap (new_sorts m) command)) refl may_choose (sym (ap makes_choice command));
           known = known;
           vars = refl;
           conds = refl;

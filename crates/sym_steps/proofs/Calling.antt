@@ -23,7 +23,7 @@ use Rattle.pure_terms.proofs.KindLaws.{known_kinds_are_right}
 use Rattle.pure_terms.proofs.VariableLaws.{stay_when_tables_grow}
 use Rattle.sym_evaluation.specs.Meaning.{AreSame}
 use Rattle.sym_evaluation.specs.Pure.{PureStore, term_at, PureGoodCase, PureCases}
-use Rattle.sym_evaluation.specs.Questions.{IsAsked, IsFrom, AreEachFrom, EachCondition, OnConditions, OnResult, AreEachOver}
+use Rattle.sym_evaluation.specs.Questions.{IsAsked, IsTermOf, AreTermsOf, EachCondition, OnConditions, OnResult, AreEachOver}
 use Rattle.sym_model.specs.Lists.{Each, OneOf, IsAmong}
 use Rattle.sym_model.specs.Terms.{StateTerms, is_literal}
 use Rattle.sym_model.proofs.Asking.{both_parts}
@@ -33,9 +33,9 @@ use Rattle.sym_paths.specs.Meaning.{AreFrames, Stands, StandsForStep, OfEachName
 use Rattle.sym_paths.specs.Moves.{running_store}
 use Rattle.sym_paths.specs.Pure.{PureFrame, PurePath}
 use Rattle.sym_paths.specs.Settling.{Candidate, AreCandidates}
-use Rattle.sym_paths.specs.Steps.{symbols_taken, new_sorts, makes_choice, GoesOnAs, MayAssume}
+use Rattle.sym_paths.specs.Steps.{new_sorts, makes_choice, GoesOnAs, MayAssume}
 use Rattle.sym_paths.proofs.Assuming.{assumes_rightly}
-use Rattle.sym_paths.proofs.Closed.{NeedsNone, asked_closed, one_asked_closed}
+use Rattle.sym_evaluation.proofs.AskedAtoms.{NeedsNone, asked_closed, one_asked_closed}
 use Rattle.sym_paths.proofs.Growing.{later_among}
 use Rattle.sym_paths.proofs.Moving.{open_is_known}
 use Rattle.sym_paths.proofs.Origins.{follows_going}
@@ -192,13 +192,13 @@ module _ {S : Type 0} (stands : S → List PureValue → Heap → Type 0) (terms
     result_over : AreCalledOver path.vars g.result
     result_over = subst (OnResult (AreCalledOver path.vars)) is_good (evaluation.names path.vars (store_over stands terms p m path c over at)).1
 
-    both_from : IsFrom bs e g.result.callee × AreEachFrom bs es g.result.args
-    both_from = subst (OnResult (λ (k : Called). IsFrom bs e k.callee × AreEachFrom bs es k.args)) is_good (called_from (IsFrom bs e) (AreEachFrom bs es) callee args evaluated.origin.1 all_evaluated.origin.1)
+    both_from : IsTermOf bs e g.result.callee × AreTermsOf bs es g.result.args
+    both_from = subst (OnResult (λ (k : Called). IsTermOf bs e k.callee × AreTermsOf bs es k.args)) is_good (called_from (IsTermOf bs e) (AreTermsOf bs es) callee args evaluated.origin.1 all_evaluated.origin.1)
 
-    from : IsFrom bs e g.result.callee
+    from : IsTermOf bs e g.result.callee
     from = both_from.0
 
-    args_from : AreEachFrom bs es g.result.args
+    args_from : AreTermsOf bs es g.result.args
     args_from = both_from.1
 
     asked_good : Each (MayAssume Own bs c.command) g.conds
@@ -265,7 +265,7 @@ module _ {S : Type 0} (stands : S → List PureValue → Heap → Type 0) (terms
           },
           later_among path.conds g.conds,
         );
-        recorded = same_records p m path ep c at (ap (new_sorts m) command) (ap (symbols_taken m) command) (ap makes_choice command) refl refl;
+        recorded = same_records p m path ep c at (ap (new_sorts m) command) (ap makes_choice command) refl refl;
         known = open_is_known path.ending no_end;
         vars = refl;
         conds = ap (λ xs. path.conds ++ xs) (sym (append-nil g.conds));
@@ -275,7 +275,7 @@ module _ {S : Type 0} (stands : S → List PureValue → Heap → Type 0) (terms
           refl,
           record {
             callee = name;
-            named = subst (IsFrom bs e) named from;
+            named = subst (IsTermOf bs e) named from;
             procedure = q;
             found = found;
             args = g.result.args;
@@ -327,7 +327,7 @@ module _ {S : Type 0} (stands : S → List PureValue → Heap → Type 0) (terms
           },
           each_left (λ a. IsAmong a (path.conds ++ (g.conds ++ asked))) g.conds asked (later_among path.conds (g.conds ++ asked)),
         );
-        recorded = same_records p m path (needs_callee path x here g).path c at (ap (new_sorts m) command) (ap (symbols_taken m) command) (ap makes_choice command) refl refl;
+        recorded = same_records p m path (needs_callee path x here g).path c at (ap (new_sorts m) command) (ap makes_choice command) refl refl;
         known = open_is_known path.ending no_end;
         vars = refl;
         conds = refl;

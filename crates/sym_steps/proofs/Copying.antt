@@ -198,7 +198,7 @@ module _ {S : Type 0} (stands : S → List PureValue → Heap → Type 0) (terms
     pub copies_keep_the_laws : (cs ds : List (Candidate S)) → AreCandidates p m stands terms own path cs → AreCopied stands terms depends plain cs ds → AreCandidates p m stands terms own path ds
     copies_keep_the_laws cs ds laws copies = record {
       growth = each_copied Grown Grown grows_copied cs ds laws.growth copies;
-      recorded = each_copied (λ c. IsRecorded p m path c.path) (λ c. IsRecorded p m path c.path) (λ c state copy recorded. record { symbols = recorded.symbols; variables = recorded.variables; choice = recorded.choice }) cs ds laws.recorded copies;
+      recorded = each_copied (λ c. IsRecorded p m path c.path) (λ c. IsRecorded p m path c.path) (λ c state copy recorded. record { variables = recorded.variables; choice = recorded.choice }) cs ds laws.recorded copies;
       known = each_copied (λ c. ¬ IsUnknown c.path.ending) (λ c. ¬ IsUnknown c.path.ending) (λ c state copy known. known) cs ds laws.known copies;
       cover = λ inputs v s is has. one_copied (Covered inputs v s) (Covered inputs v s) (covers_copied inputs v s) cs ds (laws.cover inputs v s is has) copies;
       exact = each_copied Exact Exact exact_copied cs ds laws.exact copies;

@@ -36,7 +36,8 @@ use Rattle.sym_paths.specs.Pure.{PureFrame, failed, PurePath}
 use Rattle.sym_paths.specs.Settling.{Candidate, ended_unknown, AssumesRightly, AreCandidates}
 use Rattle.sym_paths.specs.Steps.{AreNext, Extends, IsUnknown, IsChosen, GoesOnAs, Grows, IsRecorded, AddsOwn, MayAssume, IsExact, HoldsAlong}
 use Rattle.sym_paths.proofs.Assuming.{assumes_rightly}
-use Rattle.sym_paths.proofs.Closed.{NeedsNone, closed_each, closed_both}
+use Rattle.sym_evaluation.proofs.AskedAtoms.{NeedsNone}
+use Rattle.sym_paths.proofs.Closed.{closed_each, closed_both}
 use Rattle.sym_paths.proofs.Growing.{all_true-more, later_among}
 use Rattle.sym_paths.proofs.Moving.{nothing_more, none_next, running_stands, running_each}
 use Rattle.sym_paths.proofs.Origins.{follows_failing}

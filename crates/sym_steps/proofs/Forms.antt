@@ -12,7 +12,7 @@ use Rattle.pure_terms.specs.Meaning.{all_true, IsProper, IsOver}
 use Rattle.pure_terms.specs.Pure.{PureTerm, PureAtom, opening, term_of}
 use Rattle.sym_evaluation.specs.Meaning.{HaveValues}
 use Rattle.sym_evaluation.specs.Pure.{PureFaultCase, PureGoodCase, PureCases}
-use Rattle.sym_evaluation.specs.Questions.{IsAsked, OnResult, OnConditions, AreEachFrom}
+use Rattle.sym_evaluation.specs.Questions.{IsAsked, OnResult, OnConditions, AreTermsOf}
 use Rattle.sym_model.specs.Forms.{OpensOnly, OpenWhatMatters}
 use Rattle.sym_model.specs.Laws.{IsMeaning, Serves}
 use Rattle.sym_model.specs.Lists.{Each, OneOf}
@@ -25,7 +25,7 @@ use Rattle.sym_paths.specs.Moves.{running_store}
 use Rattle.sym_paths.specs.Pure.{PurePath}
 use Rattle.sym_paths.specs.Settling.{Candidate}
 use Rattle.sym_paths.specs.Valued.{faulted}
-use Rattle.sym_paths.proofs.Closed.{one_asked_closed}
+use Rattle.sym_evaluation.proofs.AskedAtoms.{one_asked_closed}
 use Rattle.sym_paths.proofs.Forms.{needs_at}
 use Rattle.sym_paths.proofs.Growing.{all_true-more}
 use Rattle.sym_paths.proofs.Silent.{extended_by}
@@ -84,8 +84,8 @@ module _ {S : Type 0} (memory : MemoryName) (stands : S → List PureValue → H
     good_over : Each (λ a. IsOver path.vars (term_of a)) g.conds
     good_over = subst (OnConditions (λ a. IsOver path.vars (term_of a))) is_good (evaluated.names path.vars (store_over stands terms p m path c over at)).0.1
 
-    from : AreEachFrom (running_store path.stack) es g.result
-    from = subst (OnResult (AreEachFrom (running_store path.stack) es)) is_good evaluated.origin.1
+    from : AreTermsOf (running_store path.stack) es g.result
+    from = subst (OnResult (AreTermsOf (running_store path.stack) es)) is_good evaluated.origin.1
 
     -- the law of forms, of one branch
     abbrev Opens : PureBranch S → Type 0

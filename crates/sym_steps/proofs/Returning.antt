@@ -14,7 +14,7 @@ use Rattle.pure_terms.specs.Meaning.{value, all_true, IsOver}
 use Rattle.pure_terms.specs.Pure.{PureTerm, PureAtom, term_of}
 use Rattle.sym_evaluation.specs.Meaning.{HasValue}
 use Rattle.sym_evaluation.specs.Pure.{PureGoodCase, PureCases}
-use Rattle.sym_evaluation.specs.Questions.{IsAsked, IsFrom, OnConditions, OnResult, EachCondition}
+use Rattle.sym_evaluation.specs.Questions.{IsAsked, IsTermOf, OnConditions, OnResult, EachCondition}
 use Rattle.sym_model.specs.Lists.{Each, OneOf}
 use Rattle.sym_model.specs.Meaning.{has_open}
 use Rattle.sym_model.specs.Terms.{StateTerms}
@@ -24,9 +24,10 @@ use Rattle.sym_paths.specs.Meaning.{IsFrame, AreFrames, Stands, StandsForStep, O
 use Rattle.sym_paths.specs.Moves.{running_store}
 use Rattle.sym_paths.specs.Pure.{PureFrame, returned, PurePath}
 use Rattle.sym_paths.specs.Settling.{Candidate, AreCandidates}
-use Rattle.sym_paths.specs.Steps.{symbols_taken, new_sorts, makes_choice, GoesOnAs, MayAssume}
+use Rattle.sym_paths.specs.Steps.{new_sorts, makes_choice, GoesOnAs, MayAssume}
 use Rattle.sym_paths.proofs.Assuming.{assumes_rightly}
-use Rattle.sym_paths.proofs.Closed.{NeedsNone, asked_closed, closed_each, closed_both}
+use Rattle.sym_evaluation.proofs.AskedAtoms.{NeedsNone, asked_closed}
+use Rattle.sym_paths.proofs.Closed.{closed_each, closed_both}
 use Rattle.sym_paths.proofs.Growing.{later_among}
 use Rattle.sym_paths.proofs.Binding.{agree_bound, each_bound}
 use Rattle.sym_paths.proofs.Moving.{open_is_known}
@@ -224,7 +225,7 @@ module _ {S : Type 0} (stands : S → List PureValue → Heap → Type 0) (terms
           },
           later_among path.conds g.conds,
         );
-        recorded = same_records p m path rp c at (ap (new_sorts m) command) (ap (symbols_taken m) command) (ap makes_choice command) refl refl;
+        recorded = same_records p m path rp c at (ap (new_sorts m) command) (ap makes_choice command) refl refl;
         known = open_is_known path.ending no_end;
         vars = refl;
         conds = ap (λ xs. path.conds ++ xs) (sym (append-nil g.conds));
@@ -238,7 +239,7 @@ module _ {S : Type 0} (stands : S → List PureValue → Heap → Type 0) (terms
             callers = callers;
             stack = stack;
             term = g.result;
-            from = subst (OnResult (IsFrom (running_store path.stack) e)) is_good evaluated.origin.1;
+            from = subst (OnResult (IsTermOf (running_store path.stack) e)) is_good evaluated.origin.1;
             resumed = next;
             resumes = resumes;
             next_stack = refl;

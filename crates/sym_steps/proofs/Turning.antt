@@ -13,27 +13,28 @@ use Rattle.pure_terms.specs.Meaning.{value, all_true, IsOver}
 use Rattle.pure_terms.specs.Pure.{PureTerm, PureAtom, term_of}
 use Rattle.sym_evaluation.specs.Meaning.{HasValue, IsSideWhere, is_true, is_false, is_no_boolean, AreSidesOf}
 use Rattle.sym_evaluation.specs.Pure.{PureGoodCase, PureCases, PureSides}
-use Rattle.sym_evaluation.specs.Questions.{IsAsked, IsFrom, AsksBoolean, IsGuardCondition, EachCondition, OnConditions, OnResult, OnSide, SidesComeFrom}
+use Rattle.sym_evaluation.specs.Questions.{IsAsked, IsGuardTerm, AsksBoolean, IsGuardCondition, EachCondition, OnConditions, OnResult, OnSide, SidesComeFrom}
 use Rattle.sym_evaluation.proofs.SideOrigins.{boolean_is_condition}
 use Rattle.sym_model.specs.Lists.{Each, OneOf}
 use Rattle.sym_model.specs.Terms.{StateTerms}
 use Rattle.sym_model.proofs.ListLaws.{same_some, each_append, each_to, one_left, one_right}
-use Rattle.sym_paths.specs.Valued.{place_at, IsEvaluated}
+use Rattle.sym_paths.specs.Valued.{place_at}
 use Rattle.sym_paths.specs.Frames.{AreMoved}
 use Rattle.sym_paths.specs.Meaning.{AreFrames, Stands, StandsForStep, OfEachName, IsOverTable, command_of_path}
 use Rattle.sym_paths.specs.Moves.{running_store, advanced}
 use Rattle.sym_paths.specs.Pure.{PureFrame, PurePath}
 use Rattle.sym_paths.specs.Settling.{Candidate, AreCandidates}
-use Rattle.sym_paths.specs.Steps.{symbols_taken, new_sorts, makes_choice, IsChosen, MayChoose, MayAssume}
+use Rattle.sym_paths.specs.Steps.{new_sorts, makes_choice, IsChosen, MayChoose, MayAssume}
 use Rattle.sym_paths.proofs.Assuming.{assumes_rightly}
-use Rattle.sym_paths.proofs.Closed.{NeedsNone, asked_closed, boolean_closed, closed_each}
+use Rattle.sym_evaluation.proofs.AskedAtoms.{NeedsNone, asked_closed, boolean_closed}
+use Rattle.sym_paths.proofs.Closed.{closed_each}
 use Rattle.sym_paths.proofs.Growing.{all_true-more}
 use Rattle.sym_paths.proofs.Moving.{open_is_known, advanced_frames, running_stands, running_each, advanced_each}
 use Rattle.sym_paths.proofs.Origins.{stays_moved, advanced_moved, follows_going}
 use Rattle.sym_paths.proofs.Recording.{records_by}
 use Rattle.sym_paths.proofs.Silent.{same_and_none}
 use Rattle.sym_steps.specs.Cases.{AreOfCases, failing_with}
-use Rattle.sym_steps.specs.Guards.{at_label, for_side, turning, turns, Turns, IsAskedByGuard, GuardsKeepTheLaws}
+use Rattle.sym_steps.specs.Guards.{at_label, for_side, turning, turns, Turns, IsAskedByGuard, IsGuardEvaluated, GuardsKeepTheLaws}
 use Rattle.sym_steps.proofs.Following.{with_outcome, of_outcome, IsEvaluation, second_true, store_over, at_command, MakesNext, MakesSame, Covered, same_next, covered_same, along_chosen, failing_makes, are_candidates}
 use Rattle.sym_steps.proofs.Naming.{guard_over}
 use Rattle.sym_steps.proofs.Outcomes.{with_value-outcome, of_value-outcome}
@@ -152,7 +153,7 @@ label_each P (negsuc n) fs all = all
 -- ---- candidates
 
 module _ {S : Type 0} (stands : S → List PureValue → Heap → Type 0) (terms : S → StateTerms) (p : PureParts) (m : Actions) (path : PurePath S) (c : PureNumberedCommand) (e : PureExpr) (label : ℤ) (cases : PureCases PureTerm)
-    (over : IsOverTable terms path) (no_end : path.ending ≡ None) (at : command_of_path p path ≡ Some c) (command : c.command ≡ ifgoto e label) (evaluated : IsEvaluated (running_store path.stack) e cases) where
+    (over : IsOverTable terms path) (no_end : path.ending ≡ None) (at : command_of_path p path ≡ Some c) (command : c.command ≡ ifgoto e label) (evaluated : IsGuardEvaluated (running_store path.stack) e cases) where
   abbrev Own : PureAtom → Type 0
   Own = IsAskedByGuard (running_store path.stack) e
 
@@ -199,8 +200,8 @@ module _ {S : Type 0} (stands : S → List PureValue → Heap → Type 0) (terms
     result_over : IsOver path.vars g.result
     result_over = subst (OnResult (IsOver path.vars)) is_good (evaluated.names path.vars (store_over stands terms p m path c over at)).1
 
-    from : IsFrom (running_store path.stack) e g.result
-    from = subst (OnResult (IsFrom (running_store path.stack) e)) is_good evaluated.origin.1
+    from : IsGuardTerm (running_store path.stack) e g.result
+    from = subst (OnResult (IsGuardTerm (running_store path.stack) e)) is_good evaluated.origin.1
 
     more_over : (more : List PureAtom) → Each (IsGuardCondition g.result) more → Each OverTable more
     more_over more = each_to (IsGuardCondition g.result) OverTable more (λ a. guard_over path.vars g.result a result_over)
@@ -259,7 +260,7 @@ module _ {S : Type 0} (stands : S → List PureValue → Heap → Type 0) (terms
           },
           tt,
         );
-        recorded = records_by p m path tp c at [] (Some side) (same_and_none path.vars path.vars refl) (sym (ap (new_sorts m) command)) (sym (ap (symbols_taken m) command)) refl may_choose (sym (ap makes_choice command));
+        recorded = records_by p m path tp c at [] (Some side) (same_and_none path.vars path.vars refl) (sym (ap (new_sorts m) command)) refl may_choose (sym (ap makes_choice command));
         known = open_is_known path.ending no_end;
         vars = refl;
         conds = refl;

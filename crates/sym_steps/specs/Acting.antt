@@ -1,14 +1,13 @@
 -- The candidates of an action: one for each branch of the memory, whose choice is recorded.
-use Rattle.std.specs.Prelude.{◌≡◌, ◌⊎◌, ℕ, ◌+◌, List, [], ◌∷◌, ◌++◌, Bool, true, false, Option, Some, None}
+use Rattle.std.specs.Prelude.{◌≡◌, ◌⊎◌, ℕ, ◌+◌, List, [], ◌∷◌, ◌++◌, Bool, Option, Some, None}
 use Rattle.gil_values.specs.declared.places.Place.{Place}
 use Rattle.gil_values.specs.Pure.{PureValue}
 use Rattle.gil_syntax.specs.Pure.{PureParts, PureExpr, PureNumberedCommand, act}
 use Rattle.mem_model.specs.Actions.{Actions}
 use Rattle.mem_model.specs.Heaps.{Heap}
-use Rattle.pure_terms.specs.declared.variables.Sort.{Sort}
 use Rattle.pure_terms.specs.Pure.{PureTerm, PureAtom}
 use Rattle.sym_evaluation.specs.Pure.{PureStore, PureGoodCase, PureCases}
-use Rattle.sym_evaluation.specs.Questions.{IsAsked, AreEachFrom}
+use Rattle.sym_evaluation.specs.Questions.{IsAsked, AreTermsOf}
 use Rattle.sym_model.specs.Forms.{OpenWhatMatters}
 use Rattle.sym_model.specs.Laws.{ActLaw}
 use Rattle.sym_model.specs.Lists.{OneOf}
@@ -74,7 +73,7 @@ abbrev pub IsAskedByAction : {S : Type 0} → (S → StateTerms) → (List ℕ �
     → List PureExpr → PureAtom → Type 0
 IsAskedByAction terms asked path action es a =
     OneOf (λ e. IsAsked (running_store path.stack) e a) es
-    ⊎ ((args : List PureTerm) × (AreEachFrom (running_store path.stack) es args
+    ⊎ ((args : List PureTerm) × (AreTermsOf (running_store path.stack) es args
     × IsOwnCondition (asked_of (asked action args) (terms path.memory)) a))
 
 abbrev pub ActionsKeepTheLaws : {S : Type 0} → (S → List PureValue → Heap → Type 0) → (S → StateTerms)

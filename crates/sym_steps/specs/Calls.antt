@@ -13,7 +13,7 @@ use Rattle.pure_terms.specs.declared.literals.Literal.{Literal}
 use Rattle.pure_terms.specs.Kinds.{allows, known_kind}
 use Rattle.pure_terms.specs.Pure.{PureTerm, literal, PureAtom, opening}
 use Rattle.sym_evaluation.specs.Pure.{PureStore, PureFaultCase, PureGoodCase, PureCases}
-use Rattle.sym_evaluation.specs.Questions.{IsAsked, IsFrom}
+use Rattle.sym_evaluation.specs.Questions.{IsAsked, IsTermOf}
 use Rattle.sym_model.specs.Lists.{OneOf}
 use Rattle.sym_model.specs.Terms.{StateTerms, is_literal}
 pub use Rattle.sym_paths.specs.Frames.{terms_bound, IsFirstStore, waiting, called_frame}
@@ -90,7 +90,7 @@ abbrev pub IsAskedByCall : PureStore → PureExpr → List PureExpr → PureAtom
 IsAskedByCall bs e es a =
     IsAsked bs e a
     ⊎ (OneOf (λ d. IsAsked bs d a) es
-    ⊎ ((t : PureTerm) × (IsFrom bs e t × (is_literal t ≡ false) × IsTrue (allows (known_kind t) Kind.Proc) × (a ≡ opening t))))
+    ⊎ ((t : PureTerm) × (IsTermOf bs e t × (is_literal t ≡ false) × IsTrue (allows (known_kind t) Kind.Proc) × (a ≡ opening t))))
 
 abbrev pub CallsKeepTheLaws : {S : Type 0} → (S → List PureValue → Heap → Type 0) → (S → StateTerms) → Type 0
 CallsKeepTheLaws {S} stands terms =

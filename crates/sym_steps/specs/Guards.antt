@@ -8,13 +8,13 @@ use Rattle.mem_model.specs.Heaps.{Heap}
 use Rattle.pure_terms.specs.Pure.{PureTerm, PureAtom}
 use Rattle.sym_evaluation.specs.Meaning.{AreSidesOf}
 use Rattle.sym_evaluation.specs.Pure.{PureStore, PureGoodCase, PureCases, PureSides}
-use Rattle.sym_evaluation.specs.Questions.{IsAsked, IsFrom, IsGuardCondition, SidesComeFrom}
+use Rattle.sym_evaluation.specs.Questions.{IsAsked, IsGuardTerm, IsGuardCondition, SidesComeFrom}
 use Rattle.sym_model.specs.Terms.{StateTerms}
 use Rattle.sym_paths.specs.Meaning.{IsOverTable, command_of_path}
 use Rattle.sym_paths.specs.Moves.{running_store, advanced}
 use Rattle.sym_paths.specs.Pure.{PureFrame, PurePath}
 use Rattle.sym_paths.specs.Settling.{Candidate, AreCandidates}
-use Rattle.sym_paths.specs.Valued.{place_at, IsEvaluated}
+use Rattle.sym_paths.specs.Valued.{place_at, IsEvaluatedTo}
 use Rattle.sym_steps.specs.Cases.{AreOfCases, failing_with}
 
 -- the frame that runs goes to the command with an index; a label below 0 is no command, and the frame stays where it is
@@ -49,14 +49,18 @@ module _ {S : Type 0} (path : PurePath S) where
   Turns label here g ds =
       (sides : PureSides) × (AreSidesOf g.result sides × SidesComeFrom g.result sides × (ds ≡ turns label here g sides))
 
--- what a guard may ask: what its expression asks, and of its term, which way it goes
+-- what a guard may ask: what its expression asks, and of a term that may stand for its own, which way it goes
 abbrev pub IsAskedByGuard : PureStore → PureExpr → PureAtom → Type 0
-IsAskedByGuard bs e a = IsAsked bs e a ⊎ ((t : PureTerm) × (IsFrom bs e t × IsGuardCondition t a))
+IsAskedByGuard bs e a = IsAsked bs e a ⊎ ((t : PureTerm) × (IsGuardTerm bs e t × IsGuardCondition t a))
+
+-- what the cases of a guard promise, whose result may stand for its term
+abbrev pub IsGuardEvaluated : PureStore → PureExpr → PureCases PureTerm → Type 0
+IsGuardEvaluated bs e cases = IsEvaluatedTo (IsGuardTerm bs e) bs e cases
 
 abbrev pub GuardsKeepTheLaws : {S : Type 0} → (S → List PureValue → Heap → Type 0) → (S → StateTerms) → Type 0
 GuardsKeepTheLaws {S} stands terms =
     (p : PureParts) (m : Actions) (path : PurePath S) (c : PureNumberedCommand) (e : PureExpr) (label : ℤ) (cases : PureCases PureTerm)
     (cs : List (Candidate S)) → IsOverTable terms path → path.ending ≡ None → command_of_path p path ≡ Some c → c.command ≡ ifgoto e label
-    → IsEvaluated (running_store path.stack) e cases
+    → IsGuardEvaluated (running_store path.stack) e cases
     → AreOfCases path (place_at path.stack c) (Turns path label (place_at path.stack c)) cases cs
     → AreCandidates p m stands terms (IsAskedByGuard (running_store path.stack) e) path cs

@@ -22,13 +22,12 @@ use Rattle.sym_model.specs.Pure.{PureKey}
 use Rattle.sym_model.specs.Terms.{StateTerms}
 use Rattle.sym_model.proofs.ListLaws.{same_some, each_to}
 use Rattle.sym_paths.specs.Forms.{NeedsWhatMatters}
-use Rattle.sym_paths.specs.Meaning.{AreFrames, frames_of, StandsForEnd}
+use Rattle.sym_paths.specs.Meaning.{AreFrames, frames_of, EndsAt, StandsForEnd}
 use Rattle.sym_paths.specs.Pure.{PureFrame, PureEnd, PurePath}
 use Rattle.sym_paths.specs.Pure as path_end
 use Rattle.sym_paths.specs.Steps.{IsUnknown, IsPlaceOf}
 use Rattle.sym_paths.proofs.Silent.{stands_at}
 use Rattle.sym_steps.proofs.Following.{both_true, first_true}
-use Rattle.sym_test.specs.Bugs.{EndsAt}
 use Rattle.sym_test.specs.Canonical.{HaveValuation, draws_among, IsCanonical}
 use Rattle.sym_test.specs.Judged.{Begins}
 use Rattle.sym_test.specs.Undecided.{first_state, ComesAlong, MeetsOther, IsWay, AsksAlong, IsOutsideAt, IsUndecided}

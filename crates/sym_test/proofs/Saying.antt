@@ -29,11 +29,11 @@ use Rattle.sym_model.specs.Lists.{Each}
 use Rattle.sym_model.specs.Terms.{StateTerms, AreEachOver}
 use Rattle.sym_model.proofs.ListLaws.{same_some, not_none, each_at}
 use Rattle.sym_paths.specs.Forms.{NeedsWhatMatters}
-use Rattle.sym_paths.specs.Meaning.{StandsForEnd, end_terms}
+use Rattle.sym_paths.specs.Meaning.{EndsAt, StandsForEnd, end_terms}
 use Rattle.sym_paths.specs.Origins.{IsText}
 use Rattle.sym_paths.specs.Pure.{PureEnd, returned, failed, missed, vanished, cut, unknown, PurePath}
 use Rattle.sym_paths.specs.Steps.{Extends, IsUnknown, IsRightlyUnknown, place_of, IsPlainPath}
-use Rattle.sym_test.specs.Bugs.{EndsAt, IsFound}
+use Rattle.sym_test.specs.Bugs.{IsFound}
 use Rattle.sym_test.specs.Canonical.{HaveValuation, draws_among}
 use Rattle.sym_test.specs.Judged.{Begins, PureJudgement, harmless, fails, undecided, IsAbout, IsListOutside, IsWide, IsFoundBug, lists_of, IsFailureJudged, IsUnknownJudged, IsJudgedEnd, AccountsForNoFailure, IsRightlyJudged}
 use Rattle.sym_test.specs.Undecided.{first_state, ComesAlong, MeetsOther, FailsSimply, is_narrow_term, IsOutsideAt, IsUndecided}

@@ -11,8 +11,8 @@ use Rattle.sym_explore.specs.Plain.{EachStep}
 use Rattle.sym_explore.specs.Trails.{IsTrail}
 use Rattle.sym_model.specs.Terms.{StateTerms}
 use Rattle.sym_paths.specs.Forms.{NeedsWhatMatters}
-use Rattle.sym_paths.specs.Meaning.{IsFirstPath}
-use Rattle.sym_paths.specs.Pure.{PureEnd, failed, missed, unknown, PurePath}
+use Rattle.sym_paths.specs.Meaning.{EndsAt, IsFirstPath}
+use Rattle.sym_paths.specs.Pure.{PureEnd, failed, missed, PurePath}
 use Rattle.sym_test.specs.Canonical.{draws_among, IsCanonical}
 
 -- under the valuation the path fails with this value
@@ -20,13 +20,6 @@ abbrev pub FailsWith : List PureValue → PureEnd → PureValue → Type 0
 FailsWith v (failed t place) w = value v t ≡ Some w
 FailsWith v (missed k place) w = w ≡ text (codes "missing")
 FailsWith v _ w = ⊥
-
--- the path fails at this place, or is unknown there
-abbrev pub EndsAt : Place → PureEnd → Type 0
-EndsAt place (failed t here) = here ≡ place
-EndsAt place (missed k here) = here ≡ place
-EndsAt place (unknown here reason) = here ≡ place
-EndsAt place _ = ⊥
 
 module _ {S : Type 0} (p : PureParts) (m : Actions) (stands : S → List PureValue → Heap → Type 0) (terms : S → StateTerms)
     (asked : List ℕ → List PureTerm → List PureTerm) (depends : S → List ℕ → List PureTerm → List PureValue → Heap → PureTerm → Type 0)

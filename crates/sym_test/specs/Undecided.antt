@@ -20,18 +20,17 @@ use Rattle.pure_terms.specs.Pure.{PureTerm, PureAtom, opening}
 use Rattle.pure_terms.specs.Wide.{has_wide_part}
 use Rattle.sym_engine.specs.Lawful.{IsOwnAt}
 use Rattle.sym_explore.specs.Plain.{EachStep}
-use Rattle.sym_explore.specs.Laws.{IsAssumedOn}
-use Rattle.sym_explore.specs.Trails.{IsNextPath, IsTrail}
+use Rattle.sym_explore.specs.Trails.{IsNextPath, IsTrail, IsAssumedOn}
 use Rattle.sym_model.specs.Lists.{Each, OneOf}
 use Rattle.sym_model.specs.Meaning.{has_open}
 use Rattle.sym_model.specs.Terms.{StateTerms}
 use Rattle.sym_paths.specs.Forms.{NeedsWhatMatters}
-use Rattle.sym_paths.specs.Meaning.{command_of_path, IsFirstPath}
+use Rattle.sym_paths.specs.Meaning.{command_of_path, EndsAt, IsFirstPath}
 use Rattle.sym_paths.specs.Origins.{IsFailing}
 use Rattle.sym_paths.specs.Pure.{PureEnd, PurePath}
 use Rattle.sym_paths.specs.Pure as path_end
 use Rattle.sym_paths.specs.Steps.{place_of, IsFirstOutside, MayChoose}
-use Rattle.sym_test.specs.Bugs.{EndsAt, IsFound}
+use Rattle.sym_test.specs.Bugs.{IsFound}
 use Rattle.sym_test.specs.Canonical.{HaveValuation, IsCanonical}
 use Rattle.sym_test.specs.View.{PureQuery, PureVerdict, bug, clean, unknown}
 
@@ -116,7 +115,7 @@ module _ {S : Type 0} (p : PureParts) (m : Actions) (stands : S → List PureVal
     abbrev pub IsAssumed : PureAtom → Type 0
     IsAssumed a = IsAssumedOn p m stands terms asked (way.last ∷ way.earlier) a
 
-    -- The atom is that a failing value has its literal form. The next path fails at the place with a term that is from the expression of
+    -- The atom is that a failing value has its literal form. The next path fails at the place with the term of the expression of
     -- `fail`, or an action's answer; runs along the path fail there with its value; it isn't simple with narrow literals, and has a part
     -- which leaves 128 bits under a canonical valuation that meets the other conditions; these are in the fragment, and the valuation has
     -- numbers as a decider gives them there.
@@ -158,8 +157,9 @@ IsOutsideAt atoms i = (¬ InFragment atoms) × ((reason : Reason) × (IsFirstOut
 --   not_simple: so no program is left undecided whose commands are all of simple form;
 --   given_suffices and leads: of runs that meet what is assumed, those along the path meet what is asked, and where no literal form is
 --     asked no others do;
---   way: so each term comes from the commands on the way, or may stand in the place of one that does, and no action needs a literal
---     form on which what it comes to doesn't depend, wherever the conditions are met;
+--   way: so each term comes from the commands on the way, and only parts of a guard may be replaced, which by themselves are no atoms of
+--     the fragment and may be booleans; and no action needs a literal form on which what it comes to doesn't depend, wherever the
+--     conditions are met;
 --   asks and conds_traced: so no atom is asked that no command asks;
 --   given_allowed: so nothing is assumed but what the last command may assume, or an action before it;
 --   outside: so no list is handed out that every decider decides.

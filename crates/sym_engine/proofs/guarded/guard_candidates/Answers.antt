@@ -9,29 +9,29 @@ use Rattle.sym_engine.specs.View.{candidates_view}
 use Rattle.sym_engine.proofs.Adding.{guard_lawful, adds_none}
 use Rattle.sym_engine.proofs.Arguments.{seen_none}
 use Rattle.sym_engine.proofs.Leaving.{if_ok_map}
-use Rattle.sym_engine.proofs.Simpler.{guard_evaluated}
+use Rattle.sym_engine.proofs.Simpler.{guard_evaluated, guard_fails}
 use Rattle.sym_engine.proofs.Staying.{guard_none, guard_some}
 use Rattle.sym_engine.proofs.guarded.guard_candidates.Goals as goal
 use Rattle.sym_evaluation.specs.Plainly.{GuardsPlainly}
+use Rattle.sym_evaluation.proofs.GuardTerms.{plain_guard_stays}
 use Rattle.sym_evaluation.specs.View.{cases_view, faults_view, good_view, sides_view}
 use Rattle.sym_paths.specs.Moves.{running_store}
-use Rattle.sym_paths.specs.Valued.{IsEvaluated}
 use Rattle.sym_paths.specs.View.{path_view}
-use Rattle.sym_steps.specs.Guards.{Turns, turns}
+use Rattle.sym_steps.specs.Guards.{IsGuardEvaluated, Turns, turns}
 
 pub returns-in-None-clause-lawful : goal.returns-in-None-clause-lawful
 returns-in-None-clause-lawful g c =
     guard_lawful g.M.SymMemory.stands g.M.SymMemory.terms g.M.SymMemory.depends g.M.SymMemory.plain g.M.SymMemory.asked g.M.Local.LocalMemory.actions (path_view c.args.path) c.args.here.now (cases_view c.in_ok-faults.field-0) (candidates_view c.in_ok-candidates.candidates) (candidates_view c.in_ok-candidates.candidates) []
     c.in_ok-candidates.ensures (adds_none g.M.SymMemory.stands g.M.SymMemory.terms g.M.SymMemory.depends g.M.SymMemory.plain (candidates_view c.in_ok-candidates.candidates))
-    (expr_view c.args.expression.now) c.args.label.now c.in_ok-faults.ensures.evaluated (seen_none term_view (Turns (path_view c.args.path) c.args.label.now c.args.here.now) c.in_ok-faults.field-0.good c.in-None.is)
+    (expr_view c.args.expression.now) c.args.label.now (guard_fails (running_store (path_view c.args.path).stack) (expr_view c.args.expression.now) (cases_view c.in_ok-faults.field-0) (ap (option_map (good_view term_view)) c.in-None.is) c.in_ok-faults.ensures.evaluated) (seen_none term_view (Turns (path_view c.args.path) c.args.label.now c.args.here.now) c.in_ok-faults.field-0.good c.in-None.is)
 
 pub returns-in_ok-sides-in-Some-clause-lawful : goal.returns-in_ok-sides-in-Some-clause-lawful
 returns-in_ok-sides-in-Some-clause-lawful g c =
     let path = path_view c.args.path in
     let e = expr_view c.args.expression.now in
     let guard = good_view term_view (record { conds = c.in-Some.good.conds; result = c.in_ok-result-in-Some.result }) in
-    let evaluated : IsEvaluated (running_store path.stack) e (record { faults = faults_view c.in_ok-faults.field-0.faults; good = Some guard }) =
-    guard_evaluated (running_store path.stack) e c.in_ok-faults.field-0.good c.in-Some.good (faults_view c.in_ok-faults.field-0.faults) (term_view c.in_ok-result-in-Some.result) c.in-Some.is c.in_ok-faults.ensures.evaluated c.in_ok-result-in-Some.ensures.replaces in
+    let evaluated : IsGuardEvaluated (running_store path.stack) e (record { faults = faults_view c.in_ok-faults.field-0.faults; good = Some guard }) =
+    guard_evaluated (running_store path.stack) e c.in_ok-faults.field-0.good c.in-Some.good (faults_view c.in_ok-faults.field-0.faults) (term_view c.in_ok-result-in-Some.result) c.in-Some.is c.in_ok-faults.ensures.evaluated c.in_ok-result-in-Some.ensures in
     if_ok_map
     (λ cs. AddsCopies g.M.SymMemory.stands g.M.SymMemory.terms g.M.SymMemory.depends g.M.SymMemory.plain (turns path c.args.label.now c.args.here.now guard (sides_view c.in_ok-sides-in-Some.sides)) (candidates_view c.in_ok-candidates.candidates) (candidates_view cs))
     (λ cs. AreLawful g.M.SymMemory.stands g.M.SymMemory.terms g.M.SymMemory.asked g.M.Local.LocalMemory.actions path c.args.here.now (pure_ifgoto e c.args.label.now) (candidates_view cs)) c.add_sides.result
@@ -61,5 +61,5 @@ returns-in_ok-sides-in-Some-clause-plain g c =
     (λ cs. StayPlain g.M.SymMemory.plain path (pure_ifgoto (expr_view c.args.expression.now) c.args.label.now) (candidates_view cs)) c.add_sides.result
     (λ cs adds.
     guard_some g.M.SymMemory.stands g.M.SymMemory.terms g.M.SymMemory.depends g.M.SymMemory.plain path c.args.here.now e c.args.label.now faults good term sides (candidates_view c.in_ok-candidates.candidates) (candidates_view cs) c.in_ok-candidates.ensures adds answers
-    c.in_ok-result-in-Some.ensures.plain c.in_ok-sides-in-Some.ensures.decided)
+    (λ n plain. plain_guard_stays n good.result term plain c.in_ok-result-in-Some.ensures) c.in_ok-sides-in-Some.ensures.decided)
     c.add_sides.ensures
