@@ -1,4 +1,4 @@
-//! Tests of the memories and of what runs over them, and of the texts of While.
+//! Tests of the memories that the program doesn't have, and of runs over them.
 #![tactic(auto)]
 
 #[cfg(test)]
@@ -7,5 +7,3 @@ mod blocks;
 mod objects;
 #[cfg(test)]
 mod running;
-#[cfg(test)]
-mod while_texts;

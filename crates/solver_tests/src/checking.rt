@@ -1,256 +1,239 @@
-//! For each rule a proof that closes its list, and for each of the rule's conditions one that breaks it alone. Lists that can be
-//! met aren't tried, since no proof closes them.
-use crate::reading::{list, term};
-use gil_values::BinOp;
-use pure_terms::{Atom, Atoms, Sort, Term, Var};
-use sequence::Sequence;
-use solver_proof::{ChainEnd, Factor, Factors, Places, Proof, Proofs, accepts};
+//! For each rule of proofs one that closes its list, and for conditions of rules one that breaks it alone; and how each is printed.
+//! Lists that can be met aren't tried, since no proof closes them.
+use crate::proofs::{Compound, Simple, make_compound, make_simple};
+use crate::reading::list;
+use solver_print::push_proof;
+use solver_proof::{ChainEnd, Proof, accepts};
 use std::alloc::Global;
-use std::mem;
 use std::test::Fail;
-
-/// Atoms, a term to split on, a proof in which each rule stands behind what it takes, and whether the proof closes.
-type Row = (&'static str, &'static str, &'static str, bool);
-
-/// No value has none of these kinds.
-const NO_KIND: &str =
-    "not((kind(a) = Int)); not((kind(a) = Bool)); not((kind(a) = Str)); not((kind(a) = Sym)); not((kind(a) = Kind)); not((kind(a) = Proc)); not((kind(a) = List));";
 
 const IN_TURN: &str = "(x < y); (y < z); (z < x);";
 
-const BOTH_WAYS: &str = "not((x <= y)); not((y <= x));";
+const SHIFTED: &str = "((x + 3) = y); (y = (x + 2));";
 
-const NO_BOOLEAN: &str = "(kind(a) = Bool); not((a = true)); not((a = false));";
+const AT_MOST: &str = "(x <= y); (y <= x); not((y = x));";
 
-const ROWS: [Row; 36] = [
-    (IN_TURN, "", "0:1 1:1 2:1 sum", true),
-    (IN_TURN, "", "0:2 1:2 2:2 sum", false),
-    (IN_TURN, "", "0:1 1:1 sum", false),
-    (IN_TURN, "", "0:1 1:1 2:1 3:1 sum", false),
-    ("(x <= 0); not((x < 1));", "", "0:1 1:1 sum", true),
-    ("(x <= 0); not((x <= 0));", "", "0:1 1:1 sum", true),
-    ("((x + 3) = y); (y = (x + 2));", "", "0:1 1:1 sum", true),
-    ("((x + 3) = y); (y = (x + 2));", "", "0:0 1:1 sum", false),
-    ("((x + 3) = y); (y <= (x + 2));", "", "0:1 1:1 sum", true),
-    ("(a = 0); (a = 1);", "", "0:1 1:-1 sum", false),
-    ("(x < 0); (0 < x);", "", "0:1 0:1 1:1 sum", false),
-    ("(2 <= 1);", "", "0 false", true),
-    ("not((1 = 1));", "", "0 false", true),
-    ("(a = 1); (2 = a);", "", "0 1 literals", true),
-    ("(x = a); (a = Null);", "", "0 1 kinds", true),
-    ("(a = c); not((c = a));", "", "0 1 not", true),
-    ("(kind(a) = Sym); (a = Null);", "", "1 0 kind", true),
-    ("not((kind(a) = Kind)); (a = Null);", "", "1 0 kind", true),
-    ("(kind(a) = Undef);", "", "0 kind", true),
+/// Atoms, a proof, how it is printed, and whether it closes.
+const SIMPLE: [(&str, Simple, &str, bool); 24] = [
+    (
+        IN_TURN,
+        Simple::Sum(&[(0, 1), (1, 1), (2, 1)]),
+        "sum [0:1, 1:1, 2:1]",
+        true,
+    ),
+    (
+        IN_TURN,
+        Simple::Sum(&[(0, 2), (1, 2), (2, 2)]),
+        "sum [0:2, 1:2, 2:2]",
+        false,
+    ),
+    (IN_TURN, BOTH, "sum [0:1, 1:1]", false),
+    (
+        IN_TURN,
+        Simple::Sum(&[(0, 1), (1, 1), (2, 1), (3, 1)]),
+        "sum [0:1, 1:1, 2:1, 3:1]",
+        false,
+    ),
+    (
+        "(x <= 0); (x <= -1);",
+        Simple::Sum(&[(0, -1), (1, 1)]),
+        "sum [0:-1, 1:1]",
+        false,
+    ),
+    ("(x <= 0); not((x < 1));", BOTH, "sum [0:1, 1:1]", true),
+    ("(x <= 0); not((x <= 0));", BOTH, "sum [0:1, 1:1]", true),
+    (SHIFTED, BOTH, "sum [0:1, 1:1]", true),
+    (
+        SHIFTED,
+        Simple::Sum(&[(0, 0), (1, 1)]),
+        "sum [0:0, 1:1]",
+        false,
+    ),
+    (
+        "(a = 0); (a = 1);",
+        Simple::Sum(&[(0, 1), (1, -1)]),
+        "sum [0:1, 1:-1]",
+        false,
+    ),
+    (
+        "(x < 0); (0 < x);",
+        Simple::Sum(&[(0, 1), (0, 1), (1, 1)]),
+        "sum [0:1, 0:1, 1:1]",
+        false,
+    ),
+    ("(2 <= 1);", Simple::False(0), "false 0", true),
+    ("not((1 = 1));", Simple::False(0), "false 0", true),
+    (
+        "(a = 1); (2 = a);",
+        Simple::Chain(&[0, 1], ChainEnd::Literals),
+        "chain [0, 1] literals",
+        true,
+    ),
+    (
+        "(x = a); (a = Null);",
+        Simple::Chain(&[0, 1], ChainEnd::Kinds),
+        "chain [0, 1] kinds",
+        true,
+    ),
+    (
+        "(a = c); not((c = a));",
+        Simple::Chain(&[0], ChainEnd::Not(1)),
+        "chain [0] not 1",
+        true,
+    ),
+    (
+        "(kind(a) = Sym); (a = Null);",
+        Simple::Chain(&[1], ChainEnd::Kind(0)),
+        "chain [1] kind 0",
+        true,
+    ),
+    (
+        "not((kind(a) = Kind)); (a = Null);",
+        Simple::Chain(&[1], ChainEnd::Kind(0)),
+        "chain [1] kind 0",
+        true,
+    ),
+    (
+        "(kind(a) = Undef);",
+        Simple::Chain(&[], ChainEnd::Kind(0)),
+        "chain [] kind 0",
+        true,
+    ),
     (
         "(kind(a) = Sym); (a = c); (kind(c) = Int);",
-        "",
-        "1 0 2 both",
+        Simple::Chain(&[1], ChainEnd::BothKinds(0, 2)),
+        "chain [1] kind 0 2",
         true,
     ),
     (
         "(kind(a) = Sym); (a = c); not((kind(c) = Sym));",
-        "",
-        "1 0 2 both",
+        Simple::Chain(&[1], ChainEnd::BothKinds(0, 2)),
+        "chain [1] kind 0 2",
         true,
     ),
-    (NO_BOOLEAN, "", "3 1 not 3 2 not 0 values", true),
-    (NO_BOOLEAN, "", "3 2 not 3 1 not 0 values", false),
+    ("([x] = [x, y]);", Simple::Apart(0), "parts 0", true),
     (
-        NO_KIND,
-        "a;",
-        "0 7 both 1 7 both 2 7 both 3 7 both 4 7 both 5 7 both 6 7 both cases",
-        true,
-    ),
-    (
-        NO_KIND,
-        "a;",
-        "0 7 both 1 7 both 2 7 both 3 7 both 4 7 both 5 7 both 6 7 both 6 7 both cases",
+        "([x, y] = [y, x]); (x < y);",
+        Simple::Apart(0),
+        "parts 0",
         false,
     ),
-    (
-        NO_KIND,
-        "a;",
-        "1 7 both 0 7 both 2 7 both 3 7 both 4 7 both 5 7 both 6 7 both cases",
-        false,
-    ),
-    (
-        "([x, 1] = [2, y]); (x < y);",
-        "",
-        "1:1 2:-1 3:-1 sum 0 parts",
-        true,
-    ),
-    ("([x] = [x, y]);", "", "0 apart", true),
-    ("([x, y] = [y, x]); (x < y);", "", "0 apart", false),
-    ("not(([x, 1] = [x, 1]));", "", "1 not 1 not 0 differ", true),
-    (
-        BOTH_WAYS,
-        "(x <= y);",
-        "0:1 1:1 sum 0:1 1:1 sum split",
-        true,
-    ),
-    (
-        BOTH_WAYS,
-        "((x + y) = 0);",
-        "0:1 1:1 sum 0:1 1:1 sum split",
-        false,
-    ),
-    (
-        BOTH_WAYS,
-        "(a < 0);",
-        "0:1 1:1 sum 0:1 1:1 sum split",
-        false,
-    ),
-    ("(x <= y); (y <= x); not((y = x));", "", "0 1 2 meet", true),
-    ("(x <= y); (y <= x); not((y = x));", "", "0 0 2 meet", false),
-    ("(x <= y); (y <= x); not((x = x));", "", "0 1 2 meet", false),
+    (AT_MOST, Simple::Meet(0, 1, 2), "meet 0 1 2", true),
 ];
 
 #[test]
-fn each_rule_closes_and_each_condition_counts(rt: HostRuntime) -> Result<(), Fail> {
+fn rules_close_and_their_conditions_count(rt: HostRuntime) -> Result<(), Fail> {
     let alloc = rt.alloc();
-    for (stated, split_on, words, closes) in ROWS {
-        let text = list(alloc, stated)?;
-        let proof = read_proof(alloc, split_on, words)?;
-        assert_eq!(rt;
-            accepts(&text.vars, &text.atoms, &proof),
-            closes,
-            "{stated} {words}"
+    for (stated, form, printed, closes) in SIMPLE {
+        let found = told(alloc, stated, &make_simple(alloc, form)?)?;
+        assert!(rt;
+            found.0.as_str() == printed && found.1 == closes,
+            "{stated}"
         );
     }
     Ok(())
 }
 
-/// A symbol that is new, as variables with these numbers are.
-fn fresh(number: u64) -> Term {
-    let sort = Sort::Fresh;
-    Term::Var(Var { number, sort })
+/// How a proof is printed, and whether it closes the atoms that a text states.
+fn told(alloc: Global, stated: &str, proof: &Proof) -> Result<(String, bool), Fail> {
+    let text = list(alloc, stated)?;
+    let mut printed = String::new(alloc);
+    push_proof(&mut printed, &text.names, proof)?;
+    Ok((printed, accepts(&text.vars, &text.atoms, proof)))
 }
 
-/// One new symbol is no other, whichever stands first.
+const BOTH: Simple = Simple::Sum(&[(0, 1), (1, 1)]);
+
+const BOTH_WAYS: &str = "not((x <= y)); not((y <= x));";
+
+const NO_BOOLEAN: &str = "(kind(a) = Bool); not((a = true)); not((a = false));";
+
+const NOT_TRUE: Simple = Simple::Chain(&[3], ChainEnd::Not(1));
+
+const NOT_FALSE: Simple = Simple::Chain(&[3], ChainEnd::Not(2));
+
+/// No value has none of these kinds.
+const NO_KIND: &str =
+    "not((kind(a) = Int)); not((kind(a) = Bool)); not((kind(a) = Str)); not((kind(a) = Sym)); not((kind(a) = Kind)); not((kind(a) = Proc)); not((kind(a) = List));";
+
+/// For each kind, that the atom that denies it contradicts the one that states it, which is the last one.
+const EACH_KIND: &[Simple] = &[
+    Simple::Chain(&[], ChainEnd::BothKinds(0, 7)),
+    Simple::Chain(&[], ChainEnd::BothKinds(1, 7)),
+    Simple::Chain(&[], ChainEnd::BothKinds(2, 7)),
+    Simple::Chain(&[], ChainEnd::BothKinds(3, 7)),
+    Simple::Chain(&[], ChainEnd::BothKinds(4, 7)),
+    Simple::Chain(&[], ChainEnd::BothKinds(5, 7)),
+    Simple::Chain(&[], ChainEnd::BothKinds(6, 7)),
+];
+
+/// Atoms, a proof, how it is printed, and whether it closes.
+const COMPOUND: [(&str, Compound, &str, bool); 9] = [
+    (
+        "([x, 1] = [2, y]); (x < y);",
+        Compound::Parts(0, Simple::Sum(&[(1, 1), (2, -1), (3, -1)])),
+        "parts 0 sum [1:1, 2:-1, 3:-1]",
+        true,
+    ),
+    (
+        NO_BOOLEAN,
+        Compound::Values(0, &[NOT_TRUE, NOT_FALSE]),
+        "values 0 [chain [3] not 1, chain [3] not 2]",
+        true,
+    ),
+    (
+        NO_BOOLEAN,
+        Compound::Values(0, &[NOT_FALSE, NOT_TRUE]),
+        "values 0 [chain [3] not 2, chain [3] not 1]",
+        false,
+    ),
+    (
+        "not(([x, 1] = [x, 1]));",
+        Compound::Differ(0, &[Simple::Chain(&[], ChainEnd::Not(1)), Simple::False(1)]),
+        "differ 0 [chain [] not 1, false 1]",
+        true,
+    ),
+    (
+        NO_KIND,
+        Compound::Cases("a;", EACH_KIND),
+        "cases a [chain [] kind 0 7, chain [] kind 1 7, chain [] kind 2 7, chain [] kind 3 7, chain [] kind 4 7, chain [] kind 5 7, chain [] kind 6 7]",
+        true,
+    ),
+    (
+        NO_KIND,
+        Compound::Cases("c;", EACH_KIND),
+        "cases c [chain [] kind 0 7, chain [] kind 1 7, chain [] kind 2 7, chain [] kind 3 7, chain [] kind 4 7, chain [] kind 5 7, chain [] kind 6 7]",
+        false,
+    ),
+    (
+        BOTH_WAYS,
+        Compound::Split("(x <= y);", BOTH, BOTH),
+        "split (x <= y) (sum [0:1, 1:1]) (sum [0:1, 1:1])",
+        true,
+    ),
+    (
+        BOTH_WAYS,
+        Compound::Split("((x + y) = 0);", BOTH, BOTH),
+        "split ((x + y) = 0) (sum [0:1, 1:1]) (sum [0:1, 1:1])",
+        false,
+    ),
+    (
+        BOTH_WAYS,
+        Compound::Split("(a < 0);", BOTH, BOTH),
+        "split (a < 0) (sum [0:1, 1:1]) (sum [0:1, 1:1])",
+        false,
+    ),
+];
+
 #[test]
-fn fresh_symbols_differ(rt: HostRuntime) -> Result<(), Fail> {
+fn rules_that_take_proofs_close(rt: HostRuntime) -> Result<(), Fail> {
     let alloc = rt.alloc();
-    for (first, second) in [(0, 1), (1, 0)] {
-        let mut vars = Sequence::new(alloc);
-        vars.push(Sort::Fresh)?;
-        vars.push(Sort::Fresh)?;
-        let mut atoms: Atoms = Sequence::new(alloc);
-        let left = Box::new(alloc, fresh(first))?;
-        let equal = Term::Op2(BinOp::Equal, left, Box::new(alloc, fresh(second))?);
-        atoms.push(Atom::Holds(equal))?;
-        assert!(rt; accepts(&vars, &atoms, &read_proof(alloc, "", "0 fresh")?));
+    for (stated, form, printed, closes) in COMPOUND {
+        let found = told(alloc, stated, &make_compound(alloc, form)?)?;
+        assert!(rt;
+            found.0.as_str() == printed && found.1 == closes,
+            "{stated}"
+        );
     }
     Ok(())
-}
-
-/// Factors, places and proofs that no rule has taken yet.
-#[derive(Drop)]
-struct Pending {
-    factors: Factors,
-    places: Vec<usize>,
-    proofs: Vec<Proof>,
-}
-
-fn read_proof(alloc: Global, split_on: &str, words: &str) -> Result<Proof, Fail> {
-    let mut pending = Pending {
-        factors: Sequence::new(alloc),
-        places: Vec::new(alloc),
-        proofs: Vec::new(alloc),
-    };
-    for word in words.split(" ") {
-        add_word(alloc, &mut pending, split_on, word)?;
-    }
-    Ok(pending.proofs.pop().ok_or("no proof")?)
-}
-
-fn add_word(alloc: Global, pending: &mut Pending, split_on: &str, word: &str) -> Result<(), Fail> {
-    if let Some((atom, factor)) = word.split_once(':') {
-        let atom = atom.parse().ok().ok_or("no place")?;
-        let factor = factor.parse().ok().ok_or("no factor")?;
-        pending.factors.push(Factor { atom, factor })?;
-        return Ok(());
-    }
-    if let Ok(place) = word.parse() {
-        pending.places.push(place)?;
-        return Ok(());
-    }
-    let proof = apply_rule(alloc, pending, split_on, word)?;
-    pending.proofs.push(proof)?;
-    Ok(())
-}
-
-/// The proof by a rule from what stands before it.
-fn apply_rule(
-    alloc: Global,
-    pending: &mut Pending,
-    split_on: &str,
-    rule: &str,
-) -> Result<Proof, Fail> {
-    match rule {
-        "sum" => Ok(Proof::Sum(mem::replace(&mut pending.factors, Sequence::new(alloc)))),
-        "false" => Ok(Proof::False(place(pending)?)),
-        "apart" => Ok(Proof::Parts(place(pending)?, None)),
-        "parts" => {
-            let rest = boxed(alloc, pending)?;
-            Ok(Proof::Parts(place(pending)?, Some(rest)))
-        }
-        "meet" => {
-            let (third, second, first) = (place(pending)?, place(pending)?, place(pending)?);
-            Ok(Proof::Meet(first, second, third))
-        }
-        "split" => {
-            let (second, first) = (boxed(alloc, pending)?, boxed(alloc, pending)?);
-            Ok(Proof::Split(term(alloc, split_on)?, first, second))
-        }
-        "cases" => Ok(Proof::Cases(term(alloc, split_on)?, all(alloc, pending)?)),
-        "values" => Ok(Proof::Values(place(pending)?, all(alloc, pending)?)),
-        "differ" => Ok(Proof::Differ(place(pending)?, all(alloc, pending)?)),
-        _ => {
-            let end = chain_end(pending, rule)?;
-            chain(alloc, pending, end)
-        }
-    }
-}
-
-fn chain_end(pending: &mut Pending, end: &str) -> Result<ChainEnd, Fail> {
-    match end {
-        "literals" => Ok(ChainEnd::Literals),
-        "kinds" => Ok(ChainEnd::Kinds),
-        "fresh" => Ok(ChainEnd::Fresh),
-        "not" => Ok(ChainEnd::Not(place(pending)?)),
-        "kind" => Ok(ChainEnd::Kind(place(pending)?)),
-        "both" => {
-            let (second, first) = (place(pending)?, place(pending)?);
-            Ok(ChainEnd::BothKinds(first, second))
-        }
-        _ => Err("no rule")?,
-    }
-}
-
-fn chain(alloc: Global, pending: &mut Pending, end: ChainEnd) -> Result<Proof, Fail> {
-    let mut places: Places = Sequence::new(alloc);
-    for place in pending.places.as_slice() {
-        places.push(*place)?;
-    }
-    pending.places.clear();
-    Ok(Proof::Chain(places, end))
-}
-
-fn place(pending: &mut Pending) -> Result<usize, Fail> {
-    Ok(pending.places.pop().ok_or("no place")?)
-}
-
-fn boxed(alloc: Global, pending: &mut Pending) -> Result<Box<Proof>, Fail> {
-    let proof = pending.proofs.pop().ok_or("no proof")?;
-    Ok(Box::new(alloc, proof)?)
-}
-
-/// All proofs that no rule has taken yet.
-fn all(alloc: Global, pending: &mut Pending) -> Result<Proofs, Fail> {
-    let mut proofs = Proofs::new(alloc);
-    for proof in mem::replace(&mut pending.proofs, Vec::new(alloc)) {
-        proofs.push(proof)?;
-    }
-    Ok(proofs)
 }

@@ -1,16 +1,14 @@
-//! Lists of atoms and terms, read from texts.
+//! Lists of atoms, read from texts.
 ghost use Rattle.std.specs.Prelude.{IfOk};
 ghost use Rattle.pure_terms.specs.Meaning.{AreOver};
 ghost use Rattle.pure_terms.specs.View.{atoms_view};
 
 use atom_text::{AtomText, read_atoms};
-use pure_terms::Term;
 use std::alloc::Global;
 use std::test::Fail;
 
 /// What texts of tests declare: w, x, y and z are the variables 0 to 3.
-const DECLARED: &str =
-    "vars w: int, x: int, y: int, z: int, a: any, c: any, d: any, b: bool, e: bool; ";
+const DECLARED: &str = "vars w: int, x: int, y: int, z: int, a: any, c: any; ";
 
 /// The atoms that a text states, over the variables that are declared for it.
 pub(crate) fn list(alloc: Global, stated: &str) -> Result<AtomText, Fail>
@@ -18,11 +16,4 @@ pub(crate) fn list(alloc: Global, stated: &str) -> Result<AtomText, Fail>
 {
     let text = format!(in alloc; "{DECLARED}{stated}")?;
     Ok(read_atoms(alloc, text.as_bytes())?)
-}
-
-/// The term of the first atom that a text states.
-pub(crate) fn term(alloc: Global, stated: &str) -> Result<Term, Fail> {
-    let text = list(alloc, stated)?;
-    let first = text.atoms.get(0).ok_or("no atom")?;
-    Ok(first.term().copy(alloc)?)
 }

@@ -1,0 +1,67 @@
+//! Lists of the fragment and others, decided and refuted without rules.
+ghost use Rattle.pure_terms.specs.Meaning.{AreOver};
+ghost use Rattle.pure_terms.specs.View.{atoms_view};
+
+use crate::reading::list;
+use path_solver::PathSolver;
+use pure_terms::{Atoms, Decision, Reason, VarTable};
+use solver_proof::Refuter;
+use std::alloc::{AllocError, Global};
+use std::test::Fail;
+
+#[derive(Clone, Copy, PartialEq, Eq)]
+enum Answer {
+    Sat,
+    /// No values make every atom true, and there is a proof.
+    Refuted,
+    /// The atom at this place keeps the list out of the fragment.
+    Unknown(usize),
+}
+
+const ROWS: [(&str, Answer); 4] = [
+    ("(0 = 0);", Answer::Sat),
+    ("(a = x); (a = y); (x < y);", Answer::Refuted),
+    ("(x < 1); ((x * 1) = 6);", Answer::Unknown(1)),
+    (
+        "not(((x * y) = (y * x))); (x < y); (y < x);",
+        Answer::Refuted,
+    ),
+];
+
+#[test]
+fn lists_are_decided_and_refuted(rt: HostRuntime) -> Result<(), Fail> {
+    let alloc = rt.alloc();
+    let mut solver = PathSolver::new(alloc);
+    for (stated, wanted) in ROWS {
+        let text = list(alloc, stated)?;
+        let answer = answer_of(alloc, &mut solver, &text.vars, &text.atoms)?;
+        assert!(rt; answer == Some(wanted), "{stated}");
+    }
+    Ok(())
+}
+
+/// What a list is decided as, where a proof is found exactly if it is refuted.
+fn answer_of<R: Refuter>(
+    alloc: Global,
+    refuter: &mut R,
+    vars: &VarTable,
+    atoms: &Atoms,
+) -> Result<Option<Answer>, AllocError>
+    requires { AreOver vars.now (atoms_view atoms.now) }
+{
+    let decided = named(refuter.decide(alloc, vars, atoms)?);
+    let is_proved = refuter.refute(alloc, vars, atoms)?.is_some();
+    if is_proved == (decided == Answer::Refuted) {
+        return Ok(Some(decided));
+    }
+    Ok(None)
+}
+
+fn named(decision: Decision) -> Answer {
+    match decision {
+        Decision::Sat(_) => Answer::Sat,
+        Decision::Unsat => Answer::Refuted,
+        Decision::Unknown(Reason::Atom(place)) => Answer::Unknown(place),
+        Decision::Unknown(Reason::Number(place)) => Answer::Unknown(place),
+    }
+}
