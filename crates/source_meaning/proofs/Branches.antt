@@ -1,5 +1,5 @@
 -- The machine follows choices, loops, assertions and assumptions, and passes what only proofs look at.
-use Rattle.std.proofs.Common.{◌≡◌, ℕ, zero, suc, ◌+◌, ◌-◌, ◌≤◌, List, [], ◌∷◌, ◌++◌, pos, true, Option, Some, None, length, slice_get, refl, ap, subst, ◌∙◌, arith, length-append}
+use Rattle.std.proofs.Common.{◌≡◌, ℕ, zero, suc, ◌+◌, ◌-◌, ◌≤◌, List, [], ◌∷◌, ◌++◌, pos, true, Option, Some, None, Ok, Err, length, slice_get, refl, ap, subst, ◌∙◌, arith, length-append}
 use Rattle.std.specs.Prelude.{codes}
 use Rattle.gil_values.specs.declared.places.Place.{Place}
 use Rattle.gil_values.specs.Pure.{PureValue, text}
@@ -13,7 +13,7 @@ use Rattle.gil_machine.specs.Step as machine
 use Rattle.gil_machine.specs.Run.{run}
 use Rattle.source_meaning.specs.Code.{truth, jump}
 use Rattle.source_meaning.specs.Compiled.{if_code, while_code, assert_code, assume_code, invariant_code, logic_command}
-use Rattle.source_meaning.specs.Completions.{Situation, Completion, normal, returns, over, unfinished, then_do, end_of, fails, with_value, choose, turns}
+use Rattle.source_meaning.specs.Completions.{Situation, Completion, normal, returns, over, unfinished, then_do, end_of, fails, with_value, choose, Test, turns, value_test}
 use Rattle.source_meaning.specs.Names.{is_source_expr, IsExtendedBy}
 use Rattle.source_meaning.specs.Procedures.{placed}
 use Rattle.source_meaning.specs.Pure.{PureLogic, fold_use, unfold_use, assert_that, PureInvariant}
@@ -105,31 +105,61 @@ module _ (p : PureParts) (m : Actions) (inputs : List PureValue) (f : List ℕ) 
         ends : pc + 1 + length off + 1 + length on ≡ end
         ends = omega (arith, length-append off (jump at truth (pc + 1 + length off + 1 + length on) ∷ on))
 
-    -- a loop of at most n turns
-    pub loop_runs : (pc at : ℕ) (e : PureExpr) (invariant : Option PureInvariant) (written : ℕ) (code : List PureNumberedCommand)
-        (body : Situation → Completion) → is_source_expr e ≡ true
-        → HasAt q.body pc (while_code pc at e (invariant_code at written invariant) code)
-        → ((store : Store) (s : Situation) → IsExtendedBy s.store store
-        → Follows least (pc + length (invariant_code at written invariant) + 1 + 1 + length code)
-        (At (pc + length (invariant_code at written invariant) + 1 + 1) store s) (body s))
-        → (n some : ℕ) → some ≤ n → some ≤ least → (store : Store) (s : Situation) → IsExtendedBy s.store store
-        → Follows some (pc + length (while_code pc at e (invariant_code at written invariant) code)) (At pc store s)
-        (turns n (λ t. evaluate e t.store) (Here at) body s)
-    loop_runs pc at e invariant written code body names has follows zero some le le' store s ext = (0, omega arith, refl)
-    loop_runs pc at e invariant written code body names has follows (suc n) some le le' store s ext =
-        runs_after (run p m inputs) some f callers end _ _ _ (passes invariant has)
-        (fewer (run p m inputs) some (suc (some - 1)) f callers end _ _ (omega arith)
-        (choice_runs p m inputs f q found callers (some - 1) pc1 (pc1 + 1 + 1) end store s (Here at) (evaluate e s.store) _ _
-        (steps p m inputs f q found callers pc1 _ store s at_test.0
-        ∙ ap (λ o. machine.with_value o (Here at) (At pc1 store s)
-        (λ v. machine.branch v (pos (pc1 + 1 + 1)) (Here at) (At pc1 store s))) (same_value e s.store store ext names))
-        (turned (λ more t ext'. loop_runs pc at e invariant written code body names has follows n (some - 1) (omega arith)
-        (omega arith) more t ext'))
-        (store, ext, jumps (pc1 + 1) end at store s (at_test.1.0 ∙ ap (λ k. Some (jump at truth k)) ends))))
-      where
-        front : List PureNumberedCommand
-        front = invariant_code at written invariant
+    -- what only proofs look at in front of a test is passed
+    pub invariant_leads : (pc at written : ℕ) (invariant : Option PureInvariant) (store : Store) (s : Situation)
+        → HasAt q.body pc (invariant_code at written invariant)
+        → Leads (run p m inputs) (At pc store s) (goes_on (At (pc + length (invariant_code at written invariant)) store s))
+    invariant_leads pc at written None store s has = let e : pc ≡ pc + 0 = omega arith in subst
+        (λ k. Leads (run p m inputs) (At pc store s) (goes_on (At k store s))) e (stays (run p m inputs) _)
+    invariant_leads pc at written (Some i) store s has = leads _ _ _ (one_step p m inputs f q found callers _ _
+        (steps p m inputs f q found callers pc _ store s has.0))
 
+    -- The commands from a place on, and a jump at the expression behind them, do what a test does: where the test goes on with a
+    -- value, the machine is at the jump, and the expression has the value there.
+    abbrev pub Tests : ℕ → ℕ → ℕ → PureExpr → Test → Type 0
+    Tests pc pc' end e test = (some : ℕ) → some ≤ least → (go_on : PureValue → Situation → Completion) (store : Store) (s : Situation)
+        → IsExtendedBy s.store store
+        → ((v : PureValue) (more : Store) (t : Situation) → IsExtendedBy t.store more → evaluate e more ≡ Ok v
+        → Follows some end (At pc' more t) (go_on v t))
+        → Follows some end (At pc store s) (test s go_on)
+
+    -- a test that is the value of the expression itself, behind commands that change nothing
+    pub value_tests : (pc pc' label end at : ℕ) (e : PureExpr) → is_source_expr e ≡ true
+        → slice_get q.body pc' ≡ Some (jump at e label)
+        → ((store : Store) (s : Situation) → Leads (run p m inputs) (At pc store s) (goes_on (At pc' store s)))
+        → Tests pc pc' end e (value_test (λ t. evaluate e t.store) (Here at))
+    value_tests pc pc' label end at e names has front some le go_on store s ext next =
+        runs_after (run p m inputs) some f callers end _ _ _ (front store s)
+        (with_outcome (evaluate e s.store) (same_value e s.store store ext names))
+      where
+        with_outcome : (o : Outcome) → evaluate e store ≡ o
+            → Follows some end (At pc' store s) (with_value o (Here at) s (λ v. go_on v s))
+        with_outcome (Ok v) is = next v store s ext is
+        with_outcome (Err fault) is = (leads _ _ _ (one_step p m inputs f q found callers _ _
+            (steps p m inputs f q found callers pc' _ store s has
+            ∙ ap (λ o. machine.with_value o (Here at) (At pc' store s)
+            (λ v. machine.branch v (pos label) (Here at) (At pc' store s))) is)), tt)
+
+    -- a loop of at most n turns
+    pub loop_runs : (pc at : ℕ) (e : PureExpr) (front code : List PureNumberedCommand) (test : Test) (body : Situation → Completion)
+        → HasAt q.body pc (while_code pc at e front code)
+        → Tests pc (pc + length front) (pc + length (while_code pc at e front code)) e test
+        → ((store : Store) (s : Situation) → IsExtendedBy s.store store
+        → Follows least (pc + length front + 1 + 1 + length code) (At (pc + length front + 1 + 1) store s) (body s))
+        → (n some : ℕ) → some ≤ n → some ≤ least → (store : Store) (s : Situation) → IsExtendedBy s.store store
+        → Follows some (pc + length (while_code pc at e front code)) (At pc store s) (turns n test (Here at) body s)
+    loop_runs pc at e front code test body has tests follows zero some le le' store s ext = (0, omega arith, refl)
+    loop_runs pc at e front code test body has tests follows (suc n) some le le' store s ext =
+        tests some le' (λ v t. choose v (Here at) (λ u. then_do (body u) (turns n test (Here at) body)) (λ u. normal u) t) store s ext
+        (λ v more t ext' is.
+        fewer (run p m inputs) some (suc (some - 1)) f callers end _ _ (omega arith)
+        (choice_runs p m inputs f q found callers (some - 1) pc1 (pc1 + 1 + 1) end more t (Here at) (Ok v) _ _
+        (steps p m inputs f q found callers pc1 _ more t at_test.0
+        ∙ ap (λ o. machine.with_value o (Here at) (At pc1 more t)
+        (λ w. machine.branch w (pos (pc1 + 1 + 1)) (Here at) (At pc1 more t))) is)
+        (turned more t ext' (loop_runs pc at e front code test body has tests follows n (some - 1) (omega arith) (omega arith)))
+        (more, ext', jumps (pc1 + 1) end at more t (at_test.1.0 ∙ ap (λ k. Some (jump at truth k)) ends))))
+      where
         back : List PureNumberedCommand
         back = code ++ jump at truth pc ∷ []
 
@@ -150,18 +180,12 @@ module _ (p : PureParts) (m : Actions) (inputs : List PureValue) (f : List ℕ) 
           length-append code (jump at truth pc ∷ []),
         )
 
-        passes : (i : Option PureInvariant) → HasAt q.body pc (while_code pc at e (invariant_code at written i) code)
-            → Leads (run p m inputs) (At pc store s) (goes_on (At (pc + length (invariant_code at written i)) store s))
-        passes None there = let e : pc ≡ pc + 0 = omega arith in subst
-            (λ k. Leads (run p m inputs) (At pc store s) (goes_on (At k store s))) e (stays (run p m inputs) _)
-        passes (Some i) there = leads _ _ _ (one_step p m inputs f q found callers _ _
-            (steps p m inputs f q found callers pc _ store s there.0))
-
         -- the body, the jump back, and the other turns
-        turned : ((more : Store) (t : Situation) → IsExtendedBy t.store more
-            → Follows (some - 1) end (At pc more t) (turns n (λ t. evaluate e t.store) (Here at) body t))
-            → Follows (some - 1) end (At (pc1 + 1 + 1) store s) (then_do (body s) (turns n (λ t. evaluate e t.store) (Here at) body))
-        turned again = runs_then (run p m inputs) (some - 1) f callers (pc1 + 1 + 1 + length code) end _ (body s) _
+        turned : (store : Store) (s : Situation) → IsExtendedBy s.store store
+            → ((more : Store) (t : Situation) → IsExtendedBy t.store more
+            → Follows (some - 1) end (At pc more t) (turns n test (Here at) body t))
+            → Follows (some - 1) end (At (pc1 + 1 + 1) store s) (then_do (body s) (turns n test (Here at) body))
+        turned store s ext again = runs_then (run p m inputs) (some - 1) f callers (pc1 + 1 + 1 + length code) end _ (body s) _
             (fewer (run p m inputs) (some - 1) least f callers _ _ _ (omega arith) (follows store s ext))
             (λ more t ext'. runs_after (run p m inputs) (some - 1) f callers end _ _ _
             (jumps (pc1 + 1 + 1 + length code) pc at more t (has_back q.body (pc1 + 1 + 1) code _ at_test.1.1).0)

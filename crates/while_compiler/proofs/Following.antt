@@ -13,10 +13,11 @@ use Rattle.mem_model.specs.Actions.{Actions}
 use Rattle.gil_machine.specs.State.{Frame, State, Step}
 use Rattle.gil_machine.specs.Step as machine
 use Rattle.gil_machine.specs.Run.{run}
-use Rattle.source_meaning.specs.Compiled.{invariant_code}
-use Rattle.source_meaning.specs.Completions.{Situation, Completion, normal, fails, sets, with_value, after_action, draws_input, new_symbol, after_body, back_in}
+use Rattle.source_meaning.specs.Code.{truth, jump}
+use Rattle.source_meaning.specs.Compiled.{while_code, invariant_code}
+use Rattle.source_meaning.specs.Completions.{Situation, Completion, normal, fails, sets, with_value, after_action, draws_input, new_symbol, value_test, after_body, back_in}
 use Rattle.source_meaning.specs.Names.{is_source_expr, is_source_name, has_source_invariant, temporary, IsExtendedBy}
-use Rattle.source_meaning.proofs.Branches.{is_there, assert_runs, assume_runs, if_runs, loop_runs, logic_runs}
+use Rattle.source_meaning.proofs.Branches.{is_there, assert_runs, assume_runs, if_runs, invariant_leads, value_tests, loop_runs, logic_runs}
 use Rattle.source_meaning.proofs.Stores.{same_value, same_elements, extended_both, extended_more}
 use Rattle.source_meaning.proofs.Stretches.{HasAt, has_front, has_back}
 use Rattle.source_meaning.proofs.Following.{state_at, leaves, leads, Runs, Finishes, fewer, runs_then, at_place, call_runs, Matches, value_matches, input_matches, steps, one_step, matched, value_runs, values_run, outcome_runs}
@@ -193,7 +194,10 @@ module _ (p : PureParts) (m : Actions) (takes : TakesForNew m) (inputs : List Pu
           sides : (is_source_block on ≡ true) × (is_source_block off ≡ true)
           sides = and_parts _ _ parts.1
       statement_runs (while e invariant body) pc at store s ext names has =
-          loop_runs p m inputs f q found callers least pc at e invariant (block_temporaries body) code (block functions m inputs loops calls f body) parts.0 has
+          loop_runs p m inputs f q found callers least pc at e front code (value_test (λ t. evaluate e t.store) (Here at))
+          (block functions m inputs loops calls f body) has
+          (value_tests p m inputs f q found callers least pc (pc + length front) start (pc + length (while_code pc at e front code)) at e parts.0 at_test.0
+          (λ more t. invariant_leads p m inputs f q found callers least pc at (block_temporaries body) invariant more t (has_front q.body pc front _ has)))
           (λ more t ext'. block_runs body start more t ext' (and_parts (has_source_invariant invariant) _ parts.1).1 at_body)
           loops least enough (omega arith) store s ext
         where
@@ -209,8 +213,11 @@ module _ (p : PureParts) (m : Actions) (takes : TakesForNew m) (inputs : List Pu
           parts : (is_source_expr e ≡ true) × ((has_source_invariant invariant && is_source_block body) ≡ true)
           parts = and_parts _ _ names
 
+          at_test : HasAt q.body (pc + length front) (jump at e start ∷ jump at truth (start + length code + 1) ∷ (code ++ jump at truth pc ∷ []))
+          at_test = has_back q.body pc front _ has
+
           at_body : HasAt q.body start code
-          at_body = has_front q.body _ code _ (has_back q.body pc front _ has).1.1
+          at_body = has_front q.body _ code _ at_test.1.1
       statement_runs (return e) pc at store s ext names has =
           value_steps pc (pc + 1) at store s (evaluate e s.store) e _ _ ext names (steps p m inputs f q found callers pc _ store s has.0)
           (λ v. leaves callers callers f pc v store s)

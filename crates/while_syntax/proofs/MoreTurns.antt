@@ -7,7 +7,7 @@ use Rattle.gil_syntax.specs.Evaluation.{evaluate, evaluate_all}
 use Rattle.mem_model.specs.Actions.{Actions}
 use Rattle.gil_machine.specs.Step.{bind_all}
 use Rattle.source_meaning.specs.Completions.{Situation, Completion, fails, after_body, back_in, returned_from_entry}
-use Rattle.source_meaning.proofs.Longer.{Extends, extends_itself, then-extends, value-extends, values-extend, choice-extends, turns-extend, body-extends, end-extends}
+use Rattle.source_meaning.proofs.Longer.{Extends, extends_itself, then-extends, value-extends, values-extend, choice-extends, value_test-extends, turns-extend, body-extends, end-extends}
 use Rattle.while_syntax.specs.Laws.{EndsStay}
 use Rattle.while_syntax.specs.Pure.{PureStatement, assign, input, symbol, new, lookup, call, mutate, dispose, assert, assume, if_else, while, return, fail, logic, PureBlock, no_statements, statement_and, PureFunction, find_function}
 use Rattle.while_syntax.specs.Meaning.{Calls, call_found, statement, block, calls_within, at_entry, entered}
@@ -48,7 +48,7 @@ module _ (functions : List PureFunction) (m : Actions) (inputs : List PureValue)
           value-extends (evaluate e s.store) here s _ _
           (λ v. choice-extends v here _ _ _ _ s (block-extends here.proc body s) (block-extends here.proc other s))
       statement-extends (while e invariant body) here s =
-          turns-extend (λ t. evaluate e t.store) here _ _ (λ t. block-extends here.proc body t) n k le s
+          turns-extend _ _ here _ _ (value_test-extends (λ t. evaluate e t.store) here) (λ t. block-extends here.proc body t) n k le s
       statement-extends (return e) here s = extends_itself _
       statement-extends (fail e) here s = extends_itself _
       statement-extends (logic c) here s = refl

@@ -10,7 +10,7 @@ use Rattle.mem_model.specs.Heaps.{Heap}
 use Rattle.mem_model.specs.Actions.{Actions}
 use Rattle.gil_machine.specs.State.{vanished, End}
 use Rattle.gil_machine.specs.Step.{bind_all}
-use Rattle.source_meaning.specs.Completions.{Situation, Completion, normal, returns, over, unfinished, then_do, end_of, fails, sets, with_value, with_values, choose, after_action, draws_input, new_symbol, turns, after_body, back_in, returned_from_entry, end_if_over}
+use Rattle.source_meaning.specs.Completions.{Situation, Completion, normal, returns, over, unfinished, then_do, end_of, fails, sets, with_value, with_values, choose, after_action, draws_input, new_symbol, turns, value_test, after_body, back_in, returned_from_entry, end_if_over}
 use Rattle.while_syntax.specs.Pure.{PureField, PureStatement, assign, input, symbol, new, lookup, call, mutate, dispose, assert, assume, if_else, while, return, fail, logic, PureBlock, no_statements, statement_and, PureFunction, PureSource, find_function}
 
 abbrev pub field_names : List PureField → List PureValue
@@ -67,7 +67,7 @@ module _ (functions : List PureFunction) (m : Actions) (inputs : List PureValue)
         with_value (evaluate e s.store) here s (λ v. choose v here (λ t. normal t) (λ t. over (end_of vanished t)) s)
     statement (if_else e on off) here s =
         with_value (evaluate e s.store) here s (λ v. choose v here (block here.proc on) (block here.proc off) s)
-    statement (while e invariant body) here s = turns loops (λ t. evaluate e t.store) here (block here.proc body) s
+    statement (while e invariant body) here s = turns loops (value_test (λ t. evaluate e t.store) here) here (block here.proc body) s
     statement (return e) here s = with_value (evaluate e s.store) here s (λ v. returns v s)
     statement (fail e) here s = with_value (evaluate e s.store) here s (λ v. fails v here s)
     statement (logic c) here s = normal s
