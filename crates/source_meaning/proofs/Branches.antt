@@ -1,4 +1,5 @@
--- The machine follows choices, loops, assertions and assumptions, and passes what only proofs look at.
+-- The machine follows choices, loops, assertions and assumptions of languages whose conditions are booleans, and passes what only proofs
+-- look at.
 use Rattle.std.proofs.Common.{◌≡◌, ℕ, zero, suc, ◌+◌, ◌-◌, ◌≤◌, List, [], ◌∷◌, ◌++◌, pos, true, Option, Some, None, Ok, Err, length, slice_get, refl, ap, subst, ◌∙◌, arith, length-append}
 use Rattle.std.specs.Prelude.{codes}
 use Rattle.gil_values.specs.declared.places.Place.{Place}

@@ -1,5 +1,5 @@
--- What the statements of a source language start from and come to, the same for every language. What a statement does with
--- them is said in each language.
+-- What the statements of a source language start from and come to, the same for every language, but for `choose`, which is of languages
+-- whose conditions are booleans. What a statement does with them is said in each language.
 use Rattle.std.specs.Prelude.{ℕ, zero, suc, ◌+◌, List, true, false, if◌then◌else◌, slice_get, Option, Some, None, Ok, Err, codes}
 use Rattle.gil_values.specs.declared.kinds.Kind.{Kind}
 use Rattle.gil_values.specs.declared.kinds.Kind.TheVariants.{Null}
@@ -89,7 +89,8 @@ new_symbol x s = sets x (symbol s.counter) (record s { counter = s.counter + 1 }
 abbrev pub Test : Type 0
 Test = Situation → (PureValue → Situation → Completion) → Completion
 
--- A loop that is tested at most so many times: before each turn, and where the value is false, what follows the loop follows.
+-- A loop that is tested at most so many times: before each turn, and where the value is false, what follows the loop follows. Where
+-- conditions are other values than booleans, the test goes on with a boolean.
 abbrev pub turns : ℕ → Test → Place → (Situation → Completion) → Situation → Completion
 turns zero test here body s = unfinished
 turns (suc n) test here body s =
