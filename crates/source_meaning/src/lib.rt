@@ -13,7 +13,7 @@ mod trees;
 
 pub use control::{assert_code, assume_code, body_label, if_code, then_label, while_code};
 pub use expressions::{null, procedure_literal, temporary_variable, text_literal, truth, variable};
-pub use limits::{TooMany, first_too_long};
+pub use limits::{TooMany, first_long};
 pub use logic::{invariant_code, logic_code};
 pub use pieces::{append, code_len, jump, one, put, sum, text};
 pub use temporaries::{nulls, push_temporaries, temporary};

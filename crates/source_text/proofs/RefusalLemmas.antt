@@ -23,12 +23,16 @@ use Rattle.gil_text.specs.Located.{PureLocated}
 use Rattle.gil_text.specs.Refusals.{HasNoTokens}
 use Rattle.source_meaning.specs.Pure.{PureSource}
 use Rattle.source_text.specs.Grammar.{HasReading}
-use Rattle.source_text.specs.Located.{located_source, located_of}
+use Rattle.source_text.specs.Located.{located_of}
 use Rattle.source_text.specs.Reading.{source_at}
 use Rattle.source_text.specs.Refusals.{kind_of, SpellsNoTree, places_of, IsRefusedFor}
 use Rattle.source_text.specs.Texts.{SourceItem, PlacedItem, SpellItems, as_function, as_spec, as_pred, source_of, SpellSource}
 use Rattle.source_text.specs.Vocabulary.{are_source_lexemes}
 use Rattle.source_text.proofs.TextLaws.{source_takes, source_again, nested_whole, spelled_as_read, one_reading}
+
+-- the source of the lists
+abbrev pub located_source : {P : Type 0} → PureLocated P → PureSource P
+located_source l = record { functions = l.functions; specs = l.specs; preds = l.preds }
 
 map_some : {X Y : Type 0} (f : X → Y) (o : Option X) (y : Y) → option_map f o ≡ Some y → (x : X) × (o ≡ Some x) × (f x ≡ y)
 map_some f (Some x) y e = (x, refl, cc)

@@ -9,8 +9,8 @@ use Rattle.gil_syntax.specs.WellMade.{is_well_made}
 use Rattle.gil_program.specs.Uncounted.{fault_but_length_at, IsNamedButLength}
 use Rattle.gil_grammar.specs.Nesting.{IsNested}
 use Rattle.gil_text.specs.Located.{PureLocated}
-use Rattle.source_text.specs.Located.{located_source, located_of}
-use Rattle.source_text.proofs.RefusalLemmas.{located_spells}
+use Rattle.source_text.specs.Located.{located_of}
+use Rattle.source_text.proofs.RefusalLemmas.{located_source, located_spells}
 use Rattle.while_syntax.specs.Names.{is_source_function}
 use Rattle.while_syntax.specs.Pure.{PureFunction, PureSource}
 use Rattle.while_grammar.specs.Statements.{SpellsFunction}

@@ -3,8 +3,7 @@ use Rattle.std.proofs.lemmas.Result.{err_from_is_err_and}
 use Rattle.gil_lexer.specs.declared.words.Word.TheVariants.{Func}
 use Rattle.gil_grammar.specs.Nesting.{IsNested}
 use Rattle.gil_text.specs.Located.{located_view}
-use Rattle.source_text.specs.Located.{located_source}
-use Rattle.source_text.proofs.RefusalLemmas.{no_refusal, located_spells, one_source, located_place, fault_refusal}
+use Rattle.source_text.proofs.RefusalLemmas.{located_source, no_refusal, located_spells, one_source, located_place, fault_refusal}
 use Rattle.while_syntax.specs.View.{function_view}
 use Rattle.while_grammar.specs.Reading.Statements.{function_at}
 use Rattle.while_grammar.specs.Statements.{SpellsFunction}
