@@ -17,4 +17,4 @@ pub use limits::{TooMany, first_long};
 pub use logic::{invariant_code, logic_code};
 pub use pieces::{append, code_len, jump, one, put, sum, text};
 pub use temporaries::{nulls, push_temporaries, temporary};
-pub use trees::{Invariant, Logic, SourceParts};
+pub use trees::{Function, Invariant, Logic, SourceParts};

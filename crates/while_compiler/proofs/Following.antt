@@ -15,14 +15,17 @@ use Rattle.gil_machine.specs.Step as machine
 use Rattle.gil_machine.specs.Run.{run}
 use Rattle.source_meaning.specs.Code.{truth, jump}
 use Rattle.source_meaning.specs.Compiled.{while_code, invariant_code}
+use Rattle.source_meaning.specs.Calls.{call_found}
 use Rattle.source_meaning.specs.Completions.{Situation, Completion, normal, fails, sets, with_value, after_action, draws_input, new_symbol, value_test, after_body, back_in}
 use Rattle.source_meaning.specs.Names.{is_source_expr, is_source_name, has_source_invariant, temporary, IsExtendedBy}
+use Rattle.source_meaning.specs.Pure.{find_function}
 use Rattle.source_meaning.proofs.Branches.{is_there, assert_runs, assume_runs, if_runs, invariant_leads, value_tests, loop_runs, logic_runs}
+use Rattle.source_meaning.proofs.Ends.{CallsFollow}
 use Rattle.source_meaning.proofs.Stores.{same_value, same_elements, extended_both, extended_more}
 use Rattle.source_meaning.proofs.Stretches.{HasAt, has_front, has_back}
-use Rattle.source_meaning.proofs.Following.{state_at, Here, leaves, leads, Runs, Finishes, fewer, runs_then, at_place, call_runs, Matches, value_matches, input_matches, steps, one_step, matched, value_runs, values_run, outcome_runs}
-use Rattle.while_syntax.specs.Pure.{PureStatement, assign, input, symbol as new_symbol_in, new, lookup, call, mutate, dispose, assert, assume, if_else, while, return, fail, logic, PureBlock, no_statements, statement_and, PureFunction, find_function}
-use Rattle.while_syntax.specs.Meaning.{Calls, call_found, statement, block}
+use Rattle.source_meaning.proofs.Following.{state_at, Here, leaves, leads, Runs, fewer, runs_then, at_place, call_runs, Matches, value_matches, input_matches, steps, one_step, matched, value_runs, values_run, outcome_runs}
+use Rattle.while_syntax.specs.Pure.{PureStatement, assign, input, symbol as new_symbol_in, new, lookup, call, mutate, dispose, assert, assume, if_else, while, return, fail, logic, PureBlock, no_statements, statement_and, PureFunction}
+use Rattle.while_syntax.specs.Meaning.{Calls, statement, block}
 use Rattle.while_syntax.specs.Names.{is_source_statement, is_source_block}
 use Rattle.while_compiler.specs.Compiled.{block_temporaries, statement_code, block_code, compiled_function}
 use Rattle.while_compiler.proofs.NewRecords.{TakesForNew, new_runs}
@@ -48,13 +51,7 @@ value_text_value (Err fault) r cs here st then = refl
 module _ (p : PureParts) (m : Actions) (takes : TakesForNew m) (inputs : List PureValue) (functions : List PureFunction) (loops : ℕ)
     (calls : Calls)
     (programs : (g : List ℕ) → find_proc p.procs g ≡ option_map compiled_function (find_function functions g)) where
-  -- what the calls come to, from the first command of each procedure
-  abbrev pub CallsFollow : ℕ → Type 0
-  CallsFollow least = (g : List ℕ) (h : PureFunction) (args : List PureValue) (callers : List Frame) (s : Situation)
-      → find_function functions g ≡ Some h → Finishes (run p m inputs) least callers
-      (state_at h.name 0 callers (machine.bind_all h.params args) s) (calls h args s)
-
-  module _ (least : ℕ) (enough : least ≤ loops) (calls_follow : CallsFollow (least - 1)) (f : List ℕ) (q : PureProc)
+  module _ (least : ℕ) (enough : least ≤ loops) (calls_follow : CallsFollow p m inputs functions calls (least - 1)) (f : List ℕ) (q : PureProc)
       (found : find_proc p.procs f ≡ Some q) (callers : List Frame) where
     -- one command that takes a value
     value_steps : (pc pc' at : ℕ) (store : Store) (s : Situation) (o : Outcome) (e : PureExpr) (then : PureValue → Completion)
