@@ -2,7 +2,6 @@
 -- look at.
 use Rattle.std.proofs.Common.{◌≡◌, ℕ, zero, suc, ◌+◌, ◌-◌, ◌≤◌, List, [], ◌∷◌, ◌++◌, pos, true, Option, Some, None, Ok, Err, length, slice_get, refl, ap, subst, ◌∙◌, arith, length-append}
 use Rattle.std.specs.Prelude.{codes}
-use Rattle.gil_values.specs.declared.places.Place.{Place}
 use Rattle.gil_values.specs.Pure.{PureValue, text}
 use Rattle.gil_values.specs.Operators.{Outcome}
 use Rattle.gil_syntax.specs.Pure.{PureExpr, PureNumberedCommand, PureProc, PureParts}

@@ -1,6 +1,6 @@
-//! What is the same for every source language: the trees that all have, what statements come to, when a source program and its
-//! compiled program have the same ends, which sources are compiled, and the pieces that compiled procedures are made of. The commands of
-//! choices, loops, assertions and assumptions are those of languages whose conditions are booleans.
+//! What is the same for every source language: the trees that all have, what statements, calls and programs come to, when a source program
+//! and its compiled program have the same ends, which sources are compiled, and the pieces that compiled procedures are made of. The
+//! commands of choices, loops, assertions and assumptions are those of languages whose conditions are booleans.
 #![tactic(auto)]
 
 mod control;
