@@ -17,10 +17,14 @@ use Rattle.gil_grammar.specs.Reading.Texts.{with_items, items_at}
 use Rattle.gil_text.specs.declared.located.Located.{Located}
 use Rattle.gil_text.specs.declared.located.TextItem.{TextItem}
 use Rattle.gil_text.specs.declared.located.TextItem.TheVariants as items
-use Rattle.gil_text.specs.Located.{PureLocated, with_added, located_view, text_item_view, located_of, with_item}
-use Rattle.gil_text.proofs.LocatedLemmas.{lists_push, added_seen}
+use Rattle.gil_text.specs.Located.{PureLocated, with_added, located_view, text_item_view, located_of}
+use Rattle.gil_text.proofs.LocatedLemmas.{with_one, lists_push, added_seen}
 
 -- the lists with one item more
+abbrev pub with_item : PureLocated PureProc → PlacedItem → PureLocated PureProc
+with_item l i = with_one (λ i. as_proc i.item) (λ i. as_spec i.item) (λ i. as_pred i.item) (λ i. i.at) l i
+
+-- the lists of the items with one more
 located_push : (items : List PlacedItem) (i : PlacedItem) → located_of (items ++ i ∷ []) ≡ with_item (located_of items) i
 located_push items i = lists_push (λ (j : PlacedItem). as_proc j.item) (λ (j : PlacedItem). as_spec j.item) (λ (j : PlacedItem). as_pred j.item) (λ (j : PlacedItem). j.at) items i
 

@@ -10,7 +10,7 @@ use Rattle.gil_grammar.specs.Texts.{place_if}
 use Rattle.gil_text.specs.declared.located.Located.{Located}
 use Rattle.gil_text.specs.declared.located.TextItem.{TextItem}
 use Rattle.gil_text.specs.declared.located.TextItem.TheVariants as items
-use Rattle.gil_text.specs.Located.{with_added, located_view, lists_of, with_one}
+use Rattle.gil_text.specs.Located.{PureLocated, with_added, located_view, lists_of}
 
 one_kept : {X Y : Type 0} (f : X → Option Y) (x : X) (o : Option Y) → f x ≡ o → filter_map f (x ∷ []) ≡ option_to_list o
 one_kept f x (Some y) e = rw e refl
@@ -20,9 +20,20 @@ kept_push : {X Y : Type 0} (f : X → Option Y) (xs : List X) (x : X) → filter
 kept_push f xs x = filter_map-append f xs (x ∷ []) ∙ ap (λ ys. filter_map f xs ++ ys) (one_kept f x (f x) refl)
 
 module _ {I F : Type 0} (as_function : I → Option F) (as_spec : I → Option PureSpec) (as_pred : I → Option PurePredDef) (begins : I → ℕ) where
+  -- the lists with one item more
+  abbrev pub with_one : PureLocated F → I → PureLocated F
+  with_one l i = record {
+    functions = l.functions ++ option_to_list (as_function i);
+    specs = l.specs ++ option_to_list (as_spec i);
+    preds = l.preds ++ option_to_list (as_pred i);
+    functions_at = l.functions_at ++ option_to_list (place_if (begins i) (as_function i));
+    specs_at = l.specs_at ++ option_to_list (place_if (begins i) (as_spec i));
+    preds_at = l.preds_at ++ option_to_list (place_if (begins i) (as_pred i));
+  }
+
   -- the lists of the items with one more
   pub lists_push : (is : List I) (i : I)
-      → lists_of as_function as_spec as_pred begins (is ++ i ∷ []) ≡ with_one as_function as_spec as_pred begins (lists_of as_function as_spec as_pred begins is) i
+      → lists_of as_function as_spec as_pred begins (is ++ i ∷ []) ≡ with_one (lists_of as_function as_spec as_pred begins is) i
   lists_push is i =
       rw (
         kept_push as_function is i,

@@ -21,7 +21,7 @@ use Rattle.gil_grammar.proofs.MadeLaws.{text_makes}
 use Rattle.gil_grammar.proofs.TextLaws.{program_takes, program_again, nested_whole, spelled_as_read, one_program}
 use Rattle.gil_text.specs.declared.refused.RefusedKind.{RefusedKind}
 use Rattle.gil_text.specs.declared.refused.RefusedKind.TheVariants as refusals
-use Rattle.gil_text.specs.Located.{PureLocated, located_parts, located_of}
+use Rattle.gil_text.specs.Located.{PureLocated, located_of}
 use Rattle.gil_text.specs.Refusals.{lexical, HasNoTokens, IsRefusedFor}
 
 pub lexical_refusal : (kind : LexKind) (bytes : List ℕ) (at : ℕ) → (kind ≢ kinds.Memory → (tokens : List Token) → AreTokensOf tokens bytes → ⊥) → IsRefusedFor bytes at (lexical kind)
@@ -129,6 +129,10 @@ no_place items kind i named none =
     cc (none, some)
 
 -- ---- programs
+
+-- the parts of the lists
+abbrev pub located_parts : PureLocated PureProc → PureParts
+located_parts l = record { procs = l.functions; specs = l.specs; preds = l.preds }
 
 -- the parts that were read are well made, and of one program
 pub located_makes : (bytes : List ℕ) (located : PureLocated PureProc) (items : List PlacedItem) → Spell bytes items → located ≡ located_of items → is_well_made (located_parts located) ≡ true

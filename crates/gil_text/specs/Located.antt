@@ -1,8 +1,8 @@
 -- The lists of a text as they are read, with the byte at which each item begins. The procedures of a text of GIL, or the functions of
 -- one of a source language, are of any type.
-use Rattle.std.specs.Prelude.{ℕ, List, [], ◌∷◌, ◌++◌, map, Option, option_to_list}
+use Rattle.std.specs.Prelude.{ℕ, List, [], ◌∷◌, ◌++◌, map, Option}
 use Rattle.std.specs.List.{filter_map}
-use Rattle.gil_syntax.specs.Pure.{PureProc, PureSpec, PurePredDef, PureParts}
+use Rattle.gil_syntax.specs.Pure.{PureProc, PureSpec, PurePredDef}
 use Rattle.gil_syntax.specs.Valid.{ProgramItem, a_proc, a_spec, a_pred}
 use Rattle.gil_syntax.specs.View.{proc_view, spec_view, pred_def_view}
 use Rattle.gil_syntax.specs.declared.parts.Proc.{Proc}
@@ -56,17 +56,6 @@ module _ {I F : Type 0} (as_function : I → Option F) (as_spec : I → Option P
     preds_at = filter_map (λ i. place_if (begins i) (as_pred i)) is;
   }
 
-  -- one item more
-  abbrev pub with_one : PureLocated F → I → PureLocated F
-  with_one l i = record {
-    functions = l.functions ++ option_to_list (as_function i);
-    specs = l.specs ++ option_to_list (as_spec i);
-    preds = l.preds ++ option_to_list (as_pred i);
-    functions_at = l.functions_at ++ option_to_list (place_if (begins i) (as_function i));
-    specs_at = l.specs_at ++ option_to_list (place_if (begins i) (as_spec i));
-    preds_at = l.preds_at ++ option_to_list (place_if (begins i) (as_pred i));
-  }
-
 -- ---- of GIL
 
 abbrev pub text_item_view : TextItem Proc → ProgramItem
@@ -74,11 +63,5 @@ text_item_view (items.Function q) = a_proc (proc_view q)
 text_item_view (items.Spec s) = a_spec (spec_view s)
 text_item_view (items.Pred d) = a_pred (pred_def_view d)
 
-abbrev pub located_parts : PureLocated PureProc → PureParts
-located_parts l = record { procs = l.functions; specs = l.specs; preds = l.preds }
-
 abbrev pub located_of : List PlacedItem → PureLocated PureProc
 located_of is = lists_of (λ i. as_proc i.item) (λ i. as_spec i.item) (λ i. as_pred i.item) (λ i. i.at) is
-
-abbrev pub with_item : PureLocated PureProc → PlacedItem → PureLocated PureProc
-with_item l i = with_one (λ i. as_proc i.item) (λ i. as_spec i.item) (λ i. as_pred i.item) (λ i. i.at) l i

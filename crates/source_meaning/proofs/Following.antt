@@ -32,6 +32,10 @@ state_at f pc callers store s = record {
   draws = s.draws;
 }
 
+-- the place of a statement of a procedure
+abbrev pub Here : List ℕ → ℕ → Place
+Here f at = record { proc = f; at = at }
+
 -- where a return of a procedure leads
 abbrev pub left : List Frame → PureValue → Situation → Step
 left [] v s = ends (end_of (returned v) s)

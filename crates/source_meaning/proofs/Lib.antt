@@ -1,8 +1,10 @@
 pub mod Branches
+pub mod Ends
 pub mod Following
 pub mod Labels
 pub mod Longer
 pub mod Made
+pub mod MoreTurns
 pub mod NumberedNames
 pub mod Stores
 pub mod Stretches

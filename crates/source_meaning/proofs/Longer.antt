@@ -6,7 +6,7 @@ use Rattle.gil_values.specs.Pure.{PureValue, integer, boolean, text, symbol, kin
 use Rattle.gil_values.specs.Operators.{Outcome}
 use Rattle.gil_syntax.specs.Evaluation.{Outcomes}
 use Rattle.gil_machine.specs.State.{End}
-use Rattle.source_meaning.specs.Completions.{Situation, Completion, normal, returns, over, unfinished, then_do, with_value, with_values, choose, turns, after_body, end_if_over}
+use Rattle.source_meaning.specs.Completions.{Situation, Completion, normal, returns, over, unfinished, then_do, with_value, with_values, choose, Test, turns, value_test, after_body, end_if_over}
 
 -- the second completion is the first one, where that is none that is unfinished
 abbrev pub Extends : Completion → Completion → Type 0
@@ -49,14 +49,22 @@ choice-extends (kind x) here on off on' off' s h k = refl
 choice-extends (procedure f) here on off on' off' s h k = refl
 choice-extends (list vs) here on off on' off' s h k = refl
 
-pub turns-extend : (test : Situation → Outcome) (here : Place) (body body' : Situation → Completion)
+-- what follows the second test extends what follows the first one, where what is done with the value does
+abbrev pub TestExtends : Test → Test → Type 0
+TestExtends test test' = (s : Situation) (f g : PureValue → Situation → Completion)
+    → ((v : PureValue) (t : Situation) → Extends (f v t) (g v t)) → Extends (test s f) (test' s g)
+
+pub value_test-extends : (value : Situation → Outcome) (here : Place) → TestExtends (value_test value here) (value_test value here)
+value_test-extends value here s f g k = value-extends (value s) here s (λ v. f v s) (λ v. g v s) (λ v. k v s)
+
+pub turns-extend : (test test' : Test) (here : Place) (body body' : Situation → Completion) → TestExtends test test'
     → ((s : Situation) → Extends (body s) (body' s)) → (n k : ℕ) → n ≤ k → (s : Situation)
-    → Extends (turns n test here body s) (turns k test here body' s)
-turns-extend test here body body' more zero k le s = tt
-turns-extend test here body body' more (suc n) zero le s = absurd (omega arith)
-turns-extend test here body body' more (suc n) (suc k) le s =
-    value-extends (test s) here s _ _ (λ v. choice-extends v here _ _ _ _ s
-    (then-extends (body s) (body' s) _ _ (more s) (turns-extend test here body body' more n k (omega arith))) refl)
+    → Extends (turns n test here body s) (turns k test' here body' s)
+turns-extend test test' here body body' tests more zero k le s = tt
+turns-extend test test' here body body' tests more (suc n) zero le s = absurd (omega arith)
+turns-extend test test' here body body' tests more (suc n) (suc k) le s =
+    tests s _ _ (λ v t. choice-extends v here _ _ _ _ t
+    (then-extends (body t) (body' t) _ _ (more t) (turns-extend test test' here body body' tests more n k (omega arith))) refl)
 
 pub body-extends : (c d : Completion) (f : PureValue → Situation → Completion) → Extends c d → Extends (after_body c f) (after_body d f)
 body-extends (normal s) d f h = subst (λ x. Extends (f (kind Null) s) (after_body x f)) (sym h) (extends_itself (f (kind Null) s))

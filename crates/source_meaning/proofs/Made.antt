@@ -1,5 +1,6 @@
--- Well made commands: those that stand for statements which every source language has, from the expressions and names in them. The
--- names of temporaries begin with no `#`.
+-- Well made commands: those of invariants and procedures in every source language, and those of choices, loops, assertions and
+-- assumptions in languages whose conditions are booleans, from the expressions and names in them. The names of temporaries begin with no
+-- `#`.
 use Rattle.std.proofs.Common.{◌≡◌, ℕ, zero, suc, ◌+◌, pos, true, ◌&&◌, List, [], ◌∷◌, ◌++◌, length, refl, ◌∙◌}
 use Rattle.std.specs.List.{list_all}
 use Rattle.std.proofs.lemmas.Bool.{and_from, and_parts}

@@ -1,5 +1,6 @@
--- Commands that stand for statements which every source language has. The commands of a statement have the byte at which it begins as
--- their place; labels are indices of the procedure's commands.
+-- Commands that stand for statements: choices, loops, assertions and assumptions of languages whose conditions are booleans, and what
+-- only proofs look at, of every language. The commands of a statement have the byte at which it begins as their place; labels are indices
+-- of the procedure's commands.
 use Rattle.std.specs.Prelude.{ℕ, ◌+◌, List, [], ◌∷◌, ◌++◌, length, Option, Some, None, codes}
 use Rattle.gil_values.specs.Pure.{text}
 use Rattle.gil_syntax.specs.Pure.{PureExpr, literal, PureCommand, fail, vanish, fold_use, unfold_use, assert_that, loop_invariant, PureNumberedCommand}

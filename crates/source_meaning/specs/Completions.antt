@@ -1,5 +1,5 @@
--- What the statements of a source language start from and come to, the same for every language. What a statement does with
--- them is said in each language.
+-- What the statements of a source language start from and come to, the same for every language, but for `choose`, which is of languages
+-- whose conditions are booleans. What a statement does with them is said in each language.
 use Rattle.std.specs.Prelude.{ℕ, zero, suc, ◌+◌, List, true, false, if◌then◌else◌, slice_get, Option, Some, None, Ok, Err, codes}
 use Rattle.gil_values.specs.declared.kinds.Kind.{Kind}
 use Rattle.gil_values.specs.declared.kinds.Kind.TheVariants.{Null}
@@ -84,11 +84,21 @@ draws_input inputs x k s = input_of (slice_get inputs s.draws) x k (record s { d
 abbrev pub new_symbol : List ℕ → Situation → Situation
 new_symbol x s = sets x (symbol s.counter) (record s { counter = s.counter + 1 })
 
--- A loop that tests its condition at most so many times: before each turn, and where it is false, what follows the loop follows.
-abbrev pub turns : ℕ → (Situation → Outcome) → Place → (Situation → Completion) → Situation → Completion
+-- What the test of a loop comes to from a situation, from what is done with its value, and where it leads. A test may also fail, do
+-- actions, or be unfinished.
+abbrev pub Test : Type 0
+Test = Situation → (PureValue → Situation → Completion) → Completion
+
+-- A loop that is tested at most so many times: before each turn, and where the value is false, what follows the loop follows. Where
+-- conditions are other values than booleans, the test goes on with a boolean.
+abbrev pub turns : ℕ → Test → Place → (Situation → Completion) → Situation → Completion
 turns zero test here body s = unfinished
 turns (suc n) test here body s =
-    with_value (test s) here s (λ v. choose v here (λ t. then_do (body t) (turns n test here body)) (λ t. normal t) s)
+    test s (λ v t. choose v here (λ u. then_do (body u) (turns n test here body)) (λ u. normal u) t)
+
+-- the test that is the value of an expression
+abbrev pub value_test : (Situation → Outcome) → Place → Test
+value_test value here s go_on = with_value (value s) here s (λ v. go_on v s)
 
 -- What is done with the value that a function returns, from what its body comes to. A function that ends without a return
 -- returns Null.

@@ -6,8 +6,12 @@ use Rattle.gil_syntax.specs.Pure.{PureExpr, literal, name, logical, list_of, una
 use Rattle.gil_syntax.specs.Evaluation.{Store, value_of}
 use Rattle.source_meaning.specs.Pure.{PureInvariant}
 
+-- the code of '$'
+abbrev pub dollar : ℕ
+dollar = 36
+
 abbrev pub is_source_name : List ℕ → Bool
-is_source_name x = not (list_any (nat_eq 36) x)
+is_source_name x = not (list_any (nat_eq dollar) x)
 
 -- an expression of a source program: it names no temporary and no logical variable
 abbrev mutual

@@ -5,6 +5,7 @@ use Rattle.gil_values.specs.declared.kinds.Kind.TheVariants.{Null}
 use Rattle.gil_values.specs.Pure.{kind}
 use Rattle.gil_syntax.specs.Pure.{PureExpr, literal, PureCommand, assign, return, PureNumberedCommand, PureProc}
 use Rattle.source_meaning.specs.Names.{temporaries_from}
+use Rattle.source_meaning.specs.Pure.{PureFunction}
 
 abbrev pub null : PureExpr
 null = literal (kind Null)
@@ -23,3 +24,7 @@ body_of at temporaries code = nulls at (temporaries_from 0 temporaries) ++ (code
 
 abbrev pub procedure_of : List ℕ → List (List ℕ) → ℕ → ℕ → (ℕ → List PureNumberedCommand) → PureProc
 procedure_of f params at temporaries code = record { name = f; params = params; body = body_of at temporaries code }
+
+-- the procedure of a function, by how many temporaries it uses and its commands from a place of the body on
+abbrev pub compiled_function : {B : Type 0} → (PureFunction B → ℕ) → (PureFunction B → ℕ → List PureNumberedCommand) → PureFunction B → PureProc
+compiled_function temporaries code f = procedure_of f.name f.params f.at (temporaries f) (code f)

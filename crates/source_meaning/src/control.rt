@@ -1,4 +1,4 @@
-//! Choices and loops, assertions and assumptions.
+//! Choices and loops, assertions and assumptions of languages whose conditions are booleans.
 ghost use Rattle.std.specs.Prelude.{◌≡◌, ◌+◌, [], ◌∷◌, length, IfOk};
 ghost use Rattle.gil_syntax.specs.View.{expr_view};
 ghost use Rattle.source_meaning.specs.Code.{code_view, jump as jump_to};

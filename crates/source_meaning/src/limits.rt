@@ -1,7 +1,7 @@
 //! Why a source isn't compiled.
 ghost use Rattle.std.specs.Prelude.{◌≡◌, map};
 ghost use Rattle.gil_syntax.specs.View.{proc_view};
-ghost use Rattle.source_meaning.specs.Limits.{first_long};
+ghost use Rattle.source_meaning.specs.Limits as limits;
 ghost use Rattle.source_meaning.specs.declared.limits.TooMany.TheVariants.{Memory};
 
 use crate::pieces::code_len;
@@ -31,8 +31,8 @@ impl From<AllocError> for TooMany {
 const MOST_COMMANDS: usize = 1000;
 
 /// The number of the first procedure that has too many commands.
-pub fn first_too_long(procs: &[Proc]) -> Option<usize>
-    ensures { result ≡ first_long (map proc_view procs.now) }
+pub fn first_long(procs: &[Proc]) -> Option<usize>
+    ensures { result ≡ limits.first_long (map proc_view procs.now) }
 {
     for number in 0..procs.len() {
         if code_len(&procs[number].body) > MOST_COMMANDS {

@@ -1,5 +1,6 @@
 //! What the trees of every source language have.
 use gil_syntax::{Assertion, Params, PredDefs, PredUse, Specs, Texts};
+use gil_values::Text;
 use sequence::Sequence;
 
 /// What only the proof of a specification looks at. Contracts see it as its pure data, by `logic_view`.
@@ -17,6 +18,15 @@ pub struct Invariant {
     pub names: Texts,
     pub logicals: Params,
     pub assertion: Assertion,
+}
+
+/// A function with a body of the type `B`, and the byte at which it begins. Contracts see it as its pure data, by `function_view`.
+#[derive(Debug, Drop)]
+pub struct Function<B> {
+    pub name: Text,
+    pub params: Texts,
+    pub body: B,
+    pub at: u32,
 }
 
 /// The lists of which a program is made, in the order of its text, with functions of the type `F`.

@@ -11,10 +11,14 @@ use Rattle.gil_text.specs.declared.located.Located.{Located}
 use Rattle.gil_text.specs.declared.located.TextItem.{TextItem}
 use Rattle.gil_text.specs.declared.located.TextItem.TheVariants as items
 use Rattle.gil_text.specs.Located.{PureLocated, with_added, located_view}
-use Rattle.gil_text.proofs.LocatedLemmas.{lists_push, added_seen}
-use Rattle.source_text.specs.Located.{source_item_view, located_of, with_item}
+use Rattle.gil_text.proofs.LocatedLemmas.{with_one, lists_push, added_seen}
+use Rattle.source_text.specs.Located.{source_item_view, located_of}
 use Rattle.source_text.specs.Reading.{item_at, with_items, items_at}
 use Rattle.source_text.specs.Texts.{SourceItem, PlacedItem, as_function, as_spec, as_pred}
+
+-- the lists with one item more
+abbrev pub with_item : {P : Type 0} → PureLocated P → PlacedItem P → PureLocated P
+with_item l i = with_one (λ j. as_function j.item) (λ j. as_spec j.item) (λ j. as_pred j.item) (λ j. j.at) l i
 
 -- what was added is one item more
 pub item_added : {F P : Type 0} (view : F → P) (l : Located F) (item : TextItem F) (at : ℕ)
@@ -23,7 +27,7 @@ item_added view l (items.Function f) at = added_seen view l (items.Function f) a
 item_added view l (items.Spec s) at = added_seen view l (items.Spec s) at
 item_added view l (items.Pred d) at = added_seen view l (items.Pred d) at
 
--- the lists with one item more
+-- the lists of the items with one more
 located_push : {P : Type 0} (is : List (PlacedItem P)) (i : PlacedItem P) → located_of (is ++ i ∷ []) ≡ with_item (located_of is) i
 located_push {P} is i = lists_push (λ (j : PlacedItem P). as_function j.item) (λ (j : PlacedItem P). as_spec j.item) (λ (j : PlacedItem P). as_pred j.item) (λ (j : PlacedItem P). j.at) is i
 

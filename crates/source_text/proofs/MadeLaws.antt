@@ -97,7 +97,7 @@ module _ {F : Type 0} (spells : (ℕ → ℕ) → F → List Lexeme → List Lex
     pub specs : list_all is_well_made_spec (source_of items).specs ≡ true
     pub preds : list_all is_well_made_pred (source_of items).preds ≡ true
 
-  pub text_makes : (bytes : List ℕ) (items : List (PlacedItem F)) → SpellItems spells bytes items → ListsAreMade items
-  text_makes bytes items s =
+  pub text_makes : (is_nested : List Lexeme → Type 0) (bytes : List ℕ) (items : List (PlacedItem F)) → SpellItems is_nested spells bytes items → ListsAreMade items
+  text_makes is_nested bytes items s =
       let made = items_make (byte_before s.tokens) items s.lexemes (tokens_proper bytes s.tokens s.lexemes s.text s.stand) s.spelled in
       record { functions = functions_made items made; specs = specs_made items made; preds = preds_made items made }

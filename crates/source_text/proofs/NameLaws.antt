@@ -1,8 +1,8 @@
 -- A tree that lexemes without '$' spell names only what a source text can name.
-use Rattle.std.proofs.Common.{ℕ, Bool, true, false, List, [], ◌∷◌, ◌++◌, Option, Some, None, refl, subst}
-use Rattle.std.specs.Prelude.{◌&&◌, IsTrue}
+use Rattle.std.proofs.Common.{ℕ, Bool, List, [], ◌∷◌, ◌++◌, Option, Some, None, refl, subst}
+use Rattle.std.specs.Prelude.{IsTrue}
 use Rattle.std.specs.List.{list_all, cons_option}
-use Rattle.std.proofs.lemmas.Bool.{and_from}
+use Rattle.std.proofs.lemmas.Bool.{and_from, and_parts}
 use Rattle.gil_lexemes.specs.declared.standing.Lexeme.{Lexeme}
 use Rattle.gil_lexemes.specs.declared.standing.Lexeme.TheVariants as lexemes
 use Rattle.gil_syntax.specs.Pure as gil
@@ -21,19 +21,11 @@ use Rattle.source_text.specs.Vocabulary.{is_source_lexeme, are_source_lexemes}
 abbrev pub Kept : List Lexeme → Type 0
 Kept ls = IsTrue (are_source_lexemes ls)
 
-first_part : (a b : Bool) → IsTrue (a && b) → IsTrue a
-first_part true b e = refl
-first_part false b e = absurd cc
-
-second_part : (a b : Bool) → IsTrue (a && b) → IsTrue b
-second_part true b e = e
-second_part false b e = absurd cc
-
 head : (l : Lexeme) (ls : List Lexeme) → Kept (l ∷ ls) → IsTrue (is_source_lexeme l)
-head l ls k = first_part (is_source_lexeme l) (are_source_lexemes ls) k
+head l ls k = (and_parts (is_source_lexeme l) (are_source_lexemes ls) k).0
 
 pub tail : (l : Lexeme) (ls : List Lexeme) → Kept (l ∷ ls) → Kept ls
-tail l ls k = second_part (is_source_lexeme l) (are_source_lexemes ls) k
+tail l ls k = (and_parts (is_source_lexeme l) (are_source_lexemes ls) k).1
 
 pub named : (x : List ℕ) (ls : List Lexeme) → Kept (lexemes.Name x ∷ ls) → IsTrue (is_source_name x)
 named x ls k = head (lexemes.Name x) ls k

@@ -23,12 +23,16 @@ use Rattle.gil_text.specs.Located.{PureLocated}
 use Rattle.gil_text.specs.Refusals.{HasNoTokens}
 use Rattle.source_meaning.specs.Pure.{PureSource}
 use Rattle.source_text.specs.Grammar.{HasReading}
-use Rattle.source_text.specs.Located.{located_source, located_of}
+use Rattle.source_text.specs.Located.{located_of}
 use Rattle.source_text.specs.Reading.{source_at}
 use Rattle.source_text.specs.Refusals.{kind_of, SpellsNoTree, places_of, IsRefusedFor}
 use Rattle.source_text.specs.Texts.{SourceItem, PlacedItem, SpellItems, as_function, as_spec, as_pred, source_of, SpellSource}
 use Rattle.source_text.specs.Vocabulary.{are_source_lexemes}
 use Rattle.source_text.proofs.TextLaws.{source_takes, source_again, nested_whole, spelled_as_read, one_reading}
+
+-- the source of the lists
+abbrev pub located_source : {P : Type 0} → PureLocated P → PureSource P
+located_source l = record { functions = l.functions; specs = l.specs; preds = l.preds }
 
 map_some : {X Y : Type 0} (f : X → Y) (o : Option X) (y : Y) → option_map f o ≡ Some y → (x : X) × (o ≡ Some x) × (f x ≡ y)
 map_some f (Some x) y e = (x, refl, cc)
@@ -38,9 +42,9 @@ map_none : {X Y : Type 0} (f : X → Y) (o : Option X) → option_map f o ≡ No
 map_none f (Some x) e = absurd cc
 map_none f None e = refl
 
-module _ {F : Type 0} (spells : (ℕ → ℕ) → F → List Lexeme → List Lexeme → Type 0) where
+module _ {F : Type 0} (is_nested : List Lexeme → Type 0) (spells : (ℕ → ℕ) → F → List Lexeme → List Lexeme → Type 0) where
   -- bytes without tokens
-  pub lexical : (bytes : List ℕ) (kind : RefusedKind) → HasNoTokens bytes kind → SpellsNoTree spells bytes kind
+  pub lexical : (bytes : List ℕ) (kind : RefusedKind) → HasNoTokens bytes kind → SpellsNoTree is_nested spells bytes kind
   lexical bytes refusals.Lex h = h
   lexical bytes refusals.Memory h = tt
   lexical bytes refusals.Nesting h = absurd h
@@ -51,21 +55,22 @@ module _ {F : Type 0} (spells : (ℕ → ℕ) → F → List Lexeme → List Lex
   lexical bytes refusals.Modes h = absurd h
 
   module _ (bytes : List ℕ) (tokens : List Token) (ls : List Lexeme) (text : AreTokensOf tokens bytes) (stand : StandForAll bytes tokens ls) where
-    -- too many brackets
-    pub nesting_refusal : (IsNested ls → ⊥) → SpellsNoTree spells bytes refusals.Nesting
+    -- they nest too deep
+    pub nesting_refusal : (is_nested ls → ⊥) → SpellsNoTree is_nested spells bytes refusals.Nesting
     nesting_refusal deep = (tokens, ls, record { text = text; stand = stand }, deep)
 
     -- a name with a '$'
-    pub name_refusal : IsNested ls → (IsTrue (are_source_lexemes ls) → ⊥) → SpellsNoTree spells bytes refusals.Syntax
+    pub name_refusal : is_nested ls → (IsTrue (are_source_lexemes ls) → ⊥) → SpellsNoTree is_nested spells bytes refusals.Syntax
     name_refusal nested foreign = (tokens, ls, record { text = text; stand = stand }, nested, λ items spelled first names. foreign names)
 
-    module _ (first : Word) (function_at : (ℕ → ℕ) → List Lexeme → Reading F) (reading : HasReading first spells function_at) where
+    module _ (bracketed : (l : List Lexeme) → is_nested l → IsNested l) (first : Word) (function_at : (ℕ → ℕ) → List Lexeme → Reading F)
+        (reading : HasReading first spells function_at) where
       abbrev Read : Option (List (PlacedItem F))
       Read = source_at first function_at (byte_before tokens) ls
 
       -- the items that were read are those of the text
-      pub items_spell : (located : PureLocated F) → IsNested ls → IsTrue (are_source_lexemes ls) → option_map located_of Read ≡ Some located
-          → (items : List (PlacedItem F)) × SpellItems spells bytes items × (located ≡ located_of items)
+      pub items_spell : (located : PureLocated F) → is_nested ls → IsTrue (are_source_lexemes ls) → option_map located_of Read ≡ Some located
+          → (items : List (PlacedItem F)) × SpellItems is_nested spells bytes items × (located ≡ located_of items)
       items_spell located nested names e =
           let found = map_some located_of Read located e in
           let spelled = source_takes first spells function_at reading (byte_before tokens) ls found.0 found.1 in (
@@ -75,7 +80,7 @@ module _ {F : Type 0} (spells : (ℕ → ℕ) → F → List Lexeme → List Lex
           )
 
       -- no items
-      pub syntax_refusal : IsNested ls → option_map located_of Read ≡ None → SpellsNoTree spells bytes refusals.Syntax
+      pub syntax_refusal : is_nested ls → option_map located_of Read ≡ None → SpellsNoTree is_nested spells bytes refusals.Syntax
       syntax_refusal nested e =
           let none = map_none located_of Read e in (
             tokens,
@@ -83,20 +88,20 @@ module _ {F : Type 0} (spells : (ℕ → ℕ) → F → List Lexeme → List Lex
             record { text = text; stand = stand },
             nested,
             λ items spelled begins names.
-                let some = source_again first spells function_at reading (byte_before tokens) ls items (nested_whole ls nested) spelled begins in cc (none, some),
+                let some = source_again first spells function_at reading (byte_before tokens) ls items (nested_whole ls (bracketed ls nested)) spelled begins in cc (none, some),
           )
 
       -- a reader that stops
-      pub stop_refusal : IsNested ls → (stop : Stop) → Fails stop (option_map located_of Read) → SpellsNoTree spells bytes (kind_of stop)
+      pub stop_refusal : is_nested ls → (stop : Stop) → Fails stop (option_map located_of Read) → SpellsNoTree is_nested spells bytes (kind_of stop)
       stop_refusal nested stops.Memory e = tt
       stop_refusal nested (stops.Syntax left) e = syntax_refusal nested e
 
   -- a text of trees is refused for want of memory alone
-  pub no_refusal : (bytes : List ℕ) (kind : RefusedKind) (source : PureSource F) → SpellsNoTree spells bytes kind → SpellSource spells bytes source → kind ≡ refusals.Memory
+  pub no_refusal : (bytes : List ℕ) (kind : RefusedKind) (source : PureSource F) → SpellsNoTree is_nested spells bytes kind → SpellSource is_nested spells bytes source → kind ≡ refusals.Memory
   no_refusal bytes refusals.Lex source h (items, s, is) = absurd (h s.tokens s.text)
-  no_refusal bytes refusals.Nesting source (tokens, ls, are, deep) (items, s, is) = absurd (deep (spelled_as_read spells bytes tokens ls items are.text are.stand s).nested)
+  no_refusal bytes refusals.Nesting source (tokens, ls, are, deep) (items, s, is) = absurd (deep (spelled_as_read is_nested spells bytes tokens ls items are.text are.stand s).nested)
   no_refusal bytes refusals.Syntax source (tokens, ls, are, nested, none) (items, s, is) =
-      let so = spelled_as_read spells bytes tokens ls items are.text are.stand s in
+      let so = spelled_as_read is_nested spells bytes tokens ls items are.text are.stand s in
       absurd (none items so.spelled so.first so.names)
   no_refusal bytes (refusals.Invalid kind) source h spelled = absurd h
   no_refusal bytes refusals.Limit source h spelled = absurd h
@@ -105,18 +110,18 @@ module _ {F : Type 0} (spells : (ℕ → ℕ) → F → List Lexeme → List Lex
   no_refusal bytes refusals.Memory source h spelled = refl
 
   -- the trees that were read are the text's, and no others are
-  pub located_spells : (bytes : List ℕ) (located : PureLocated F) (items : List (PlacedItem F)) → SpellItems spells bytes items → located ≡ located_of items
-      → SpellSource spells bytes (located_source located)
+  pub located_spells : (bytes : List ℕ) (located : PureLocated F) (items : List (PlacedItem F)) → SpellItems is_nested spells bytes items → located ≡ located_of items
+      → SpellSource is_nested spells bytes (located_source located)
   located_spells bytes located items s is = (items, s, ap (λ (l : PureLocated F). located_source l) (sym is))
 
-  pub one_source : (first : Word) (function_at : (ℕ → ℕ) → List Lexeme → Reading F) → HasReading first spells function_at
-      → (bytes : List ℕ) (source other : PureSource F) → SpellSource spells bytes source → SpellSource spells bytes other → source ≡ other
-  one_source first function_at reading bytes source other (items, s, is) (others, t, are) =
-      sym is ∙ ap source_of (one_reading spells first function_at reading bytes items others s t) ∙ are
+  pub one_source : ((ls : List Lexeme) → is_nested ls → IsNested ls) → (first : Word) (function_at : (ℕ → ℕ) → List Lexeme → Reading F) → HasReading first spells function_at
+      → (bytes : List ℕ) (source other : PureSource F) → SpellSource is_nested spells bytes source → SpellSource is_nested spells bytes other → source ≡ other
+  one_source bracketed first function_at reading bytes source other (items, s, is) (others, t, are) =
+      sym is ∙ ap source_of (one_reading is_nested spells bracketed first function_at reading bytes items others s t) ∙ are
 
   -- a text without trees is refused as one of a source
-  pub tree_refusal : (compiled : PureSource F → PureParts) (besides bytes : List ℕ) (at : ℕ) (kind : RefusedKind) → SpellsNoTree spells bytes kind
-      → IsRefusedFor spells compiled besides bytes at kind
+  pub tree_refusal : (compiled : PureSource F → PureParts) (besides bytes : List ℕ) (at : ℕ) (kind : RefusedKind) → SpellsNoTree is_nested spells bytes kind
+      → IsRefusedFor is_nested spells compiled besides bytes at kind
   tree_refusal compiled besides bytes at refusals.Lex h = h
   tree_refusal compiled besides bytes at refusals.Nesting h = h
   tree_refusal compiled besides bytes at refusals.Syntax h = h
@@ -178,7 +183,7 @@ module _ {F : Type 0} (compiled : PureSource F → PureParts) (besides : List �
     pub located_place : slice_get (places located) i ≡ None → ⊥
     located_place none = no_place items kind i named_of_items (subst (λ (l : PureLocated F). slice_get (places l) i ≡ None) is none)
 
-    pub fault_refusal : (spells : (ℕ → ℕ) → F → List Lexeme → List Lexeme → Type 0) (bytes : List ℕ) (at : ℕ) → SpellItems spells bytes items
-        → slice_get (places located) i ≡ Some at → IsRefusedFor spells compiled besides bytes at (refusals.Invalid kind)
-    fault_refusal spells bytes at s some =
+    pub fault_refusal : (is_nested : List Lexeme → Type 0) (spells : (ℕ → ℕ) → F → List Lexeme → List Lexeme → Type 0) (bytes : List ℕ) (at : ℕ) → SpellItems is_nested spells bytes items
+        → slice_get (places located) i ≡ Some at → IsRefusedFor is_nested spells compiled besides bytes at (refusals.Invalid kind)
+    fault_refusal is_nested spells bytes at s some =
         (items, i, s, named_of_items, subst (λ (l : PureLocated F). slice_get (places l) i ≡ Some at) is some)

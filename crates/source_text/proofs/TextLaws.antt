@@ -155,33 +155,33 @@ module _ {F : Type 0} (first : Word) (spells : (ℕ → ℕ) → F → List Lexe
 
 -- ---- one text has one reading
 
-module _ {F : Type 0} (spells : (ℕ → ℕ) → F → List Lexeme → List Lexeme → Type 0) where
+module _ {F : Type 0} (is_nested : List Lexeme → Type 0) (spells : (ℕ → ℕ) → F → List Lexeme → List Lexeme → Type 0) where
   -- a text that is spelled has that spelling's tokens and lexemes, whatever tokens and lexemes were read of it
   pub record IsSpelledSo (tokens : List Token) (ls : List Lexeme) (items : List (PlacedItem F)) : Type 0 where
-    pub nested : IsNested ls
+    pub nested : is_nested ls
     pub names : IsTrue (are_source_lexemes ls)
     pub spelled : SpellsItems spells (byte_before tokens) items ls
     pub first : BeginsWithFunction items
 
   pub spelled_as_read : (bytes : List ℕ) (tokens : List Token) (ls : List Lexeme) (items : List (PlacedItem F)) → AreTokensOf tokens bytes → StandForAll bytes tokens ls
-      → SpellItems spells bytes items → IsSpelledSo tokens ls items
+      → SpellItems is_nested spells bytes items → IsSpelledSo tokens ls items
   spelled_as_read bytes tokens ls items text stand s =
       let same_tokens : s.tokens ≡ tokens = one_list s.tokens tokens bytes s.text text in
       let stand' : StandForAll bytes tokens s.lexemes = subst (λ ts. StandForAll bytes ts s.lexemes) same_tokens s.stand in
       let same : s.lexemes ≡ ls = stand_once bytes tokens s.lexemes ls stand' stand in
       let spelled : SpellsItems spells (byte_before tokens) items s.lexemes = subst (λ ts. SpellsItems spells (byte_before ts) items s.lexemes) same_tokens s.spelled in
       record {
-        nested = subst IsNested same s.nested;
+        nested = subst is_nested same s.nested;
         names = subst (λ l. IsTrue (are_source_lexemes l)) same s.names;
         spelled = subst (SpellsItems spells (byte_before tokens) items) same spelled;
         first = s.first;
       }
 
-  pub one_reading : (first : Word) (function_at : (ℕ → ℕ) → List Lexeme → Reading F) → HasReading first spells function_at
-      → (bytes : List ℕ) (items others : List (PlacedItem F)) → SpellItems spells bytes items → SpellItems spells bytes others → items ≡ others
-  one_reading first function_at reading bytes items others s t =
+  pub one_reading : ((ls : List Lexeme) → is_nested ls → IsNested ls) → (first : Word) (function_at : (ℕ → ℕ) → List Lexeme → Reading F) → HasReading first spells function_at
+      → (bytes : List ℕ) (items others : List (PlacedItem F)) → SpellItems is_nested spells bytes items → SpellItems is_nested spells bytes others → items ≡ others
+  one_reading bracketed first function_at reading bytes items others s t =
       let again = spelled_as_read bytes s.tokens s.lexemes others s.text s.stand t in
-      let p = nested_whole s.lexemes s.nested in
+      let p = nested_whole s.lexemes (bracketed s.lexemes s.nested) in
       found_is items others
       (sym (source_again first spells function_at reading (byte_before s.tokens) s.lexemes items p s.spelled s.first)
       ∙ source_again first spells function_at reading (byte_before s.tokens) s.lexemes others p again.spelled again.first)

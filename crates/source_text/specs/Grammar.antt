@@ -1,10 +1,15 @@
--- What the grammar of a language's functions and the reading of them have to do with each other.
-use Rattle.std.specs.Prelude.{◌≡◌, ℕ, ◌<◌, true, false, List, length, Some}
+-- What is spelled in braces; what the grammar of a language's functions and the reading of them have to do with each other.
+use Rattle.std.specs.Prelude.{◌≡◌, ℕ, ◌<◌, true, false, List, ◌∷◌, length, Some}
 use Rattle.gil_lexer.specs.declared.words.Word.{Word}
 use Rattle.gil_lexer.specs.declared.words.Word.TheVariants.{Spec, Pred}
 use Rattle.gil_lexemes.specs.declared.standing.Lexeme.{Lexeme}
 use Rattle.gil_lexemes.specs.Reading.{Reading, first_form, same_word, is_word}
 use Rattle.gil_grammar.specs.Nesting.{IsNestedFrom}
+use Rattle.gil_grammar.specs.Vocabulary.{opening_brace, closing_brace}
+
+-- { .. }, of what is spelled within
+abbrev pub Braced : (List Lexeme → List Lexeme → Type 0) → List Lexeme → List Lexeme → Type 0
+Braced spells from rest = (inner : List Lexeme) × (from ≡ opening_brace ∷ inner) × spells inner (closing_brace ∷ rest)
 
 -- A function begins with a word, which begins no other item; what is read is spelled, and what is spelled is read, where no more
 -- brackets are open than may be: the lexemes that are left are fewer, and no more are open among them.

@@ -7,7 +7,7 @@ use Rattle.gil_lexemes.specs.declared.standing.Lexeme.{Lexeme}
 use Rattle.gil_lexemes.specs.Reading.{Reading, ◌>>=◌, first_form, is_word, sign_at}
 use Rattle.gil_syntax.specs.Pure as gil
 use Rattle.gil_grammar.specs.Commands.{SpellsCommand}
-use Rattle.gil_grammar.specs.Vocabulary.{opening_brace, closing_brace, semicolon}
+use Rattle.gil_grammar.specs.Vocabulary.{semicolon}
 use Rattle.gil_grammar.specs.Reading.Commands.{logic_by}
 use Rattle.source_meaning.specs.Compiled.{logic_command}
 use Rattle.source_meaning.specs.Pure.{PureLogic, fold_use, unfold_use, assert_that, PureInvariant}
@@ -20,10 +20,6 @@ SpellsLogic c from rest = SpellsCommand (logic_command c) from (semicolon ∷ re
 abbrev pub SpellsInvariant : Option PureInvariant → List Lexeme → List Lexeme → Type 0
 SpellsInvariant None from rest = from ≡ rest
 SpellsInvariant (Some i) from rest = SpellsCommand (gil.loop_invariant i.names i.logicals i.items) from rest
-
--- { .. }, of what is spelled within
-abbrev pub Braced : (List Lexeme → List Lexeme → Type 0) → List Lexeme → List Lexeme → Type 0
-Braced spells from rest = (inner : List Lexeme) × (from ≡ opening_brace ∷ inner) × spells inner (closing_brace ∷ rest)
 
 -- ---- reading
 

@@ -8,7 +8,6 @@ use Rattle.gil_lexemes.specs.declared.stops.Stop.{Stop}
 use Rattle.gil_lexemes.specs.declared.stops.Stop.TheVariants as stops
 use Rattle.gil_syntax.specs.Pure.{PureParts}
 use Rattle.gil_program.specs.Uncounted.{IsNamedButLength}
-use Rattle.gil_grammar.specs.Nesting.{IsNested}
 use Rattle.gil_grammar.specs.Texts.{byte_before, place_if}
 use Rattle.gil_text.specs.declared.refused.Refused.{Refused}
 use Rattle.gil_text.specs.declared.refused.RefusedKind.{RefusedKind}
@@ -31,14 +30,14 @@ places_of besides items =
     ++ (besides ++ filter_map (λ i. place_if i.at (as_spec i.item)) items)
     ++ filter_map (λ i. place_if i.at (as_pred i.item)) items
 
-module _ {F : Type 0} (spells : (ℕ → ℕ) → F → List Lexeme → List Lexeme → Type 0) where
-  -- A text spells no tree for the first of these kinds that applies: its bytes are no tokens; more brackets are open than may be; some
-  -- name has a '$', or the tokens are those of no items of which a function is the first. Want of memory may come before any.
+module _ {F : Type 0} (is_nested : List Lexeme → Type 0) (spells : (ℕ → ℕ) → F → List Lexeme → List Lexeme → Type 0) where
+  -- A text spells no tree for the first of these kinds that applies: its bytes are no tokens; they nest deeper than they may; some name
+  -- has a '$', or the tokens are those of no items of which a function is the first. Want of memory may come before any.
   abbrev pub SpellsNoTree : List ℕ → RefusedKind → Type 0
   SpellsNoTree bytes Lex = (tokens : List Token) → AreTokensOf tokens bytes → ⊥
-  SpellsNoTree bytes Nesting = (tokens : List Token) × (lexemes : List Lexeme) × AreLexemesOf tokens lexemes bytes × (IsNested lexemes → ⊥)
+  SpellsNoTree bytes Nesting = (tokens : List Token) × (lexemes : List Lexeme) × AreLexemesOf tokens lexemes bytes × (is_nested lexemes → ⊥)
   SpellsNoTree bytes Syntax =
-      (tokens : List Token) × (lexemes : List Lexeme) × AreLexemesOf tokens lexemes bytes × IsNested lexemes
+      (tokens : List Token) × (lexemes : List Lexeme) × AreLexemesOf tokens lexemes bytes × is_nested lexemes
       × ((items : List (PlacedItem F)) → SpellsItems spells (byte_before tokens) items lexemes → BeginsWithFunction items
       → IsTrue (are_source_lexemes lexemes) → ⊥)
   SpellsNoTree bytes Memory = Unit {0}
@@ -51,7 +50,7 @@ module _ {F : Type 0} (spells : (ℕ → ℕ) → F → List Lexeme → List Lex
   -- commands aside, and the fault that is named is at the item that begins at that byte.
   abbrev pub IsRefusedFor : (PureSource F → PureParts) → List ℕ → List ℕ → ℕ → RefusedKind → Type 0
   IsRefusedFor compiled besides bytes at (Invalid kind) =
-      (items : List (PlacedItem F)) × (i : ℕ) × SpellItems spells bytes items × IsNamedButLength (compiled (source_of items)) kind i
+      (items : List (PlacedItem F)) × (i : ℕ) × SpellItems is_nested spells bytes items × IsNamedButLength (compiled (source_of items)) kind i
       × (slice_get (places_of besides items) i ≡ Some at)
   IsRefusedFor compiled besides bytes at kind = SpellsNoTree bytes kind
 

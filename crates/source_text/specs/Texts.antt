@@ -1,5 +1,5 @@
--- The texts of source programs: their items one after another, a function first. Functions are of any type, and what spells one is said
--- in each language, where the last so many lexemes of a text begin is said by place.
+-- The texts of source programs: their items one after another, a function first. Functions are of any type. What spells one is said in
+-- each language, where place says where the last so many lexemes of a text begin, and so is how deep the lexemes of a text may nest.
 use Rattle.std.specs.Prelude.{◌≡◌, ℕ, List, [], ◌∷◌, length, Option, Some, None, IsTrue}
 use Rattle.std.specs.List.{filter_map}
 use Rattle.gil_lexer.specs.declared.forms.Token.{Token}
@@ -7,7 +7,6 @@ use Rattle.gil_lexer.specs.Texts.{AreTokensOf}
 use Rattle.gil_lexemes.specs.declared.standing.Lexeme.{Lexeme}
 use Rattle.gil_lexemes.specs.Lexemes.{StandForAll}
 use Rattle.gil_syntax.specs.Pure.{PureSpec, PurePredDef}
-use Rattle.gil_grammar.specs.Nesting.{IsNested}
 use Rattle.gil_grammar.specs.Programs.{SpellsSpec, SpellsPred}
 use Rattle.gil_grammar.specs.Texts.{byte_before}
 use Rattle.source_meaning.specs.Pure.{PureSource}
@@ -40,15 +39,15 @@ module _ {F : Type 0} (spells : (ℕ → ℕ) → F → List Lexeme → List Lex
   SpellsItems place (i ∷ items) from =
       (after : List Lexeme) × SpellsSourceItem place i.item from after × (i.at ≡ place (length from)) × SpellsItems place items after
 
--- The bytes are tokens and blanks, no more brackets are open than may be, no name has a '$', and the lexemes that the tokens stand for
+-- The bytes are tokens and blanks, the lexemes that the tokens stand for nest no deeper than they may, no name has a '$', and the lexemes
 -- are those of the items, of which a function is the first.
-pub record SpellItems {F : Type 0} (spells : (ℕ → ℕ) → F → List Lexeme → List Lexeme → Type 0) (bytes : List ℕ)
-    (items : List (PlacedItem F)) : Type 0 where
+pub record SpellItems {F : Type 0} (is_nested : List Lexeme → Type 0) (spells : (ℕ → ℕ) → F → List Lexeme → List Lexeme → Type 0)
+    (bytes : List ℕ) (items : List (PlacedItem F)) : Type 0 where
   pub tokens : List Token
   pub lexemes : List Lexeme
   pub text : AreTokensOf tokens bytes
   pub stand : StandForAll bytes tokens lexemes
-  pub nested : IsNested lexemes
+  pub nested : is_nested lexemes
   pub names : IsTrue (are_source_lexemes lexemes)
   pub spelled : SpellsItems spells (byte_before tokens) items lexemes
   pub first : BeginsWithFunction items
@@ -76,5 +75,5 @@ source_of items = record {
 }
 
 -- The bytes are a text of the source.
-abbrev pub SpellSource : {F : Type 0} → ((ℕ → ℕ) → F → List Lexeme → List Lexeme → Type 0) → List ℕ → PureSource F → Type 0
-SpellSource {F} spells bytes source = (items : List (PlacedItem F)) × SpellItems spells bytes items × (source_of items ≡ source)
+abbrev pub SpellSource : {F : Type 0} → (List Lexeme → Type 0) → ((ℕ → ℕ) → F → List Lexeme → List Lexeme → Type 0) → List ℕ → PureSource F → Type 0
+SpellSource {F} is_nested spells bytes source = (items : List (PlacedItem F)) × SpellItems is_nested spells bytes items × (source_of items ≡ source)

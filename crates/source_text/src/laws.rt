@@ -6,6 +6,6 @@ use crate::language::SourceLanguage;
 
 /// One text has one reading: its items, each with the byte at which it begins.
 pub fn one_text_has_one_reading<L: SourceLanguage>()
-    ensures { (bytes : List ℕ) (items others : List (PlacedItem L.Pure)) → SpellItems L.spells bytes items → SpellItems L.spells bytes others
+    ensures { (bytes : List ℕ) (items others : List (PlacedItem L.Pure)) → SpellItems L.nested L.spells bytes items → SpellItems L.nested L.spells bytes others
         → items ≡ others }
 {}

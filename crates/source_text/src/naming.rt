@@ -1,6 +1,8 @@
 //! Names that a source text can't have.
 ghost use Rattle.std.specs.Prelude.{◌≡◌, nat_eq, IsTrue, IfOk, IfErr, IfNone, OnSome};
+ghost use Rattle.std.specs.List.{list_any};
 ghost use Rattle.gil_lexemes.specs.declared.stops.Stop.TheVariants.{Memory};
+ghost use Rattle.source_meaning.specs.Names as names;
 ghost use Rattle.source_text.specs.Vocabulary.{are_source_lexemes};
 ghost use Rattle.source_text.specs.Naming as spec;
 
@@ -10,16 +12,22 @@ use gil_values::Text;
 use std::alloc::Global;
 
 fn is_dollar(byte: u8) -> bool
-    ensures { result ≡ nat_eq spec.dollar byte }
+    ensures { result ≡ nat_eq names.dollar byte }
 {
     b'$' == byte
 }
 
-/// Whether a name has a `$`.
 fn has_dollar(name: &Text) -> bool
-    ensures { result ≡ spec.has_dollar name.now }
+    ensures { result ≡ list_any (nat_eq names.dollar) name.now }
 {
     name.as_str().as_bytes().iter().any(|byte| is_dollar(*byte))
+}
+
+/// Whether a source program can have the name.
+fn is_source_name(name: &Text) -> bool
+    ensures { result ≡ names.is_source_name name.now }
+{
+    !has_dollar(name)
 }
 
 /// Whether the next token is a name, a logical name or a procedure literal with a `$`.
@@ -30,15 +38,15 @@ fn is_foreign(alloc: Global, cursor: Cursor<'_>) -> Result<bool, Stop>
     match cursor.first() {
         Some(Form::Name) => {
             let (name, _) = cursor.name(alloc)?;
-            Ok(has_dollar(&name))
+            Ok(!is_source_name(&name))
         }
         Some(Form::Logical) => {
             let (name, _) = cursor.logical_name(alloc)?;
-            Ok(has_dollar(&name))
+            Ok(!is_source_name(&name))
         }
         Some(Form::Procedure) => {
             let (name, _) = cursor.procedure(alloc)?;
-            Ok(has_dollar(&name))
+            Ok(!is_source_name(&name))
         }
         _ => Ok(false),
     }

@@ -11,7 +11,7 @@ use crate::naming::foreign_name;
 use crate::reading::source_at;
 use gil_lexemes::{Cursor, Stop};
 use gil_lexer::Tokens;
-use gil_text::{Located, Refused, RefusedKind, nesting_fault, place_of, tokens_of};
+use gil_text::{Located, Refused, RefusedKind, place_of, tokens_of};
 use std::alloc::Global;
 
 /// The refusal of a text of which so many tokens are left, or that memory ran out.
@@ -42,13 +42,13 @@ pub fn read_located<L: SourceLanguage>(
     alloc: Global,
     bytes: &[u8],
 ) -> Result<Located<L::Function>, Refused>
-    ensures ok { IfOk result (λ located. (items : List (PlacedItem L.Pure)) × SpellItems L.spells bytes.now items
+    ensures ok { IfOk result (λ located. (items : List (PlacedItem L.Pure)) × SpellItems L.nested L.spells bytes.now items
         × (located_view L.view located ≡ located_of items)) }
-    ensures refused { IfErr result (IsRefusedTree L.spells bytes.now) }
+    ensures refused { IfErr result (IsRefusedTree L.nested L.spells bytes.now) }
 {
     let tokens = tokens_of(alloc, bytes)?;
     let cursor = Cursor::new(bytes, tokens.as_slice());
-    if let Some(left) = nesting_fault(cursor.copy()) {
+    if let Some(left) = L::nesting_fault(cursor.copy()) {
         return Err(Refused {
             at: place_of(bytes, tokens.as_slice(), left),
             kind: RefusedKind::Nesting,

@@ -8,15 +8,16 @@ use Rattle.gil_values.proofs.Lists.{slice_get-read}
 use Rattle.gil_program.proofs.NameLemmas.{map-take_read}
 use Rattle.gil_syntax.specs.declared.parts.Proc.{Proc}
 use Rattle.gil_syntax.specs.View.{proc_view}
+use Rattle.source_meaning.specs.declared.trees.Function.{Function}
 use Rattle.source_meaning.specs.Limits.{first_long}
 use Rattle.source_meaning.proofs.TooLong.{IsFirstTooLong, none_long, one_long}
-use Rattle.while_syntax.specs.declared.tree.Function.{Function}
+use Rattle.while_syntax.specs.declared.tree.Block.{Block}
 use Rattle.while_syntax.specs.Pure.{PureFunction}
 use Rattle.while_syntax.specs.View.{function_view}
 use Rattle.while_compiler.specs.Compiled.{compiled_function}
 use Rattle.while_compiler.specs.Valid.{first_too_long}
 
-module _ (xs : List Function) (i : ℕ) (x : Function) (below : i < length xs) (is : x ≡ get_or xs i x) where
+module _ (xs : List (Function Block)) (i : ℕ) (x : Function Block) (below : i < length xs) (is : x ≡ get_or xs i x) where
   pub procs-next : (procs more : List Proc) (q : Proc) → map proc_view procs ≡ map compiled_function (map function_view (take i xs))
       → more ≡ procs ++ q ∷ [] → proc_view q ≡ compiled_function (function_view x)
       → map proc_view more ≡ map compiled_function (map function_view (take (i + 1) xs))
@@ -28,7 +29,7 @@ module _ (xs : List Function) (i : ℕ) (x : Function) (below : i < length xs) (
       ∙ ap (map compiled_function) (sym (map-take_read function_view xs i x below is))
 
 -- procedures in the order of their functions
-module _ (ps : List Proc) (xs : List Function) (same : map proc_view ps ≡ map compiled_function (map function_view xs)) where
+module _ (ps : List Proc) (xs : List (Function Block)) (same : map proc_view ps ≡ map compiled_function (map function_view xs)) where
   pub none_too_long : None ≡ first_long (map proc_view ps) → None ≡ first_too_long (map function_view xs)
   none_too_long none = sym (none_long (λ f. f.at) compiled_function (map function_view xs) (sym (none ∙ ap first_long same)))
 
@@ -36,7 +37,7 @@ module _ (ps : List Proc) (xs : List Function) (same : map proc_view ps ≡ map 
     found : IsFirstTooLong (λ f. f.at) compiled_function (map function_view xs) i
     found = one_long (λ f. f.at) compiled_function (map function_view xs) i (sym (long ∙ ap first_long same))
 
-    pub one_too_long : (x : Function) → i < length xs → x ≡ get_or xs i x → Some x.at ≡ first_too_long (map function_view xs)
+    pub one_too_long : (x : Function Block) → i < length xs → x ≡ get_or xs i x → Some x.at ≡ first_too_long (map function_view xs)
     one_too_long x below is =
         let read : Some (function_view x) ≡ Some found.function = sym (slice_get-read function_view xs i x below is) ∙ found.there in
         let it : function_view x ≡ found.function = cc in

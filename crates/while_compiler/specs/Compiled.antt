@@ -6,7 +6,8 @@ use Rattle.gil_values.specs.Pure.{text, procedure}
 use Rattle.gil_syntax.specs.Pure.{PureExpr, literal, name, list_of, from_list, assign, call, act, usym, isym, return, fail, PureNumberedCommand, PureProc, PureParts}
 use Rattle.source_meaning.specs.Compiled.{if_code, while_code, assert_code, assume_code, invariant_code, logic_command}
 use Rattle.source_meaning.specs.Names.{temporary}
-use Rattle.source_meaning.specs.Procedures.{placed, procedure_of}
+use Rattle.source_meaning.specs.Procedures as procedures
+use Rattle.source_meaning.specs.Procedures.{placed}
 use Rattle.while_syntax.specs.Pure as while
 use Rattle.while_syntax.specs.Pure.{PureField, PureStatement, PureBlock, no_statements, statement_and, PureFunction, PureSource}
 
@@ -86,8 +87,14 @@ abbrev mutual
 
 -- ---- programs
 
+abbrev pub function_temporaries : PureFunction → ℕ
+function_temporaries f = block_temporaries f.body
+
+abbrev pub function_code : PureFunction → ℕ → List PureNumberedCommand
+function_code f pc = block_code pc f.body
+
 abbrev pub compiled_function : PureFunction → PureProc
-compiled_function f = procedure_of f.name f.params f.at (block_temporaries f.body) (λ pc. block_code pc f.body)
+compiled_function f = procedures.compiled_function function_temporaries function_code f
 
 abbrev pub compiled : PureSource → PureParts
 compiled source = record { procs = map compiled_function source.functions; specs = source.specs; preds = source.preds }

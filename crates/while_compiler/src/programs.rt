@@ -10,7 +10,7 @@ ghost use Rattle.while_compiler.specs.Valid as valid;
 use crate::statements::block_code;
 use crate::temporaries::block_temporaries;
 use gil_syntax::{Body, Command, Parts, Proc, Procs};
-use source_meaning::{SourceParts, TooMany, append, first_too_long, null, nulls, put};
+use source_meaning::{SourceParts, TooMany, append, first_long, null, nulls, put};
 use std::alloc::{AllocError, Global};
 use syntax_copy::{copy_preds, copy_specs, copy_texts};
 use while_syntax::{Function, Functions};
@@ -67,7 +67,7 @@ fn too_long_at(functions: &[Function], procs: &[Proc]) -> Option<usize>
     requires { map proc_view procs.now ≡ map compiled.compiled_function (map function_view functions.now) }
     ensures { result ≡ valid.first_too_long (map function_view functions.now) }
 {
-    let function = functions.get(first_too_long(procs)?)?;
+    let function = functions.get(first_long(procs)?)?;
     Some(function.at as usize)
 }
 

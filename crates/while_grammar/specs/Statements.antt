@@ -11,7 +11,8 @@ use Rattle.gil_grammar.specs.Commands.{SpellsNames}
 use Rattle.gil_grammar.specs.Expressions.{SpellsExpr, SpellsExprs}
 use Rattle.gil_grammar.specs.Lists.{SpellsSeparated}
 use Rattle.gil_grammar.specs.Vocabulary.{opening_parenthesis, closing_parenthesis, opening_brace, closing_brace, comma, semicolon, colon, input_word}
-use Rattle.source_text.specs.Logic.{SpellsLogic, SpellsInvariant, Braced}
+use Rattle.source_text.specs.Grammar.{Braced}
+use Rattle.source_text.specs.Logic.{SpellsLogic, SpellsInvariant}
 use Rattle.source_text.specs.Vocabulary.{equals, dot}
 use Rattle.while_syntax.specs.Pure.{PureField, PureStatement, assign, input, symbol, new, lookup, call, mutate, dispose, assert, assume, if_else, while, return, fail, logic, PureBlock, no_statements, statement_and, PureFunction}
 

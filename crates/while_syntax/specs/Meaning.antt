@@ -1,7 +1,7 @@
 -- What a While program does, statement by statement, over its tree. The actions of records are those of the memory: `new` takes
 -- the next symbol, and `lookup`, `mutate` and `dispose` take none. A failure has the byte at which its statement begins as its
 -- place.
-use Rattle.std.specs.Prelude.{ℕ, zero, suc, ◌+◌, List, [], ◌∷◌, map, length, ◌==◌, if◌then◌else◌, Option, Some, None, codes}
+use Rattle.std.specs.Prelude.{ℕ, ◌+◌, List, [], ◌∷◌, map, Option, Some, None, codes}
 use Rattle.gil_values.specs.declared.places.Place.{Place}
 use Rattle.gil_values.specs.Pure.{PureValue, text, list, from_list}
 use Rattle.gil_syntax.specs.Pure.{PureExpr, name}
@@ -9,9 +9,11 @@ use Rattle.gil_syntax.specs.Evaluation.{evaluate, evaluate_all}
 use Rattle.mem_model.specs.Heaps.{Heap}
 use Rattle.mem_model.specs.Actions.{Actions}
 use Rattle.gil_machine.specs.State.{vanished, End}
-use Rattle.gil_machine.specs.Step.{bind_all}
-use Rattle.source_meaning.specs.Completions.{Situation, Completion, normal, returns, over, unfinished, then_do, end_of, fails, sets, with_value, with_values, choose, after_action, draws_input, new_symbol, turns, after_body, back_in, returned_from_entry, end_if_over}
-use Rattle.while_syntax.specs.Pure.{PureField, PureStatement, assign, input, symbol, new, lookup, call, mutate, dispose, assert, assume, if_else, while, return, fail, logic, PureBlock, no_statements, statement_and, PureFunction, PureSource, find_function}
+use Rattle.source_meaning.specs.Calls as calls
+use Rattle.source_meaning.specs.Calls.{call_found}
+use Rattle.source_meaning.specs.Completions.{Situation, Completion, normal, returns, over, then_do, end_of, fails, sets, with_value, with_values, choose, after_action, draws_input, new_symbol, turns, value_test}
+use Rattle.source_meaning.specs.Pure.{find_function}
+use Rattle.while_syntax.specs.Pure.{PureField, PureStatement, assign, input, symbol, new, lookup, call, mutate, dispose, assert, assume, if_else, while, return, fail, logic, PureBlock, no_statements, statement_and, PureFunction, PureSource}
 
 abbrev pub field_names : List PureField → List PureValue
 field_names fields = map (λ field. text field.name) fields
@@ -19,9 +21,8 @@ field_names fields = map (λ field. text field.name) fields
 abbrev pub field_values : List PureField → List PureExpr
 field_values fields = map (λ field. field.value) fields
 
--- what the body of a function comes to with these arguments, from the heap, counter and draws of the caller
 abbrev pub Calls : Type 0
-Calls = PureFunction → List PureValue → Situation → Completion
+Calls = calls.Calls PureBlock
 
 module _ (m : Actions) where
   -- the record's fields have their first values, one after the other
@@ -29,13 +30,6 @@ module _ (m : Actions) where
   fill l (field ∷ fields) (v ∷ vs) here s go_on =
       after_action (m.act (codes "mutate") None (l ∷ text field.name ∷ v ∷ []) s.heap) here s (λ w t. fill l fields vs here t go_on)
   fill l _ _ here s go_on = go_on s
-
-module _ (calls : Calls) where
-  -- a function that there is, with as many arguments as it has parameters
-  abbrev pub call_found : Option PureFunction → List ℕ → List PureValue → Place → Situation → Completion
-  call_found None x args here s = fails (text (codes "proc")) here s
-  call_found (Some f) x args here s =
-      if length args == length f.params then after_body (calls f args s) (back_in s x) else fails (text (codes "arity")) here s
 
 module _ (functions : List PureFunction) (m : Actions) (inputs : List PureValue) (loops : ℕ) (calls : Calls) where
   abbrev mutual
@@ -67,7 +61,7 @@ module _ (functions : List PureFunction) (m : Actions) (inputs : List PureValue)
         with_value (evaluate e s.store) here s (λ v. choose v here (λ t. normal t) (λ t. over (end_of vanished t)) s)
     statement (if_else e on off) here s =
         with_value (evaluate e s.store) here s (λ v. choose v here (block here.proc on) (block here.proc off) s)
-    statement (while e invariant body) here s = turns loops (λ t. evaluate e t.store) here (block here.proc body) s
+    statement (while e invariant body) here s = turns loops (value_test (λ t. evaluate e t.store) here) here (block here.proc body) s
     statement (return e) here s = with_value (evaluate e s.store) here s (λ v. returns v s)
     statement (fail e) here s = with_value (evaluate e s.store) here s (λ v. fails v here s)
     statement (logic c) here s = normal s
@@ -77,23 +71,7 @@ module _ (functions : List PureFunction) (m : Actions) (inputs : List PureValue)
     block f no_statements s = normal s
     block f (statement_and at c rest) s = then_do (statement c (record { proc = f; at = at }) s) (block f rest)
 
-module _ (functions : List PureFunction) (m : Actions) (inputs : List PureValue) (loops : ℕ) where
-  -- what calls come to that nest at most so deep
-  abbrev pub calls_within : ℕ → Calls
-  calls_within zero f args s = unfinished
-  calls_within (suc depth) f args s = block functions m inputs loops (calls_within depth) f.name f.body
-      (record s { store = bind_all f.params args })
-
--- a run begins without variables and draws
-abbrev pub at_entry : Heap → ℕ → Situation
-at_entry h counter = record { store = []; heap = h; counter = counter; draws = 0 }
-
-abbrev pub entered : List PureFunction → Actions → List PureValue → ℕ → Option PureFunction → List PureValue → Situation → Completion
-entered functions m inputs n None args s = unfinished
-entered functions m inputs n (Some f) args s = after_body (calls_within functions m inputs n n f args s) returned_from_entry
-
 -- The end of the program from the function f, where each loop tests its condition at most n times and calls nest at most n deep; where more is
 -- needed there is none.
 abbrev pub source_end : PureSource → Actions → List ℕ → List PureValue → Heap → ℕ → List PureValue → ℕ → Option End
-source_end source m f args h counter inputs n =
-    end_if_over (entered source.functions m inputs n (find_function source.functions f) args (at_entry h counter))
+source_end source m f args h counter inputs n = calls.source_end (block source.functions m inputs) source f args h counter n

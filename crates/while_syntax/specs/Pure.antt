@@ -1,6 +1,5 @@
 -- The syntax of While as pure data. Expressions and assertions are those of GIL.
-use Rattle.std.specs.Prelude.{ℕ, List, [], ◌∷◌, Option, Some, None, if◌then◌else◌}
-use Rattle.std.specs.Str.{bytes_eq}
+use Rattle.std.specs.Prelude.{ℕ, List, [], ◌∷◌, Option}
 use Rattle.gil_values.specs.declared.kinds.Kind.{Kind}
 use Rattle.gil_syntax.specs.Pure.{PureExpr}
 use Rattle.source_meaning.specs.Pure as trees
@@ -43,16 +42,8 @@ abbrev pub from_placed : List PurePlacedStatement → PureBlock
 from_placed [] = no_statements
 from_placed (p ∷ ps) = statement_and p.at p.statement (from_placed ps)
 
--- a function, with the byte at which it begins
-pub record PureFunction : Type 0 where
-  pub name : List ℕ
-  pub params : List (List ℕ)
-  pub body : PureBlock
-  pub at : ℕ
+abbrev pub PureFunction : Type 0
+PureFunction = trees.PureFunction PureBlock
 
 abbrev pub PureSource : Type 0
 PureSource = trees.PureSource PureFunction
-
-abbrev pub find_function : List PureFunction → List ℕ → Option PureFunction
-find_function [] f = None
-find_function (g ∷ gs) f = if bytes_eq g.name f then Some g else find_function gs f

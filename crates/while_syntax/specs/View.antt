@@ -3,6 +3,7 @@ use Rattle.std.specs.Prelude.{List, map}
 use Rattle.gil_syntax.specs.View.{expr_view, exprs_view}
 use Rattle.source_meaning.specs.View as trees
 use Rattle.source_meaning.specs.View.{logic_view, invariants_view}
+use Rattle.source_meaning.specs.declared.trees.Function.{Function}
 use Rattle.source_meaning.specs.declared.trees.SourceParts.{SourceParts}
 use Rattle.while_syntax.specs.Pure.{PureField, PureStatement, assign, input, symbol, new, lookup, call, mutate, dispose, assert, assume, if_else, while, return, fail, logic, PureBlock, PureFunction, PureSource, PurePlacedStatement, from_placed}
 use Rattle.while_syntax.specs.declared.tree.Field.{Field}
@@ -10,7 +11,6 @@ use Rattle.while_syntax.specs.declared.tree.Statement.{Statement, fold-Statement
 use Rattle.while_syntax.specs.declared.tree.Block.{Block, fold-Block}
 use Rattle.while_syntax.specs.declared.tree.PlacedStatement.{PlacedStatement, fold-PlacedStatement}
 use Rattle.while_syntax.specs.declared.tree.Statement.TheOpen.{Statement-F, PlacedStatement-F, Block-F}
-use Rattle.while_syntax.specs.declared.tree.Function.{Function}
 
 abbrev pub field_view : Field → PureField
 field_view f = record { name = f.name; value = expr_view f.value }
@@ -55,8 +55,8 @@ placed_statements_view = fold-Block PureStatement
 abbrev pub block_view : Block → PureBlock
 block_view b = from_placed (placed_statements_view b)
 
-abbrev pub function_view : Function → PureFunction
-function_view f = record { name = f.name; params = f.params; body = block_view f.body; at = f.at }
+abbrev pub function_view : Function Block → PureFunction
+function_view f = trees.function_view block_view f
 
-abbrev pub source_parts_view : SourceParts Function → PureSource
+abbrev pub source_parts_view : SourceParts (Function Block) → PureSource
 source_parts_view s = trees.source_parts_view function_view s

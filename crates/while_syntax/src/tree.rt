@@ -2,7 +2,7 @@
 ghost use Rattle.std.specs.Prelude.{◌≡◌, [], ◌∷◌, ◌++◌, OnOk, OnErr, map};
 ghost use Rattle.while_syntax.specs.View.{placed_statements_view, placed_view};
 
-use gil_syntax::{Expr, Exprs, Texts};
+use gil_syntax::{Expr, Exprs};
 use gil_values::{Kind, Text};
 use sequence::Sequence;
 use source_meaning::{Invariant, Logic};
@@ -90,13 +90,7 @@ impl Block {
 }
 
 /// A function, and the byte at which it begins.
-#[derive(Debug, Drop)]
-pub struct Function {
-    pub name: Text,
-    pub params: Texts,
-    pub body: Block,
-    pub at: u32,
-}
+pub type Function = source_meaning::Function<Block>;
 
 /// The functions of a program, in the order of its text.
 pub type Functions = Sequence<Function>;

@@ -11,6 +11,7 @@ use Rattle.gil_syntax.specs.Subexpressions.{subexpressions_of_all}
 use Rattle.gil_syntax.specs.WellMade.{is_program_name, is_well_made_node, is_well_made_expr, is_well_made_command, is_well_made_proc, is_well_made}
 use Rattle.gil_grammar.specs.declared.positions.Position.TheVariants.{Command}
 use Rattle.gil_grammar.specs.Commands.{SpellsName}
+use Rattle.gil_grammar.specs.Nesting.{IsNested}
 use Rattle.gil_grammar.specs.Vocabulary.{comma}
 use Rattle.gil_grammar.proofs.MadeLaws.{AreProper, Makes, after, separated_make, program_name, expr_makes, exprs_make, input_makes, name_makes}
 use Rattle.source_meaning.specs.Compiled.{invariant_code}
@@ -187,5 +188,5 @@ module _ (place : ℕ → ℕ) where
 -- what a text spells compiles to a well made program
 pub source_makes : (bytes : List ℕ) (source : PureSource) → SpellSource bytes source → is_well_made (compiled source) ≡ true
 source_makes bytes source (items, s, is) =
-    let made = text_makes SpellsFunction compiled_function function_makes bytes items s in
+    let made = text_makes SpellsFunction compiled_function function_makes IsNested bytes items s in
     subst (λ (written : PureSource). is_well_made (compiled written) ≡ true) is (and_from _ _ (and_from _ _ made.functions made.specs) made.preds)

@@ -7,9 +7,10 @@ use Rattle.gil_syntax.specs.declared.validity.InvalidKind.{InvalidKind}
 use Rattle.gil_syntax.specs.Valid.{a_proc, a_spec, a_pred, items_of}
 use Rattle.gil_syntax.specs.WellMade.{is_well_made}
 use Rattle.gil_program.specs.Uncounted.{fault_but_length_at, IsNamedButLength}
+use Rattle.gil_grammar.specs.Nesting.{IsNested}
 use Rattle.gil_text.specs.Located.{PureLocated}
-use Rattle.source_text.specs.Located.{located_source, located_of}
-use Rattle.source_text.proofs.RefusalLemmas.{located_spells}
+use Rattle.source_text.specs.Located.{located_of}
+use Rattle.source_text.proofs.RefusalLemmas.{located_source, located_spells}
 use Rattle.while_syntax.specs.Names.{is_source_function}
 use Rattle.while_syntax.specs.Pure.{PureFunction, PureSource}
 use Rattle.while_grammar.specs.Statements.{SpellsFunction}
@@ -23,11 +24,11 @@ use Rattle.while_text.proofs.MadeLaws.{source_makes}
 -- the functions that were read name what source texts can name
 pub names_hold : (bytes : List ℕ) (located : PureLocated PureFunction) (items : List PlacedItem) → SpellItems bytes items → located ≡ located_of items
     → IsTrue (list_all (λ f. is_source_function f) located.functions)
-names_hold bytes located items s is = source_named bytes (located_source located) (located_spells SpellsFunction bytes located items s is)
+names_hold bytes located items s is = source_named bytes (located_source located) (located_spells IsNested SpellsFunction bytes located items s is)
 
 pub makes_hold : (bytes : List ℕ) (located : PureLocated PureFunction) (items : List PlacedItem) → SpellItems bytes items → located ≡ located_of items
     → IsTrue (is_well_made (compiled (located_source located)))
-makes_hold bytes located items s is = source_makes bytes (located_source located) (located_spells SpellsFunction bytes located items s is)
+makes_hold bytes located items s is = source_makes bytes (located_source located) (located_spells IsNested SpellsFunction bytes located items s is)
 
 -- a source with a fault that is named isn't valid
 pub named_is_invalid : (p source : PureSource) (kind : InvalidKind) (i : ℕ) → p ≡ source → IsNamedButLength (compiled p) kind i → IsValidSource source → ⊥

@@ -2,6 +2,7 @@
 ghost use Rattle.std.specs.Prelude.{◌≡◌};
 ghost use Rattle.gil_lexer.specs.declared.words.Word.TheVariants.{Func};
 ghost use Rattle.gil_lexemes.specs.Reading.{Gives};
+ghost use Rattle.gil_grammar.specs.Nesting.{IsNested};
 ghost use Rattle.gil_grammar.specs.Texts.{byte_before};
 ghost use Rattle.while_syntax.specs.Pure.{PureFunction};
 ghost use Rattle.while_syntax.specs.View.{function_view};
@@ -12,7 +13,7 @@ ghost use Rattle.while_grammar.proofs.TextLaws.{functions_read};
 use crate::blocks::block_at;
 use gil_lexemes::{Cursor, Stop};
 use gil_lexer::{Sign, Token, Word};
-use gil_text::names_at;
+use gil_text::{names_at, nesting_fault};
 use source_text::{SourceLanguage, next_place};
 use std::alloc::Global;
 use while_syntax::Function;
@@ -29,6 +30,8 @@ impl SourceLanguage for While {
 
     ghost first = { Func };
 
+    ghost nested = { IsNested };
+
     ghost spells = { SpellsFunction };
 
     ghost reads = { read.function_at };
@@ -44,6 +47,12 @@ impl SourceLanguage for While {
     ) -> Result<(Function, Cursor<'a>), Stop> {
         function_at(alloc, tokens, cursor)
     }
+
+    fn nesting_fault(cursor: Cursor<'_>) -> Option<usize> {
+        nesting_fault(cursor)
+    }
+
+    ghost bracketed = { λ ls nested. nested };
 
     ghost reading = { functions_read };
 }

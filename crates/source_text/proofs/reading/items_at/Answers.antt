@@ -2,8 +2,8 @@ use Rattle.std.proofs.Common.{◌≡◌, ◌<◌, ◌∙◌, ap, arith, length}
 use Rattle.std.proofs.lemmas.Result.{err_from_is_err_and}
 use Rattle.gil_grammar.specs.Texts as text
 use Rattle.gil_text.specs.Located.{located_view}
-use Rattle.source_text.specs.Located.{source_item_view, with_item}
-use Rattle.source_text.proofs.ItemLoop.{item_added, items_go_on, items_stop, items_end, items_are_left}
+use Rattle.source_text.specs.Located.{source_item_view}
+use Rattle.source_text.proofs.ItemLoop.{with_item, item_added, items_go_on, items_stop, items_end, items_are_left}
 use Rattle.source_text.proofs.reading.items_at.Goals as goal
 
 pub returns-then-left-eq0 : goal.returns-then-left-eq0

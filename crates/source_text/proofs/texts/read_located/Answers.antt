@@ -8,7 +8,7 @@ returns-in-Ok-clause-ok g c =
     let nested = rw c.copy.ensures at c.in_default.ensures.none in
     let names = rw (c.copy-2.ensures, c.in-Ok-None.field-0-is) at c.in-Ok-None.ensures.none in
     let read = rw c.as_slice-in-Ok-None.ensures at c.in-Ok.ensures in
-    items_spell g.L.SourceLanguage.spells c.args.bytes.now c.in_ok-tokens.tokens c.new-cursor.result c.in_ok-tokens.ensures.tokens stand g.L.SourceLanguage.first g.L.SourceLanguage.reads g.met.L.SourceLanguage.reading
+    items_spell g.L.SourceLanguage.nested g.L.SourceLanguage.spells c.args.bytes.now c.in_ok-tokens.tokens c.new-cursor.result c.in_ok-tokens.ensures.tokens stand g.met.L.SourceLanguage.bracketed g.L.SourceLanguage.first g.L.SourceLanguage.reads g.met.L.SourceLanguage.reading
     (located_view g.L.SourceLanguage.view c.in-Ok.located) nested names read
 
 pub returns-in-Ok-None-clause-refused : goal.returns-in-Ok-None-clause-refused
@@ -17,5 +17,5 @@ returns-in-Ok-None-clause-refused g c =
     let nested = rw c.copy.ensures at c.in_default.ensures.none in
     let read = rw c.as_slice-in-Ok-None.ensures at c.in-Err-source_at.ensures in
     rw c.stopped.ensures
-    (stop_refusal g.L.SourceLanguage.spells c.args.bytes.now c.in_ok-tokens.tokens c.new-cursor.result c.in_ok-tokens.ensures.tokens stand g.L.SourceLanguage.first g.L.SourceLanguage.reads g.met.L.SourceLanguage.reading
+    (stop_refusal g.L.SourceLanguage.nested g.L.SourceLanguage.spells c.args.bytes.now c.in_ok-tokens.tokens c.new-cursor.result c.in_ok-tokens.ensures.tokens stand g.met.L.SourceLanguage.bracketed g.L.SourceLanguage.first g.L.SourceLanguage.reads g.met.L.SourceLanguage.reading
     nested c.in-Err-source_at.stop read)

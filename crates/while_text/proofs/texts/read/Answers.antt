@@ -1,9 +1,9 @@
 use Rattle.std.proofs.Common.{sym, [], ◌∙◌}
 use Rattle.std.proofs.lemmas.Result.{err_from_is_err_and}
 use Rattle.gil_lexer.specs.declared.words.Word.TheVariants.{Func}
+use Rattle.gil_grammar.specs.Nesting.{IsNested}
 use Rattle.gil_text.specs.Located.{located_view}
-use Rattle.source_text.specs.Located.{located_source}
-use Rattle.source_text.proofs.RefusalLemmas.{no_refusal, located_spells, one_source, located_place, fault_refusal}
+use Rattle.source_text.proofs.RefusalLemmas.{located_source, no_refusal, located_spells, one_source, located_place, fault_refusal}
 use Rattle.while_syntax.specs.View.{function_view}
 use Rattle.while_grammar.specs.Reading.Statements.{function_at}
 use Rattle.while_grammar.specs.Statements.{SpellsFunction}
@@ -16,7 +16,7 @@ pub returns-in_err-functions-clause-only : goal.returns-in_err-functions-clause-
 returns-in_err-functions-clause-only c =
     let p = err_from_is_err_and c.from_residual.result c.from_residual.ensures.1 in
     let refused = c.in_err-functions.field-0.0 in
-    rw (p.1, p.2) (λ source spells valid. no_refusal SpellsFunction c.args.bytes.now refused.kind source c.in_err-functions.ensures.refused spells)
+    rw (p.1, p.2) (λ source spells valid. no_refusal IsNested SpellsFunction c.args.bytes.now refused.kind source c.in_err-functions.ensures.refused spells)
 
 pub new-requires-clause-named : goal.new-requires-clause-named
 new-requires-clause-named c =
@@ -32,20 +32,20 @@ pub returns-in-Ok-clause-only : goal.returns-in-Ok-clause-only
 returns-in-Ok-clause-only c =
     let read = c.in_ok-functions.ensures.ok in
     let located = located_view function_view c.in_ok-functions.field-0 in
-    let spelled = located_spells SpellsFunction c.args.bytes.now located read.0 read.1 read.2 in
-    λ source spells valid. c.in-Ok.ensures.source ∙ one_source SpellsFunction Func function_at functions_read c.args.bytes.now (located_source located) source spelled spells
+    let spelled = located_spells IsNested SpellsFunction c.args.bytes.now located read.0 read.1 read.2 in
+    λ source spells valid. c.in-Ok.ensures.source ∙ one_source IsNested SpellsFunction (λ ls nested. nested) Func function_at functions_read c.args.bytes.now (located_source located) source spelled spells
 
 pub returns-in-Some : goal.returns-in-Some
 returns-in-Some c =
     let read = c.in_ok-functions.ensures.ok in
     let located = located_view function_view c.in_ok-functions.field-0 in
-    let spelled = located_spells SpellsFunction c.args.bytes.now located read.0 read.1 read.2 in
+    let spelled = located_spells IsNested SpellsFunction c.args.bytes.now located read.0 read.1 read.2 in
     let named = c.in-Err.ensures.invalid c.in_default.not-Memory in
     record {
       ok = tt;
       only = λ source spells valid. absurd (named_is_invalid (located_source located) source c.in-Err.invalid.kind c.in-Err.invalid.item
-          (one_source SpellsFunction Func function_at functions_read c.args.bytes.now (located_source located) source spelled spells) named valid);
-      refused = fault_refusal compiled [] counted located read.0 c.in-Err.invalid.kind c.in-Err.invalid.item read.2 named SpellsFunction c.args.bytes.now c.in-Some.at read.1 (sym c.place_at.ensures ∙ c.in-Some.is);
+          (one_source IsNested SpellsFunction (λ ls nested. nested) Func function_at functions_read c.args.bytes.now (located_source located) source spelled spells) named valid);
+      refused = fault_refusal compiled [] counted located read.0 c.in-Err.invalid.kind c.in-Err.invalid.item read.2 named IsNested SpellsFunction c.args.bytes.now c.in-Some.at read.1 (sym c.place_at.ensures ∙ c.in-Some.is);
     }
 
 pub unreachable-requires : goal.unreachable-requires

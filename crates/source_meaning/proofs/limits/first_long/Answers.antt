@@ -1,5 +1,5 @@
 use Rattle.source_meaning.proofs.TooLong.{long_read, short_read}
-use Rattle.source_meaning.proofs.limits.first_too_long.Goals as goal
+use Rattle.source_meaning.proofs.limits.first_long.Goals as goal
 
 pub returns-then-code_len-gt-MOST_COMMANDS : goal.returns-then-code_len-gt-MOST_COMMANDS
 returns-then-code_len-gt-MOST_COMMANDS c =
