@@ -126,10 +126,13 @@ module _ (p : PureParts) (m : Actions) (inputs : List PureValue) (f : List ℕ) 
         with_outcome : (o : Outcome) → evaluate e store ≡ o
             → Runs (run p m inputs) some f callers end (state_at f pc' callers store s) (with_value o (Here f at) s (λ v. go_on v s))
         with_outcome (Ok v) is = next v store s ext is
-        with_outcome (Err fault) is = (leads _ _ _ (one_step p m inputs f q found callers _ _
-            (steps p m inputs f q found callers pc' _ store s has
-            ∙ ap (λ o. machine.with_value o (Here f at) (state_at f pc' callers store s)
-            (λ v. machine.branch v (pos label) (Here f at) (state_at f pc' callers store s))) is)), tt)
+        with_outcome (Err fault) is = (
+          leads _ _ _ (one_step p m inputs f q found callers _ _
+              (steps p m inputs f q found callers pc' _ store s has
+              ∙ ap (λ o. machine.with_value o (Here f at) (state_at f pc' callers store s)
+              (λ v. machine.branch v (pos label) (Here f at) (state_at f pc' callers store s))) is)),
+          tt,
+        )
 
     -- a loop of at most n turns
     pub loop_runs : (pc at : ℕ) (e : PureExpr) (front code : List PureNumberedCommand) (test : Test) (body : Situation → Completion)
