@@ -8,7 +8,7 @@ use std::test::Fail;
 use value_print::{push_place, push_value};
 
 /// The end of the run of `main` from the empty heap.
-pub fn end_of<M: LocalMemory>(alloc: Global, text: &str) -> Result<String, Fail> {
+pub(crate) fn end_of<M: LocalMemory>(alloc: Global, text: &str) -> Result<String, Fail> {
     let prog = read_prog(alloc, text.as_bytes())?;
     let entry = Text::from_str(alloc, "main")?.ok_or("no text")?;
     let end = run_entry::<M>(alloc, &prog, &entry, &Values::new(alloc), 1000).ok_or("no entry")?;
