@@ -1,5 +1,7 @@
 mod DivisionLaws
+pub mod Joined
 pub mod Lists
+pub mod Numbers
 pub mod Numerals
 pub mod OperatorSymbols
 mod PrintedRows

@@ -4,6 +4,7 @@ pub mod Equality
 pub mod EqualityLaws
 pub mod Laws
 pub mod Operators
+pub mod Pieces
 pub mod Printed
 pub mod Pure
 pub mod Symbols

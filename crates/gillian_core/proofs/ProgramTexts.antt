@@ -11,8 +11,8 @@ use Rattle.gil_machine.specs.State.{End, Ending, IsOver, returned, failed, vanis
 use Rattle.gil_machine.proofs.Entries.{entry_starts}
 use Rattle.gil_machine.proofs.HeldRuns.{held_runs_are_runs}
 use Rattle.mem_model.specs.declared.keys.MemoryName.TheVariants.{Record}
-use Rattle.while_syntax.specs.Pure.{PureSource}
-use Rattle.while_syntax.specs.Meaning.{source_end}
+use Rattle.while_lang.specs.Pure.{PureSource}
+use Rattle.while_lang.specs.Meaning.{source_end}
 use Rattle.while_grammar.specs.Texts.{SpellSource}
 use Rattle.while_compiler.specs.Compiled.{compiled}
 use Rattle.while_compiler.specs.SameEnds.{HasSameEnds}

@@ -5,7 +5,7 @@ use Rattle.gil_syntax.specs.Valid.{IsValid}
 use Rattle.gil_grammar.specs.Texts.{SpellProgram}
 use Rattle.gil_machine.specs.Run.{IsEntry}
 use Rattle.atom_text.specs.Accepted.{PureAtomText, SpellAtoms}
-use Rattle.while_syntax.specs.Pure.{PureSource}
+use Rattle.while_lang.specs.Pure.{PureSource}
 use Rattle.while_grammar.specs.Texts.{SpellSource}
 use Rattle.while_compiler.specs.Compiled.{compiled}
 use Rattle.while_compiler.specs.Valid.{IsValidSource, first_too_long}

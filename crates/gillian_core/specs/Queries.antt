@@ -7,7 +7,7 @@ use Rattle.pure_terms.specs.declared.variables.Sort.TheVariants.{Int, Bool, Str,
 use Rattle.pure_terms.specs.Pure.{PureAtom}
 use Rattle.solver_print.specs.Atoms.{printed_atom}
 use Rattle.sym_test.specs.View.{PureQuery}
-use Rattle.value_print.specs.Pieces.{printed_place}
+use Rattle.gil_values.specs.Pieces.{printed_place}
 
 abbrev pub printed_sort : Sort → List ℕ
 printed_sort Int = codes "int"

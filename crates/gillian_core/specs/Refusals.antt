@@ -8,7 +8,7 @@ use Rattle.gil_text.specs.declared.refused.RefusedKind.TheVariants as reader
 use Rattle.gil_text.specs.Refusals as program
 use Rattle.atom_text.specs.Refusals as atoms
 use Rattle.gil_machine.specs.Run.{IsEntry}
-use Rattle.while_syntax.specs.Pure.{PureSource}
+use Rattle.while_lang.specs.Pure.{PureSource}
 use Rattle.while_grammar.specs.Texts.{SpellSource}
 use Rattle.while_compiler.specs.Valid.{IsValidSource, first_too_long}
 use Rattle.while_text.specs.Refusals as source

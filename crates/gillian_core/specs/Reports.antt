@@ -7,7 +7,7 @@ use Rattle.gil_values.specs.declared.places.Place.{Place}
 use Rattle.solver_proof.specs.Pure.{PureProof}
 use Rattle.solver_print.specs.Proofs.{printed_proof}
 use Rattle.sym_test.specs.View.{PureQuery}
-use Rattle.value_print.specs.Pieces.{printed_place, printed_list}
+use Rattle.gil_values.specs.Pieces.{printed_place, printed_list}
 use Rattle.gillian_core.specs.Queries.{printed_query}
 
 -- What a report is about: of a mode and a language, one procedure and a bound, or the whole text.

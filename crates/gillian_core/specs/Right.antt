@@ -16,8 +16,8 @@ use Rattle.atom_text.specs.Accepted.{PureAtomText, SpellAtoms}
 use Rattle.record_sym.specs.Plain.{record_stands, record_terms, record_asked, record_depends}
 use Rattle.sym_test.specs.Bugs.{IsFound}
 use Rattle.sym_test.specs.Undecided.{IsUndecided, FailsSimply}
-use Rattle.while_syntax.specs.Pure.{PureSource}
-use Rattle.while_syntax.specs.Meaning.{source_end}
+use Rattle.while_lang.specs.Pure.{PureSource}
+use Rattle.while_lang.specs.Meaning.{source_end}
 use Rattle.while_grammar.specs.Texts.{SpellSource}
 use Rattle.while_compiler.specs.SameEnds.{HasSameEnds}
 use Rattle.gillian_words.specs.declared.options.Language.{Language}

@@ -6,10 +6,10 @@ ghost use Rattle.pure_terms.specs.View.{atom_view, atoms_view};
 ghost use Rattle.sym_test.specs.View.{query_view};
 ghost use Rattle.gillian_core.specs.Queries.{printed_choices, printed_condition, printed_conditions, printed_query, printed_sort, printed_sorts};
 
+use gil_values::{push_number, push_place, push_separator};
 use pure_terms::{Atom, Atoms, Query, Sort};
 use solver_print::{Names, push_atom};
 use std::alloc::{AllocError, Global};
-use value_print::{push_number, push_place, push_separator};
 
 /// Adds a query. Its variables have no names but `v` and their numbers.
 pub fn push_query(alloc: Global, out: &mut String, query: &Query) -> Result<(), AllocError>

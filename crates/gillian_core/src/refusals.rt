@@ -8,8 +8,8 @@ ghost use Rattle.gillian_core.specs.Refusals.{IsFirstKind, IsUnreadBy, kind_word
 
 use gil_syntax::InvalidKind;
 use gil_text::{Refused, RefusedKind};
+use gil_values::push_number;
 use std::alloc::{AllocError, Global};
-use value_print::push_number;
 
 /// The kind of a refusal, in the order in which the first that applies is named.
 #[derive(Clone, Copy, Debug, PartialEq, Eq)]

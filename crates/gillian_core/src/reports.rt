@@ -15,13 +15,14 @@ ghost use Rattle.gillian_core.specs.Words.{head_of};
 use crate::answers::{Answer, Binding, Bindings};
 use crate::queries::push_query;
 use crate::status::Status;
-use gil_values::{Place, Value, Values};
+use gil_values::{
+    Place, Value, Values, push_number, push_place, push_separator, push_value, push_values,
+};
 use gillian_words::{Language, Mode, Words};
 use pure_terms::Query;
 use solver_print::{Names, push_proof};
 use solver_proof::Proof;
 use std::alloc::{AllocError, Global};
-use value_print::{push_number, push_place, push_separator, push_value, push_values};
 
 /// The text of the report of an answer to words.
 pub fn report_of(alloc: Global, words: &Words, answer: &Answer) -> Result<String, AllocError>

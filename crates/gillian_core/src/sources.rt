@@ -11,7 +11,7 @@ use crate::refusals::{Refusal, RefusalKind, Stop, stop_of};
 use gil_program::Prog;
 use gil_text::read_prog;
 use gillian_words::{Language, Words};
-use source_meaning::TooMany;
+use source_language::TooMany;
 use std::alloc::Global;
 use while_compiler::compile;
 use while_text::read;

@@ -12,9 +12,9 @@ use crate::lists::cut_last;
 use crate::taking::{Kept, moved_proof};
 use pure_terms::{Atom, Atoms, Term, Valuation, VarTable};
 use solver_guess::{Guess, guess_at};
+use solver_next::next_step;
 use solver_proof::{Proof, Proofs, accepts};
 use solver_rules::Step;
-use solver_steps::next_step;
 use std::alloc::{AllocError, Global};
 
 /// What is found of a list.

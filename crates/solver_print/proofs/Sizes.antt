@@ -5,7 +5,7 @@ use Rattle.std.specs.List.{join_by}
 use Rattle.gil_syntax.specs.Pure.{expr_and, from_list as list_exprs}
 use Rattle.pure_terms.specs.Pure.{PureTerm, from_list, size, sizes}
 use Rattle.solver_proof.specs.Pure.{PureProof, from_list as proofs_from_list}
-use Rattle.value_print.proofs.Joined.{join_by-map}
+use Rattle.gil_values.proofs.Joined.{join_by-map}
 use Rattle.solver_print.specs.Proofs.{printed_proof, printed_proofs, in_brackets}
 use Rattle.solver_print.specs.Terms.{expr_of, exprs_of}
 

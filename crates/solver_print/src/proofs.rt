@@ -16,9 +16,9 @@ ghost use Rattle.solver_print.specs.Proofs.{
 };
 
 use crate::terms::{Names, push_term};
+use gil_values::{push_integer, push_number, push_separator};
 use solver_proof::{ChainEnd, Factor, Factors, Places, Proof, Proofs};
 use std::alloc::AllocError;
-use value_print::{push_integer, push_number, push_separator};
 
 /// Adds a proof, with these names for the variables 0, 1, 2 and so on.
 #[cycle(print)]

@@ -6,12 +6,11 @@ ghost use Rattle.pure_terms.specs.View.{term_view, terms_view};
 ghost use Rattle.syntax_print.specs.Expressions.{printed_exprs};
 ghost use Rattle.solver_print.specs.Terms.{name_of, expr_of, printed_term};
 
-use gil_values::Text;
+use gil_values::{Text, kind_name, push_integer, push_literal, push_number, push_separator};
 use pure_terms::{Literal, Term, Terms};
 use sequence::Sequence;
 use std::alloc::AllocError;
 use syntax_print::{before_operands, between_operands, unary_name};
-use value_print::{kind_name, push_integer, push_literal, push_number, push_separator};
 
 /// The names of the variables 0, 1, 2 and so on; a variable without one is printed as `v` and its number.
 pub type Names = Sequence<Text>;

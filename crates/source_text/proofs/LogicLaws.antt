@@ -16,8 +16,8 @@ use Rattle.gil_grammar.proofs.CommandLaws.{logic_takes as command_takes}
 use Rattle.gil_grammar.proofs.CommandReads.{command_again}
 use Rattle.gil_grammar.proofs.ListLaws.{Takes, Reads, ReadsList, found_is, cond_cases}
 use Rattle.gil_grammar.proofs.NestingLaws.{Nested, nested_tail}
-use Rattle.source_meaning.specs.Compiled.{logic_command}
-use Rattle.source_meaning.specs.Pure.{PureLogic, fold_use, unfold_use, assert_that, PureInvariant}
+use Rattle.source_language.specs.Compiled.{logic_command}
+use Rattle.source_language.specs.Pure.{PureLogic, fold_use, unfold_use, assert_that, PureInvariant}
 use Rattle.source_text.specs.Logic.{SpellsLogic, SpellsInvariant, logic_of, logic_at, invariant_of, one_invariant_at, invariant_at}
 
 -- ---- what is read is spelled

@@ -8,10 +8,10 @@ use Rattle.gil_syntax.specs.Pure.{PureProc, PureSpec, PurePredDef}
 use Rattle.gil_syntax.specs.WellMade.{is_well_made_proc, is_well_made_spec, is_well_made_pred}
 use Rattle.gil_grammar.specs.Texts.{byte_before}
 use Rattle.gil_grammar.proofs.MadeLaws.{AreProper, Makes, command_makes, spec_makes, pred_makes, tokens_proper}
-use Rattle.source_meaning.specs.Compiled.{invariant_code, logic_command}
-use Rattle.source_meaning.specs.Procedures.{placed}
-use Rattle.source_meaning.specs.Pure.{PureLogic, PureInvariant}
-use Rattle.source_meaning.proofs.Made.{AreMade, made_one, made_invariant}
+use Rattle.source_language.specs.Compiled.{invariant_code, logic_command}
+use Rattle.source_language.specs.Procedures.{placed}
+use Rattle.source_language.specs.Pure.{PureLogic, PureInvariant}
+use Rattle.source_language.proofs.Made.{AreMade, made_one, made_invariant}
 use Rattle.source_text.specs.Logic.{SpellsLogic, SpellsInvariant}
 use Rattle.source_text.specs.Texts.{SourceItem, a_function, a_spec, a_pred, SpellsSourceItem, PlacedItem, SpellsItems, as_function, as_spec, as_pred, source_of, SpellItems}
 

@@ -11,8 +11,8 @@ use Rattle.gil_grammar.specs.Commands.{SpellsName, SpellsNames}
 use Rattle.gil_grammar.specs.Lists.{SpellsMore}
 use Rattle.gil_grammar.specs.Vocabulary.{closing_parenthesis, comma, semicolon}
 use Rattle.gil_grammar.proofs.RestLaws.{IsRest, annotation_leaves}
-use Rattle.source_meaning.specs.Names.{is_source_name, has_source_invariant}
-use Rattle.source_meaning.specs.Pure.{PureLogic, fold_use, unfold_use, assert_that, PureInvariant}
+use Rattle.source_language.specs.Names.{is_source_name, has_source_invariant}
+use Rattle.source_language.specs.Pure.{PureLogic, fold_use, unfold_use, assert_that, PureInvariant}
 use Rattle.source_text.specs.Logic.{SpellsLogic, SpellsInvariant}
 use Rattle.source_text.specs.Texts.{SourceItem, a_function, a_spec, a_pred, SpellsSourceItem, PlacedItem, SpellsItems, as_function, source_of}
 use Rattle.source_text.specs.Vocabulary.{is_source_lexeme, are_source_lexemes}

@@ -21,7 +21,7 @@ use Rattle.gil_text.specs.declared.refused.RefusedKind.{RefusedKind}
 use Rattle.gil_text.specs.declared.refused.RefusedKind.TheVariants as refusals
 use Rattle.gil_text.specs.Located.{PureLocated}
 use Rattle.gil_text.specs.Refusals.{HasNoTokens}
-use Rattle.source_meaning.specs.Pure.{PureSource}
+use Rattle.source_language.specs.Pure.{PureSource}
 use Rattle.source_text.specs.Grammar.{HasReading}
 use Rattle.source_text.specs.Located.{located_of}
 use Rattle.source_text.specs.Reading.{source_at}

@@ -9,8 +9,8 @@ use Rattle.gil_syntax.specs.Pure as gil
 use Rattle.gil_grammar.specs.Commands.{SpellsCommand}
 use Rattle.gil_grammar.specs.Vocabulary.{semicolon}
 use Rattle.gil_grammar.specs.Reading.Commands.{logic_by}
-use Rattle.source_meaning.specs.Compiled.{logic_command}
-use Rattle.source_meaning.specs.Pure.{PureLogic, fold_use, unfold_use, assert_that, PureInvariant}
+use Rattle.source_language.specs.Compiled.{logic_command}
+use Rattle.source_language.specs.Pure.{PureLogic, fold_use, unfold_use, assert_that, PureInvariant}
 
 -- fold use;   unfold use;   assert { assertion };
 abbrev pub SpellsLogic : PureLogic → List Lexeme → List Lexeme → Type 0

@@ -13,7 +13,7 @@ use Rattle.gil_text.specs.declared.refused.Refused.{Refused}
 use Rattle.gil_text.specs.declared.refused.RefusedKind.{RefusedKind}
 use Rattle.gil_text.specs.declared.refused.RefusedKind.TheVariants.{Lex, Nesting, Syntax, Invalid, Memory}
 use Rattle.gil_text.specs.Refusals.{AreLexemesOf}
-use Rattle.source_meaning.specs.Pure.{PureSource}
+use Rattle.source_language.specs.Pure.{PureSource}
 use Rattle.source_text.specs.Texts.{PlacedItem, SpellsItems, BeginsWithFunction, SpellItems, as_function, as_spec, as_pred, source_of}
 use Rattle.source_text.specs.Vocabulary.{are_source_lexemes}
 

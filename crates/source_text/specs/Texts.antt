@@ -9,7 +9,7 @@ use Rattle.gil_lexemes.specs.Lexemes.{StandForAll}
 use Rattle.gil_syntax.specs.Pure.{PureSpec, PurePredDef}
 use Rattle.gil_grammar.specs.Programs.{SpellsSpec, SpellsPred}
 use Rattle.gil_grammar.specs.Texts.{byte_before}
-use Rattle.source_meaning.specs.Pure.{PureSource}
+use Rattle.source_language.specs.Pure.{PureSource}
 use Rattle.source_text.specs.Vocabulary.{are_source_lexemes}
 
 -- an item of a text

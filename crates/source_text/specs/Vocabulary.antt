@@ -4,7 +4,7 @@ use Rattle.std.specs.List.{list_all}
 use Rattle.gil_lexer.specs.declared.signs.Sign.TheVariants as signs
 use Rattle.gil_lexemes.specs.declared.standing.Lexeme.{Lexeme}
 use Rattle.gil_lexemes.specs.declared.standing.Lexeme.TheVariants.{Name, Logical, Procedure, Sign}
-use Rattle.source_meaning.specs.Names.{is_source_name}
+use Rattle.source_language.specs.Names.{is_source_name}
 
 abbrev pub equals : Lexeme
 equals = Sign signs.Equal

@@ -1,14 +1,14 @@
 //! Reading what only proofs look at.
 ghost use Rattle.std.specs.Prelude.{◌≡◌};
 ghost use Rattle.gil_lexemes.specs.Reading.{Gives};
-ghost use Rattle.source_meaning.specs.View.{invariants_view, logic_view};
+ghost use Rattle.source_language.specs.View.{invariants_view, logic_view};
 ghost use Rattle.source_text.specs.Logic as read;
 
 use gil_lexemes::{Cursor, Stop};
 use gil_lexer::{Sign, Word};
 use gil_syntax::Command;
 use gil_text::logic_at as command_at;
-use source_meaning::{Invariant, Logic};
+use source_language::{Invariant, Logic};
 use std::alloc::Global;
 
 /// What only proofs look at, and its `;`, from its word on.

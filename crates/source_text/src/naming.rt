@@ -2,7 +2,7 @@
 ghost use Rattle.std.specs.Prelude.{◌≡◌, nat_eq, IsTrue, IfOk, IfErr, IfNone, OnSome};
 ghost use Rattle.std.specs.List.{list_any};
 ghost use Rattle.gil_lexemes.specs.declared.stops.Stop.TheVariants.{Memory};
-ghost use Rattle.source_meaning.specs.Names as names;
+ghost use Rattle.source_language.specs.Names as names;
 ghost use Rattle.source_text.specs.Vocabulary.{are_source_lexemes};
 ghost use Rattle.source_text.specs.Naming as spec;
 

@@ -15,7 +15,7 @@ use Rattle.sym_paths.specs.declared.frames.Frame.{Frame}
 use Rattle.sym_paths.specs.Pure.{PureFrame, PurePath}
 use Rattle.sym_paths.specs.Settling.{Candidate}
 use Rattle.sym_paths.specs.View.{frame_view, frames_view}
-use Rattle.sym_steps.specs.Returns.{Resumes, returning, resuming, Returns}
+use Rattle.sym_candidates.specs.Returns.{Resumes, returning, resuming, Returns}
 
 pub frames_count : (fs : List Frame) → length (frames_view fs) ≡ length fs
 frames_count fs = length-reverse (map frame_view fs) ∙ length-map fs frame_view

@@ -20,8 +20,8 @@ ghost use Rattle.sym_evaluation.specs.Pure.{PureStore};
 ghost use Rattle.sym_evaluation.specs.View.{store_view, faults_view, cases_by, cases_view, all_cases_view, good_view};
 ghost use Rattle.sym_paths.specs.Moves.{running_store};
 ghost use Rattle.sym_paths.specs.View.{frame_view, frames_view, path_view};
-ghost use Rattle.sym_steps.specs.Calls.{fault_under, call_cases, CallsTerm, EntersFound, IsFirstStore, called_frame, entering};
-ghost use Rattle.sym_steps.specs.Cases.{AreEvaluated, failing_with};
+ghost use Rattle.sym_candidates.specs.Calls.{fault_under, call_cases, CallsTerm, EntersFound, IsFirstStore, called_frame, entering};
+ghost use Rattle.sym_candidates.specs.Cases.{AreEvaluated, failing_with};
 
 use crate::candidates::{Candidate, Candidates, assume, fail_with, proceed, require};
 use crate::frames::{run_in, store_in, wait};

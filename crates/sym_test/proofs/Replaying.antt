@@ -27,7 +27,7 @@ use Rattle.sym_paths.specs.Pure.{PureFrame, PureEnd, PurePath}
 use Rattle.sym_paths.specs.Pure as path_end
 use Rattle.sym_paths.specs.Steps.{IsUnknown, IsPlaceOf}
 use Rattle.sym_paths.proofs.Silent.{stands_at}
-use Rattle.sym_steps.proofs.Following.{both_true, first_true}
+use Rattle.sym_candidates.proofs.Following.{both_true, first_true}
 use Rattle.sym_test.specs.Canonical.{HaveValuation, draws_among, IsCanonical}
 use Rattle.sym_test.specs.Judged.{Begins}
 use Rattle.sym_test.specs.Undecided.{first_state, ComesAlong, MeetsOther, IsWay, AsksAlong, IsOutsideAt, IsUndecided}

@@ -4,7 +4,7 @@ use Rattle.std.specs.Prelude.{codes}
 use Rattle.gil_values.specs.declared.operators.UnOp.{UnOp}
 use Rattle.gil_values.specs.declared.operators.BinOp.{BinOp}
 use Rattle.gil_syntax.specs.Pure.{PureExpr, list_of, unary_of, binary_of, from_list}
-use Rattle.value_print.proofs.Joined.{join_by-map}
+use Rattle.gil_values.proofs.Joined.{join_by-map}
 use Rattle.syntax_print.specs.Expressions.{unary_name, before_operands, between_operands, printed_expr, printed_elements, printed_exprs}
 
 printed_elements-from_list : (es : List PureExpr) → printed_elements (from_list es) ≡ map printed_expr es

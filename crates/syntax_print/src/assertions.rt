@@ -18,8 +18,8 @@ ghost use Rattle.syntax_print.specs.Assertions.{
 
 use crate::expressions::{push_expr, push_exprs};
 use gil_syntax::{Assertion, Assertions, Exprs, Item, Param, Params, PredUse, SpecSort};
+use gil_values::push_separator;
 use std::alloc::AllocError;
-use value_print::push_separator;
 
 /// What stands behind a name of this sort.
 fn printed_sort(sort: SpecSort) -> &'static str

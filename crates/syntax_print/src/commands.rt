@@ -7,9 +7,8 @@ ghost use Rattle.syntax_print.specs.Commands.{input_name, printed_names, printed
 use crate::assertions::{push_block, push_use, push_variables};
 use crate::expressions::{push_expr, push_exprs};
 use gil_syntax::{Assertion, Command, Expr, Exprs, Params, Texts};
-use gil_values::{Kind, Text};
+use gil_values::{Kind, Text, kind_name, push_integer, push_separator};
 use std::alloc::AllocError;
-use value_print::{kind_name, push_integer, push_separator};
 
 /// The kind of an input as a sort.
 fn input_name(kind: Kind) -> &'static str

@@ -4,9 +4,8 @@ ghost use Rattle.gil_syntax.specs.View.{expr_view, exprs_view};
 ghost use Rattle.syntax_print.specs.Expressions.{unary_name, before_operands, between_operands, printed_expr, printed_exprs};
 
 use gil_syntax::{Expr, Exprs};
-use gil_values::{BinOp, UnOp};
+use gil_values::{BinOp, UnOp, push_separator, push_value};
 use std::alloc::AllocError;
-use value_print::{push_separator, push_value};
 
 /// The name of an operator of one operand.
 pub fn unary_name(op: UnOp) -> &'static str

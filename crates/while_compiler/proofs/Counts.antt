@@ -4,9 +4,9 @@ use Rattle.std.specs.Prelude.{max}
 use Rattle.std.proofs.lemmas.List.{append-nil}
 use Rattle.gil_values.proofs.Lists.{slice_get-read}
 use Rattle.gil_program.proofs.NameLemmas.{map-take_read}
-use Rattle.while_syntax.specs.declared.tree.PlacedStatement.{PlacedStatement, the_lemmas}
-use Rattle.while_syntax.specs.View.{statement_view, placed_view}
-use Rattle.while_syntax.specs.Pure.{PureStatement, if_else, while, PureBlock, no_statements, statement_and, PurePlacedStatement, from_placed}
+use Rattle.while_lang.specs.declared.tree.PlacedStatement.{PlacedStatement, the_lemmas}
+use Rattle.while_lang.specs.View.{statement_view, placed_view}
+use Rattle.while_lang.specs.Pure.{PureStatement, if_else, while, PureBlock, no_statements, statement_and, PurePlacedStatement, from_placed}
 use Rattle.while_compiler.specs.Compiled.{statement_code, block_code, statement_temporaries, block_temporaries}
 
 -- how many statements stand in a statement, itself among them

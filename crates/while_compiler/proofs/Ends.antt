@@ -7,13 +7,13 @@ use Rattle.gil_syntax.specs.Programs.{find_proc}
 use Rattle.mem_model.specs.declared.keys.MemoryName.TheVariants.{Record}
 use Rattle.mem_model.specs.Actions.{Actions}
 use Rattle.record_heap.specs.Table.{record_actions}
-use Rattle.source_meaning.specs.Names.{is_source_name}
-use Rattle.source_meaning.specs.Pure.{find_function}
-use Rattle.source_meaning.proofs.Ends as ends
-use Rattle.source_meaning.proofs.Ends.{CodeFollows, found_passes, to_run, to_source, same_ends}
-use Rattle.while_syntax.specs.Pure.{PureFunction, PureSource}
-use Rattle.while_syntax.specs.Meaning.{block}
-use Rattle.while_syntax.specs.Names.{is_source_function, is_source_block}
+use Rattle.source_language.specs.Names.{is_source_name}
+use Rattle.source_language.specs.Pure.{find_function}
+use Rattle.source_language.proofs.Ends as ends
+use Rattle.source_language.proofs.Ends.{CodeFollows, found_passes, to_run, to_source, same_ends}
+use Rattle.while_lang.specs.Pure.{PureFunction, PureSource}
+use Rattle.while_lang.specs.Meaning.{block}
+use Rattle.while_lang.specs.Names.{is_source_function, is_source_block}
 use Rattle.while_compiler.specs.Compiled.{function_temporaries, function_code, compiled_function, compiled}
 use Rattle.while_compiler.specs.SameEnds.{HasSameEnds}
 use Rattle.while_compiler.proofs.NewRecords.{TakesForNew}

@@ -3,14 +3,14 @@ use Rattle.std.proofs.Common.{◌≡◌, ℕ, ◌+◌, ◌<◌, get_or, List, []
 use Rattle.std.specs.Prelude.{codes}
 use Rattle.std.proofs.lemmas.List.{length-map, length-take-le}
 use Rattle.gil_program.proofs.NameLemmas.{map-take_read}
-use Rattle.while_syntax.specs.declared.tree.Field.{Field}
+use Rattle.while_lang.specs.declared.tree.Field.{Field}
 use Rattle.gil_syntax.specs.View.{expr_view}
-use Rattle.while_syntax.specs.View.{field_view}
+use Rattle.while_lang.specs.View.{field_view}
 use Rattle.gil_values.specs.Pure.{text}
 use Rattle.gil_syntax.specs.Pure.{literal, name, assign, act}
-use Rattle.source_meaning.specs.Names.{temporary}
-use Rattle.source_meaning.specs.Procedures.{placed}
-use Rattle.while_syntax.specs.Pure.{PureField}
+use Rattle.source_language.specs.Names.{temporary}
+use Rattle.source_language.specs.Procedures.{placed}
+use Rattle.while_lang.specs.Pure.{PureField}
 use Rattle.while_compiler.specs.Compiled.{name_literals, field_values_code, fill_code}
 
 pub name_literals-push : (fields : List PureField) (field : PureField)

@@ -13,20 +13,20 @@ use Rattle.mem_model.specs.Actions.{Actions}
 use Rattle.gil_machine.specs.State.{Frame, State, Step}
 use Rattle.gil_machine.specs.Step as machine
 use Rattle.gil_machine.specs.Run.{run}
-use Rattle.source_meaning.specs.Code.{truth, jump}
-use Rattle.source_meaning.specs.Compiled.{while_code, invariant_code}
-use Rattle.source_meaning.specs.Calls.{call_found}
-use Rattle.source_meaning.specs.Completions.{Situation, Completion, normal, fails, sets, with_value, after_action, draws_input, new_symbol, value_test, after_body, back_in}
-use Rattle.source_meaning.specs.Names.{is_source_expr, is_source_name, has_source_invariant, temporary, IsExtendedBy}
-use Rattle.source_meaning.specs.Pure.{find_function}
-use Rattle.source_meaning.proofs.Branches.{is_there, assert_runs, assume_runs, if_runs, invariant_leads, value_tests, loop_runs, logic_runs}
-use Rattle.source_meaning.proofs.Ends.{CallsFollow}
-use Rattle.source_meaning.proofs.Stores.{same_value, same_elements, extended_both, extended_more}
-use Rattle.source_meaning.proofs.Stretches.{HasAt, has_front, has_back}
-use Rattle.source_meaning.proofs.Following.{state_at, Here, leaves, leads, Runs, fewer, runs_then, at_place, call_runs, Matches, value_matches, input_matches, steps, one_step, matched, value_runs, values_run, outcome_runs}
-use Rattle.while_syntax.specs.Pure.{PureStatement, assign, input, symbol as new_symbol_in, new, lookup, call, mutate, dispose, assert, assume, if_else, while, return, fail, logic, PureBlock, no_statements, statement_and, PureFunction}
-use Rattle.while_syntax.specs.Meaning.{Calls, statement, block}
-use Rattle.while_syntax.specs.Names.{is_source_statement, is_source_block}
+use Rattle.source_language.specs.Code.{truth, jump}
+use Rattle.source_language.specs.Compiled.{while_code, invariant_code}
+use Rattle.source_language.specs.Calls.{call_found}
+use Rattle.source_language.specs.Completions.{Situation, Completion, normal, fails, sets, with_value, after_action, draws_input, new_symbol, value_test, after_body, back_in}
+use Rattle.source_language.specs.Names.{is_source_expr, is_source_name, has_source_invariant, temporary, IsExtendedBy}
+use Rattle.source_language.specs.Pure.{find_function}
+use Rattle.source_language.proofs.Branches.{is_there, assert_runs, assume_runs, if_runs, invariant_leads, value_tests, loop_runs, logic_runs}
+use Rattle.source_language.proofs.Ends.{CallsFollow}
+use Rattle.source_language.proofs.Stores.{same_value, same_elements, extended_both, extended_more}
+use Rattle.source_language.proofs.Stretches.{HasAt, has_front, has_back}
+use Rattle.source_language.proofs.Following.{state_at, Here, leaves, leads, Runs, fewer, runs_then, at_place, call_runs, Matches, value_matches, input_matches, steps, one_step, matched, value_runs, values_run, outcome_runs}
+use Rattle.while_lang.specs.Pure.{PureStatement, assign, input, symbol as new_symbol_in, new, lookup, call, mutate, dispose, assert, assume, if_else, while, return, fail, logic, PureBlock, no_statements, statement_and, PureFunction}
+use Rattle.while_lang.specs.Meaning.{Calls, statement, block}
+use Rattle.while_lang.specs.Names.{is_source_statement, is_source_block}
 use Rattle.while_compiler.specs.Compiled.{block_temporaries, statement_code, block_code, compiled_function}
 use Rattle.while_compiler.proofs.NewRecords.{TakesForNew, new_runs}
 

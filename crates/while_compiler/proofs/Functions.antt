@@ -8,12 +8,12 @@ use Rattle.gil_values.proofs.Lists.{slice_get-read}
 use Rattle.gil_program.proofs.NameLemmas.{map-take_read}
 use Rattle.gil_syntax.specs.declared.parts.Proc.{Proc}
 use Rattle.gil_syntax.specs.View.{proc_view}
-use Rattle.source_meaning.specs.declared.trees.Function.{Function}
-use Rattle.source_meaning.specs.Limits.{first_long}
-use Rattle.source_meaning.proofs.TooLong.{IsFirstTooLong, none_long, one_long}
-use Rattle.while_syntax.specs.declared.tree.Block.{Block}
-use Rattle.while_syntax.specs.Pure.{PureFunction}
-use Rattle.while_syntax.specs.View.{function_view}
+use Rattle.source_language.specs.declared.trees.Function.{Function}
+use Rattle.source_language.specs.Limits.{first_long}
+use Rattle.source_language.proofs.TooLong.{IsFirstTooLong, none_long, one_long}
+use Rattle.while_lang.specs.declared.tree.Block.{Block}
+use Rattle.while_lang.specs.Pure.{PureFunction}
+use Rattle.while_lang.specs.View.{function_view}
 use Rattle.while_compiler.specs.Compiled.{compiled_function}
 use Rattle.while_compiler.specs.Valid.{first_too_long}
 

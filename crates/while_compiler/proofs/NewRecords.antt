@@ -12,14 +12,14 @@ use Rattle.mem_model.specs.Actions.{Actions, ActionResult}
 use Rattle.gil_machine.specs.State.{Frame, State, goes_on}
 use Rattle.gil_machine.specs.Step as machine
 use Rattle.gil_machine.specs.Run.{run}
-use Rattle.source_meaning.specs.Completions.{Situation, Completion, normal, sets, with_value, with_values, after_action}
-use Rattle.source_meaning.specs.Names.{are_source_exprs, is_source_expr, temporary, IsExtendedBy}
-use Rattle.source_meaning.specs.Procedures.{placed}
-use Rattle.source_meaning.proofs.Stores.{same_value, bound_value, other_temporary_value, extended_both, extended_more}
-use Rattle.source_meaning.proofs.Stretches.{HasAt, has_front, has_back}
-use Rattle.source_meaning.proofs.Following.{state_at, Here, leads, Runs, runs_after, steps, one_step, matched, value_runs, outcome_runs}
-use Rattle.while_syntax.specs.Pure.{PureField}
-use Rattle.while_syntax.specs.Meaning.{field_names, field_values, fill}
+use Rattle.source_language.specs.Completions.{Situation, Completion, normal, sets, with_value, with_values, after_action}
+use Rattle.source_language.specs.Names.{are_source_exprs, is_source_expr, temporary, IsExtendedBy}
+use Rattle.source_language.specs.Procedures.{placed}
+use Rattle.source_language.proofs.Stores.{same_value, bound_value, other_temporary_value, extended_both, extended_more}
+use Rattle.source_language.proofs.Stretches.{HasAt, has_front, has_back}
+use Rattle.source_language.proofs.Following.{state_at, Here, leads, Runs, runs_after, steps, one_step, matched, value_runs, outcome_runs}
+use Rattle.while_lang.specs.Pure.{PureField}
+use Rattle.while_lang.specs.Meaning.{field_names, field_values, fill}
 use Rattle.while_compiler.specs.Compiled.{name_literals, field_values_code, fill_code, new_code}
 
 -- which actions take a new symbol

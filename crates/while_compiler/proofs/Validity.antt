@@ -6,15 +6,15 @@ use Rattle.gil_syntax.specs.declared.validity.InvalidKind.{InvalidKind}
 use Rattle.gil_syntax.specs.Pure.{name, assign, act, list_of, from_list, PureNumberedCommand}
 use Rattle.gil_syntax.specs.Valid.{a_proc, has_bad_label, has_no_end, IsNamedFault}
 use Rattle.gil_program.specs.Uncounted.{IsValidButLength}
-use Rattle.source_meaning.specs.Compiled.{invariant_code}
-use Rattle.source_meaning.specs.Names.{temporary}
-use Rattle.source_meaning.specs.Procedures.{placed}
-use Rattle.source_meaning.proofs.Labels as labels
-use Rattle.source_meaning.proofs.Labels.{Fits, fits_append, fits_invariant, fits_logic, fits_assert, fits_assume, fits_if, fits_while}
-use Rattle.source_meaning.proofs.Validity as validity
-use Rattle.source_meaning.proofs.Validity.{no_function, short_functions}
-use Rattle.while_syntax.specs.Pure as while
-use Rattle.while_syntax.specs.Pure.{PureField, PureStatement, PureBlock, no_statements, statement_and, PureFunction, PureSource}
+use Rattle.source_language.specs.Compiled.{invariant_code}
+use Rattle.source_language.specs.Names.{temporary}
+use Rattle.source_language.specs.Procedures.{placed}
+use Rattle.source_language.proofs.Labels as labels
+use Rattle.source_language.proofs.Labels.{Fits, fits_append, fits_invariant, fits_logic, fits_assert, fits_assume, fits_if, fits_while}
+use Rattle.source_language.proofs.Validity as validity
+use Rattle.source_language.proofs.Validity.{no_function, short_functions}
+use Rattle.while_lang.specs.Pure as while
+use Rattle.while_lang.specs.Pure.{PureField, PureStatement, PureBlock, no_statements, statement_and, PureFunction, PureSource}
 use Rattle.while_compiler.specs.Compiled.{name_literals, field_values_code, fill_code, statement_code, block_code, block_temporaries, compiled_function, compiled}
 use Rattle.while_compiler.specs.Valid.{IsValidSource, first_too_long}
 

@@ -4,12 +4,12 @@
 use Rattle.std.specs.Prelude.{ℕ, suc, ◌+◌, List, [], ◌∷◌, ◌++◌, map, length, codes, max}
 use Rattle.gil_values.specs.Pure.{text, procedure}
 use Rattle.gil_syntax.specs.Pure.{PureExpr, literal, name, list_of, from_list, assign, call, act, usym, isym, return, fail, PureNumberedCommand, PureProc, PureParts}
-use Rattle.source_meaning.specs.Compiled.{if_code, while_code, assert_code, assume_code, invariant_code, logic_command}
-use Rattle.source_meaning.specs.Names.{temporary}
-use Rattle.source_meaning.specs.Procedures as procedures
-use Rattle.source_meaning.specs.Procedures.{placed}
-use Rattle.while_syntax.specs.Pure as while
-use Rattle.while_syntax.specs.Pure.{PureField, PureStatement, PureBlock, no_statements, statement_and, PureFunction, PureSource}
+use Rattle.source_language.specs.Compiled.{if_code, while_code, assert_code, assume_code, invariant_code, logic_command}
+use Rattle.source_language.specs.Names.{temporary}
+use Rattle.source_language.specs.Procedures as procedures
+use Rattle.source_language.specs.Procedures.{placed}
+use Rattle.while_lang.specs.Pure as while
+use Rattle.while_lang.specs.Pure.{PureField, PureStatement, PureBlock, no_statements, statement_and, PureFunction, PureSource}
 
 -- ---- temporaries
 

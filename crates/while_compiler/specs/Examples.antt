@@ -3,12 +3,12 @@ use Rattle.std.specs.Prelude.{ℕ, pos, List, [], ◌∷◌, codes, Some}
 use Rattle.gil_values.specs.declared.kinds.Kind.TheVariants.{Int}
 use Rattle.gil_values.specs.Pure.{integer, text, procedure}
 use Rattle.gil_syntax.specs.Pure.{PureExpr, literal, name, list_of, from_list, PurePredUse, assign, call, act, usym, isym, return, fail, vanish, fold_use, loop_invariant, PureNumberedCommand}
-use Rattle.source_meaning.specs.Code.{truth, jump}
-use Rattle.source_meaning.specs.Names.{temporary}
-use Rattle.source_meaning.specs.Pure as trees
-use Rattle.source_meaning.specs.Procedures.{null, placed}
-use Rattle.while_syntax.specs.Pure as while
-use Rattle.while_syntax.specs.Pure.{no_statements, statement_and, PurePlacedStatement, PureFunction, PureSource}
+use Rattle.source_language.specs.Code.{truth, jump}
+use Rattle.source_language.specs.Names.{temporary}
+use Rattle.source_language.specs.Pure as trees
+use Rattle.source_language.specs.Procedures.{null, placed}
+use Rattle.while_lang.specs.Pure as while
+use Rattle.while_lang.specs.Pure.{no_statements, statement_and, PurePlacedStatement, PureFunction, PureSource}
 
 abbrev pub b : PureExpr
 b = name (codes "b")

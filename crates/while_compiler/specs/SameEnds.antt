@@ -6,10 +6,10 @@ use Rattle.mem_model.specs.declared.keys.MemoryName.TheVariants.{Record}
 use Rattle.mem_model.specs.Heaps.{Heap}
 use Rattle.record_heap.specs.Table.{record_actions}
 use Rattle.gil_machine.specs.Run.{run_of, IsProperStart as IsProperStartOfRun}
-use Rattle.source_meaning.specs.SameEnds.{AreSameEnds}
-use Rattle.while_syntax.specs.Pure.{PureSource}
-use Rattle.while_syntax.specs.Meaning.{source_end}
-use Rattle.while_syntax.specs.Start.{IsProperStart}
+use Rattle.source_language.specs.SameEnds.{AreSameEnds}
+use Rattle.while_lang.specs.Pure.{PureSource}
+use Rattle.while_lang.specs.Meaning.{source_end}
+use Rattle.while_lang.specs.Start.{IsProperStart}
 
 pub record HasSameEnds (source : PureSource) (p : PureParts) : Type 0 where
   pub starts : (f : List ℕ) (args : List PureValue) (h : Heap) (counter : ℕ)

@@ -1,6 +1,6 @@
 -- A source as its tree.
-use Rattle.while_syntax.specs.Pure.{PureSource}
-use Rattle.while_syntax.specs.View.{source_parts_view}
+use Rattle.while_lang.specs.Pure.{PureSource}
+use Rattle.while_lang.specs.View.{source_parts_view}
 use Rattle.while_compiler.specs.declared.source.Source.{Source}
 
 abbrev pub source_view : Source → PureSource

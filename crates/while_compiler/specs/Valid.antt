@@ -1,8 +1,8 @@
 -- Which trees are sources: those whose compiled program is valid, the number of commands of a procedure left aside.
 use Rattle.std.specs.Prelude.{ℕ, List, Option}
-use Rattle.source_meaning.specs.Limits as limits
-use Rattle.source_meaning.specs.Valid.{HasNoSourceFault}
-use Rattle.while_syntax.specs.Pure.{PureFunction, PureSource}
+use Rattle.source_language.specs.Limits as limits
+use Rattle.source_language.specs.Valid.{HasNoSourceFault}
+use Rattle.while_lang.specs.Pure.{PureFunction, PureSource}
 use Rattle.while_compiler.specs.Compiled.{compiled, compiled_function}
 
 abbrev pub IsValidSource : PureSource → Type 0

@@ -1,7 +1,7 @@
 //! Compiling a source.
 ghost use Rattle.std.specs.Prelude.{◌≡◌, None, IfOk, IfErr, OnOk};
 ghost use Rattle.gil_program.specs.Program.{prog_view};
-ghost use Rattle.source_meaning.specs.Limits.{IsLimitOf};
+ghost use Rattle.source_language.specs.Limits.{IsLimitOf};
 ghost use Rattle.while_compiler.specs.Compiled.{compiled};
 ghost use Rattle.while_compiler.specs.SameEnds.{HasSameEnds};
 ghost use Rattle.while_compiler.specs.Source.{source_view};
@@ -11,7 +11,7 @@ use crate::programs::compiled_parts;
 use crate::source::Source;
 use gil_program::Prog;
 use gil_syntax::InvalidKind;
-use source_meaning::TooMany;
+use source_language::TooMany;
 use std::alloc::Global;
 
 /// The compiled program of a source. From every proper start, with any inputs, the two have the same ends.

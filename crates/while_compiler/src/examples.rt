@@ -1,7 +1,7 @@
 //! Rows that show what functions are compiled to.
 ghost use Rattle.std.specs.Prelude.{◌≡◌, [], ◌∷◌};
 ghost use Rattle.gil_syntax.specs.Pure.{return};
-ghost use Rattle.source_meaning.specs.Procedures.{null, placed};
+ghost use Rattle.source_language.specs.Procedures.{null, placed};
 ghost use Rattle.while_compiler.specs.Compiled.{compiled_function};
 ghost use Rattle.while_compiler.specs.Examples.{one, returns_one, every_statement, its_commands};
 

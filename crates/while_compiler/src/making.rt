@@ -4,17 +4,17 @@ ghost use Rattle.std.specs.List.{list_all};
 ghost use Rattle.gil_syntax.specs.declared.validity.InvalidKind.TheVariants.{Memory};
 ghost use Rattle.gil_syntax.specs.WellMade.{is_well_made};
 ghost use Rattle.gil_program.specs.Uncounted.{IsNamedButLength};
-ghost use Rattle.while_syntax.specs.Names.{is_source_function};
-ghost use Rattle.while_syntax.specs.View.{source_parts_view};
+ghost use Rattle.while_lang.specs.Names.{is_source_function};
+ghost use Rattle.while_lang.specs.View.{source_parts_view};
 ghost use Rattle.while_compiler.specs.Compiled.{compiled};
 ghost use Rattle.while_compiler.specs.Source.{source_view};
 
 use crate::programs::parts_of;
 use crate::source::Source;
 use gil_program::{Invalid, check_but_length};
-use source_meaning::SourceParts;
+use source_language::SourceParts;
 use std::alloc::Global;
-use while_syntax::Function;
+use while_lang::Function;
 
 impl Source {
     /// The source of trees. A fault is one of the compiled program, the number of a procedure's commands aside, and its item is

@@ -1,19 +1,19 @@
 //! Functions and programs.
 ghost use Rattle.std.specs.Prelude.{◌≡◌, None, map, IfOk, IfErr, OnOk};
 ghost use Rattle.gil_syntax.specs.View.{parts_view, proc_view};
-ghost use Rattle.source_meaning.specs.Code.{code_view};
-ghost use Rattle.source_meaning.specs.Limits.{IsLimitOf};
-ghost use Rattle.while_syntax.specs.View.{block_view, function_view, source_parts_view};
+ghost use Rattle.source_language.specs.Code.{code_view};
+ghost use Rattle.source_language.specs.Limits.{IsLimitOf};
+ghost use Rattle.while_lang.specs.View.{block_view, function_view, source_parts_view};
 ghost use Rattle.while_compiler.specs.Compiled as compiled;
 ghost use Rattle.while_compiler.specs.Valid as valid;
 
 use crate::statements::block_code;
 use crate::temporaries::block_temporaries;
 use gil_syntax::{Body, Command, Parts, Proc, Procs};
-use source_meaning::{SourceParts, TooMany, append, first_long, null, nulls, put};
+use source_language::{SourceParts, TooMany, append, first_long, null, nulls, put};
 use std::alloc::{AllocError, Global};
 use syntax_copy::{copy_preds, copy_specs, copy_texts};
-use while_syntax::{Function, Functions};
+use while_lang::{Function, Functions};
 
 /// The commands of a function: its temporaries begin with Null, and at its end it returns Null.
 fn body_code(alloc: Global, function: &Function) -> Result<Body, AllocError>

@@ -3,18 +3,18 @@ ghost use Rattle.std.specs.Prelude.{◌≡◌, ◌+◌, [], ◌∷◌, ◌++◌,
 ghost use Rattle.gil_values.specs.Pure.{text};
 ghost use Rattle.gil_syntax.specs.Pure.{literal, name, act, assign, list_of, from_list};
 ghost use Rattle.gil_syntax.specs.View.{command_view, exprs_view, expr_view};
-ghost use Rattle.source_meaning.specs.Code.{code_view};
-ghost use Rattle.source_meaning.specs.Names.{temporary as pure_temporary};
-ghost use Rattle.source_meaning.specs.Procedures.{placed};
-ghost use Rattle.while_syntax.specs.View.{field_view};
+ghost use Rattle.source_language.specs.Code.{code_view};
+ghost use Rattle.source_language.specs.Names.{temporary as pure_temporary};
+ghost use Rattle.source_language.specs.Procedures.{placed};
+ghost use Rattle.while_lang.specs.View.{field_view};
 ghost use Rattle.while_compiler.specs.Compiled as compiled;
 
 use gil_syntax::{Body, Command, Expr, Exprs};
 use gil_values::Text;
-use source_meaning::{append, put, sum, temporary, temporary_variable, text, text_literal};
+use source_language::{append, put, sum, temporary, temporary_variable, text, text_literal};
 use std::alloc::{AllocError, Global};
 use syntax_copy::copy_of_expression;
-use while_syntax::{Field, Fields};
+use while_lang::{Field, Fields};
 
 /// The names of the fields as literal texts.
 fn name_literals(alloc: Global, fields: &[Field]) -> Result<Exprs, AllocError>

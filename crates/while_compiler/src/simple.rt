@@ -4,14 +4,14 @@ ghost use Rattle.gil_values.specs.Characters.{IsText};
 ghost use Rattle.gil_values.specs.Pure.{procedure};
 ghost use Rattle.gil_syntax.specs.Pure.{literal, name, assign, call, act, usym, isym, return, fail};
 ghost use Rattle.gil_syntax.specs.View.{expr_view, exprs_view};
-ghost use Rattle.source_meaning.specs.Code.{code_view};
-ghost use Rattle.source_meaning.specs.Names.{temporary as pure_temporary};
-ghost use Rattle.source_meaning.specs.Procedures.{placed};
+ghost use Rattle.source_language.specs.Code.{code_view};
+ghost use Rattle.source_language.specs.Names.{temporary as pure_temporary};
+ghost use Rattle.source_language.specs.Procedures.{placed};
 ghost use Rattle.while_compiler.specs.Compiled.{property};
 
 use gil_syntax::{Body, Command, Expr, Exprs};
 use gil_values::{Kind, Text};
-use source_meaning::{one, procedure_literal, temporary, text, text_literal, variable};
+use source_language::{one, procedure_literal, temporary, text, text_literal, variable};
 use std::alloc::{AllocError, Global};
 use syntax_copy::{copy_of_expression, copy_of_expressions};
 

@@ -2,13 +2,13 @@
 ghost use Rattle.std.specs.Prelude.{◌≡◌, true, IsTrue};
 ghost use Rattle.std.specs.List.{list_all};
 ghost use Rattle.gil_syntax.specs.WellMade.{is_well_made};
-ghost use Rattle.while_syntax.specs.Names.{is_source_function};
-ghost use Rattle.while_syntax.specs.View.{source_parts_view};
+ghost use Rattle.while_lang.specs.Names.{is_source_function};
+ghost use Rattle.while_lang.specs.View.{source_parts_view};
 ghost use Rattle.while_compiler.specs.Compiled.{compiled};
 ghost use Rattle.while_compiler.specs.Valid.{IsValidSource};
 
-use source_meaning::SourceParts;
-use while_syntax::Function;
+use source_language::SourceParts;
+use while_lang::Function;
 
 /// A While program. Contracts see it as its tree, by `source_view`. It names what a source text can name, and its compiled
 /// program is well made, and valid where no function gives too many commands.

@@ -1,7 +1,7 @@
 //! The commands of statements and blocks.
 ghost use Rattle.std.specs.Prelude.{◌≡◌, ◌+◌, IfOk};
-ghost use Rattle.source_meaning.specs.Code.{code_view};
-ghost use Rattle.while_syntax.specs.View.{statement_view, block_view};
+ghost use Rattle.source_language.specs.Code.{code_view};
+ghost use Rattle.while_lang.specs.View.{statement_view, block_view};
 ghost use Rattle.while_compiler.specs.Compiled as compiled;
 
 use crate::records::new_code;
@@ -11,12 +11,12 @@ use crate::simple::{
 };
 use crate::temporaries::block_temporaries;
 use gil_syntax::Body;
-use source_meaning::{
+use source_language::{
     append, assert_code, assume_code, body_label, code_len, if_code, invariant_code, logic_code,
     sum, then_label, while_code,
 };
 use std::alloc::{AllocError, Global};
-use while_syntax::{Block, Statement};
+use while_lang::{Block, Statement};
 
 /// The commands of a statement, at a label.
 #[cycle(code)]

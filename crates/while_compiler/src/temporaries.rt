@@ -1,11 +1,11 @@
 //! How many temporaries statements use.
 ghost use Rattle.std.specs.Prelude.{◌≡◌, map, IfOk};
-ghost use Rattle.while_syntax.specs.View.{field_view, statement_view, block_view};
+ghost use Rattle.while_lang.specs.View.{field_view, statement_view, block_view};
 ghost use Rattle.while_compiler.specs.Compiled as compiled;
 
-use source_meaning::sum;
+use source_language::sum;
 use std::alloc::AllocError;
-use while_syntax::{Block, Fields, Statement};
+use while_lang::{Block, Fields, Statement};
 
 /// How many temporaries a new record takes.
 fn field_temporaries(fields: &Fields) -> Result<usize, AllocError>

@@ -12,12 +12,12 @@ use Rattle.gil_grammar.specs.declared.positions.Position.TheVariants.{Command}
 use Rattle.gil_grammar.specs.Expressions.{SpellsExpr, SpellsElements, SpellsMoreElements, SpellsExprs}
 use Rattle.gil_grammar.specs.Lists.{SpellsMore, SpellsSeparated}
 use Rattle.gil_grammar.specs.Vocabulary.{opening_parenthesis, closing_parenthesis, closing_bracket, closing_brace, comma, semicolon, colon, before_operands, between_operands}
-use Rattle.source_meaning.specs.Names.{is_source_name, is_source_expr, are_source_exprs, has_source_invariant}
+use Rattle.source_language.specs.Names.{is_source_name, is_source_expr, are_source_exprs, has_source_invariant}
 use Rattle.source_text.specs.Vocabulary.{equals, dot}
 use Rattle.source_text.proofs.NameLaws.{Kept, tail, named, past, names_named, logic_kept, invariant_named}
-use Rattle.while_syntax.specs.Meaning.{field_values}
-use Rattle.while_syntax.specs.Names.{is_source_statement, is_source_block, is_source_function}
-use Rattle.while_syntax.specs.Pure.{PureField, PureStatement, assign, input, symbol, new, lookup, call, mutate, dispose, assert, assume, if_else, while, return, fail, logic, PureBlock, no_statements, statement_and, PureFunction}
+use Rattle.while_lang.specs.Meaning.{field_values}
+use Rattle.while_lang.specs.Names.{is_source_statement, is_source_block, is_source_function}
+use Rattle.while_lang.specs.Pure.{PureField, PureStatement, assign, input, symbol, new, lookup, call, mutate, dispose, assert, assume, if_else, while, return, fail, logic, PureBlock, no_statements, statement_and, PureFunction}
 use Rattle.while_grammar.specs.Statements.{SpellsField, SpellsStatement, SpellsElse, SpellsStatements, SpellsFunction}
 
 -- ---- expressions

@@ -20,12 +20,12 @@ use Rattle.gil_grammar.proofs.VocabularyLaws.{input_again}
 use Rattle.gil_grammar.proofs.NestingLaws.{Nested, nested_tail, expression_again}
 use Rattle.gil_grammar.proofs.AssertionReads.{parenthesis_closes, expressions_again}
 use Rattle.gil_grammar.proofs.CommandReads.{names_again}
-use Rattle.source_meaning.specs.Pure.{PureLogic, fold_use, unfold_use, assert_that, PureInvariant}
+use Rattle.source_language.specs.Pure.{PureLogic, fold_use, unfold_use, assert_that, PureInvariant}
 use Rattle.source_text.specs.Logic as logics
 use Rattle.source_text.specs.Vocabulary.{equals}
 use Rattle.source_text.proofs.LogicLaws as laws
 use Rattle.source_text.proofs.LogicLaws.{invariant_again}
-use Rattle.while_syntax.specs.Pure.{PureField, PureStatement, assign, input, symbol, new, lookup, call, mutate, dispose, assert, assume, if_else, while, return, fail, logic, PureBlock, no_statements, statement_and, PurePlacedStatement, from_placed, PureFunction}
+use Rattle.while_lang.specs.Pure.{PureField, PureStatement, assign, input, symbol, new, lookup, call, mutate, dispose, assert, assume, if_else, while, return, fail, logic, PureBlock, no_statements, statement_and, PurePlacedStatement, from_placed, PureFunction}
 use Rattle.while_grammar.specs.Statements.{SpellsField, SpellsStatement, SpellsElse, SpellsBlock, SpellsStatements, SpellsFunction}
 use Rattle.while_grammar.specs.Reading.Statements.{value_at, condition_at, claim_at, field_at, assign_at, input_at, new_at, lookup_at, call_at, named_at, assigned_at, assignment_at, mutate_at, of_name_at, asserted_at, else_at, if_at, while_at, statement_at, placed_at, block_by, block_at, function_at}
 use Rattle.while_grammar.proofs.StatementTakes.{SpellsValue, SpellsCondition, SpellsClaim, SpellsPlaced}

@@ -25,7 +25,7 @@ use Rattle.source_text.specs.Logic as logics
 use Rattle.source_text.specs.Logic.{invariant_at}
 use Rattle.source_text.specs.Vocabulary.{equals, dot}
 use Rattle.source_text.proofs.LogicLaws.{invariant_takes, logic_takes}
-use Rattle.while_syntax.specs.Pure.{PureStatement, assign, input, symbol, new, lookup, call, mutate, dispose, assert, assume, if_else, while, return, fail, logic, PureBlock, no_statements, PurePlacedStatement, from_placed, PureFunction}
+use Rattle.while_lang.specs.Pure.{PureStatement, assign, input, symbol, new, lookup, call, mutate, dispose, assert, assume, if_else, while, return, fail, logic, PureBlock, no_statements, PurePlacedStatement, from_placed, PureFunction}
 use Rattle.while_grammar.specs.Statements.{SpellsField, SpellsStatement, SpellsElse, SpellsBlock, SpellsStatements, SpellsFunction}
 use Rattle.while_grammar.specs.Reading.Statements.{value_at, condition_at, claim_at, field_at, input_at, new_at, lookup_at, call_at, named_at, assigned_at, assignment_at, mutate_at, of_name_at, logic_at, asserted_at, else_at, if_at, while_at, of_word_at, statement_at, placed_at, block_by, block_at, function_at}
 

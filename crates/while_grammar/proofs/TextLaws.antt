@@ -9,8 +9,8 @@ use Rattle.gil_lexemes.proofs.ReadingLaws.{at_word_is, same_word-refl}
 use Rattle.gil_grammar.specs.Texts.{byte_before}
 use Rattle.source_text.specs.Grammar.{HasReading}
 use Rattle.source_text.proofs.NameLaws.{items_named}
-use Rattle.while_syntax.specs.Names.{is_source_function}
-use Rattle.while_syntax.specs.Pure.{PureSource}
+use Rattle.while_lang.specs.Names.{is_source_function}
+use Rattle.while_lang.specs.Pure.{PureSource}
 use Rattle.while_grammar.specs.Reading.Statements.{function_at}
 use Rattle.while_grammar.specs.Statements.{SpellsFunction}
 use Rattle.while_grammar.specs.Texts.{SpellSource}

@@ -14,7 +14,7 @@ use Rattle.gil_grammar.specs.Vocabulary.{opening_parenthesis, closing_parenthesi
 use Rattle.source_text.specs.Grammar.{Braced}
 use Rattle.source_text.specs.Logic.{SpellsLogic, SpellsInvariant}
 use Rattle.source_text.specs.Vocabulary.{equals, dot}
-use Rattle.while_syntax.specs.Pure.{PureField, PureStatement, assign, input, symbol, new, lookup, call, mutate, dispose, assert, assume, if_else, while, return, fail, logic, PureBlock, no_statements, statement_and, PureFunction}
+use Rattle.while_lang.specs.Pure.{PureField, PureStatement, assign, input, symbol, new, lookup, call, mutate, dispose, assert, assume, if_else, while, return, fail, logic, PureBlock, no_statements, statement_and, PureFunction}
 
 -- name: e
 abbrev pub SpellsField : PureField → List Lexeme → List Lexeme → Type 0

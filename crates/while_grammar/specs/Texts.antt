@@ -2,7 +2,7 @@
 use Rattle.std.specs.Prelude.{ℕ, List}
 use Rattle.gil_grammar.specs.Nesting.{IsNested}
 use Rattle.source_text.specs.Texts as texts
-use Rattle.while_syntax.specs.Pure.{PureFunction, PureSource}
+use Rattle.while_lang.specs.Pure.{PureFunction, PureSource}
 use Rattle.while_grammar.specs.Statements.{SpellsFunction}
 
 -- an item of a text, and the byte at which it begins

@@ -1,8 +1,8 @@
 //! What the grammar implies. The functions do nothing: their contracts are the laws.
 ghost use Rattle.std.specs.Prelude.{◌≡◌, ℕ, List, IsTrue};
 ghost use Rattle.std.specs.List.{list_all};
-ghost use Rattle.while_syntax.specs.Names.{is_source_function};
-ghost use Rattle.while_syntax.specs.Pure.{PureSource};
+ghost use Rattle.while_lang.specs.Names.{is_source_function};
+ghost use Rattle.while_lang.specs.Pure.{PureSource};
 ghost use Rattle.while_grammar.specs.Texts.{PlacedItem, SpellItems, SpellSource};
 
 /// One text has one reading: its items, each with the byte at which it begins.

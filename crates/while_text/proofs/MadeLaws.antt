@@ -14,13 +14,13 @@ use Rattle.gil_grammar.specs.Commands.{SpellsName}
 use Rattle.gil_grammar.specs.Nesting.{IsNested}
 use Rattle.gil_grammar.specs.Vocabulary.{comma}
 use Rattle.gil_grammar.proofs.MadeLaws.{AreProper, Makes, after, separated_make, program_name, expr_makes, exprs_make, input_makes, name_makes}
-use Rattle.source_meaning.specs.Compiled.{invariant_code}
-use Rattle.source_meaning.specs.Names.{temporary}
-use Rattle.source_meaning.specs.Procedures.{placed}
-use Rattle.source_meaning.proofs.Made.{AreMade, one_expr, made_one, made_append, made_assert, made_assume, made_if, made_while, made_procedure}
+use Rattle.source_language.specs.Compiled.{invariant_code}
+use Rattle.source_language.specs.Names.{temporary}
+use Rattle.source_language.specs.Procedures.{placed}
+use Rattle.source_language.proofs.Made.{AreMade, one_expr, made_one, made_append, made_assert, made_assume, made_if, made_while, made_procedure}
 use Rattle.source_text.proofs.MadeLaws.{Spelled, invariant_makes, logic_makes, text_makes}
-use Rattle.while_syntax.specs.Pure as while
-use Rattle.while_syntax.specs.Pure.{PureField, PureStatement, PureBlock, no_statements, statement_and, PureSource}
+use Rattle.while_lang.specs.Pure as while
+use Rattle.while_lang.specs.Pure.{PureField, PureStatement, PureBlock, no_statements, statement_and, PureSource}
 use Rattle.while_grammar.specs.Statements.{SpellsField, SpellsStatement, SpellsElse, SpellsStatements, SpellsFunction}
 use Rattle.while_grammar.specs.Texts.{SpellSource}
 use Rattle.while_compiler.specs.Compiled.{block_temporaries, name_literals, field_values_code, fill_code, new_code, property, statement_code, block_code, compiled_function, compiled}

@@ -11,8 +11,8 @@ use Rattle.gil_grammar.specs.Nesting.{IsNested}
 use Rattle.gil_text.specs.Located.{PureLocated}
 use Rattle.source_text.specs.Located.{located_of}
 use Rattle.source_text.proofs.RefusalLemmas.{located_source, located_spells}
-use Rattle.while_syntax.specs.Names.{is_source_function}
-use Rattle.while_syntax.specs.Pure.{PureFunction, PureSource}
+use Rattle.while_lang.specs.Names.{is_source_function}
+use Rattle.while_lang.specs.Pure.{PureFunction, PureSource}
 use Rattle.while_grammar.specs.Statements.{SpellsFunction}
 use Rattle.while_grammar.specs.Texts.{PlacedItem, SpellItems}
 use Rattle.while_grammar.proofs.TextLaws.{source_named}

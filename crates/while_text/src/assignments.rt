@@ -1,7 +1,7 @@
 //! Reading statements that begin with a name.
 ghost use Rattle.std.specs.Prelude.{◌≡◌};
 ghost use Rattle.gil_lexemes.specs.Reading.{Gives};
-ghost use Rattle.while_syntax.specs.View.{statement_view};
+ghost use Rattle.while_lang.specs.View.{statement_view};
 ghost use Rattle.while_grammar.specs.Reading.Statements as read;
 
 use crate::pieces::{fields_at, value_at};
@@ -11,7 +11,7 @@ use gil_lexer::{Form, Sign, Word};
 use gil_text::{expressions_at, input_of_word, word_of};
 use gil_values::Text;
 use std::alloc::Global;
-use while_syntax::Statement;
+use while_lang::Statement;
 
 /// `e;`, which is assigned to the variable.
 fn assign_at<'a>(

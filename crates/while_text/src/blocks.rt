@@ -4,7 +4,7 @@ ghost use Rattle.gil_lexer.specs.declared.signs.Sign.TheVariants as signs;
 ghost use Rattle.gil_lexemes.specs.Lists.{each_until};
 ghost use Rattle.gil_lexemes.specs.Reading.{Gives};
 ghost use Rattle.gil_grammar.specs.Texts.{byte_before};
-ghost use Rattle.while_syntax.specs.View.{block_view, placed_statements_view, placed_view, statement_view};
+ghost use Rattle.while_lang.specs.View.{block_view, placed_statements_view, placed_view, statement_view};
 ghost use Rattle.while_grammar.specs.Reading.Statements as read;
 
 use crate::assignments::of_name_at;
@@ -14,7 +14,7 @@ use gil_lexemes::{Cursor, Stop};
 use gil_lexer::{Form, Sign, Token, Word};
 use source_text::{invariant_at, next_place};
 use std::alloc::Global;
-use while_syntax::{Block, PlacedStatement, Statement};
+use while_lang::{Block, PlacedStatement, Statement};
 
 /// A block, in which so many blocks stand within one another at most, this one among them.
 #[cycle(statement)]

@@ -4,8 +4,8 @@ ghost use Rattle.gil_lexer.specs.declared.words.Word.TheVariants.{Func};
 ghost use Rattle.gil_lexemes.specs.Reading.{Gives};
 ghost use Rattle.gil_grammar.specs.Nesting.{IsNested};
 ghost use Rattle.gil_grammar.specs.Texts.{byte_before};
-ghost use Rattle.while_syntax.specs.Pure.{PureFunction};
-ghost use Rattle.while_syntax.specs.View.{function_view};
+ghost use Rattle.while_lang.specs.Pure.{PureFunction};
+ghost use Rattle.while_lang.specs.View.{function_view};
 ghost use Rattle.while_grammar.specs.Reading.Statements as read;
 ghost use Rattle.while_grammar.specs.Statements.{SpellsFunction};
 ghost use Rattle.while_grammar.proofs.TextLaws.{functions_read};
@@ -16,7 +16,7 @@ use gil_lexer::{Sign, Token, Word};
 use gil_text::{names_at, nesting_fault};
 use source_text::{SourceLanguage, next_place};
 use std::alloc::Global;
-use while_syntax::Function;
+use while_lang::Function;
 
 /// While, as its texts are read.
 pub(crate) struct While;

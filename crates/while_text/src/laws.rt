@@ -1,7 +1,7 @@
 //! What the grammar and the compiler imply together. The function does nothing: its contract is the law.
 ghost use Rattle.std.specs.Prelude.{ℕ, List, IsTrue};
 ghost use Rattle.gil_syntax.specs.WellMade.{is_well_made};
-ghost use Rattle.while_syntax.specs.Pure.{PureSource};
+ghost use Rattle.while_lang.specs.Pure.{PureSource};
 ghost use Rattle.while_grammar.specs.Texts.{SpellSource};
 ghost use Rattle.while_compiler.specs.Compiled.{compiled};
 

@@ -4,7 +4,7 @@ ghost use Rattle.gil_lexer.specs.declared.signs.Sign.TheVariants as signs;
 ghost use Rattle.gil_lexemes.specs.Lists.{more_at, separated_at, with_front};
 ghost use Rattle.gil_lexemes.specs.Reading.{Gives};
 ghost use Rattle.gil_syntax.specs.View.{expr_view};
-ghost use Rattle.while_syntax.specs.View.{field_view};
+ghost use Rattle.while_lang.specs.View.{field_view};
 ghost use Rattle.while_grammar.specs.Reading.Statements as read;
 
 use gil_grammar::Position;
@@ -14,7 +14,7 @@ use gil_syntax::Expr;
 use gil_text::expression_at;
 use sequence::Sequence;
 use std::alloc::Global;
-use while_syntax::{Field, Fields};
+use while_lang::{Field, Fields};
 
 /// `e;`
 #[tactic(auto, unfolding(while_grammar::specs::Reading::Statements::value_at))]

@@ -1,7 +1,7 @@
 //! Reading whole texts.
 ghost use Rattle.std.specs.Prelude.{◌≡◌, List, IfOk, IfErr, MatchResult};
 ghost use Rattle.gil_text.specs.declared.refused.RefusedKind.TheVariants.{Memory};
-ghost use Rattle.while_syntax.specs.Pure.{PureSource};
+ghost use Rattle.while_lang.specs.Pure.{PureSource};
 ghost use Rattle.while_grammar.specs.Texts.{SpellSource};
 ghost use Rattle.while_compiler.specs.Source.{source_view};
 ghost use Rattle.while_compiler.specs.Valid.{IsValidSource};
@@ -10,7 +10,7 @@ ghost use Rattle.while_text.specs.Refusals.{IsRefused};
 use crate::functions::While;
 use gil_syntax::InvalidKind;
 use gil_text::{Located, Refused, RefusedKind, place_at};
-use source_meaning::SourceParts;
+use source_language::SourceParts;
 use source_text::{read_located, stopped_for_memory};
 use std::alloc::Global;
 use while_compiler::Source;

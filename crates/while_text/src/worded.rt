@@ -1,14 +1,14 @@
 //! Reading statements that begin with a reserved word and have no block.
 ghost use Rattle.std.specs.Prelude.{◌≡◌};
 ghost use Rattle.gil_lexemes.specs.Reading.{Gives};
-ghost use Rattle.while_syntax.specs.View.{statement_view};
+ghost use Rattle.while_lang.specs.View.{statement_view};
 ghost use Rattle.while_grammar.specs.Reading.Statements as read;
 
 use crate::pieces::{claim_at, value_at};
 use gil_lexemes::{Cursor, Stop};
 use gil_lexer::{Sign, Word};
 use std::alloc::Global;
-use while_syntax::Statement;
+use while_lang::Statement;
 
 /// `e;`, behind `dispose`.
 pub(crate) fn dispose_at<'a>(

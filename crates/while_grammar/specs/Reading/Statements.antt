@@ -15,7 +15,7 @@ use Rattle.gil_grammar.specs.Reading.Commands.{names_at}
 use Rattle.gil_grammar.specs.Reading.Vocabulary.{word_of, input_of_word}
 use Rattle.source_text.specs.Logic as logics
 use Rattle.source_text.specs.Logic.{invariant_at}
-use Rattle.while_syntax.specs.Pure.{PureField, PureStatement, assign, input, symbol, new, lookup, call, mutate, dispose, assert, assume, if_else, while, return, fail, logic, PureBlock, no_statements, PurePlacedStatement, from_placed, PureFunction}
+use Rattle.while_lang.specs.Pure.{PureField, PureStatement, assign, input, symbol, new, lookup, call, mutate, dispose, assert, assume, if_else, while, return, fail, logic, PureBlock, no_statements, PurePlacedStatement, from_placed, PureFunction}
 
 -- ---- pieces
 

@@ -1,6 +1,6 @@
 use Rattle.std.proofs.Common.{sym, subst}
 use Rattle.gil_program.specs.Program.{prog_view}
-use Rattle.source_meaning.specs.Limits.{IsLimitOf}
+use Rattle.source_language.specs.Limits.{IsLimitOf}
 use Rattle.while_compiler.specs.Source.{source_view}
 use Rattle.while_compiler.specs.Valid.{first_too_long}
 use Rattle.gillian_words.specs.declared.options.Language.TheVariants.{While}

@@ -2,7 +2,7 @@ use Rattle.std.proofs.Common.{◌≡◌, Some, slice_get, sym, arith}
 use Rattle.std.specs.Prelude.{codes}
 use Rattle.solver_proof.specs.View.{proof_view, proofs_view}
 use Rattle.solver_proof.proofs.Sizes.{size-element}
-use Rattle.value_print.proofs.Joined.{pushed}
+use Rattle.gil_values.proofs.Joined.{pushed}
 use Rattle.solver_print.specs.Proofs.{printed_proof}
 use Rattle.solver_print.proofs.Sizes.{branches_added}
 use Rattle.solver_print.proofs.proofs.+print.Goals as goal

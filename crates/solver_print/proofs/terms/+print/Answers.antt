@@ -6,7 +6,7 @@ use Rattle.gil_syntax.specs.Pure as expr
 use Rattle.pure_terms.specs.declared.terms.Term.{the_lemmas}
 use Rattle.pure_terms.specs.Pure.{list_of, unary_of, binary_of, from_list}
 use Rattle.pure_terms.specs.View.{term_view, terms_view}
-use Rattle.value_print.proofs.Joined.{element_read, pushed}
+use Rattle.gil_values.proofs.Joined.{element_read, pushed}
 use Rattle.syntax_print.specs.Expressions.{printed_expr}
 use Rattle.syntax_print.proofs.Forms.{list_added, unary_added, binary_added}
 use Rattle.solver_print.specs.Terms.{expr_of}

@@ -13,9 +13,9 @@ use Rattle.sym_engine.proofs.calling.call_candidates.Goals as goal
 use Rattle.sym_evaluation.specs.View.{cases_view, all_cases_view}
 use Rattle.sym_paths.specs.Valued.{faulted}
 use Rattle.sym_paths.specs.View.{path_view}
-use Rattle.sym_steps.specs.Calls.{Calls}
-use Rattle.sym_steps.specs.Cases.{AreResults}
-use Rattle.sym_steps.specs.Copies.{AreCopied}
+use Rattle.sym_candidates.specs.Calls.{Calls}
+use Rattle.sym_candidates.specs.Cases.{AreResults}
+use Rattle.sym_candidates.specs.Copies.{AreCopied}
 
 pub returns-in_ok-push-in-Some-clause-lawful : goal.returns-in_ok-push-in-Some-clause-lawful
 returns-in_ok-push-in-Some-clause-lawful g c =

@@ -7,7 +7,7 @@ use Rattle.sym_engine.proofs.valued.fail_each.Goals as goal
 use Rattle.sym_evaluation.specs.View.{fault_case_view, faults_view}
 use Rattle.sym_paths.specs.Valued.{faulted, failing}
 use Rattle.sym_paths.specs.View.{path_view}
-use Rattle.sym_steps.specs.Copies.{AreCopied, IsCopied}
+use Rattle.sym_candidates.specs.Copies.{AreCopied, IsCopied}
 
 pub loop-fault-preserved : goal.loop-fault-preserved
 loop-fault-preserved g c =

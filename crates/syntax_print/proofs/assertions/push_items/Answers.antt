@@ -1,7 +1,7 @@
 use Rattle.std.proofs.Common.{refl}
 use Rattle.std.specs.Prelude.{codes}
 use Rattle.gil_syntax.specs.View.{item_view}
-use Rattle.value_print.proofs.Joined.{element_read, pushed}
+use Rattle.gil_values.proofs.Joined.{element_read, pushed}
 use Rattle.syntax_print.specs.Assertions.{printed_item}
 use Rattle.syntax_print.proofs.assertions.push_items.Goals as goal
 

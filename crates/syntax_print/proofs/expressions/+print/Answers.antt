@@ -4,7 +4,7 @@ use Rattle.gil_syntax.specs.declared.expressions.Expr.{the_lemmas}
 use Rattle.gil_syntax.specs.Pure.{list_of, unary_of, binary_of, from_list}
 use Rattle.gil_syntax.specs.View.{expr_view, exprs_view}
 use Rattle.gil_program.proofs.ExpressionLemmas.{element_read, node_count-element}
-use Rattle.value_print.proofs.Joined.{pushed}
+use Rattle.gil_values.proofs.Joined.{pushed}
 use Rattle.syntax_print.specs.Expressions.{printed_expr}
 use Rattle.syntax_print.proofs.Forms.{list_added, unary_added, binary_added}
 use Rattle.syntax_print.proofs.expressions.+print.Goals as goal

@@ -1,6 +1,6 @@
 use Rattle.std.proofs.Common.{◌≡◌, map, take}
 use Rattle.gil_syntax.specs.View.{proc_view}
-use Rattle.while_syntax.specs.View.{function_view}
+use Rattle.while_lang.specs.View.{function_view}
 use Rattle.while_compiler.specs.Compiled.{compiled_function}
 use Rattle.while_compiler.proofs.programs.procedures_of.Given as goal
 

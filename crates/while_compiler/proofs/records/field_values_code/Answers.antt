@@ -1,6 +1,6 @@
 use Rattle.std.proofs.Common.{◌++◌, [], ◌∷◌, sym, ◌∙◌}
 use Rattle.gil_syntax.specs.Pure.{assign}
-use Rattle.source_meaning.specs.Procedures.{placed}
+use Rattle.source_language.specs.Procedures.{placed}
 use Rattle.while_compiler.proofs.FieldCodes.{field_values-next}
 use Rattle.while_compiler.proofs.records.field_values_code.Goals as goal
 

@@ -1,6 +1,6 @@
 use Rattle.std.proofs.Common.{◌≡◌, take, map}
-use Rattle.source_meaning.specs.Code.{code_view}
-use Rattle.while_syntax.specs.View.{field_view}
+use Rattle.source_language.specs.Code.{code_view}
+use Rattle.while_lang.specs.View.{field_view}
 use Rattle.while_compiler.specs.Compiled.{field_values_code}
 use Rattle.while_compiler.proofs.records.field_values_code.Given as goal
 

@@ -1,6 +1,6 @@
 use Rattle.std.proofs.Common.{◌++◌, [], ◌∷◌, sym, ◌∙◌}
 use Rattle.gil_syntax.specs.Pure.{act}
-use Rattle.source_meaning.specs.Procedures.{placed}
+use Rattle.source_language.specs.Procedures.{placed}
 use Rattle.while_compiler.proofs.FieldCodes.{fill-next}
 use Rattle.while_compiler.proofs.records.fill_code.Goals as goal
 

@@ -1,6 +1,6 @@
 use Rattle.std.proofs.Common.{◌≡◌, take, map}
 use Rattle.gil_syntax.specs.View.{exprs_view}
-use Rattle.while_syntax.specs.View.{field_view}
+use Rattle.while_lang.specs.View.{field_view}
 use Rattle.while_compiler.specs.Compiled.{name_literals}
 use Rattle.while_compiler.proofs.records.name_literals.Given as goal
 

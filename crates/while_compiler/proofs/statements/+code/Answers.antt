@@ -1,6 +1,6 @@
 use Rattle.std.proofs.Common.{◌+◌, ◌++◌, length, sym, ap, ◌∙◌, arith}
-use Rattle.while_syntax.specs.View.{statement_view}
-use Rattle.source_meaning.specs.Code.{code_view}
+use Rattle.while_lang.specs.View.{statement_view}
+use Rattle.source_language.specs.Code.{code_view}
 use Rattle.while_compiler.specs.Compiled.{statement_code}
 use Rattle.while_compiler.proofs.Counts.{count-read, code-next}
 use Rattle.while_compiler.proofs.statements.+code.Goals as goal

@@ -1,7 +1,7 @@
 use Rattle.std.proofs.Common.{◌≡◌, ◌+◌, ◌*◌, take, map}
-use Rattle.source_meaning.specs.Code.{code_view}
-use Rattle.while_syntax.specs.Pure.{from_placed}
-use Rattle.while_syntax.specs.View.{statement_view, block_view, placed_view}
+use Rattle.source_language.specs.Code.{code_view}
+use Rattle.while_lang.specs.Pure.{from_placed}
+use Rattle.while_lang.specs.View.{statement_view, block_view, placed_view}
 use Rattle.while_compiler.specs.Compiled.{block_code}
 use Rattle.while_compiler.proofs.Counts.{statement_count, block_count}
 use Rattle.while_compiler.proofs.statements.+code.Given as goal

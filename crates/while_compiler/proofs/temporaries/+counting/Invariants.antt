@@ -1,6 +1,6 @@
 use Rattle.std.proofs.Common.{◌≡◌, ◌+◌, ◌*◌, take, map}
-use Rattle.while_syntax.specs.Pure.{from_placed}
-use Rattle.while_syntax.specs.View.{statement_view, block_view, placed_view}
+use Rattle.while_lang.specs.Pure.{from_placed}
+use Rattle.while_lang.specs.View.{statement_view, block_view, placed_view}
 use Rattle.while_compiler.specs.Compiled.{block_temporaries}
 use Rattle.while_compiler.proofs.Counts.{statement_count, block_count}
 use Rattle.while_compiler.proofs.temporaries.+counting.Given as goal

@@ -6,8 +6,8 @@ use Rattle.gil_lexemes.specs.declared.standing.Lexeme.{Lexeme}
 use Rattle.gil_lexemes.specs.Reading.{Reading}
 use Rattle.gil_lexemes.proofs.ListReading.{each_goes_on, each_stops, each_ends, each_is_done}
 use Rattle.gil_grammar.specs.Texts.{byte_before}
-use Rattle.while_syntax.specs.Pure.{PurePlacedStatement}
-use Rattle.while_syntax.specs.View.{placed_view, placed_statements_view}
+use Rattle.while_lang.specs.Pure.{PurePlacedStatement}
+use Rattle.while_lang.specs.View.{placed_view, placed_statements_view}
 use Rattle.while_grammar.specs.Reading.Statements.{placed_at, statement_at, block_at}
 use Rattle.while_text.proofs.blocks.+statement.Goals as goal
 

@@ -2,7 +2,7 @@ use Rattle.std.proofs.Common.{◌≡◌, length, ◌+◌, ◌-◌, ◌*◌}
 use Rattle.gil_lexer.specs.declared.signs.Sign.TheVariants as signs
 use Rattle.gil_lexemes.specs.Lists.{each_until, with_front}
 use Rattle.gil_grammar.specs.Texts.{byte_before}
-use Rattle.while_syntax.specs.View.{placed_statements_view}
+use Rattle.while_lang.specs.View.{placed_statements_view}
 use Rattle.while_grammar.specs.Reading.Statements.{placed_at, statement_at, block_at}
 use Rattle.while_text.proofs.blocks.+statement.Given as goal
 

@@ -3,7 +3,7 @@ use Rattle.std.proofs.lemmas.Result.{err_from_is_err_and}
 use Rattle.std.proofs.lemmas.List.{map_push}
 use Rattle.gil_lexer.specs.declared.signs.Sign.TheVariants as signs
 use Rattle.gil_lexemes.proofs.ListReading.{more_goes_on, more_stops, more_ends, more_is_done}
-use Rattle.while_syntax.specs.View.{field_view}
+use Rattle.while_lang.specs.View.{field_view}
 use Rattle.while_grammar.specs.Reading.Statements.{field_at}
 use Rattle.while_text.proofs.pieces.more_fields.Goals as goal
 

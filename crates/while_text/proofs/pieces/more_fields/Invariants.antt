@@ -1,7 +1,7 @@
 use Rattle.std.proofs.Common.{◌≡◌, length, ◌-◌, map}
 use Rattle.gil_lexer.specs.declared.signs.Sign.TheVariants as signs
 use Rattle.gil_lexemes.specs.Lists.{more_at, with_front}
-use Rattle.while_syntax.specs.View.{field_view}
+use Rattle.while_lang.specs.View.{field_view}
 use Rattle.while_grammar.specs.Reading.Statements.{field_at}
 use Rattle.while_text.proofs.pieces.more_fields.Given as goal
 

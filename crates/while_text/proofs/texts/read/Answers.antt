@@ -4,7 +4,7 @@ use Rattle.gil_lexer.specs.declared.words.Word.TheVariants.{Func}
 use Rattle.gil_grammar.specs.Nesting.{IsNested}
 use Rattle.gil_text.specs.Located.{located_view}
 use Rattle.source_text.proofs.RefusalLemmas.{located_source, no_refusal, located_spells, one_source, located_place, fault_refusal}
-use Rattle.while_syntax.specs.View.{function_view}
+use Rattle.while_lang.specs.View.{function_view}
 use Rattle.while_grammar.specs.Reading.Statements.{function_at}
 use Rattle.while_grammar.specs.Statements.{SpellsFunction}
 use Rattle.while_grammar.proofs.TextLaws.{functions_read}

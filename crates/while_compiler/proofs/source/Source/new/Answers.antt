@@ -1,7 +1,7 @@
 use Rattle.std.proofs.Common.{subst}
 use Rattle.gil_program.specs.Uncounted.{IsValidButLength}
-use Rattle.source_meaning.proofs.Validity.{source_is_valid}
-use Rattle.while_syntax.specs.View.{source_parts_view}
+use Rattle.source_language.proofs.Validity.{source_is_valid}
+use Rattle.while_lang.specs.View.{source_parts_view}
 use Rattle.while_compiler.specs.Compiled.{compiled}
 use Rattle.while_compiler.proofs.source.Source.new.Goals as goal
 

@@ -1,0 +1,44 @@
+-- The names of temporaries.
+use Rattle.std.proofs.Common.{◌≡◌, ℕ, zero, suc, ◌+◌, List, [], ◌∷◌, ◌++◌, map, length, refl, ap, ◌∙◌, inl, arith}
+use Rattle.std.specs.Int.Digits.{digits_of, AllBelowBase}
+use Rattle.std.proofs.lemmas.Int.Digits.{all_below_base_digits_of}
+use Rattle.std.proofs.lemmas.List.Elements.{All-nil, All-cons}
+use Rattle.gil_values.specs.Characters.{IsTextCharacter, IsText}
+use Rattle.gil_values.specs.Printed.{numeral}
+use Rattle.source_language.specs.Names.{temporary, temporaries_from}
+use Rattle.source_language.specs.Procedures.{nulls, placed, null}
+use Rattle.gil_syntax.specs.Pure.{assign}
+
+digits_text : (ds : List ℕ) → AllBelowBase 10 ds → IsText (map (λ digit. 48 + digit) ds)
+digits_text [] below = All-nil IsTextCharacter
+digits_text (d ∷ ds) below = All-cons IsTextCharacter (48 + d) _ (inl (omega arith, omega (arith, below.0))) (digits_text ds below.1)
+
+numeral_text : (n : ℕ) → IsText (numeral n)
+unfolding numeral
+numeral_text zero = All-cons IsTextCharacter 48 [] (inl (omega arith, omega arith)) (All-nil IsTextCharacter)
+numeral_text (suc n) = digits_text (digits_of 10 (suc n)) (all_below_base_digits_of 10 (suc n) (omega arith))
+
+pub temporary_text : (n : ℕ) → IsText (temporary n)
+temporary_text n = All-cons IsTextCharacter 116 (36 ∷ numeral n) (inl (omega arith, omega arith))
+    (All-cons IsTextCharacter 36 (numeral n) (inl (omega arith, omega arith)) (numeral_text n))
+
+one_more_from : (i n : ℕ) → temporaries_from i (suc n) ≡ temporaries_from i n ++ temporary (i + n) ∷ []
+one_more_from i zero = ap (λ k. temporary k ∷ []) (let e : i ≡ i + 0 = omega arith in e)
+one_more_from i (suc n) = ap (λ xs. temporary i ∷ xs) (one_more_from (i + 1) n
+    ∙ ap (λ k. temporaries_from (i + 1) n ++ temporary k ∷ []) (let e : i + 1 + n ≡ i + suc n = omega arith in e))
+
+pub one_more : (n : ℕ) → temporaries_from 0 (n + 1) ≡ temporaries_from 0 n ++ temporary n ∷ []
+one_more n = ap (λ k. temporaries_from 0 k) (let e : n + 1 ≡ suc n = omega arith in e) ∙ one_more_from 0 n
+    ∙ ap (λ k. temporaries_from 0 n ++ temporary k ∷ []) (let e : 0 + n ≡ n = omega arith in e)
+
+nulls-append : (at : ℕ) (xs : List (List ℕ)) (x : List ℕ) → nulls at (xs ++ x ∷ []) ≡ nulls at xs ++ placed at (assign x null) ∷ []
+nulls-append at [] x = refl
+nulls-append at (y ∷ xs) x = ap (λ cs. placed at (assign y null) ∷ cs) (nulls-append at xs x)
+
+pub one_more_null : (at n : ℕ) → nulls at (temporaries_from 0 (n + 1)) ≡ nulls at (temporaries_from 0 n) ++ placed at
+    (assign (temporary n) null) ∷ []
+one_more_null at n = ap (nulls at) (one_more n) ∙ nulls-append at (temporaries_from 0 n) (temporary n)
+
+pub nulls_length : (at i n : ℕ) → length (nulls at (temporaries_from i n)) ≡ n
+nulls_length at i zero = refl
+nulls_length at i (suc n) = ap suc (nulls_length at (i + 1) n)

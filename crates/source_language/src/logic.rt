@@ -1,0 +1,51 @@
+//! What only proofs look at, as commands.
+ghost use Rattle.std.specs.Prelude.{◌≡◌, [], ◌∷◌, IfOk};
+ghost use Rattle.source_language.specs.Code.{code_view};
+ghost use Rattle.source_language.specs.Compiled as compiled;
+ghost use Rattle.source_language.specs.Procedures.{placed};
+ghost use Rattle.source_language.specs.View.{invariants_view, logic_view};
+
+use crate::pieces::{one, put};
+use crate::temporaries::push_temporaries;
+use crate::trees::{Invariant, Logic};
+use gil_syntax::{Body, Command};
+use std::alloc::{AllocError, Global};
+use syntax_copy::{copy_assertion, copy_params, copy_texts, copy_use};
+
+/// A logic command.
+pub fn logic_code(alloc: Global, at: u32, logic: &Logic) -> Result<Body, AllocError>
+    ensures { IfOk result (λ code. code_view code ≡ placed at (compiled.logic_command (logic_view logic.now)) ∷ []) }
+{
+    match logic {
+        Logic::Fold(used) => one(alloc, at, Command::Fold(copy_use(alloc, used)?)),
+        Logic::Unfold(used) => one(alloc, at, Command::Unfold(copy_use(alloc, used)?)),
+        Logic::Assert(assertion) => {
+            let assertion = copy_assertion(alloc, assertion)?;
+            one(alloc, at, Command::AssertThat(assertion))
+        }
+    }
+}
+
+/// The invariant of a loop that assigns so many temporaries.
+pub fn invariant_code(
+    alloc: Global,
+    at: u32,
+    temporaries: usize,
+    invariant: &Option<Invariant>,
+) -> Result<Body, AllocError>
+    ensures { IfOk result (λ code. code_view code ≡ compiled.invariant_code at temporaries (invariants_view invariant.now)) }
+{
+    let mut code = Body::new(alloc);
+    if let Some(invariant) = invariant {
+        let mut names = copy_texts(alloc, &invariant.names)?;
+        push_temporaries(alloc, &mut names, temporaries)?;
+        let logicals = copy_params(alloc, &invariant.logicals)?;
+        let assertion = copy_assertion(alloc, &invariant.assertion)?;
+        put(
+            &mut code,
+            at,
+            Command::LoopInvariant(names, logicals, assertion),
+        )?;
+    }
+    Ok(code)
+}

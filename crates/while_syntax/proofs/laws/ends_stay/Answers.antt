@@ -1,5 +1,0 @@
-use Rattle.while_syntax.proofs.MoreTurns.{ends_stay}
-use Rattle.while_syntax.proofs.laws.ends_stay.Goals as goal
-
-pub returns : goal.returns
-returns c = ends_stay
