@@ -7,6 +7,7 @@ ghost use Rattle.solver_proof.specs.Chains.{equals};
 use gil_values::BinOp;
 use pure_terms::{Atom, Atoms, Term, VarTable};
 use std::alloc::{AllocError, Global};
+use std::rc::Rc;
 
 /// An equal table.
 pub(crate) fn copy_of_table(alloc: Global, vars: &VarTable) -> Result<VarTable, AllocError>
@@ -43,7 +44,7 @@ pub(crate) fn push_disequality(
 {
     let s = s.copy(alloc)?;
     let t = t.copy(alloc)?;
-    let term = Term::Op2(BinOp::Equal, Box::new(alloc, s)?, Box::new(alloc, t)?);
+    let term = Term::Op2(BinOp::Equal, Rc::new(alloc, s)?, Rc::new(alloc, t)?);
     list.push(Atom::Not(term))?;
     Ok(())
 }

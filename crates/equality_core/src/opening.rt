@@ -11,6 +11,7 @@ use gil_values::BinOp;
 use pure_terms::{Atom, Atoms, Term};
 use solver_proof::Proof;
 use std::alloc::{AllocError, Global};
+use std::rc::Rc;
 
 /// Adds the equality of two terms to a list.
 fn push_equality(
@@ -23,11 +24,7 @@ fn push_equality(
 {
     let left = left.copy(alloc)?;
     let right = right.copy(alloc)?;
-    let term = Term::Op2(
-        BinOp::Equal,
-        Box::new(alloc, left)?,
-        Box::new(alloc, right)?,
-    );
+    let term = Term::Op2(BinOp::Equal, Rc::new(alloc, left)?, Rc::new(alloc, right)?);
     list.push(Atom::Holds(term))?;
     Ok(())
 }

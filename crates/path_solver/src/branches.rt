@@ -17,6 +17,7 @@ use gil_values::{BinOp, Kind, UnOp};
 use pure_terms::{Atom, Atoms, Literal, Term, Terms, Var, VarTable};
 use solver_proof::{Proof, Proofs};
 use std::alloc::{AllocError, Global};
+use std::rc::Rc;
 
 /// How a list is split.
 #[derive(Clone, Copy)]
@@ -230,7 +231,7 @@ fn value_atom(alloc: Global, subject: Var, value: Literal) -> Result<Atom, Alloc
 fn kind_atom(alloc: Global, subject: Var, kind: Kind) -> Result<Atom, AllocError>
     ensures { IfOk result (λ a. atom_view a ≡ positive (kind_is (variable subject) kind)) }
 {
-    let of = Term::Op1(UnOp::Kind, Box::new(alloc, Term::Var(subject))?);
+    let of = Term::Op1(UnOp::Kind, Rc::new(alloc, Term::Var(subject))?);
     let term = equality(alloc, of, Term::Lit(Literal::Kind(kind)))?;
     Ok(Atom::Holds(term))
 }
@@ -239,9 +240,5 @@ fn kind_atom(alloc: Global, subject: Var, kind: Kind) -> Result<Atom, AllocError
 pub(crate) fn equality(alloc: Global, left: Term, right: Term) -> Result<Term, AllocError>
     ensures { IfOk result (λ t. term_view t ≡ equals (term_view left) (term_view right)) }
 {
-    Ok(Term::Op2(
-        BinOp::Equal,
-        Box::new(alloc, left)?,
-        Box::new(alloc, right)?,
-    ))
+    Ok(Term::Op2(BinOp::Equal, Rc::new(alloc, left)?, Rc::new(alloc, right)?))
 }

@@ -1,11 +1,10 @@
 //! Lists of atoms that the search makes longer and cuts back.
-ghost use Rattle.std.specs.Prelude.{◌≡◌, List, [], ◌∷◌, ◌++◌, IfOk, OnOk};
+ghost use Rattle.std.specs.Prelude.{◌≡◌, List, [], ◌∷◌, ◌++◌, IfOk};
 ghost use Rattle.pure_terms.specs.declared.atoms.Atom.{Atom};
 ghost use Rattle.pure_terms.specs.View.{atoms_view};
 
 use pure_terms::Atoms;
 use std::alloc::{AllocError, Global};
-use std::mem;
 
 /// An equal list.
 pub(crate) fn copy_of(alloc: Global, atoms: &Atoms) -> Result<Atoms, AllocError>
@@ -18,16 +17,10 @@ pub(crate) fn copy_of(alloc: Global, atoms: &Atoms) -> Result<Atoms, AllocError>
     Ok(list)
 }
 
-/// Takes the last atom away. The others are moved, and none is copied.
+/// Takes the last atom away.
 #[inline(never)]
-pub(crate) fn cut_last(alloc: Global, list: &mut Atoms) -> Result<(), AllocError>
-    ensures { OnOk result ((kept : List Atom) (last : Atom) → list.old ≡ kept ++ last ∷ [] → list.new ≡ kept) }
+pub(crate) fn cut_last(list: &mut Atoms)
+    ensures { (kept : List Atom) (last : Atom) → list.old ≡ kept ++ last ∷ [] → list.new ≡ kept }
 {
-    let longer = mem::replace(list, Atoms::new(alloc));
-    let mut items = longer.into_vec();
-    items.pop();
-    for item in items {
-        list.push(item)?;
-    }
-    Ok(())
+    list.pop();
 }

@@ -207,7 +207,7 @@ fn search_with(
     }
     list.push(atom)?;
     let found = search(alloc, vars, list, depth - 1)?;
-    cut_last(alloc, list)?;
+    cut_last(list);
     without_last(alloc, vars, list, found)
 }
 

@@ -13,6 +13,7 @@ use crate::literals::Literal;
 use crate::terms::{Term, Terms};
 use gil_values::{BinOp, OpFault, UnOp, Value, apply1, apply2};
 use std::alloc::{AllocError, Global};
+use std::rc::Rc;
 
 /// The term of an operator of one operand. A literal is computed, and `not(not(t))` is t.
 pub fn fold_unary(alloc: Global, op: UnOp, operand: Term) -> Result<Term, AllocError>
@@ -25,7 +26,7 @@ pub fn fold_unary(alloc: Global, op: UnOp, operand: Term) -> Result<Term, AllocE
         },
         Term::Op1(inner, within) => {
             if are_both_not(op, inner) {
-                return Ok(Box::into_inner(within));
+                return within.as_ref().copy(alloc);
             }
             unary_term(alloc, op, Term::Op1(inner, within))
         }
@@ -47,14 +48,14 @@ pub fn fold_binary(alloc: Global, op: BinOp, left: Term, right: Term) -> Result<
 fn unary_term(alloc: Global, op: UnOp, operand: Term) -> Result<Term, AllocError>
     ensures { IfOk result (λ t. term_view t ≡ unary_of op (term_view operand)) }
 {
-    Ok(Term::Op1(op, Box::new(alloc, operand)?))
+    Ok(Term::Op1(op, Rc::new(alloc, operand)?))
 }
 
 fn binary_term(alloc: Global, op: BinOp, left: Term, right: Term) -> Result<Term, AllocError>
     ensures { IfOk result (λ t. term_view t ≡ binary_of op (term_view left) (term_view right)) }
 {
-    let left = Box::new(alloc, left)?;
-    let right = Box::new(alloc, right)?;
+    let left = Rc::new(alloc, left)?;
+    let right = Rc::new(alloc, right)?;
     Ok(Term::Op2(op, left, right))
 }
 
@@ -166,8 +167,8 @@ fn fold_shifts(
     alloc: Global,
     op: BinOp,
     inner: BinOp,
-    operand: Box<Term>,
-    by: Box<Term>,
+    operand: Rc<Term>,
+    by: Rc<Term>,
     right: Literal,
 ) -> Result<Term, AllocError>
     ensures { IfOk result
@@ -175,7 +176,7 @@ fn fold_shifts(
 {
     match find_shift(op, inner, &by, &right) {
         Some(shift) => {
-            let by = Box::new(alloc, Term::Lit(Literal::Int(shift.by)))?;
+            let by = Rc::new(alloc, Term::Lit(Literal::Int(shift.by)))?;
             Ok(Term::Op2(shift.op, operand, by))
         }
         None => binary_term(alloc, op, Term::Op2(inner, operand, by), Term::Lit(right)),

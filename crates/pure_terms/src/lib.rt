@@ -35,5 +35,5 @@ pub use laws::{
 pub use literals::Literal;
 pub use queries::{Choices, Query};
 pub use terms::{Term, Terms};
-pub use truth::{HoldsFault, holds};
+pub use truth::{HoldsFault, holds, value_of};
 pub use variables::{Sort, Valuation, Var, VarTable};

@@ -8,6 +8,7 @@ use crate::literals::Literal;
 use crate::variables::Var;
 use gil_values::{BinOp, UnOp};
 use std::alloc::{AllocError, Global};
+use std::rc::Rc;
 use std::slice::Iter;
 
 /// A term. Contracts see it as its pure data, by `term_view`.
@@ -17,8 +18,8 @@ pub enum Term {
     Lit(Literal),
     Var(Var),
     List(Terms),
-    Op1(UnOp, Box<Term>),
-    Op2(BinOp, Box<Term>, Box<Term>),
+    Op1(UnOp, Rc<Term>),
+    Op2(BinOp, Rc<Term>, Rc<Term>),
 }
 
 /// A list of terms. Contracts see it as a list of pure data, by `terms_view`.
@@ -109,15 +110,8 @@ fn copy_term(alloc: Global, term: &Term) -> Result<Term, AllocError>
         Term::Lit(literal) => Ok(Term::Lit(literal.copy(alloc)?)),
         Term::Var(variable) => Ok(Term::Var(*variable)),
         Term::List(terms) => Ok(Term::List(copy_terms(alloc, terms)?)),
-        Term::Op1(op, operand) => {
-            let operand = copy_term(alloc, operand)?;
-            Ok(Term::Op1(*op, Box::new(alloc, operand)?))
-        }
-        Term::Op2(op, left, right) => {
-            let left = copy_term(alloc, left)?;
-            let right = copy_term(alloc, right)?;
-            Ok(Term::Op2(*op, Box::new(alloc, left)?, Box::new(alloc, right)?))
-        }
+        Term::Op1(op, operand) => Ok(Term::Op1(*op, operand.clone()?)),
+        Term::Op2(op, left, right) => Ok(Term::Op2(*op, left.clone()?, right.clone()?)),
     }
 }
 

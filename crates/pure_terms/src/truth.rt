@@ -56,6 +56,17 @@ pub fn holds(alloc: Global, atom: &Atom, valuation: &Valuation) -> Result<bool, 
     }
 }
 
+/// The value of a term, or nothing where it is undefined. Each term that stands in it is evaluated, whatever is undefined.
+pub fn value_of(
+    alloc: Global,
+    term: &Term,
+    valuation: &Valuation,
+) -> Result<Option<Value>, HoldsFault>
+    ensures { Evaluates (values_view valuation.now) (term_view term.now) result }
+{
+    evaluate(alloc, term, valuation)
+}
+
 /// The truth of an atom whose term has this value.
 fn truth_of(atom: &Atom, value: bool) -> bool
     ensures { (v : List PureValue) → pure_value v (term_of (atom_view atom.now)) ≡ Some (boolean value) → result ≡ truth v (atom_view atom.now) }

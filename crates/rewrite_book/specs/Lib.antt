@@ -1,5 +1,7 @@
 pub mod Answers
+pub mod Books
 pub mod Forms
 pub mod Heads
 pub mod Nodes
 pub mod Sets
+pub mod ShippedRules

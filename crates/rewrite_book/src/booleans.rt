@@ -19,7 +19,7 @@ pub fn not_not(alloc: Global, t: &Term) -> Result<Option<Term>, AllocError>
 }
 
 /// `(t = t)` is true.
-pub fn same_equal(_alloc: Global, t: &Term) -> Result<Option<Term>, AllocError>
+pub fn same_equal(t: &Term) -> Result<Option<Term>, AllocError>
     ensures form { IfOk result (λ o. option_map term_view o ≡ forms.same_equal (term_view t.now)) }
     ensures well { AnswersWell t.now result }
 {

@@ -12,7 +12,7 @@ use pure_terms::{Literal, Term, Terms, folding_replaces};
 use std::alloc::{AllocError, Global};
 
 /// `len` of a list term is the number of its elements.
-pub fn len_list(_alloc: Global, t: &Term) -> Result<Option<Term>, AllocError>
+pub fn len_list(t: &Term) -> Result<Option<Term>, AllocError>
     ensures form { IfOk result (λ o. option_map term_view o ≡ forms.len_list (term_view t.now)) }
     ensures well { AnswersWell t.now result }
 {

@@ -27,7 +27,7 @@ pub fn minus_zero(alloc: Global, t: &Term) -> Result<Option<Term>, AllocError>
 }
 
 /// `(t * 0)` and `(0 * t)` are 0.
-pub fn times_zero(_alloc: Global, t: &Term) -> Result<Option<Term>, AllocError>
+pub fn times_zero(t: &Term) -> Result<Option<Term>, AllocError>
     ensures form { IfOk result (λ o. option_map term_view o ≡ forms.times_zero (term_view t.now)) }
     ensures well { AnswersWell t.now result }
 {

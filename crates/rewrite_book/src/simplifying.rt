@@ -5,6 +5,7 @@ ghost use Rattle.pure_terms.specs.Pure.{from_list, subterms, subterms_of_all};
 ghost use Rattle.pure_terms.specs.Rewriting.{Replaces};
 ghost use Rattle.pure_terms.specs.View.{term_view, terms_view};
 ghost use Rattle.rewrite_book.specs.Answers.{AnswersWell};
+ghost use Rattle.rewrite_book.specs.Books.{rules_of};
 ghost use Rattle.rewrite_book.specs.Heads.{is_headed};
 ghost use Rattle.rewrite_book.specs.Nodes.{below};
 
@@ -12,6 +13,7 @@ use crate::book::RuleBook;
 use crate::rules::{Rule, Simplifier, ask};
 use pure_terms::{Term, Terms};
 use std::alloc::{AllocError, Global};
+use std::rc::Rc;
 
 /// What may be asked for a smaller term.
 pub trait Asked {
@@ -25,7 +27,7 @@ pub trait Asked {
 }
 
 impl Asked for RuleBook {
-    ghost has_none = { λ book t. (rule : _) → Contains book.rules.items rule → IsTrue (is_headed rule.head t)
+    ghost has_none = { λ book t. (rule : _) → Contains (rules_of book) rule → IsTrue (is_headed rule.head t)
         → (a : _) × (s : _) × (term_view s.now ≡ t) × Simplifier.post rule.simplifier a s (Ok None) };
 
     fn first_answer(&self, alloc: Global, term: &Term) -> Result<Option<Term>, AllocError> {
@@ -54,7 +56,7 @@ fn answer_of(alloc: Global, rule: &Rule, term: &Term) -> Result<Option<Term>, Al
 /// Simplifies a term by a book. At each node of the answer, each rule with that node's head has answered None.
 pub fn simplify(alloc: Global, book: &RuleBook, term: Term) -> Result<Term, AllocError>
     ensures replaces { IfOk result (λ u. Replaces (term_view term) (term_view u)) }
-    ensures done { IfOk result (λ u. All (λ t. (rule : _) → Contains book.now.rules.items rule → IsTrue (is_headed rule.head t)
+    ensures done { IfOk result (λ u. All (λ t. (rule : _) → Contains (rules_of book.now) rule → IsTrue (is_headed rule.head t)
         → (a : _) × (s : _) × (term_view s.now ≡ t) × Simplifier.post rule.simplifier a s (Ok None)) (subterms (term_view u))) }
 {
     simplified(alloc, book, &term)
@@ -85,12 +87,12 @@ fn with_simplified_parts<B: Asked>(alloc: Global, book: &B, term: &Term) -> Resu
         Term::List(terms) => Ok(Term::List(all_simplified(alloc, book, terms)?)),
         Term::Op1(op, operand) => {
             let operand = simplified(alloc, book, operand)?;
-            Ok(Term::Op1(*op, Box::new(alloc, operand)?))
+            Ok(Term::Op1(*op, Rc::new(alloc, operand)?))
         }
         Term::Op2(op, left, right) => {
             let left = simplified(alloc, book, left)?;
             let right = simplified(alloc, book, right)?;
-            Ok(Term::Op2(*op, Box::new(alloc, left)?, Box::new(alloc, right)?))
+            Ok(Term::Op2(*op, Rc::new(alloc, left)?, Rc::new(alloc, right)?))
         }
     }
 }

@@ -10,6 +10,7 @@ use linear_core::Rows;
 use pure_terms::{Atom, Literal, Sort, Term, Var, holds};
 use solver_rules::{Node, Pair, RowList, Step, disequality_of, order_at, rows_of};
 use std::alloc::{AllocError, Global};
+use std::rc::Rc;
 
 /// What to split by.
 #[derive(Clone, Copy)]
@@ -253,8 +254,8 @@ fn split_at(
     if variable.sort != Sort::Int {
         return Ok(None);
     }
-    let left = Box::new(alloc, Term::Var(variable))?;
-    let right = Box::new(alloc, Term::Lit(Literal::Int(number)))?;
+    let left = Rc::new(alloc, Term::Var(variable))?;
+    let right = Rc::new(alloc, Term::Lit(Literal::Int(number)))?;
     let atom = Atom::Holds(Term::Op2(BinOp::LessOrEqual, left, right));
     if is_plain(node.vars, &atom) {
         return Ok(Some(Step::Split(atom.term().copy(alloc)?)));

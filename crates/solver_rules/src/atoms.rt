@@ -9,6 +9,7 @@ use crate::pairs::{Pair, disequality_of, equality_of};
 use gil_values::BinOp;
 use pure_terms::{Atom, Atoms, Term};
 use std::alloc::{AllocError, Global};
+use std::rc::Rc;
 
 pub(crate) fn are_same(s: &Term, t: &Term) -> bool
     ensures { IsTrue result → term_view s.now ≡ term_view t.now }
@@ -104,5 +105,5 @@ pub(crate) fn joined(alloc: Global, op: BinOp, s: &Term, t: &Term) -> Result<Ter
 {
     let s = s.copy(alloc)?;
     let t = t.copy(alloc)?;
-    Ok(Term::Op2(op, Box::new(alloc, s)?, Box::new(alloc, t)?))
+    Ok(Term::Op2(op, Rc::new(alloc, s)?, Rc::new(alloc, t)?))
 }
