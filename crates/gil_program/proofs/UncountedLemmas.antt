@@ -1,9 +1,9 @@
 -- Faults of parts whose procedures may have any number of commands are faults.
-use Rattle.std.proofs.Common.{◌≡◌, ◌≢◌, ℕ, ◌≤◌, List, length, filter, leb, take, slice_get, Bool, true, false, ◌||◌, Option, Some, None, IsTrue, refl, subst, arith}
+use Rattle.std.proofs.Common.{◌≢◌, ℕ, List, length, filter, leb, take, slice_get, Bool, true, false, ◌||◌, Option, Some, None, IsTrue, refl, arith}
 use Rattle.gil_syntax.specs.declared.validity.InvalidKind.{InvalidKind}
 use Rattle.gil_syntax.specs.declared.validity.InvalidKind.TheVariants.{Duplicate, BadLabel, NoEnd, UnknownName, Arity, TooMany, Memory}
 use Rattle.gil_syntax.specs.Pure.{PureParts}
-use Rattle.gil_syntax.specs.Valid.{ProgramItem, items_of, most_items, same_list, has_many_commands, has_many_names, has_wide_literal, has_fault_if_there, IsAtFault, rank, IsNamedFault, IsValid}
+use Rattle.gil_syntax.specs.Valid.{ProgramItem, items_of, most_items, same_list, has_many_commands, has_many_names, has_wide_literal, has_fault_if_there, IsAtFault, IsNamedFault, IsValid}
 use Rattle.gil_program.specs.First.{IsFirst}
 use Rattle.gil_program.specs.Uncounted.{has_fault_but_length_if_there, fault_but_length_at, IsValidButLength, IsNamedButLength}
 

@@ -9,7 +9,7 @@ use Rattle.gil_syntax.specs.declared.assertions.Item.{Item}
 use Rattle.gil_syntax.specs.declared.assertions.Param.{Param}
 use Rattle.gil_syntax.specs.declared.assertions.PredUse.{PredUse}
 use Rattle.gil_syntax.specs.declared.commands.Command.{Command}
-use Rattle.gil_syntax.specs.Pure.{PureExpr, literal, name, logical, list_of, unary_of, binary_of, PureItem, PureCommand, assign, call, act, usym, isym, ifgoto, return, fail, vanish, fold_use, unfold_use, assert_that, loop_invariant, PureNumberedCommand, PureProc, PureParts}
+use Rattle.gil_syntax.specs.Pure.{PureExpr, literal, name, logical, list_of, unary_of, binary_of, PureItem, PureCommand, assign, call, act, usym, isym, ifgoto, return, fail, throw, vanish, fold_use, unfold_use, assert_that, loop_invariant, PureNumberedCommand, PureProc, PureParts}
 use Rattle.gil_syntax.specs.Programs.{find_proc}
 use Rattle.gil_syntax.specs.Subexpressions.{subexpressions, own_logicals, logicals_of}
 use Rattle.gil_syntax.specs.Valid.{param_names, is_among, piece_of_assertion, declared_at, piece_of_command, Piece, names_undeclared, uses_unknown, predicates_of}
@@ -55,13 +55,14 @@ assertions_unknown p known ls same ass =
 
 declared_by-among : (logicals : List (List ℕ)) (c : PureCommand) → declared_by (is_among logicals) c ≡ is_among (declared_at logicals c)
 declared_by-among logicals (assign x e) = refl
-declared_by-among logicals (call x e es) = refl
+declared_by-among logicals (call x e es handler) = refl
 declared_by-among logicals (act x a es) = refl
 declared_by-among logicals (usym x) = refl
 declared_by-among logicals (isym x k) = refl
 declared_by-among logicals (ifgoto e i) = refl
 declared_by-among logicals (return e) = refl
 declared_by-among logicals (fail e) = refl
+declared_by-among logicals (throw e) = refl
 declared_by-among logicals vanish = refl
 declared_by-among logicals (fold_use u) = refl
 declared_by-among logicals (unfold_use u) = refl
@@ -101,13 +102,14 @@ module _ (f : List ℕ → Bool) where
       → ((xs : List (List ℕ)) (ps : List Param) (items : List Item) → c ≡ Command.LoopInvariant xs ps items → ⊥)
       → (λ (x : List ℕ). false) ≡ declared_by f (command_view c)
   named_elsewhere (Command.Assign x e) a b d e' = refl
-  named_elsewhere (Command.Call x e es) a b d e' = refl
+  named_elsewhere (Command.Call x e es handler) a b d e' = refl
   named_elsewhere (Command.Act x y es) a b d e' = refl
   named_elsewhere (Command.Usym x) a b d e' = refl
   named_elsewhere (Command.Isym x k) a b d e' = refl
   named_elsewhere (Command.IfGoto e i) a b d e' = refl
   named_elsewhere (Command.Return e) a b d e' = refl
   named_elsewhere (Command.Fail e) a b d e' = refl
+  named_elsewhere (Command.Throw e) a b d e' = refl
   named_elsewhere Command.Vanish a b d e' = refl
   named_elsewhere (Command.Fold u) a b d e' = absurd (a u refl)
   named_elsewhere (Command.Unfold u) a b d e' = absurd (b u refl)

@@ -33,7 +33,7 @@ list_all-flat_map : {X Y : Type 0} (test : Y → Bool) (f : X → List Y) (xs : 
 list_all-flat_map test f [] = refl
 list_all-flat_map test f (x ∷ xs) = list_all-append test (f x) (flat_map f xs) ∙ ap (λ b. list_all test (f x) && b) (list_all-flat_map test f xs)
 
-pub assertion_made : (items : List PureItem) → not (stands_in_assertion is_ill_made no_use items) ≡ is_well_made_assertion items
+assertion_made : (items : List PureItem) → not (stands_in_assertion is_ill_made no_use items) ≡ is_well_made_assertion items
 assertion_made items = all_made (flat_map exprs_of_item items) (flat_map uses_of_item items) ∙ list_all-flat_map is_well_made_expr exprs_of_item items
 
 pub assertions_made : (ass : List (List PureItem)) → not (list_any (stands_in_assertion is_ill_made no_use) ass) ≡ list_all is_well_made_assertion ass

@@ -9,7 +9,7 @@ ghost use Rattle.gil_program.specs.ByName.{parts_of, IsIndexed, AreDistinct};
 ghost use Rattle.gil_program.specs.Sought.{no_node};
 
 use crate::by_name::PartsByName;
-use crate::seeking::{Sought, in_assertion, in_assertions, in_body};
+use crate::seeking::{Sought, in_assertions, in_body, in_spec};
 use gil_syntax::{Expr, Param, PredDef, PredUse, Proc, Spec};
 use gil_values::Text;
 
@@ -84,7 +84,7 @@ pub(crate) fn spec_has_wrong_arity(program: &PartsByName<'_>, spec: &Spec) -> bo
         return true;
     }
     let sought = Misuse { program };
-    in_assertion(&sought, &spec.pre) || in_assertions(&sought, &spec.posts)
+    in_spec(&sought, spec)
 }
 
 /// Whether a predicate uses a predicate so.

@@ -7,12 +7,30 @@ ghost use Rattle.gil_syntax.specs.View.{command_view, proc_view};
 
 use gil_syntax::{Command, NumberedCommand, Proc};
 
-/// Whether a jump goes to none of this many commands.
+/// Whether a label is that of none of this many commands.
+fn is_no_label(commands: usize, label: i64) -> bool
+    ensures { result ≡ valid.is_no_label commands label }
+{
+    label < 0 || label as u64 >= commands as u64
+}
+
+/// Whether a handler has such a label.
+fn is_bad_handler(commands: usize, handler: Option<i64>) -> bool
+    ensures { result ≡ valid.is_bad_handler commands handler }
+{
+    match handler {
+        Some(label) => is_no_label(commands, label),
+        None => false,
+    }
+}
+
+/// Whether a jump or a handler goes to none of this many commands.
 fn is_bad_jump(commands: usize, command: &Command) -> bool
     ensures { result ≡ valid.is_bad_jump commands (command_view command.now) }
 {
     match command {
-        Command::IfGoto(_, target) => *target < 0 || *target as u64 >= commands as u64,
+        Command::Call(_, _, _, handler) => is_bad_handler(commands, *handler),
+        Command::IfGoto(_, target) => is_no_label(commands, *target),
         _ => false,
     }
 }
@@ -23,11 +41,11 @@ fn ends_body(command: &Command) -> bool
 {
     matches!(
         command,
-        Command::Return(_) | Command::Fail(_) | Command::Vanish
+        Command::Return(_) | Command::Fail(_) | Command::Throw(_) | Command::Vanish
     )
 }
 
-/// Whether some command jumps to none of these.
+/// Whether some command jumps to none of these, or has its handler at none.
 fn has_bad_jump(body: &[NumberedCommand]) -> bool
     ensures { result ≡ list_any (λ c. valid.is_bad_jump (length body.now) (command_view c.command)) body.now }
 {
@@ -35,7 +53,7 @@ fn has_bad_jump(body: &[NumberedCommand]) -> bool
         .any(|numbered| is_bad_jump(body.len(), &numbered.command))
 }
 
-/// Whether some jump goes to none of the commands.
+/// Whether some jump or handler goes to none of the commands.
 pub(crate) fn has_bad_label(proc: &Proc) -> bool
     ensures { result ≡ valid.has_bad_label (a_proc (proc_view proc.now)) }
 {

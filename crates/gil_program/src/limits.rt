@@ -10,7 +10,7 @@ ghost use Rattle.gil_program.specs.Items.{before_proc, before_spec, before_pred}
 ghost use Rattle.gil_program.specs.Sought.{is_wide_literal, no_use};
 ghost use Rattle.gil_program.specs.Uncounted.{passes_limit};
 
-use crate::seeking::{Sought, in_assertion, in_assertions, in_body};
+use crate::seeking::{Sought, in_assertions, in_body, in_spec};
 use gil_syntax::{Body, Command, Expr, NumberedCommand, PredDef, PredUse, Proc, Spec};
 use gil_values::Value;
 
@@ -127,8 +127,7 @@ fn proc_has_wide_literal(proc: &Proc) -> bool
 fn spec_has_wide_literal(spec: &Spec) -> bool
     ensures { (p : PureParts) → result ≡ has_wide_literal p (a_spec (spec_view spec.now)) }
 {
-    let sought = WideLiteral {};
-    in_assertion(&sought, &spec.pre) || in_assertions(&sought, &spec.posts)
+    in_spec(&WideLiteral {}, spec)
 }
 
 /// Whether a predicate has a wide literal.

@@ -2,11 +2,11 @@
 ghost use Rattle.std.specs.Prelude.{◌≡◌, Bool, [], ◌∷◌, map};
 ghost use Rattle.std.specs.List.{list_any};
 ghost use Rattle.gil_syntax.specs.Pure.{PureExpr, PurePredUse};
-ghost use Rattle.gil_syntax.specs.View.{expr_view, exprs_view, pred_use_view, item_view, assertion_view, command_view, numbered_command_view};
-ghost use Rattle.gil_syntax.specs.Subexpressions.{exprs_of_use, exprs_of_item, uses_of_item, exprs_of, uses_of};
+ghost use Rattle.gil_syntax.specs.View.{expr_view, exprs_view, pred_use_view, item_view, assertion_view, command_view, numbered_command_view, spec_view};
+ghost use Rattle.gil_syntax.specs.Subexpressions.{exprs_of_use, exprs_of_item, uses_of_item, exprs_of, uses_of, assertions_of};
 ghost use Rattle.gil_program.specs.Found.{stands_in, stands_among, stands_in_assertion, stands_in_command};
 
-use gil_syntax::{Assertion, Assertions, Body, Command, Expr, Exprs, Item, PredUse};
+use gil_syntax::{Assertion, Assertions, Body, Command, Expr, Exprs, Item, PredUse, Spec};
 
 /// What is sought.
 pub(crate) trait Sought {
@@ -103,13 +103,15 @@ pub(crate) fn in_command<S: Sought>(sought: &S, command: &Command) -> bool
 {
     match command {
         Command::Assign(_, value) => in_expression(sought, value),
-        Command::Call(_, callee, arguments) => {
+        Command::Call(_, callee, arguments, _) => {
             in_expression(sought, callee) || in_expressions(sought, arguments)
         }
         Command::Act(_, _, arguments) => in_expressions(sought, arguments),
         Command::Usym(_) | Command::Isym(_, _) | Command::Vanish => false,
         Command::IfGoto(guard, _) => in_expression(sought, guard),
-        Command::Return(value) | Command::Fail(value) => in_expression(sought, value),
+        Command::Return(value) | Command::Fail(value) | Command::Throw(value) => {
+            in_expression(sought, value)
+        }
         Command::Fold(used) | Command::Unfold(used) => in_use(sought, used),
         Command::AssertThat(items) | Command::LoopInvariant(_, _, items) => in_assertion(
             sought, items,
@@ -128,6 +130,16 @@ pub(crate) fn in_assertions<S: Sought>(sought: &S, assertions: &Assertions) -> b
         }
     }
     false
+}
+
+/// Whether it stands in the precondition, in a postcondition or in an error postcondition.
+pub(crate) fn in_spec<S: Sought>(sought: &S, spec: &Spec) -> bool
+    requires { S.is_ready sought.now }
+    ensures { result ≡ list_any (stands_in_assertion (S.is_node sought.now) (S.is_use sought.now)) (assertions_of (spec_view spec.now)) }
+{
+    in_assertion(sought, &spec.pre)
+        || in_assertions(sought, &spec.posts)
+        || in_assertions(sought, &spec.errors)
 }
 
 /// Whether it stands in one of the commands.

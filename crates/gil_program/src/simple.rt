@@ -55,10 +55,14 @@ fn is_simple_command(command: &Command) -> bool
 {
     match command {
         Command::Assign(_, value) => is_simple_value(value),
-        Command::Call(_, callee, arguments) => is_literal(callee) && are_simple_values(arguments),
+        Command::Call(_, callee, arguments, _) => {
+            is_literal(callee) && are_simple_values(arguments)
+        }
         Command::Act(_, action, arguments) => has_simple_arguments(action, arguments),
         Command::IfGoto(guard, _) => is_simple_guard(guard),
-        Command::Return(value) | Command::Fail(value) => is_simple_value(value),
+        Command::Return(value) | Command::Fail(value) | Command::Throw(value) => is_simple_value(
+            value,
+        ),
         _ => true,
     }
 }

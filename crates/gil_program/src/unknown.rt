@@ -11,7 +11,7 @@ ghost use Rattle.gil_program.specs.Sought.{is_undeclared, is_unknown_use, declar
 
 use crate::by_name::PartsByName;
 use crate::named::{Names, names_in};
-use crate::seeking::{Sought, in_assertion, in_assertions, in_command};
+use crate::seeking::{Sought, in_assertions, in_command, in_spec};
 use gil_syntax::{Command, Expr, NumberedCommand, PredDef, PredUse, Proc, Spec};
 use gil_values::Text;
 use std::alloc::{AllocError, Global};
@@ -142,7 +142,7 @@ pub(crate) fn spec_has_unknown_name(
         declared: &declared,
         own: &none,
     };
-    Ok(in_assertion(&sought, &spec.pre) || in_assertions(&sought, &spec.posts))
+    Ok(in_spec(&sought, spec))
 }
 
 /// Whether a predicate has such a name.

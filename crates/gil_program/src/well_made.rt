@@ -3,13 +3,13 @@ ghost use Rattle.std.specs.Prelude.{◌≡◌, map};
 ghost use Rattle.std.specs.List.{list_all};
 ghost use Rattle.gil_values.specs.View.{value_view};
 ghost use Rattle.gil_syntax.specs.View.{command_view, numbered_command_view, assertion_view, proc_view, spec_view, pred_def_view, parts_view};
+ghost use Rattle.gil_syntax.specs.Subexpressions.{assertions_of};
 ghost use Rattle.gil_syntax.specs.WellMade as made;
 ghost use Rattle.gil_program.specs.Sought.{is_ill_made, no_use};
 
-use crate::seeking::{Sought, in_assertion, in_assertions, in_command};
+use crate::seeking::{Sought, in_assertions, in_command, in_spec};
 use gil_syntax::{
-    Assertion, Assertions, Body, Command, Expr, NumberedCommand, Param, Parts, PredDef, PredUse,
-    Proc, Spec,
+    Assertions, Body, Command, Expr, NumberedCommand, Param, Parts, PredDef, PredUse, Proc, Spec,
 };
 use gil_values::{Kind, Text, Value};
 
@@ -89,7 +89,7 @@ fn has_well_made_names(command: &Command) -> bool
 {
     match command {
         Command::Assign(variable, _)
-        | Command::Call(variable, _, _)
+        | Command::Call(variable, _, _, _)
         | Command::Act(variable, _, _)
         | Command::Usym(variable) => !has_hash(variable),
         Command::Isym(variable, kind) => !has_hash(variable) && is_drawable(*kind),
@@ -122,11 +122,11 @@ fn is_well_made_body(body: &Body) -> bool
     are_well_made_commands(body.as_slice())
 }
 
-/// Whether an assertion is well made.
-fn is_well_made_assertion(items: &Assertion) -> bool
-    ensures { result ≡ made.is_well_made_assertion (assertion_view items.now) }
+/// Whether each assertion of a specification is well made.
+fn has_well_made_assertions(spec: &Spec) -> bool
+    ensures { result ≡ list_all made.is_well_made_assertion (assertions_of (spec_view spec.now)) }
 {
-    !in_assertion(&IllMade {}, items)
+    !in_spec(&IllMade {}, spec)
 }
 
 /// Whether each assertion is well made.
@@ -149,8 +149,7 @@ fn is_well_made_spec(spec: &Spec) -> bool
 {
     are_program_names(spec.params.as_slice())
         && are_logical(spec.logicals.as_slice())
-        && is_well_made_assertion(&spec.pre)
-        && are_well_made_assertions(&spec.posts)
+        && has_well_made_assertions(spec)
 }
 
 /// Whether a predicate is well made.

@@ -1,5 +1,5 @@
 -- Small expressions and programs, for the rows that show what the definitions mean.
-use Rattle.std.specs.Prelude.{ℕ, zero, suc, pos, List, [], ◌∷◌, ◌++◌, length, true, codes}
+use Rattle.std.specs.Prelude.{ℕ, zero, suc, pos, List, [], ◌∷◌, ◌++◌, length, ℤ, Some, None, true, codes}
 use Rattle.std.specs.List.{filter}
 use Rattle.gil_values.specs.declared.kinds.Kind.TheVariants.{Int}
 use Rattle.gil_values.specs.declared.operators.BinOp.TheVariants.{Divide, LessOrEqual}
@@ -66,7 +66,7 @@ abbrev pub with_spec : List ℕ → List Param → List PureItem → PureParts
 with_spec f params items =
     record {
       procs = returns_zero ∷ [];
-      specs = record { name = f; params = params; logicals = []; pre = items; posts = [] ∷ [] } ∷ [];
+      specs = record { name = f; params = params; logicals = []; pre = items; posts = [] ∷ []; errors = [] } ∷ [];
       preds = [];
     }
 
@@ -85,7 +85,7 @@ abbrev pub with_post : List Param → List PureItem → PureParts
 with_post logicals items =
     record {
       procs = returns_zero ∷ [];
-      specs = record { name = codes "main"; params = []; logicals = logicals; pre = []; posts = items ∷ [] } ∷ [];
+      specs = record { name = codes "main"; params = []; logicals = logicals; pre = []; posts = items ∷ []; errors = [] } ∷ [];
       preds = [];
     }
 
@@ -93,7 +93,7 @@ with_post logicals items =
 abbrev pub of_two : List Param → PureParts
 of_two params = record {
   procs = proc_of (codes "main") (codes "x" ∷ codes "y" ∷ []) (return (number 0) ∷ []) ∷ [];
-  specs = record { name = codes "main"; params = params; logicals = []; pre = []; posts = [] ∷ [] } ∷ [];
+  specs = record { name = codes "main"; params = params; logicals = []; pre = []; posts = [] ∷ []; errors = [] } ∷ [];
   preds = [];
 }
 
@@ -114,7 +114,7 @@ main_does c = main_only (c ∷ vanish ∷ [])
 abbrev pub with_variable : PureCommand → PureParts
 with_variable c = record {
   procs = proc_of (codes "main") [] (c ∷ return (number 0) ∷ []) ∷ [];
-  specs = record { name = codes "main"; params = []; logicals = any_d ∷ []; pre = []; posts = [] ∷ [] } ∷ [];
+  specs = record { name = codes "main"; params = []; logicals = any_d ∷ []; pre = []; posts = [] ∷ []; errors = [] } ∷ [];
   preds = [];
 }
 
@@ -152,11 +152,24 @@ compares_input = main_only (isym (codes "x") Int ∷ ifgoto (binary_of LessOrEqu
 
 -- proc main() { x := call CALLEE(); return x; }
 abbrev pub calls_nothing : PureExpr → PureParts
-calls_nothing callee = main_only (call (codes "x") callee [] ∷ return x ∷ [])
+calls_nothing callee = main_only (call (codes "x") callee [] None ∷ return x ∷ [])
 
 -- proc main() { x := call @main(ARGUMENT); return x; }
 abbrev pub calls_with : PureExpr → PureParts
-calls_with e = main_only (call (codes "x") (literal (procedure (codes "main"))) (e ∷ []) ∷ return x ∷ [])
+calls_with e = main_only (call (codes "x") (literal (procedure (codes "main"))) (e ∷ []) None ∷ return x ∷ [])
+
+-- x := call @main() catch LABEL
+abbrev pub catches_at : ℤ → PureCommand
+catches_at label = call (codes "x") (literal (procedure (codes "main"))) [] (Some label)
+
+-- proc main() { return 0; } spec main() [] {emp} throw {ITEMS}
+abbrev pub with_error : List PureItem → PureParts
+with_error items =
+    record {
+      procs = returns_zero ∷ [];
+      specs = record { name = codes "main"; params = []; logicals = []; pre = []; posts = []; errors = items ∷ [] } ∷ [];
+      preds = [];
+    }
 
 -- proc main() { x := do ACTION(ARGUMENT); return x; }
 abbrev pub does_action : List ℕ → PureExpr → PureParts

@@ -1,7 +1,7 @@
 -- The syntax of GIL programs as pure data, without addresses and capacities. Names are their characters; that of a
 -- logical variable has its '#', where the program is well made. The syntax is that of Gillian, Part I (PLDI 2020), with
 -- the assertions and logic commands of Gillian, Part II (CAV 2021).
-use Rattle.std.specs.Prelude.{ℕ, ℤ, List, [], ◌∷◌}
+use Rattle.std.specs.Prelude.{ℕ, ℤ, List, [], ◌∷◌, Option}
 use Rattle.gil_values.specs.declared.kinds.Kind.{Kind}
 use Rattle.gil_values.specs.declared.operators.UnOp.{UnOp}
 use Rattle.gil_values.specs.declared.operators.BinOp.{BinOp}
@@ -39,16 +39,18 @@ pub data PureItem : Type 0 where
   pure : PureExpr → PureItem
   uses : PurePredUse → PureItem
 
--- the first text of a command is the variable that it assigns, the second one of `act` is the action
+-- the first text of a command is the variable that it assigns, the second one of `act` is the action; a call may have the
+-- label of a handler
 pub data PureCommand : Type 0 where
   assign : List ℕ → PureExpr → PureCommand
-  call : List ℕ → PureExpr → List PureExpr → PureCommand
+  call : List ℕ → PureExpr → List PureExpr → Option ℤ → PureCommand
   act : List ℕ → List ℕ → List PureExpr → PureCommand
   usym : List ℕ → PureCommand
   isym : List ℕ → Kind → PureCommand
   ifgoto : PureExpr → ℤ → PureCommand
   return : PureExpr → PureCommand
   fail : PureExpr → PureCommand
+  throw : PureExpr → PureCommand
   vanish : PureCommand
   fold_use : PurePredUse → PureCommand
   unfold_use : PurePredUse → PureCommand
@@ -65,12 +67,14 @@ pub record PureProc : Type 0 where
   pub params : List (List ℕ)
   pub body : List PureNumberedCommand
 
+-- `errors` are the error postconditions
 pub record PureSpec : Type 0 where
   pub name : List ℕ
   pub params : List Param
   pub logicals : List Param
   pub pre : List PureItem
   pub posts : List (List PureItem)
+  pub errors : List (List PureItem)
 
 pub record PurePredDef : Type 0 where
   pub name : List ℕ

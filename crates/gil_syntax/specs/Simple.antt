@@ -8,7 +8,7 @@ use Rattle.gil_values.specs.declared.operators.UnOp.TheVariants.{Not}
 use Rattle.gil_values.specs.declared.operators.BinOp.{BinOp}
 use Rattle.gil_values.specs.declared.operators.BinOp.TheVariants.{Add, Subtract, Equal, Less, LessOrEqual, Nth}
 use Rattle.gil_values.specs.Pure.{boolean}
-use Rattle.gil_syntax.specs.Pure.{PureExpr, literal, name, list_of, unary_of, binary_of, PureExprs, no_exprs, expr_and, to_list, PureCommand, assign, call, act, ifgoto, return, fail, PureParts}
+use Rattle.gil_syntax.specs.Pure.{PureExpr, literal, name, list_of, unary_of, binary_of, PureExprs, no_exprs, expr_and, to_list, PureCommand, assign, call, act, usym, isym, ifgoto, return, fail, throw, vanish, fold_use, unfold_use, assert_that, loop_invariant, PureParts}
 use Rattle.gil_syntax.specs.Subexpressions.{subexpressions, exprs_of}
 
 abbrev pub is_literal : PureExpr → Bool
@@ -73,12 +73,19 @@ has_simple_arguments a es = list_all (λ e. is_literal e || not (bytes_eq a (cod
 -- a command of simple form
 abbrev pub is_simple_command : PureCommand → Bool
 is_simple_command (assign x e) = is_simple_value e
-is_simple_command (call x e es) = is_literal e && list_all is_simple_value es
+is_simple_command (call x e es handler) = is_literal e && list_all is_simple_value es
 is_simple_command (act x a es) = has_simple_arguments a es
+is_simple_command (usym x) = true
+is_simple_command (isym x k) = true
 is_simple_command (ifgoto e i) = is_simple_guard e
 is_simple_command (return e) = is_simple_value e
 is_simple_command (fail e) = is_simple_value e
-is_simple_command _ = true
+is_simple_command (throw e) = is_simple_value e
+is_simple_command vanish = true
+is_simple_command (fold_use u) = true
+is_simple_command (unfold_use u) = true
+is_simple_command (assert_that items) = true
+is_simple_command (loop_invariant xs ps items) = true
 
 abbrev pub all_commands : (PureCommand → Bool) → PureParts → Bool
 all_commands test p = list_all (λ q. list_all (λ c. test c.command) q.body) p.procs
@@ -107,13 +114,40 @@ abbrev pub is_list_of_literals : PureExpr → Bool
 is_list_of_literals (list_of es) = list_all is_literal (to_list es)
 is_list_of_literals _ = false
 
+abbrev pub has_no_list : PureCommand → Bool
+has_no_list c = not (has_any is_list (exprs_of c))
+
 abbrev pub has_narrow_lists : PureCommand → Bool
 has_narrow_lists (act x a es) = if bytes_eq a (codes "new") then list_all is_list_of_literals es else not (has_any is_list es)
-has_narrow_lists c = not (has_any is_list (exprs_of c))
+has_narrow_lists (assign x e) = has_no_list (assign x e)
+has_narrow_lists (call x e es handler) = has_no_list (call x e es handler)
+has_narrow_lists (usym x) = has_no_list (usym x)
+has_narrow_lists (isym x k) = has_no_list (isym x k)
+has_narrow_lists (ifgoto e i) = has_no_list (ifgoto e i)
+has_narrow_lists (return e) = has_no_list (return e)
+has_narrow_lists (fail e) = has_no_list (fail e)
+has_narrow_lists (throw e) = has_no_list (throw e)
+has_narrow_lists vanish = has_no_list vanish
+has_narrow_lists (fold_use u) = has_no_list (fold_use u)
+has_narrow_lists (unfold_use u) = has_no_list (unfold_use u)
+has_narrow_lists (assert_that items) = has_no_list (assert_that items)
+has_narrow_lists (loop_invariant xs ps items) = has_no_list (loop_invariant xs ps items)
 
 abbrev pub disposes : PureCommand → Bool
 disposes (act x a es) = bytes_eq a (codes "dispose")
-disposes _ = false
+disposes (assign x e) = false
+disposes (call x e es handler) = false
+disposes (usym x) = false
+disposes (isym x k) = false
+disposes (ifgoto e i) = false
+disposes (return e) = false
+disposes (fail e) = false
+disposes (throw e) = false
+disposes vanish = false
+disposes (fold_use u) = false
+disposes (unfold_use u) = false
+disposes (assert_that items) = false
+disposes (loop_invariant xs ps items) = false
 
 -- a command of narrow form
 abbrev pub is_narrow_command : PureCommand → Bool

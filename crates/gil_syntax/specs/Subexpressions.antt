@@ -2,7 +2,7 @@
 use Rattle.std.specs.Prelude.{ℕ, List, [], ◌∷◌, ◌++◌}
 use Rattle.std.specs.List.{flat_map}
 use Rattle.gil_values.specs.Pure.{PureValue}
-use Rattle.gil_syntax.specs.Pure.{PureExpr, literal, name, logical, list_of, unary_of, binary_of, PureExprs, no_exprs, expr_and, PurePredUse, PureItem, pure, uses, PureCommand, assign, call, act, usym, isym, ifgoto, return, fail, vanish, fold_use, unfold_use, assert_that, loop_invariant}
+use Rattle.gil_syntax.specs.Pure.{PureExpr, literal, name, logical, list_of, unary_of, binary_of, PureExprs, no_exprs, expr_and, PurePredUse, PureItem, pure, uses, PureCommand, assign, call, act, usym, isym, ifgoto, return, fail, throw, vanish, fold_use, unfold_use, assert_that, loop_invariant, PureSpec}
 
 -- an expression and all that stands in it, from left to right
 abbrev mutual
@@ -55,13 +55,14 @@ uses_of_item (uses u) = u ∷ []
 -- the expressions of a command, those of its assertion included
 abbrev pub exprs_of : PureCommand → List PureExpr
 exprs_of (assign x e) = e ∷ []
-exprs_of (call x e es) = e ∷ es
+exprs_of (call x e es handler) = e ∷ es
 exprs_of (act x a es) = es
 exprs_of (usym x) = []
 exprs_of (isym x k) = []
 exprs_of (ifgoto e i) = e ∷ []
 exprs_of (return e) = e ∷ []
 exprs_of (fail e) = e ∷ []
+exprs_of (throw e) = e ∷ []
 exprs_of vanish = []
 exprs_of (fold_use u) = exprs_of_use u
 exprs_of (unfold_use u) = exprs_of_use u
@@ -70,8 +71,21 @@ exprs_of (loop_invariant xs ps items) = flat_map exprs_of_item items
 
 -- the uses of predicates in a command
 abbrev pub uses_of : PureCommand → List PurePredUse
+uses_of (assign x e) = []
+uses_of (call x e es handler) = []
+uses_of (act x a es) = []
+uses_of (usym x) = []
+uses_of (isym x k) = []
+uses_of (ifgoto e i) = []
+uses_of (return e) = []
+uses_of (fail e) = []
+uses_of (throw e) = []
+uses_of vanish = []
 uses_of (fold_use u) = u ∷ []
 uses_of (unfold_use u) = u ∷ []
 uses_of (assert_that items) = flat_map uses_of_item items
 uses_of (loop_invariant xs ps items) = flat_map uses_of_item items
-uses_of _ = []
+
+-- the precondition of a specification, its postconditions and its error postconditions
+abbrev pub assertions_of : PureSpec → List (List PureItem)
+assertions_of s = s.pre ∷ (s.posts ++ s.errors)

@@ -1,6 +1,6 @@
 -- What makes a program valid: six kinds of fault that an item of it may have, and which fault is named.
 -- An item is a procedure, a specification or a predicate; items are counted from 0, in that order.
-use Rattle.std.specs.Prelude.{ℕ, ◌+◌, ◌-◌, ◌^◌, ◌≤◌, pos, negsuc, int_lt, int_le, List, [], ◌∷◌, ◌++◌, map, length, take, slice_get, Bool, true, false, not, ◌&&◌, ◌||◌, nat_lt, nat_le, ◌==◌, Option, Some, None, IsTrue, codes}
+use Rattle.std.specs.Prelude.{ℕ, ◌+◌, ◌-◌, ◌^◌, ◌≤◌, ℤ, pos, negsuc, int_lt, int_le, List, [], ◌∷◌, ◌++◌, map, length, take, slice_get, Bool, true, false, not, ◌&&◌, ◌||◌, nat_lt, nat_le, ◌==◌, Option, Some, None, IsTrue, codes}
 use Rattle.std.specs.List.{list_any, flat_map, filter}
 use Rattle.std.specs.Str.{bytes_eq}
 use Rattle.std.specs.Cmp.Lexicographic.{pointwise}
@@ -8,9 +8,9 @@ use Rattle.gil_values.specs.Pure.{PureValue, integer}
 use Rattle.gil_syntax.specs.declared.assertions.Param.{Param}
 use Rattle.gil_syntax.specs.declared.validity.InvalidKind.{InvalidKind}
 use Rattle.gil_syntax.specs.declared.validity.InvalidKind.TheVariants.{Duplicate, BadLabel, NoEnd, UnknownName, Arity, TooMany, Memory}
-use Rattle.gil_syntax.specs.Pure.{PureExpr, PurePredUse, PureItem, PureCommand, ifgoto, return, fail, vanish, fold_use, unfold_use, assert_that, loop_invariant, PureNumberedCommand, PureProc, PureSpec, PurePredDef, PureParts}
+use Rattle.gil_syntax.specs.Pure.{PureExpr, PurePredUse, PureItem, PureCommand, assign, call, act, usym, isym, ifgoto, return, fail, throw, vanish, fold_use, unfold_use, assert_that, loop_invariant, PureNumberedCommand, PureProc, PureSpec, PurePredDef, PureParts}
 use Rattle.gil_syntax.specs.Programs.{find_proc, find_spec}
-use Rattle.gil_syntax.specs.Subexpressions.{logicals_of, literals_of, exprs_of_item, uses_of_item, exprs_of, uses_of}
+use Rattle.gil_syntax.specs.Subexpressions.{logicals_of, literals_of, exprs_of_item, uses_of_item, exprs_of, uses_of, assertions_of}
 
 pub data ProgramItem : Type 0 where
   a_proc : PureProc → ProgramItem
@@ -59,8 +59,20 @@ has_twice [] = false
 has_twice (x ∷ xs) = is_among xs x || has_twice xs
 
 abbrev pub lists_in_command : PureCommand → List (List (List ℕ))
+lists_in_command (assign x e) = []
+lists_in_command (call x e es handler) = []
+lists_in_command (act x a es) = []
+lists_in_command (usym x) = []
+lists_in_command (isym x k) = []
+lists_in_command (ifgoto e i) = []
+lists_in_command (return e) = []
+lists_in_command (fail e) = []
+lists_in_command (throw e) = []
+lists_in_command vanish = []
+lists_in_command (fold_use u) = []
+lists_in_command (unfold_use u) = []
+lists_in_command (assert_that items) = []
 lists_in_command (loop_invariant xs ps items) = xs ∷ param_names ps ∷ []
-lists_in_command _ = []
 
 -- the lists of parameters and of variables that an item has
 abbrev pub name_lists : ProgramItem → List (List (List ℕ))
@@ -94,19 +106,50 @@ is_duplicate before item = list_any (same_name item) before || is_core_name item
 
 -- ---- labels and last commands
 
+-- a label that is none of the numbers of so many commands
+abbrev pub is_no_label : ℕ → ℤ → Bool
+is_no_label n i = int_lt i (pos 0) || int_le (pos n) i
+
+abbrev pub is_bad_handler : ℕ → Option ℤ → Bool
+is_bad_handler n (Some i) = is_no_label n i
+is_bad_handler n None = false
+
+-- a jump to such a label, or a call whose handler has it
 abbrev pub is_bad_jump : ℕ → PureCommand → Bool
-is_bad_jump n (ifgoto e i) = int_lt i (pos 0) || int_le (pos n) i
-is_bad_jump n _ = false
+is_bad_jump n (assign x e) = false
+is_bad_jump n (call x e es handler) = is_bad_handler n handler
+is_bad_jump n (act x a es) = false
+is_bad_jump n (usym x) = false
+is_bad_jump n (isym x k) = false
+is_bad_jump n (ifgoto e i) = is_no_label n i
+is_bad_jump n (return e) = false
+is_bad_jump n (fail e) = false
+is_bad_jump n (throw e) = false
+is_bad_jump n vanish = false
+is_bad_jump n (fold_use u) = false
+is_bad_jump n (unfold_use u) = false
+is_bad_jump n (assert_that items) = false
+is_bad_jump n (loop_invariant xs ps items) = false
 
 abbrev pub has_bad_label : ProgramItem → Bool
 has_bad_label (a_proc q) = list_any (λ c. is_bad_jump (length q.body) c.command) q.body
 has_bad_label _ = false
 
 abbrev pub ends_body : PureCommand → Bool
+ends_body (assign x e) = false
+ends_body (call x e es handler) = false
+ends_body (act x a es) = false
+ends_body (usym x) = false
+ends_body (isym x k) = false
+ends_body (ifgoto e i) = false
 ends_body (return e) = true
 ends_body (fail e) = true
+ends_body (throw e) = true
 ends_body vanish = true
-ends_body _ = false
+ends_body (fold_use u) = false
+ends_body (unfold_use u) = false
+ends_body (assert_that items) = false
+ends_body (loop_invariant xs ps items) = false
 
 abbrev pub last_ends_body : List PureNumberedCommand → Bool
 last_ends_body [] = false
@@ -139,18 +182,27 @@ logicals_of_spec None = []
 -- Logic commands of a procedure may name the variables of its specification, and an invariant its own ones too. Other
 -- commands name no logical variable.
 abbrev pub declared_at : List (List ℕ) → PureCommand → List (List ℕ)
+declared_at logicals (assign x e) = []
+declared_at logicals (call x e es handler) = []
+declared_at logicals (act x a es) = []
+declared_at logicals (usym x) = []
+declared_at logicals (isym x k) = []
+declared_at logicals (ifgoto e i) = []
+declared_at logicals (return e) = []
+declared_at logicals (fail e) = []
+declared_at logicals (throw e) = []
+declared_at logicals vanish = []
 declared_at logicals (fold_use u) = logicals
 declared_at logicals (unfold_use u) = logicals
 declared_at logicals (assert_that items) = logicals
 declared_at logicals (loop_invariant xs ps items) = logicals ++ param_names ps
-declared_at logicals _ = []
 
 abbrev pub piece_of_command : List (List ℕ) → PureCommand → Piece
 piece_of_command logicals c = record { declared = declared_at logicals c; exprs = exprs_of c; used = uses_of c }
 
 abbrev pub pieces_of : PureParts → ProgramItem → List Piece
 pieces_of p (a_proc q) = map (λ c. piece_of_command (logicals_of_spec (find_spec p.specs q.name)) c.command) q.body
-pieces_of p (a_spec s) = map (piece_of_assertion s.logicals) (s.pre ∷ s.posts)
+pieces_of p (a_spec s) = map (piece_of_assertion s.logicals) (assertions_of s)
 pieces_of p (a_pred d) = map (piece_of_assertion d.logicals) d.cases
 
 abbrev pub names_undeclared : Piece → Bool
@@ -209,8 +261,20 @@ is_wide (integer n) = int_lt n (negsuc (2 ^ 63 - 1)) || int_le (pos (2 ^ 63)) n
 is_wide _ = false
 
 abbrev pub has_many_variables : PureCommand → Bool
+has_many_variables (assign x e) = false
+has_many_variables (call x e es handler) = false
+has_many_variables (act x a es) = false
+has_many_variables (usym x) = false
+has_many_variables (isym x k) = false
+has_many_variables (ifgoto e i) = false
+has_many_variables (return e) = false
+has_many_variables (fail e) = false
+has_many_variables (throw e) = false
+has_many_variables vanish = false
+has_many_variables (fold_use u) = false
+has_many_variables (unfold_use u) = false
+has_many_variables (assert_that items) = false
 has_many_variables (loop_invariant xs ps items) = nat_lt most_params (length ps)
-has_many_variables _ = false
 
 abbrev pub has_many_commands : ProgramItem → Bool
 has_many_commands (a_proc q) = nat_lt most_items (length q.body)

@@ -1,7 +1,7 @@
 -- The pure data of the syntax.
 use Rattle.std.specs.Prelude.{List, map}
 use Rattle.gil_values.specs.View.{value_view}
-use Rattle.gil_syntax.specs.Pure.{PureExpr, literal, name, logical, list_of, unary_of, binary_of, from_list, PurePredUse, PureItem, pure, uses, PureCommand, assign, call, act, usym, isym, ifgoto, return, fail, vanish, fold_use, unfold_use, assert_that, loop_invariant, PureNumberedCommand, PureProc, PureSpec, PurePredDef, PureParts}
+use Rattle.gil_syntax.specs.Pure.{PureExpr, literal, name, logical, list_of, unary_of, binary_of, from_list, PurePredUse, PureItem, pure, uses, PureCommand, assign, call, act, usym, isym, ifgoto, return, fail, throw, vanish, fold_use, unfold_use, assert_that, loop_invariant, PureNumberedCommand, PureProc, PureSpec, PurePredDef, PureParts}
 use Rattle.gil_syntax.specs.declared.expressions.Expr.{Expr, fold-Expr}
 use Rattle.gil_syntax.specs.declared.expressions.Exprs.{Exprs, fold-Exprs}
 use Rattle.gil_syntax.specs.declared.expressions.Expr.TheOpen.{Expr-F, Exprs-F}
@@ -44,13 +44,14 @@ assertion_view items = map item_view items
 
 abbrev pub command_view : Command → PureCommand
 command_view (Command.Assign x e) = assign x (expr_view e)
-command_view (Command.Call x e es) = call x (expr_view e) (exprs_view es)
+command_view (Command.Call x e es handler) = call x (expr_view e) (exprs_view es) handler
 command_view (Command.Act x a es) = act x a (exprs_view es)
 command_view (Command.Usym x) = usym x
 command_view (Command.Isym x k) = isym x k
 command_view (Command.IfGoto e i) = ifgoto (expr_view e) i
 command_view (Command.Return e) = return (expr_view e)
 command_view (Command.Fail e) = fail (expr_view e)
+command_view (Command.Throw e) = throw (expr_view e)
 command_view Command.Vanish = vanish
 command_view (Command.Fold u) = fold_use (pred_use_view u)
 command_view (Command.Unfold u) = unfold_use (pred_use_view u)
@@ -65,7 +66,14 @@ proc_view q = record { name = q.name; params = q.params; body = map numbered_com
 
 abbrev pub spec_view : Spec → PureSpec
 spec_view s =
-    record { name = s.name; params = s.params; logicals = s.logicals; pre = assertion_view s.pre; posts = map assertion_view s.posts }
+    record {
+      name = s.name;
+      params = s.params;
+      logicals = s.logicals;
+      pre = assertion_view s.pre;
+      posts = map assertion_view s.posts;
+      errors = map assertion_view s.errors;
+    }
 
 abbrev pub pred_def_view : PredDef → PurePredDef
 pred_def_view d = record { name = d.name; ins = d.ins; outs = d.outs; logicals = d.logicals; cases = map assertion_view d.cases }

@@ -7,8 +7,8 @@ use Rattle.gil_values.specs.declared.kinds.Kind.{Kind}
 use Rattle.gil_values.specs.declared.kinds.Kind.TheVariants.{Int, Bool as Boolean, Str}
 use Rattle.gil_values.specs.Pure.{PureValue, symbol, list}
 use Rattle.gil_syntax.specs.declared.assertions.Param.{Param}
-use Rattle.gil_syntax.specs.Pure.{PureExpr, literal, name, logical, PureItem, PureCommand, assign, call, act, usym, isym, loop_invariant, PureProc, PureSpec, PurePredDef, PureParts}
-use Rattle.gil_syntax.specs.Subexpressions.{subexpressions, exprs_of_item, exprs_of}
+use Rattle.gil_syntax.specs.Pure.{PureExpr, literal, name, logical, PureItem, PureCommand, assign, call, act, usym, isym, ifgoto, return, fail, throw, vanish, fold_use, unfold_use, assert_that, loop_invariant, PureProc, PureSpec, PurePredDef, PureParts}
+use Rattle.gil_syntax.specs.Subexpressions.{subexpressions, exprs_of_item, exprs_of, assertions_of}
 
 -- a value that a literal may be
 abbrev pub is_spellable : PureValue → Bool
@@ -49,12 +49,19 @@ are_program_names ps = list_all (λ q. is_program_name q.name) ps
 -- what a command assigns, draws and lists
 abbrev pub has_well_made_names : PureCommand → Bool
 has_well_made_names (assign x e) = is_program_name x
-has_well_made_names (call x e es) = is_program_name x
+has_well_made_names (call x e es handler) = is_program_name x
 has_well_made_names (act x a es) = is_program_name x
 has_well_made_names (usym x) = is_program_name x
 has_well_made_names (isym x k) = is_program_name x && is_drawable k
+has_well_made_names (ifgoto e i) = true
+has_well_made_names (return e) = true
+has_well_made_names (fail e) = true
+has_well_made_names (throw e) = true
+has_well_made_names vanish = true
+has_well_made_names (fold_use u) = true
+has_well_made_names (unfold_use u) = true
+has_well_made_names (assert_that items) = true
 has_well_made_names (loop_invariant xs ps items) = list_all is_program_name xs && are_logical ps
-has_well_made_names _ = true
 
 abbrev pub is_well_made_command : PureCommand → Bool
 is_well_made_command c = has_well_made_names c && list_all is_well_made_expr (exprs_of c)
@@ -66,7 +73,7 @@ abbrev pub is_well_made_proc : PureProc → Bool
 is_well_made_proc q = list_all is_program_name q.params && list_all (λ c. is_well_made_command c.command) q.body
 
 abbrev pub is_well_made_spec : PureSpec → Bool
-is_well_made_spec s = are_program_names s.params && are_logical s.logicals && list_all is_well_made_assertion (s.pre ∷ s.posts)
+is_well_made_spec s = are_program_names s.params && are_logical s.logicals && list_all is_well_made_assertion (assertions_of s)
 
 abbrev pub is_well_made_pred : PurePredDef → Bool
 is_well_made_pred d =

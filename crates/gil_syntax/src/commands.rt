@@ -10,8 +10,9 @@ pub type Texts = Sequence<Text>;
 #[derive(Debug, Drop)]
 pub enum Command {
     Assign(Text, Expr),
-    /// The expression is the callee, and the list its arguments.
-    Call(Text, Expr, Exprs),
+    /// The expression is the callee, and the list its arguments. The label is that of the call's handler: where a throw
+    /// reaches this call, the variable gets the value thrown, and the procedure goes on at the command with this index.
+    Call(Text, Expr, Exprs, Option<i64>),
     /// The second text is the action.
     Act(Text, Text, Exprs),
     /// A new uninterpreted symbol.
@@ -22,6 +23,8 @@ pub enum Command {
     IfGoto(Expr, i64),
     Return(Expr),
     Fail(Expr),
+    /// Leaves this procedure, and each that has called it without a handler, with a value for the first handler.
+    Throw(Expr),
     Vanish,
     Fold(PredUse),
     Unfold(PredUse),

@@ -13,7 +13,7 @@ ghost use Rattle.gil_syntax.specs.declared.validity.InvalidKind.TheVariants.{
   Arity,
   TooMany,
 };
-ghost use Rattle.gil_syntax.specs.Pure.{pure, literal, name, logical, isym, unary_of, binary_of, assign, ifgoto, fail, assert_that, loop_invariant};
+ghost use Rattle.gil_syntax.specs.Pure.{pure, literal, name, logical, isym, unary_of, binary_of, assign, ifgoto, fail, throw, assert_that, loop_invariant};
 ghost use Rattle.gil_syntax.specs.Evaluation.{evaluate, bind};
 ghost use Rattle.gil_syntax.specs.Simple.{is_simple, is_narrow};
 ghost use Rattle.gil_syntax.specs.Valid.{fault_at, IsValid};
@@ -36,6 +36,8 @@ ghost use Rattle.gil_syntax.specs.Examples.{
   compares_input,
   calls_nothing,
   calls_with,
+  catches_at,
+  with_error,
   does_action,
   any_y,
   any_d,
@@ -97,7 +99,25 @@ pub fn bodies_end()
     ensures negative_label { items_at_fault (main_does (ifgoto x (negsuc 0))) BadLabel ≡ 0 ∷ [] }
     ensures vanish_ends { items_at_fault (main_does (assign (codes "x") x)) NoEnd ≡ [] }
     ensures fail_ends { items_at_fault (main_only (fail x ∷ [])) NoEnd ≡ [] }
+    ensures throw_ends { items_at_fault (main_only (throw x ∷ [])) NoEnd ≡ [] }
+    ensures call_ends_nothing { items_at_fault (main_only (catches_at (pos 0) ∷ [])) NoEnd ≡ 0 ∷ [] }
     ensures no_command { items_at_fault (main_only []) NoEnd ≡ 0 ∷ [] }
+{}
+
+/// The label of a handler is one of the body's places.
+pub fn handlers_have_places()
+    ensures in_the_body { items_at_fault (main_does (catches_at (pos 1))) BadLabel ≡ [] }
+    ensures at_the_end { items_at_fault (main_does (catches_at (pos 2))) BadLabel ≡ 0 ∷ [] }
+    ensures negative { items_at_fault (main_does (catches_at (negsuc 0))) BadLabel ≡ 0 ∷ [] }
+{}
+
+/// An error postcondition is an assertion of its specification like another.
+pub fn errors_are_assertions()
+    ensures undeclared { items_at_fault (with_error (shape_of_undeclared ∷ [])) UnknownName ≡ 1 ∷ [] }
+    ensures of_no_predicate { items_at_fault (with_error (use_of_other ∷ [])) UnknownName ≡ 1 ∷ [] }
+    ensures other_outs { items_at_fault (with_error (shape_without_out ∷ [])) Arity ≡ 1 ∷ [] }
+    ensures wide_literal { items_at_fault (with_error (pure (number (2 ^ 63)) ∷ [])) TooMany ≡ 1 ∷ [] }
+    ensures literal_symbol { is_well_made (with_error (pure (literal (symbol 0)) ∷ [])) ≡ false }
 {}
 
 /// Logical variables are declared where they are named, and predicates are defined.
@@ -166,6 +186,9 @@ pub fn some_values_are_simple()
     ensures guard_under_not { is_simple (main_does (ifgoto (unary_of Not (binary_of Less x x)) (pos 0))) ≡ true }
     ensures twice_under_not { is_simple (main_does (ifgoto (unary_of Not (unary_of Not x)) (pos 0))) ≡ false }
     ensures failing_value { is_simple (main_does (fail (binary_of Multiply x x))) ≡ false }
+    ensures thrown_value { is_simple (main_does (throw (binary_of Multiply x x))) ≡ false }
+    ensures simple_thrown_value { is_simple (main_does (throw (binary_of Add x (number 1)))) ≡ true }
+    ensures caught { is_simple (main_does (catches_at (pos 1))) ≡ true }
     ensures argument { is_simple (calls_with (binary_of Add x (number 1))) ≡ true }
     ensures other_argument { is_simple (calls_with (binary_of Multiply x x)) ≡ false }
 {}
@@ -179,6 +202,8 @@ pub fn some_values_are_narrow()
     ensures equal { is_narrow (main_does (ifgoto (binary_of Equal x x) (pos 0))) ≡ true }
     ensures list { is_narrow (returns_value (list_of_two x x)) ≡ false }
     ensures argument { is_narrow (calls_with (binary_of Subtract x (number 1))) ≡ false }
+    ensures thrown_sum { is_narrow (main_does (throw (binary_of Add x (number 1)))) ≡ false }
+    ensures thrown_list { is_narrow (main_does (throw (list_of_two x x))) ≡ false }
 {}
 
 /// Programs that are simple, narrow, or neither.

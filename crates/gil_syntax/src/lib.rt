@@ -12,10 +12,11 @@ mod validity;
 pub use assertions::{Assertion, Assertions, Item, Param, Params, PredUse, SpecSort};
 pub use commands::{Body, Command, NumberedCommand, Texts};
 pub use examples::{
-    a_program_is_valid, bodies_end, faults_are_at_items, names_stand_for_something,
-    names_stand_once, parameters_fit, programs_have_limits, some_programs_are_simple,
-    some_programs_are_well_made, some_values_are_narrow, some_values_are_simple,
-    the_first_fault_counts, the_newest_value_counts,
+    a_program_is_valid, bodies_end, errors_are_assertions, faults_are_at_items,
+    handlers_have_places, names_stand_for_something, names_stand_once, parameters_fit,
+    programs_have_limits, some_programs_are_simple, some_programs_are_well_made,
+    some_values_are_narrow, some_values_are_simple, the_first_fault_counts,
+    the_newest_value_counts,
 };
 pub use expressions::{Expr, Exprs};
 pub use laws::{

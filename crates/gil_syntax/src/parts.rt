@@ -12,8 +12,9 @@ pub struct Proc {
     pub body: Body,
 }
 
-/// A specification of the procedure of that name: a precondition and the postconditions, of which a return meets one. A
-/// text has at least one; a specification that is cut has none.
+/// A specification of the procedure of that name: a precondition, the postconditions, of which a return meets one, and
+/// the error postconditions, of which a throw meets one. In an error postcondition `ret` is the value thrown. A text has
+/// at least one of the two kinds; a specification that is cut has none.
 #[derive(Debug, Drop)]
 pub struct Spec {
     pub name: Text,
@@ -21,6 +22,7 @@ pub struct Spec {
     pub logicals: Params,
     pub pre: Assertion,
     pub posts: Assertions,
+    pub errors: Assertions,
 }
 
 /// A user predicate, which stands for one of its cases.

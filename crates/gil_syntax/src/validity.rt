@@ -6,9 +6,9 @@ pub enum InvalidKind {
     /// Two items of one list have one name, a predicate has a core predicate's, or a name stands twice in one list of
     /// parameters or variables.
     Duplicate,
-    /// A jump to a number that is below 0 or isn't below the number of commands.
+    /// A jump to a number, or a handler label, that is below 0 or isn't below the number of commands.
     BadLabel,
-    /// No command, or a last command that isn't `return`, `fail` or `vanish`.
+    /// No command, or a last command that isn't `return`, `fail`, `throw` or `vanish`.
     NoEnd,
     /// A specification of no procedure, a predicate that is neither core nor defined, or a logical variable that isn't
     /// declared there.

@@ -14,12 +14,14 @@ fn copy_spec(alloc: Global, spec: &Spec) -> Result<Spec, AllocError>
     let logicals = copy_params(alloc, &spec.logicals)?;
     let pre = copy_assertion(alloc, &spec.pre)?;
     let posts = copy_assertions(alloc, &spec.posts)?;
+    let errors = copy_assertions(alloc, &spec.errors)?;
     Ok(Spec {
         name,
         params,
         logicals,
         pre,
         posts,
+        errors,
     })
 }
 

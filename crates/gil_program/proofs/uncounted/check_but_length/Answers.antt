@@ -1,7 +1,6 @@
-use Rattle.std.proofs.Common.{◌≡◌, ◌≢◌}
+use Rattle.std.proofs.Common.{◌≢◌}
 use Rattle.gil_syntax.specs.declared.validity.InvalidKind.TheVariants.{TooMany, Memory}
 use Rattle.gil_syntax.specs.View.{parts_view}
-use Rattle.gil_syntax.specs.Valid.{IsNamedFault}
 use Rattle.gil_program.proofs.UncountedLemmas.{valid_but_length, named_otherwise, named_past, none_past}
 use Rattle.gil_program.proofs.uncounted.check_but_length.Goals as goal
 

@@ -1,16 +1,14 @@
-use Rattle.std.proofs.Common.{◌≡◌, ℕ, List, true, false, ◌||◌, ◌∷◌, not, map, is_some, sym, ap, ◌∙◌}
+use Rattle.std.proofs.Common.{◌≡◌, ℕ, List, true, false, ◌||◌, not, map, is_some, sym, ap, ◌∙◌}
 use Rattle.std.specs.List.{list_any}
 use Rattle.gil_syntax.specs.Programs.{find_proc}
+use Rattle.gil_syntax.specs.Subexpressions.{assertions_of}
 use Rattle.gil_syntax.specs.Valid.{is_among, piece_of_assertion, names_undeclared, uses_unknown, predicates_of}
 use Rattle.gil_syntax.specs.View.{proc_view, spec_view}
 use Rattle.gil_program.specs.ByName.{parts_of}
-use Rattle.gil_program.specs.Found.{stands_in_assertion}
 use Rattle.gil_program.specs.Names.{has_name}
-use Rattle.gil_program.specs.Sought.{is_undeclared, is_unknown_use}
 use Rattle.gil_program.proofs.ByNameLemmas.{is_some-map}
 use Rattle.gil_program.proofs.UnknownLemmas.{or_none, assertions_unknown, is_among-procs}
 use Rattle.gil_program.proofs.unknown.spec_has_unknown_name.Goals as goal
-use Rattle.gil_program.proofs.unknown.spec_has_unknown_name.Goals.{then-in_assertion, else-in_assertion}
 
 pub returns-then-is_none : goal.returns-then-is_none
 returns-then-is_none c =
@@ -18,7 +16,7 @@ returns-then-is_none c =
     let sp = spec_view c.args.spec.now in
     let found : is_some (find_proc p.procs sp.name) ≡ false =
     ap (λ x. is_some (find_proc p.procs x)) (sym c.as_str.ensures.characters) ∙ ap is_some (sym c.proc.ensures) ∙ is_some-map (λ q. proc_view q.now) c.proc.result ∙ c.if-is_none.ensures in
-    ap (λ b. not b || list_any (λ d. names_undeclared d || uses_unknown (predicates_of p) d) (map (piece_of_assertion sp.logicals) (sp.pre ∷ sp.posts))) (sym (is_among-procs p.procs sp.name ∙ found))
+    ap (λ b. not b || list_any (λ d. names_undeclared d || uses_unknown (predicates_of p) d) (map (piece_of_assertion sp.logicals) (assertions_of sp))) (sym (is_among-procs p.procs sp.name ∙ found))
 
 pub returns : goal.returns
 returns c =
@@ -28,11 +26,5 @@ returns c =
     ap (λ x. is_some (find_proc p.procs x)) (sym c.as_str.ensures.characters) ∙ ap is_some (sym c.proc.ensures) ∙ is_some-map (λ q. proc_view q.now) c.proc.result ∙ c.if-is_none.ensures in
     let known = λ (x : List ℕ). has_name c.in_ok-declared.declared x || has_name c.new-none.result x in
     let declared = or_none (has_name c.in_ok-declared.declared) c.new-none.result c.new-none.ensures.empty ∙ c.in_ok-declared.ensures ∙ ap (λ ps. is_among (map (λ q. q.name) ps)) c.as_slice.ensures in
-    let test = stands_in_assertion (is_undeclared known) (is_unknown_use p) in
-    let first : c.in_assertion.result ≡ test sp.pre = c.in_assertion.ensures in
-    let either : c.if-in_assertion.result ≡ (test sp.pre || list_any test sp.posts) = elim c.if-in_assertion.branch [
-      | then-in_assertion w ↦ w.result-is ∙ w.if-in_assertion.true ∙ ap (λ b. b || list_any test sp.posts) (sym w.if-in_assertion.true ∙ first)
-      | else-in_assertion w ↦ w.result-is ∙ w.in_assertions.ensures ∙ ap (λ b. b || list_any test sp.posts) (sym w.if-in_assertion.false ∙ first)
-    ] in
-    either ∙ assertions_unknown p known c.args.spec.now.logicals declared (sp.pre ∷ sp.posts)
-    ∙ ap (λ b. not b || list_any (λ d. names_undeclared d || uses_unknown (predicates_of p) d) (map (piece_of_assertion sp.logicals) (sp.pre ∷ sp.posts))) (sym (is_among-procs p.procs sp.name ∙ found))
+    c.in_spec.ensures ∙ assertions_unknown p known c.args.spec.now.logicals declared (assertions_of sp)
+    ∙ ap (λ b. not b || list_any (λ d. names_undeclared d || uses_unknown (predicates_of p) d) (map (piece_of_assertion sp.logicals) (assertions_of sp))) (sym (is_among-procs p.procs sp.name ∙ found))
