@@ -9,7 +9,7 @@ use Rattle.gil_values.specs.declared.places.Place.{Place}
 use Rattle.gil_values.specs.Pure.{PureValue, integer, boolean, text, symbol, kind, procedure, list, kind_of}
 use Rattle.gil_values.specs.Equality.{same_kind}
 use Rattle.gil_values.specs.Operators.{Outcome}
-use Rattle.gil_syntax.specs.Pure.{PureCommand, PureExpr, assign, call, act, usym, isym, ifgoto, return, fail, vanish, fold_use, unfold_use, assert_that, loop_invariant, PureNumberedCommand, PureProc, PureParts}
+use Rattle.gil_syntax.specs.Pure.{PureCommand, PureExpr, assign, call, act, usym, isym, ifgoto, return, fail, throw, vanish, fold_use, unfold_use, assert_that, loop_invariant, PureNumberedCommand, PureProc, PureParts}
 use Rattle.gil_syntax.specs.Programs.{find_proc}
 use Rattle.gil_syntax.specs.Evaluation.{Outcomes, evaluate, evaluate_all}
 use Rattle.gil_syntax.specs.Subexpressions.{exprs_of}
@@ -22,7 +22,7 @@ use Rattle.mem_model.specs.Actions.{Actions, ActionResult, IsMemory, IsSettled, 
 use Rattle.gil_machine.specs.Beside.{beside, IsSameStepBeside}
 use Rattle.gil_machine.specs.Choices.{of_values, missed_key, outcome_choice, result_of, choice_of}
 use Rattle.gil_machine.specs.State.{Frame, State, End, failed, bad_input, Step, goes_on, ends, end_at}
-use Rattle.gil_machine.specs.Step.{action_result, counted, command_at, to_label, assigned, fails_with, with_value, with_values, enter, enter_found, enter_value, leave, after_action, acted, do_action, draw, branch, do_command, step_at}
+use Rattle.gil_machine.specs.Step.{action_result, counted, command_at, to_label, assigned, fails_with, with_value, with_values, handler_label, enter, enter_found, enter_value, leave, Handling, handling, throw_to, after_action, acted, do_action, draw, branch, do_command, step_at}
 use Rattle.gil_machine.specs.Proper.{IsProperState}
 use Rattle.gil_machine.specs.Laws.{handed, StepsAreLocal, MissesFail}
 use Rattle.gil_machine.proofs.Proper.{MadeCommand, command_made, find_made, may_act_where_reached}
@@ -47,30 +47,35 @@ module _ (rest : Heap) where
   values_same (Ok vs) here s small large h k = k vs refl
   values_same (Err f) here s small large h k = record { same = refl; compatible = h }
 
-  arity_same : (b : Bool) (q : PureProc) (x : List ℕ) (args : List PureValue) (here : Place) (s : State) → IsCompatible s.heap rest
-      → IsSameStepBeside rest (cond b (enter q x args s) (fails_with (text (codes "arity")) here s)) (cond b (enter q x args (beside rest s)) (fails_with (text (codes "arity")) here (beside rest s)))
-  arity_same true q x args here s h = record { same = refl; compatible = h }
-  arity_same false q x args here s h = record { same = refl; compatible = h }
+  arity_same : (b : Bool) (q : PureProc) (x : List ℕ) (handler : Option ℕ) (args : List PureValue) (here : Place) (s : State) → IsCompatible s.heap rest
+      → IsSameStepBeside rest (cond b (enter q x handler args s) (fails_with (text (codes "arity")) here s)) (cond b (enter q x handler args (beside rest s)) (fails_with (text (codes "arity")) here (beside rest s)))
+  arity_same true q x handler args here s h = record { same = refl; compatible = h }
+  arity_same false q x handler args here s h = record { same = refl; compatible = h }
 
-  found_same : (q : Option PureProc) (x : List ℕ) (args : List PureValue) (here : Place) (s : State) → IsCompatible s.heap rest
-      → IsSameStepBeside rest (enter_found q x args here s) (enter_found q x args here (beside rest s))
-  found_same None x args here s h = record { same = refl; compatible = h }
-  found_same (Some q) x args here s h = arity_same (length args == length q.params) q x args here s h
+  found_same : (q : Option PureProc) (x : List ℕ) (handler : Option ℕ) (args : List PureValue) (here : Place) (s : State) → IsCompatible s.heap rest
+      → IsSameStepBeside rest (enter_found q x handler args here s) (enter_found q x handler args here (beside rest s))
+  found_same None x handler args here s h = record { same = refl; compatible = h }
+  found_same (Some q) x handler args here s h = arity_same (length args == length q.params) q x handler args here s h
 
-  enter_same : (p : PureParts) (v : PureValue) (x : List ℕ) (args : List PureValue) (here : Place) (s : State) → IsCompatible s.heap rest
-      → IsSameStepBeside rest (enter_value p v x args here s) (enter_value p v x args here (beside rest s))
-  enter_same p (procedure f) x args here s h = found_same (find_proc p.procs f) x args here s h
-  enter_same p (integer n) x args here s h = record { same = refl; compatible = h }
-  enter_same p (boolean b) x args here s h = record { same = refl; compatible = h }
-  enter_same p (text cs) x args here s h = record { same = refl; compatible = h }
-  enter_same p (symbol n) x args here s h = record { same = refl; compatible = h }
-  enter_same p (kind k) x args here s h = record { same = refl; compatible = h }
-  enter_same p (list vs) x args here s h = record { same = refl; compatible = h }
+  enter_same : (p : PureParts) (v : PureValue) (x : List ℕ) (handler : Option ℕ) (args : List PureValue) (here : Place) (s : State) → IsCompatible s.heap rest
+      → IsSameStepBeside rest (enter_value p v x handler args here s) (enter_value p v x handler args here (beside rest s))
+  enter_same p (procedure f) x handler args here s h = found_same (find_proc p.procs f) x handler args here s h
+  enter_same p (integer n) x handler args here s h = record { same = refl; compatible = h }
+  enter_same p (boolean b) x handler args here s h = record { same = refl; compatible = h }
+  enter_same p (text cs) x handler args here s h = record { same = refl; compatible = h }
+  enter_same p (symbol n) x handler args here s h = record { same = refl; compatible = h }
+  enter_same p (kind k) x handler args here s h = record { same = refl; compatible = h }
+  enter_same p (list vs) x handler args here s h = record { same = refl; compatible = h }
 
   leave_same : (callers : List Frame) (v : PureValue) (s : State) → IsCompatible s.heap rest
       → IsSameStepBeside rest (leave callers v s) (leave callers v (beside rest s))
   leave_same [] v s h = record { same = refl; compatible = h }
   leave_same (caller ∷ callers) v s h = record { same = refl; compatible = h }
+
+  throw_same : (o : Option Handling) (v : PureValue) (here : Place) (s : State) → IsCompatible s.heap rest
+      → IsSameStepBeside rest (throw_to o v here s) (throw_to o v here (beside rest s))
+  throw_same (Some taken) v here s h = record { same = refl; compatible = h }
+  throw_same None v here s h = record { same = refl; compatible = h }
 
   kind_same : (b : Bool) (v : PureValue) (x : List ℕ) (s : State) → IsCompatible s.heap rest
       → IsSameStepBeside rest (cond b (assigned x v s) (ends (end_at s (bad_input s.draws)))) (cond b (assigned x v (beside rest s)) (ends (end_at (beside rest s) (bad_input s.draws))))
@@ -132,8 +137,8 @@ module _ (rest : Heap) where
           → IsSameStepBeside rest (do_command p m inputs c here s) (do_command p m inputs c here (beside rest s))
       command_same (assign x e) here s made in_memory rest_in_memory h proper no_miss =
           value_same (evaluate e s.current.store) here s _ _ h (λ v. record { same = refl; compatible = h })
-      command_same (call x e es) here s made in_memory rest_in_memory h proper no_miss =
-          value_same (evaluate e s.current.store) here s _ _ h (λ f. values_same (evaluate_all es s.current.store) here s _ _ h (λ args is. enter_same p f x args here s h))
+      command_same (call x e es handler) here s made in_memory rest_in_memory h proper no_miss =
+          value_same (evaluate e s.current.store) here s _ _ h (λ f. values_same (evaluate_all es s.current.store) here s _ _ h (λ args is. enter_same p f x (handler_label handler) args here s h))
       command_same (act x a es) here s made in_memory rest_in_memory h proper no_miss =
           values_same (evaluate_all es s.current.store) here s _ _ h (λ args is.
           action_same (m.takes_symbol a) x a args here s in_memory rest_in_memory h
@@ -148,6 +153,8 @@ module _ (rest : Heap) where
           value_same (evaluate e s.current.store) here s _ _ h (λ v. leave_same s.callers v s h)
       command_same (fail e) here s made in_memory rest_in_memory h proper no_miss =
           value_same (evaluate e s.current.store) here s _ _ h (λ v. record { same = refl; compatible = h })
+      command_same (throw e) here s made in_memory rest_in_memory h proper no_miss =
+          value_same (evaluate e s.current.store) here s _ _ h (λ v. throw_same (handling s.callers) v here s h)
       command_same vanish here s made in_memory rest_in_memory h proper no_miss = record { same = refl; compatible = h }
       command_same (fold_use u) here s made in_memory rest_in_memory h proper no_miss = record { same = refl; compatible = h }
       command_same (unfold_use u) here s made in_memory rest_in_memory h proper no_miss = record { same = refl; compatible = h }
@@ -194,12 +201,13 @@ module _ (p : PureParts) (m : Actions) (inputs : List PureValue) where
   command_missing : (c : PureCommand) (k : Key) (here : Place) (s : State) → option_and_then (λ t. missed_key t.outcome) (result_of p m c s) ≡ Some k → Missing c here s
   command_missing (act x a es) k here s is = act_missing x a es (evaluate_all es s.current.store) k here s is
   command_missing (assign x e) k here s is = absurd (cc)
-  command_missing (call x e es) k here s is = absurd (cc)
+  command_missing (call x e es handler) k here s is = absurd (cc)
   command_missing (usym x) k here s is = absurd (cc)
   command_missing (isym x j) k here s is = absurd (cc)
   command_missing (ifgoto e i) k here s is = absurd (cc)
   command_missing (return e) k here s is = absurd (cc)
   command_missing (fail e) k here s is = absurd (cc)
+  command_missing (throw e) k here s is = absurd (cc)
   command_missing vanish k here s is = absurd (cc)
   command_missing (fold_use u) k here s is = absurd (cc)
   command_missing (unfold_use u) k here s is = absurd (cc)

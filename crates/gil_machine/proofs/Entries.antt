@@ -10,10 +10,10 @@ use Rattle.gil_syntax.proofs.Symbols.{each-nil}
 use Rattle.mem_model.specs.declared.keys.MemoryName.{MemoryName}
 use Rattle.mem_model.specs.Actions.{Actions}
 use Rattle.mem_model.proofs.Parts.{empty_is_heap, empty_is_below}
-use Rattle.gil_machine.specs.State.{Ending, returned, failed, vanished, no_input, bad_input, cut, IsFailed, IsOver}
+use Rattle.gil_machine.specs.State.{Ending, returned, threw, failed, vanished, no_input, bad_input, cut, IsFailed, IsOver}
 use Rattle.gil_machine.specs.Run.{test_run, start, IsEntry, IsProperStart}
 use Rattle.gil_machine.specs.Laws.{TestsStartProper, BugsStay, CleanIsCleanBelow, CleanHasNoBug}
-use Rattle.gil_machine.proofs.Runs.{stays_over}
+use Rattle.gil_machine.proofs.Runs.{stays_over_as_told}
 use Rattle.gil_machine.proofs.Proper.{Below}
 
 pub tests_start_proper : TestsStartProper
@@ -26,6 +26,7 @@ tests_start_proper p memory f q found none = record {
 
 over_if_failed : (e : Ending) → IsFailed e → IsOver e
 over_if_failed (returned v) h = absurd h
+over_if_failed (threw v place) h = absurd h
 over_if_failed (failed v place) h = tt
 over_if_failed vanished h = absurd h
 over_if_failed (no_input k) h = absurd h
@@ -33,7 +34,7 @@ over_if_failed (bad_input k) h = absurd h
 over_if_failed cut h = absurd h
 
 pub test_stays_over : (p : PureParts) (m : Actions) (f : List ℕ) (n k : ℕ) (inputs : List PureValue) → n ≤ k → IsFailed (test_run p m f inputs n).ending → test_run p m f inputs k ≡ test_run p m f inputs n
-test_stays_over p m f n k inputs le fails = stays_over p m inputs n k (start p f [] empty 0) le (over_if_failed (test_run p m f inputs n).ending fails)
+test_stays_over p m f n k inputs le fails = stays_over_as_told p m inputs n k (start p f [] empty 0) le (over_if_failed (test_run p m f inputs n).ending fails)
 
 pub bugs_stay : BugsStay
 bugs_stay p m f n k inputs v place le bug =

@@ -1,9 +1,11 @@
+pub mod Above
 pub mod Beside
 pub mod Entries
 pub mod Evaluated
 pub mod HeldRuns
 pub mod HeldValues
 pub mod KeptValues
+pub mod Later
 pub mod Outcomes
 pub mod Placed
 pub mod Proper

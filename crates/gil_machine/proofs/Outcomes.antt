@@ -116,17 +116,17 @@ proc_seen f = search (rules, the_lemmas)
 pub symbol_seen : (n : ℕ) → value_view (values.Sym n) ≡ symbol n
 symbol_seen n = search (rules, the_lemmas)
 
-found_by : (q : PureProc) (x : List ℕ) (args : List PureValue) (here : Place) (s : State) (b : Bool) → (length args == length q.params) ≡ b
-    → enter_found (Some q) x args here s ≡ cond b (enter q x args s) (fails_with (text (codes "arity")) here s)
-found_by q x args here s b is = ap (λ b. cond b (enter q x args s) (fails_with (text (codes "arity")) here s)) is
+found_by : (q : PureProc) (x : List ℕ) (handler : Option ℕ) (args : List PureValue) (here : Place) (s : State) (b : Bool) → (length args == length q.params) ≡ b
+    → enter_found (Some q) x handler args here s ≡ cond b (enter q x handler args s) (fails_with (text (codes "arity")) here s)
+found_by q x handler args here s b is = ap (λ b. cond b (enter q x handler args s) (fails_with (text (codes "arity")) here s)) is
 
-pub enters : (p : PureParts) (x : List ℕ) (args : List PureValue) (here : Place) (s : State) (v : PureValue) (f : List ℕ) (q : PureProc)
-    → v ≡ procedure f → find_proc p.procs f ≡ Some q → (length args == length q.params) ≡ true → enter_value p v x args here s ≡ enter q x args s
-enters p x args here s v f q called found is = rw called (rw found (found_by q x args here s true is))
+pub enters : (p : PureParts) (x : List ℕ) (handler : Option ℕ) (args : List PureValue) (here : Place) (s : State) (v : PureValue) (f : List ℕ) (q : PureProc)
+    → v ≡ procedure f → find_proc p.procs f ≡ Some q → (length args == length q.params) ≡ true → enter_value p v x handler args here s ≡ enter q x handler args s
+enters p x handler args here s v f q called found is = rw called (rw found (found_by q x handler args here s true is))
 
-pub misses_arity : (p : PureParts) (x : List ℕ) (args : List PureValue) (here : Place) (s : State) (v : PureValue) (f : List ℕ) (q : PureProc)
-    → v ≡ procedure f → find_proc p.procs f ≡ Some q → (length args == length q.params) ≡ false → enter_value p v x args here s ≡ fails_with (text (codes "arity")) here s
-misses_arity p x args here s v f q called found is = rw called (rw found (found_by q x args here s false is))
+pub misses_arity : (p : PureParts) (x : List ℕ) (handler : Option ℕ) (args : List PureValue) (here : Place) (s : State) (v : PureValue) (f : List ℕ) (q : PureProc)
+    → v ≡ procedure f → find_proc p.procs f ≡ Some q → (length args == length q.params) ≡ false → enter_value p v x handler args here s ≡ fails_with (text (codes "arity")) here s
+misses_arity p x handler args here s v f q called found is = rw called (rw found (found_by q x handler args here s false is))
 
 -- ---- actions
 
@@ -155,6 +155,7 @@ not_at_number p (goes_on s) (Some (kept.Number place)) c h comes at = comes
 not_at_number p (ends e) (Some (kept.Number place)) c h comes at = comes.0
 not_at_number p r None c h comes at = at
 not_at_number p r (Some (kept.Returned v)) c h comes at = at
+not_at_number p r (Some (kept.Threw v place)) c h comes at = at
 not_at_number p r (Some (kept.Failed v place)) c h comes at = at
 not_at_number p r (Some kept.Vanished) c h comes at = at
 not_at_number p r (Some (kept.NoInput k)) c h comes at = at

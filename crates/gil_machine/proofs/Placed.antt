@@ -3,7 +3,7 @@ use Rattle.std.proofs.Common.{◌≡◌, ℕ, zero, suc, ◌+◌, ◌<◌, ℤ, 
 use Rattle.std.specs.Prelude.{◌==◌, ◌||◌, int_lt, int_le, take, unwrap_or}
 use Rattle.std.specs.List.{list_any}
 use Rattle.std.specs.Str.{bytes_eq}
-use Rattle.std.specs.Option.{option_map}
+use Rattle.std.specs.Option.{IfSome, option_map}
 use Rattle.std.proofs.lemmas.Bool.{leb-false}
 use Rattle.std.proofs.lemmas.Option.{slice_get-map}
 use Rattle.std.proofs.lemmas.Slice.Eq.{bytes_eq-Decides}
@@ -14,15 +14,15 @@ use Rattle.gil_values.specs.Pure.{PureValue, integer, boolean, text, symbol, kin
 use Rattle.gil_values.specs.Equality.{same_kind}
 use Rattle.gil_values.specs.Operators.{Outcome}
 use Rattle.gil_syntax.specs.declared.validity.InvalidKind.TheVariants.{BadLabel, NoEnd}
-use Rattle.gil_syntax.specs.Pure.{PureExpr, PureCommand, assign, call, act, usym, isym, ifgoto, return, fail, vanish, fold_use, unfold_use, assert_that, loop_invariant, PureNumberedCommand, PureProc, PureParts}
+use Rattle.gil_syntax.specs.Pure.{PureCommand, assign, call, act, usym, isym, ifgoto, return, fail, throw, vanish, fold_use, unfold_use, assert_that, loop_invariant, PureNumberedCommand, PureProc, PureParts}
 use Rattle.gil_syntax.specs.Programs.{find_proc}
 use Rattle.gil_syntax.specs.Evaluation.{Outcomes, evaluate, evaluate_all}
-use Rattle.gil_syntax.specs.Valid.{a_proc, a_spec, a_pred, items_of, is_bad_jump, ends_body, last_ends_body, has_fault_if_there, IsValid}
+use Rattle.gil_syntax.specs.Valid.{a_proc, a_spec, a_pred, items_of, is_bad_handler, is_bad_jump, ends_body, last_ends_body, has_fault_if_there, IsValid}
 use Rattle.mem_model.specs.Pure.{PureOutcome, done, failed as action_failed, miss}
 use Rattle.mem_model.specs.Actions.{Actions}
 use Rattle.gil_machine.specs.State.{Frame, State, Step}
-use Rattle.gil_machine.specs.Step.{command_of, command_at, to_next, to_label, assigned, with_value, with_values, enter, enter_found, enter_value, resumed, leave, after_action, do_action, draw, branch, do_command, step_at}
-use Rattle.gil_machine.specs.Placed.{StandsAtCommand, IsPlaced, IsPlacedStep}
+use Rattle.gil_machine.specs.Step.{command_of, command_at, to_next, to_label, assigned, with_value, with_values, handler_label, enter, enter_found, enter_value, resumed, leave, Handling, handled_or, handling, throw_to, after_action, do_action, draw, branch, do_command, step_at}
+use Rattle.gil_machine.specs.Placed.{StandsAtCommand, HandlesAtCommand, IsPlaced, IsPlacedStep}
 use Rattle.gil_machine.specs.Laws.{StaysPlaced, StartsPlaced}
 
 -- ---- lists
@@ -123,12 +123,38 @@ module _ (p : PureParts) (valid : IsValid p) where
   in_body : (n : ℕ) (t : ℤ) (i : ℕ) → t ≡ pos i → (int_lt t (pos 0) || int_le (pos n) t) ≡ false → i < n
   in_body n t i e fine = leb-false n i (ap (int_le (pos n)) (sym e) ∙ (neither _ _ fine).1)
 
-  label_placed : (frame : Frame) (c : PureNumberedCommand) (e : PureExpr) (i : ℕ) → command_at p frame ≡ Some c → c.command ≡ ifgoto e (pos i) → IsSome (command_of (find_proc p.procs frame.procedure) i)
-  label_placed frame c e i is jumps =
+  in_handler : (n : ℕ) (o : Option ℤ) (i : ℕ) → handler_label o ≡ Some i → is_bad_handler n o ≡ false → i < n
+  in_handler n (Some (pos j)) i e fine = in_body n (pos j) i (ap pos (same_some j i e)) fine
+  in_handler n (Some (negsuc j)) i e fine = absurd (cc)
+  in_handler n None i e fine = absurd (cc)
+
+  -- a command leads to this index, by its jump or by its handler
+  abbrev MayLeadTo : PureCommand → ℕ → Type 0
+  MayLeadTo (ifgoto e t) i = t ≡ pos i
+  MayLeadTo (call x e es handler) i = handler_label handler ≡ Some i
+  MayLeadTo _ i = ⊥
+
+  leads_in : (n : ℕ) (c : PureCommand) (i : ℕ) → MayLeadTo c i → is_bad_jump n c ≡ false → i < n
+  leads_in n (ifgoto e t) i is fine = in_body n t i is fine
+  leads_in n (call x e es handler) i is fine = in_handler n handler i is fine
+  leads_in n (assign x e) i is fine = absurd is
+  leads_in n (act x a es) i is fine = absurd is
+  leads_in n (usym x) i is fine = absurd is
+  leads_in n (isym x k) i is fine = absurd is
+  leads_in n (return e) i is fine = absurd is
+  leads_in n (fail e) i is fine = absurd is
+  leads_in n (throw e) i is fine = absurd is
+  leads_in n vanish i is fine = absurd is
+  leads_in n (fold_use u) i is fine = absurd is
+  leads_in n (unfold_use u) i is fine = absurd is
+  leads_in n (assert_that items) i is fine = absurd is
+  leads_in n (loop_invariant xs ps items) i is fine = absurd is
+
+  label_placed : (frame : Frame) (c : PureNumberedCommand) (i : ℕ) → command_at p frame ≡ Some c → MayLeadTo c.command i → IsSome (command_of (find_proc p.procs frame.procedure) i)
+  label_placed frame c i is leads =
       let at = command_found (find_proc p.procs frame.procedure) frame.next c is in
       let fine : is_bad_jump (length at.0.body) c.command ≡ false = none_passes _ at.0.body frame.next c (good p frame.procedure at.0 valid at.1.0).labels at.1.1 in
-      let lt : i < length at.0.body = in_body (length at.0.body) (pos i) i refl (ap (is_bad_jump (length at.0.body)) (sym jumps) ∙ fine) in
-      subst (λ o. IsSome (command_of o i)) (sym at.1.0) (get_below at.0.body i lt)
+      subst (λ o. IsSome (command_of o i)) (sym at.1.0) (get_below at.0.body i (leads_in (length at.0.body) c.command i leads fine))
 
   first_placed : (f : List ℕ) (q : PureProc) → find_proc p.procs f ≡ Some q → IsSome (command_of (find_proc p.procs f) 0)
   first_placed f q is = subst (λ o. IsSome (command_of o 0)) (sym is) (first_there q.body (good p f q valid is).last)
@@ -139,10 +165,10 @@ module _ (p : PureParts) (valid : IsValid p) where
   NextThere frame = IsSome (command_of (find_proc p.procs frame.procedure) (frame.next + 1))
 
   to_next_placed : (s : State) → NextThere s.current → IsPlaced p s → IsPlacedStep p (to_next s)
-  to_next_placed s next h = record { current = next; callers = h.callers }
+  to_next_placed s next h = record { current = next; callers = h.callers; handlers = h.handlers }
 
   assigned_placed : (x : List ℕ) (v : PureValue) (s : State) → NextThere s.current → IsPlaced p s → IsPlacedStep p (assigned x v s)
-  assigned_placed x v s next h = record { current = next; callers = h.callers }
+  assigned_placed x v s next h = record { current = next; callers = h.callers; handlers = h.handlers }
 
   with_value_placed : (r : Outcome) (here : Place) (s : State) (go_on : PureValue → Step) → ((v : PureValue) → IsPlacedStep p (go_on v)) → IsPlacedStep p (with_value r here s go_on)
   with_value_placed (Ok v) here s go_on k = k v
@@ -156,34 +182,74 @@ module _ (p : PureParts) (valid : IsValid p) where
   choice_placed true r t h k = h
   choice_placed false r t h k = k
 
-  enter_placed : (f : List ℕ) (q : PureProc) (x : List ℕ) (args : List PureValue) (s : State) → find_proc p.procs f ≡ Some q → NextThere s.current → IsPlaced p s → IsPlacedStep p (enter q x args s)
-  enter_placed f q x args s is next h = record {
+  -- the handler of a call that the frame makes stands in its body
+  abbrev HandlerThere : Option ℕ → Frame → Type 0
+  HandlerThere handler frame = IfSome handler (λ i. IsSome (command_of (find_proc p.procs frame.procedure) i))
+
+  handler_there : (o : Option ℕ) (frame : Frame) → ((i : ℕ) → o ≡ Some i → IsSome (command_of (find_proc p.procs frame.procedure) i)) → HandlerThere o frame
+  handler_there (Some i) frame there = there i refl
+  handler_there None frame there = tt
+
+  enter_placed : (f : List ℕ) (q : PureProc) (x : List ℕ) (handler : Option ℕ) (args : List PureValue) (s : State) → find_proc p.procs f ≡ Some q → NextThere s.current → HandlerThere handler s.current → IsPlaced p s → IsPlacedStep p (enter q x handler args s)
+  enter_placed f q x handler args s is next there h = record {
     current = subst (λ g. IsSome (command_of (find_proc p.procs g) 0)) (sym (found_name p.procs f q is)) (first_placed f q is);
     callers = All-cons (StandsAtCommand p) _ s.callers next h.callers;
+    handlers = All-cons (HandlesAtCommand p) _ s.callers there h.handlers;
   }
 
-  enter_found_placed : (f : List ℕ) (o : Option PureProc) (x : List ℕ) (args : List PureValue) (here : Place) (s : State) → find_proc p.procs f ≡ o → NextThere s.current → IsPlaced p s → IsPlacedStep p (enter_found o x args here s)
-  enter_found_placed f None x args here s is next h = tt
-  enter_found_placed f (Some q) x args here s is next h = choice_placed (length args == length q.params) _ _ (enter_placed f q x args s is next h) tt
+  enter_found_placed : (f : List ℕ) (o : Option PureProc) (x : List ℕ) (handler : Option ℕ) (args : List PureValue) (here : Place) (s : State) → find_proc p.procs f ≡ o → NextThere s.current → HandlerThere handler s.current → IsPlaced p s → IsPlacedStep p (enter_found o x handler args here s)
+  enter_found_placed f None x handler args here s is next there h = tt
+  enter_found_placed f (Some q) x handler args here s is next there h = choice_placed (length args == length q.params) _ _ (enter_placed f q x handler args s is next there h) tt
 
-  enter_value_placed : (v : PureValue) (x : List ℕ) (args : List PureValue) (here : Place) (s : State) → NextThere s.current → IsPlaced p s → IsPlacedStep p (enter_value p v x args here s)
-  enter_value_placed (procedure f) x args here s next h = enter_found_placed f (find_proc p.procs f) x args here s refl next h
-  enter_value_placed (integer n) x args here s next h = tt
-  enter_value_placed (boolean b) x args here s next h = tt
-  enter_value_placed (text cs) x args here s next h = tt
-  enter_value_placed (symbol n) x args here s next h = tt
-  enter_value_placed (kind k) x args here s next h = tt
-  enter_value_placed (list vs) x args here s next h = tt
+  enter_value_placed : (v : PureValue) (x : List ℕ) (handler : Option ℕ) (args : List PureValue) (here : Place) (s : State) → NextThere s.current → HandlerThere handler s.current → IsPlaced p s → IsPlacedStep p (enter_value p v x handler args here s)
+  enter_value_placed (procedure f) x handler args here s next there h = enter_found_placed f (find_proc p.procs f) x handler args here s refl next there h
+  enter_value_placed (integer n) x handler args here s next there h = tt
+  enter_value_placed (boolean b) x handler args here s next there h = tt
+  enter_value_placed (text cs) x handler args here s next there h = tt
+  enter_value_placed (symbol n) x handler args here s next there h = tt
+  enter_value_placed (kind k) x handler args here s next there h = tt
+  enter_value_placed (list vs) x handler args here s next there h = tt
 
   resumed_placed : (w : Option (List ℕ)) (v : PureValue) (frame : Frame) → StandsAtCommand p frame → StandsAtCommand p (resumed w v frame)
   resumed_placed (Some x) v frame h = h
   resumed_placed None v frame h = h
 
-  leave_placed : (callers : List Frame) (v : PureValue) (s : State) → All (StandsAtCommand p) callers → IsPlacedStep p (leave callers v s)
-  leave_placed [] v s h = tt
-  leave_placed (caller ∷ callers) v s h = record {
+  leave_placed : (callers : List Frame) (v : PureValue) (s : State) → All (StandsAtCommand p) callers → All (HandlesAtCommand p) callers → IsPlacedStep p (leave callers v s)
+  leave_placed [] v s h k = tt
+  leave_placed (caller ∷ callers) v s h k = record {
     current = resumed_placed caller.waits v caller (All-head (StandsAtCommand p) caller callers h);
     callers = All-tail (StandsAtCommand p) caller callers h;
+    handlers = All-tail (HandlesAtCommand p) caller callers k;
+  }
+
+  -- the frame that takes a throw has a command at its handler
+  pub record IsHandlingPlaced (taken : Handling) : Type 0 where
+    pub label : IsSome (command_of (find_proc p.procs taken.frame.procedure) taken.label)
+    pub callers : All (StandsAtCommand p) taken.callers
+    pub handlers : All (HandlesAtCommand p) taken.callers
+
+  handled_or_placed : (o : Option ℕ) (caller : Frame) (callers : List Frame) (below : Option Handling) → caller.handler ≡ o → HandlesAtCommand p caller
+      → All (StandsAtCommand p) callers → All (HandlesAtCommand p) callers → IfSome below IsHandlingPlaced → IfSome (handled_or o caller callers below) IsHandlingPlaced
+  handled_or_placed (Some i) caller callers below is handles h k rest = record { label = subst (λ o. HandlerThere o caller) is handles; callers = h; handlers = k }
+  handled_or_placed None caller callers below is handles h k rest = rest
+
+  handling_placed : (callers : List Frame) → All (StandsAtCommand p) callers → All (HandlesAtCommand p) callers → IfSome (handling callers) IsHandlingPlaced
+  handling_placed [] h k = tt
+  handling_placed (caller ∷ callers) h k =
+      let rest = All-tail (StandsAtCommand p) caller callers h in
+      let handlers = All-tail (HandlesAtCommand p) caller callers k in
+      handled_or_placed caller.handler caller callers (handling callers) refl (All-head (HandlesAtCommand p) caller callers k) rest handlers (handling_placed callers rest handlers)
+
+  resumed_at_placed : (w : Option (List ℕ)) (i : ℕ) (v : PureValue) (frame : Frame) → IsSome (command_of (find_proc p.procs frame.procedure) i) → StandsAtCommand p (record (resumed w v frame) { next = i })
+  resumed_at_placed (Some x) i v frame h = h
+  resumed_at_placed None i v frame h = h
+
+  throw_placed : (o : Option Handling) (v : PureValue) (here : Place) (s : State) → IfSome o IsHandlingPlaced → IsPlacedStep p (throw_to o v here s)
+  throw_placed None v here s h = tt
+  throw_placed (Some taken) v here s h = record {
+    current = resumed_at_placed taken.frame.waits taken.label v taken.frame h.label;
+    callers = h.callers;
+    handlers = h.handlers;
   }
 
   after_action_placed : (o : PureOutcome) (x : List ℕ) (here : Place) (s : State) → NextThere s.current → IsPlaced p s → IsPlacedStep p (after_action o x here s)
@@ -192,15 +258,15 @@ module _ (p : PureParts) (valid : IsValid p) where
   after_action_placed (miss k) x here s next h = tt
 
   do_action_placed : (b : Bool) (m : Actions) (x a : List ℕ) (args : List PureValue) (here : Place) (s : State) → NextThere s.current → IsPlaced p s → IsPlacedStep p (do_action b m x a args here s)
-  do_action_placed true m x a args here s next h = after_action_placed _ x here _ next (record { current = h.current; callers = h.callers })
-  do_action_placed false m x a args here s next h = after_action_placed _ x here _ next (record { current = h.current; callers = h.callers })
+  do_action_placed true m x a args here s next h = after_action_placed _ x here _ next (record { current = h.current; callers = h.callers; handlers = h.handlers })
+  do_action_placed false m x a args here s next h = after_action_placed _ x here _ next (record { current = h.current; callers = h.callers; handlers = h.handlers })
 
   draw_placed : (o : Option PureValue) (x : List ℕ) (k : Kind) (s : State) → NextThere s.current → IsPlaced p s → IsPlacedStep p (draw o x k s)
   draw_placed None x k s next h = tt
   draw_placed (Some v) x k s next h = choice_placed (same_kind (kind_of v) k) _ _ (assigned_placed x v s next h) tt
 
   to_label_placed : (t : ℤ) (s : State) → ((i : ℕ) → t ≡ pos i → IsSome (command_of (find_proc p.procs s.current.procedure) i)) → IsPlaced p s → IsPlacedStep p (to_label t s)
-  to_label_placed (pos i) s there h = record { current = there i refl; callers = h.callers }
+  to_label_placed (pos i) s there h = record { current = there i refl; callers = h.callers; handlers = h.handlers }
   to_label_placed (negsuc i) s there h = h
 
   branch_placed : (v : PureValue) (t : ℤ) (here : Place) (s : State) → ((i : ℕ) → t ≡ pos i → IsSome (command_of (find_proc p.procs s.current.procedure) i)) → NextThere s.current → IsPlaced p s → IsPlacedStep p (branch v t here s)
@@ -217,16 +283,17 @@ module _ (p : PureParts) (valid : IsValid p) where
     -- a command that goes on, where the frame has a next command, and its labels stand in the body
     do_command_placed : (c : PureCommand) (here : Place) (s : State)
         → (ends_body c ≡ false → NextThere s.current)
-        → ((e : PureExpr) (i : ℕ) → c ≡ ifgoto e (pos i) → IsSome (command_of (find_proc p.procs s.current.procedure) i))
+        → ((i : ℕ) → MayLeadTo c i → IsSome (command_of (find_proc p.procs s.current.procedure) i))
         → IsPlaced p s → IsPlacedStep p (do_command p m inputs c here s)
     do_command_placed (assign x e) here s next there h = with_value_placed (evaluate e s.current.store) here s _ (λ v. assigned_placed x v s (next refl) h)
-    do_command_placed (call x e es) here s next there h = with_value_placed (evaluate e s.current.store) here s _ (λ f. with_values_placed (evaluate_all es s.current.store) here s _ (λ args. enter_value_placed f x args here s (next refl) h))
+    do_command_placed (call x e es handler) here s next there h = with_value_placed (evaluate e s.current.store) here s _ (λ f. with_values_placed (evaluate_all es s.current.store) here s _ (λ args. enter_value_placed f x (handler_label handler) args here s (next refl) (handler_there (handler_label handler) s.current there) h))
     do_command_placed (act x a es) here s next there h = with_values_placed (evaluate_all es s.current.store) here s _ (λ args. do_action_placed (m.takes_symbol a) m x a args here s (next refl) h)
-    do_command_placed (usym x) here s next there h = assigned_placed x _ _ (next refl) (record { current = h.current; callers = h.callers })
-    do_command_placed (isym x k) here s next there h = draw_placed (slice_get inputs s.draws) x k _ (next refl) (record { current = h.current; callers = h.callers })
-    do_command_placed (ifgoto e t) here s next there h = with_value_placed (evaluate e s.current.store) here s _ (λ v. branch_placed v t here s (λ i is. there e i (ap (ifgoto e) is)) (next refl) h)
-    do_command_placed (return e) here s next there h = with_value_placed (evaluate e s.current.store) here s _ (λ v. leave_placed s.callers v s h.callers)
+    do_command_placed (usym x) here s next there h = assigned_placed x _ _ (next refl) (record { current = h.current; callers = h.callers; handlers = h.handlers })
+    do_command_placed (isym x k) here s next there h = draw_placed (slice_get inputs s.draws) x k _ (next refl) (record { current = h.current; callers = h.callers; handlers = h.handlers })
+    do_command_placed (ifgoto e t) here s next there h = with_value_placed (evaluate e s.current.store) here s _ (λ v. branch_placed v t here s there (next refl) h)
+    do_command_placed (return e) here s next there h = with_value_placed (evaluate e s.current.store) here s _ (λ v. leave_placed s.callers v s h.callers h.handlers)
     do_command_placed (fail e) here s next there h = with_value_placed (evaluate e s.current.store) here s _ (λ v. tt)
+    do_command_placed (throw e) here s next there h = with_value_placed (evaluate e s.current.store) here s _ (λ v. throw_placed (handling s.callers) v here s (handling_placed s.callers h.callers h.handlers))
     do_command_placed vanish here s next there h = tt
     do_command_placed (fold_use u) here s next there h = to_next_placed s (next refl) h
     do_command_placed (unfold_use u) here s next there h = to_next_placed s (next refl) h
@@ -234,11 +301,11 @@ module _ (p : PureParts) (valid : IsValid p) where
     do_command_placed (loop_invariant xs ps items) here s next there h = to_next_placed s (next refl) h
 
     step_at_placed : (o : Option PureNumberedCommand) (s : State) → command_at p s.current ≡ o → IsPlaced p s → IsPlacedStep p (step_at p m inputs o s)
-    step_at_placed (Some c) s is h = do_command_placed c.command _ s (next_placed s.current c is) (λ e i jumps. label_placed s.current c e i is jumps) h
+    step_at_placed (Some c) s is h = do_command_placed c.command _ s (next_placed s.current c is) (λ i leads. label_placed s.current c i is leads) h
     step_at_placed None s is h = h
 
 pub stays_placed : StaysPlaced
 stays_placed p m inputs s valid h = step_at_placed p valid m inputs (command_at p s.current) s refl h
 
 pub starts_placed : StartsPlaced
-starts_placed p f q args h counter valid is = record { current = first_placed p valid f q is; callers = All-nil (StandsAtCommand p) }
+starts_placed p f q args h counter valid is = record { current = first_placed p valid f q is; callers = All-nil (StandsAtCommand p); handlers = All-nil (HandlesAtCommand p) }

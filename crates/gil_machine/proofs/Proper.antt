@@ -3,6 +3,7 @@ use Rattle.std.proofs.Common.{◌≡◌, ◌⊎◌, ⊎_elim, ℕ, zero, suc, �
 use Rattle.std.specs.Prelude.{◌==◌, is_some, unwrap_or}
 use Rattle.std.specs.Cmp.{first_so, second_so}
 use Rattle.std.specs.List.{Contains, list_all}
+use Rattle.std.specs.Option.{IfSome}
 use Rattle.std.specs.Str.{bytes_eq}
 use Rattle.std.proofs.lemmas.List.Elements.{All-nil, All-cons, All-head, All-tail, All-weaker, Contains-push_cases}
 use Rattle.gil_values.specs.declared.kinds.Kind.{Kind}
@@ -12,7 +13,7 @@ use Rattle.gil_values.specs.Pure.{PureValue, integer, boolean, text, symbol, kin
 use Rattle.gil_values.specs.Equality.{same_kind}
 use Rattle.gil_values.specs.Symbols.{OccursAmong, IsBelow, AreBelow}
 use Rattle.gil_values.specs.Operators.{Outcome}
-use Rattle.gil_syntax.specs.Pure.{PureExpr, PureCommand, assign, call, act, usym, isym, ifgoto, return, fail, vanish, fold_use, unfold_use, assert_that, loop_invariant, PureNumberedCommand, PureProc, PureParts}
+use Rattle.gil_syntax.specs.Pure.{PureExpr, PureCommand, assign, call, act, usym, isym, ifgoto, return, fail, throw, vanish, fold_use, unfold_use, assert_that, loop_invariant, PureNumberedCommand, PureProc, PureParts}
 use Rattle.gil_syntax.specs.Programs.{find_proc}
 use Rattle.gil_syntax.specs.Subexpressions.{exprs_of}
 use Rattle.gil_syntax.specs.Evaluation.{Store, bind, value_of, Outcomes, evaluate, evaluate_all}
@@ -22,11 +23,11 @@ use Rattle.mem_model.specs.declared.keys.MemoryName.{MemoryName}
 use Rattle.mem_model.specs.Heaps.{Heap, IsHeapBelow, OccursInHeap}
 use Rattle.mem_model.specs.Pure.{PureOutcome, done, failed as action_failed, miss}
 use Rattle.mem_model.specs.Actions.{Actions, MayAct, OccursInOutcome, IsMemory}
-use Rattle.gil_machine.specs.State.{Frame, State, Ending, End, Step, goes_on, ends, end_at, returned, failed, vanished, no_input, bad_input, cut}
-use Rattle.gil_machine.specs.Step.{command_of, command_at, bind_all, to_next, to_label, assigned, fails_with, with_value, with_values, enter, enter_found, enter_value, resumed, leave, after_action, acted, do_action, new_symbol, draw, branch, do_command, step_at, step}
-use Rattle.gil_machine.specs.Run.{after}
+use Rattle.gil_machine.specs.State.{Frame, State, Ending, End, Step, goes_on, ends, end_at, returned, threw, failed, vanished, no_input, bad_input, cut, told}
+use Rattle.gil_machine.specs.Step.{command_of, command_at, bind_all, to_next, to_label, assigned, fails_with, with_value, with_values, handler_label, enter, enter_found, enter_value, resumed, leave, Handling, handled_or, handling, caught, throw_to, after_action, acted, do_action, new_symbol, draw, branch, do_command, step_at, step}
+use Rattle.gil_machine.specs.Run.{after, run}
 use Rattle.gil_machine.specs.Proper.{IsStoreBelow, IsFrameBelow, IsProperState, IsEndingBelow, IsProperEnd, IsProperStep}
-use Rattle.gil_machine.specs.Laws.{StaysProper, StartsProper, EndsProper, CounterIsNew, MayActWhereReached, handed}
+use Rattle.gil_machine.specs.Laws.{StaysProper, StartsProper, EndsProper, EndsProperAsTold, CounterIsNew, MayActWhereReached, handed}
 
 abbrev pub Below : ℕ → ℕ → Type 0
 Below counter n = n < counter
@@ -54,6 +55,24 @@ bind_all_below c (x ∷ xs) (v ∷ vs) h = bind_below c x v (bind_all xs vs) h.0
 resumed_below : (c : ℕ) (w : Option (List ℕ)) (v : PureValue) (frame : Frame) → IsBelow c v → IsFrameBelow c frame → IsFrameBelow c (resumed w v frame)
 resumed_below c (Some x) v frame h k = bind_below c x v frame.store h k
 resumed_below c None v frame h k = k
+
+-- the frame that takes a throw and those below it
+abbrev AreHandledBelow : ℕ → Option Handling → Type 0
+AreHandledBelow c o = IfSome o (λ h. IsFrameBelow c h.frame × All (IsFrameBelow c) h.callers)
+
+handled_or_below : (c : ℕ) (o : Option ℕ) (frame : Frame) (callers : List Frame) (below : Option Handling) → IsFrameBelow c frame → All (IsFrameBelow c) callers
+    → AreHandledBelow c below → AreHandledBelow c (handled_or o frame callers below)
+handled_or_below c (Some i) frame callers below h k rest = (h, k)
+handled_or_below c None frame callers below h k rest = rest
+
+handled_below : (c : ℕ) (callers : List Frame) → All (IsFrameBelow c) callers → AreHandledBelow c (handling callers)
+handled_below c [] h = tt
+handled_below c (caller ∷ callers) h =
+    let rest = All-tail (IsFrameBelow c) caller callers h in
+    handled_or_below c caller.handler caller callers (handling callers) (All-head (IsFrameBelow c) caller callers h) rest (handled_below c callers rest)
+
+caught_below : (c i : ℕ) (v : PureValue) (frame : Frame) → IsBelow c v → IsFrameBelow c frame → IsFrameBelow c (caught i v frame)
+caught_below c i v frame h k = resumed_below c frame.waits v frame h k
 
 frame_wider : (c d : ℕ) → c ≤ d → (frame : Frame) → IsFrameBelow c frame → IsFrameBelow d frame
 frame_wider c d le frame h x v is n occurs = let lt = h x v is n occurs in omega (arith, lt, le)
@@ -168,26 +187,26 @@ module _ (memory : MemoryName) where
   with_values_proper (Ok vs) here s go_on h k l = l vs k
   with_values_proper (Err f) here s go_on h k l = text_proper _ here s h
 
-  enter_proper : (q : PureProc) (x : List ℕ) (args : List PureValue) (s : State) → IsProperState memory s → HoldsOfAll (Below s.counter) args → IsProperStep memory (enter q x args s)
-  enter_proper q x args s h k = record {
+  enter_proper : (q : PureProc) (x : List ℕ) (handler : Option ℕ) (args : List PureValue) (s : State) → IsProperState memory s → HoldsOfAll (Below s.counter) args → IsProperStep memory (enter q x handler args s)
+  enter_proper q x handler args s h k = record {
     heap = h.heap;
     heap_below = h.heap_below;
     current_below = bind_all_below s.counter q.params args k;
     callers_below = All-cons (IsFrameBelow s.counter) _ s.callers h.current_below h.callers_below;
   }
 
-  enter_found_proper : (q : Option PureProc) (x : List ℕ) (args : List PureValue) (here : Place) (s : State) → IsProperState memory s → HoldsOfAll (Below s.counter) args → IsProperStep memory (enter_found q x args here s)
-  enter_found_proper None x args here s h k = text_proper _ here s h
-  enter_found_proper (Some q) x args here s h k = choice_proper (length args == length q.params) _ _ (enter_proper q x args s h k) (text_proper _ here s h)
+  enter_found_proper : (q : Option PureProc) (x : List ℕ) (handler : Option ℕ) (args : List PureValue) (here : Place) (s : State) → IsProperState memory s → HoldsOfAll (Below s.counter) args → IsProperStep memory (enter_found q x handler args here s)
+  enter_found_proper None x handler args here s h k = text_proper _ here s h
+  enter_found_proper (Some q) x handler args here s h k = choice_proper (length args == length q.params) _ _ (enter_proper q x handler args s h k) (text_proper _ here s h)
 
-  enter_value_proper : (p : PureParts) (v : PureValue) (x : List ℕ) (args : List PureValue) (here : Place) (s : State) → IsProperState memory s → HoldsOfAll (Below s.counter) args → IsProperStep memory (enter_value p v x args here s)
-  enter_value_proper p (procedure f) x args here s h k = enter_found_proper (find_proc p.procs f) x args here s h k
-  enter_value_proper p (integer n) x args here s h k = text_proper _ here s h
-  enter_value_proper p (boolean b) x args here s h k = text_proper _ here s h
-  enter_value_proper p (text cs) x args here s h k = text_proper _ here s h
-  enter_value_proper p (symbol n) x args here s h k = text_proper _ here s h
-  enter_value_proper p (kind l) x args here s h k = text_proper _ here s h
-  enter_value_proper p (list vs) x args here s h k = text_proper _ here s h
+  enter_value_proper : (p : PureParts) (v : PureValue) (x : List ℕ) (handler : Option ℕ) (args : List PureValue) (here : Place) (s : State) → IsProperState memory s → HoldsOfAll (Below s.counter) args → IsProperStep memory (enter_value p v x handler args here s)
+  enter_value_proper p (procedure f) x handler args here s h k = enter_found_proper (find_proc p.procs f) x handler args here s h k
+  enter_value_proper p (integer n) x handler args here s h k = text_proper _ here s h
+  enter_value_proper p (boolean b) x handler args here s h k = text_proper _ here s h
+  enter_value_proper p (text cs) x handler args here s h k = text_proper _ here s h
+  enter_value_proper p (symbol n) x handler args here s h k = text_proper _ here s h
+  enter_value_proper p (kind l) x handler args here s h k = text_proper _ here s h
+  enter_value_proper p (list vs) x handler args here s h k = text_proper _ here s h
 
   leave_proper : (callers : List Frame) (v : PureValue) (s : State) → IsProperState memory s → All (IsFrameBelow s.counter) callers → IsBelow s.counter v → IsProperStep memory (leave callers v s)
   leave_proper [] v s h below k = end_proper s (returned v) h k
@@ -196,6 +215,15 @@ module _ (memory : MemoryName) where
     heap_below = h.heap_below;
     current_below = resumed_below s.counter caller.waits v caller k (All-head (IsFrameBelow s.counter) caller callers below);
     callers_below = All-tail (IsFrameBelow s.counter) caller callers below;
+  }
+
+  throw_proper : (o : Option Handling) (v : PureValue) (here : Place) (s : State) → IsProperState memory s → AreHandledBelow s.counter o → IsBelow s.counter v → IsProperStep memory (throw_to o v here s)
+  throw_proper None v here s h below k = end_proper s (threw v here) h k
+  throw_proper (Some taken) v here s h below k = record {
+    heap = h.heap;
+    heap_below = h.heap_below;
+    current_below = caught_below s.counter taken.label v taken.frame k below.0;
+    callers_below = below.1;
   }
 
   -- the state with a counter that is not lower
@@ -287,10 +315,10 @@ module _ (memory : MemoryName) where
       do_command_proper : (c : PureCommand) (here : Place) (s : State) → has_well_made_names c ≡ true → list_all is_well_made_expr (exprs_of c) ≡ true → IsProperState memory s → IsProperStep memory (do_command p m inputs c here s)
       do_command_proper (assign x e) here s named made h =
           with_value_proper (evaluate e s.current.store) here s _ h (value_below e s (first_so _ _ made) h) (λ v k. assigned_proper x v s h k)
-      do_command_proper (call x e es) here s named made h =
+      do_command_proper (call x e es handler) here s named made h =
           with_value_proper (evaluate e s.current.store) here s _ h (value_below e s (first_so _ _ made) h) (λ f k.
           with_values_proper (evaluate_all es s.current.store) here s _ h (values_below es s (second_so (is_well_made_expr e) _ made) h) (λ args l.
-          enter_value_proper p f x args here s h l))
+          enter_value_proper p f x (handler_label handler) args here s h l))
       do_command_proper (act x a es) here s named made h =
           with_values_proper (evaluate_all es s.current.store) here s _ h (values_below es s made h) (λ args l.
           do_action_proper (m.takes_symbol a) x a args here s refl h (each_of_all (Below s.counter) args l))
@@ -303,6 +331,8 @@ module _ (memory : MemoryName) where
           with_value_proper (evaluate e s.current.store) here s _ h (value_below e s (first_so _ _ made) h) (λ v k. leave_proper s.callers v s h h.callers_below k)
       do_command_proper (fail e) here s named made h =
           with_value_proper (evaluate e s.current.store) here s _ h (value_below e s (first_so _ _ made) h) (λ v k. fails_proper v here s h k)
+      do_command_proper (throw e) here s named made h =
+          with_value_proper (evaluate e s.current.store) here s _ h (value_below e s (first_so _ _ made) h) (λ v k. throw_proper (handling s.callers) v here s h (handled_below s.counter s.callers h.callers_below) k)
       do_command_proper vanish here s named made h = end_proper s vanished h tt
       do_command_proper (fold_use u) here s named made h = next_proper s h
       do_command_proper (unfold_use u) here s named made h = next_proper s h
@@ -337,6 +367,20 @@ pub ends_proper : EndsProper
 ends_proper p memory m inputs zero s made laws h = end_proper memory s cut h tt
 ends_proper p memory m inputs (suc n) s made laws h =
     after_proper memory (step p m inputs s) _ (stays_proper p memory m inputs s made laws h) (λ t k. ends_proper p memory m inputs n t made laws k)
+
+told_below : (c : ℕ) (e : Ending) → IsEndingBelow c e → IsEndingBelow c (told e)
+told_below c (returned v) h = h
+told_below c (threw v place) h = h
+told_below c (failed v place) h = h
+told_below c vanished h = h
+told_below c (no_input k) h = h
+told_below c (bad_input k) h = h
+told_below c cut h = h
+
+pub ends_proper_as_told : EndsProperAsTold
+ends_proper_as_told p memory m inputs n s made laws h =
+    let end = ends_proper p memory m inputs n s made laws h in
+    record { heap = end.heap; heap_below = end.heap_below; ending_below = told_below _ (run p m inputs n s).ending end.ending_below }
 
 -- ---- the counter's symbol
 

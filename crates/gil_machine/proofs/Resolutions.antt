@@ -25,13 +25,14 @@ resolved_list-items names rs = search (rules, the_lemmas)
 -- what is placed stays so where slots are added
 pub placed_more : (old new : Names) → Grows old new → (c : ResolvedCommand) → AssignsSlot old c → AssignsSlot new c
 placed_more old new grows (ResolvedCommand.Assign i e) below = let longer = grows.longer in omega (arith, below, longer)
-placed_more old new grows (ResolvedCommand.Call i e es) below = let longer = grows.longer in omega (arith, below, longer)
+placed_more old new grows (ResolvedCommand.Call i e es handler) below = let longer = grows.longer in omega (arith, below, longer)
 placed_more old new grows (ResolvedCommand.Act i a es) below = let longer = grows.longer in omega (arith, below, longer)
 placed_more old new grows (ResolvedCommand.Usym i) below = let longer = grows.longer in omega (arith, below, longer)
 placed_more old new grows (ResolvedCommand.Isym i k) below = let longer = grows.longer in omega (arith, below, longer)
 placed_more old new grows (ResolvedCommand.IfGoto e i) placed = tt
 placed_more old new grows (ResolvedCommand.Return e) placed = tt
 placed_more old new grows (ResolvedCommand.Fail e) placed = tt
+placed_more old new grows (ResolvedCommand.Throw e) placed = tt
 placed_more old new grows ResolvedCommand.Vanish placed = tt
 placed_more old new grows (ResolvedCommand.Fold u) placed = tt
 placed_more old new grows (ResolvedCommand.Unfold u) placed = tt

@@ -3,10 +3,10 @@ use Rattle.std.proofs.Common.{◌≡◌, inl, inr, ap, sym, subst, ◌∙◌, tr
 use Rattle.gil_values.specs.Pure.{PureValue}
 use Rattle.gil_syntax.specs.Pure.{PureParts}
 use Rattle.mem_model.specs.Actions.{Actions}
-use Rattle.gil_machine.specs.State.{State, cut, End, Step, goes_on, ends, IsOver}
+use Rattle.gil_machine.specs.State.{State, Ending, returned, threw, failed, vanished, no_input, bad_input, cut, End, Step, goes_on, ends, IsOver, told, told_end}
 use Rattle.gil_machine.specs.Step.{step}
 use Rattle.gil_machine.specs.Run.{after, run, and_then, reached}
-use Rattle.gil_machine.specs.Laws.{StaysOver, IsCutAtItsBound, DependsOnDrawnInputs}
+use Rattle.gil_machine.specs.Laws.{StaysOver, IsCutAtItsBound, StaysOverAsTold, IsCutAsTold, DependsOnDrawnInputs}
 use Rattle.gil_machine.proofs.Steps.{Keeps, step-keeps, SameUnlessDrawn, step-inputs}
 
 over_after : (r : Step) (f g : State → End) → ((t : State) → IsOver (g t).ending → f t ≡ g t) → IsOver (after r g).ending → after r f ≡ after r g
@@ -66,3 +66,32 @@ depends_on_drawn_inputs p m inputs others zero s agree = refl
 depends_on_drawn_inputs p m inputs others (suc n) s agree =
     ap (λ t. after t (run p m others n)) (same_step p m inputs others n s _ agree (step-inputs p m inputs others s))
     ∙ same_after inputs others (step p m inputs s) _ _ (depends_on_drawn_inputs p m inputs others n) agree
+
+-- ---- as they are told
+
+over_if_told : (e : Ending) → IsOver (told e) → IsOver e
+over_if_told (returned v) over = tt
+over_if_told (threw v place) over = tt
+over_if_told (failed v place) over = tt
+over_if_told vanished over = tt
+over_if_told (no_input k) over = tt
+over_if_told (bad_input k) over = tt
+over_if_told cut over = absurd over
+
+cut_if_told : (e : Ending) → told e ≡ cut → e ≡ cut
+cut_if_told (returned v) is = absurd (cc)
+cut_if_told (threw v place) is = absurd (cc)
+cut_if_told (failed v place) is = absurd (cc)
+cut_if_told vanished is = absurd (cc)
+cut_if_told (no_input k) is = absurd (cc)
+cut_if_told (bad_input k) is = absurd (cc)
+cut_if_told cut is = refl
+
+pub stays_over_as_told : StaysOverAsTold
+stays_over_as_told p m inputs n k s le over = ap told_end (stays_over p m inputs n k s le (over_if_told (run p m inputs n s).ending over))
+
+pub is_cut_as_told : IsCutAsTold
+is_cut_as_told p m inputs n s = (
+  (λ is. cut_reaches p m inputs n s (cut_if_told (run p m inputs n s).ending is)),
+  (λ there. ap told (reaches_cut p m inputs n s there)),
+)

@@ -10,9 +10,9 @@ use Rattle.gil_machine.specs.declared.control.Control.{Control}
 use Rattle.gil_machine.specs.declared.control.Frame.{Frame as KeptFrame}
 use Rattle.gil_machine.specs.Kept.{Kept, Keeps, Sets}
 use Rattle.gil_machine.specs.SlotNames.{Names, IsTable, name_at}
-use Rattle.gil_machine.specs.Standing.{FrameStands, FramesStand, Stands, Comes}
+use Rattle.gil_machine.specs.Standing.{FrameStands, FramesStand, HandlingStands, Stands, Comes}
 use Rattle.gil_machine.specs.State.{Frame, State}
-use Rattle.gil_machine.specs.Step.{first_frame, enter, resumed, leave, bind_all}
+use Rattle.gil_machine.specs.Step.{first_frame, enter, resumed, leave, handled_or, handling, bind_all}
 
 -- what is found stands within
 pub found_below : {X Y : Type 0} (f : Bor X → Y) (o : Option (Bor X)) (ys : List Y) (i : ℕ) → option_map f o ≡ slice_get ys i → length ys < 2 ^ 64 → IfSome o (λ _. i + 1 < 2 ^ 64)
@@ -57,19 +57,49 @@ leave_comes p s v old new caller rest stands resumes counter draws =
     let frames : reverse old.callers.items ≡ caller ∷ reverse new.callers.items = ap reverse rest ∙ reverse-append new.callers.items (caller ∷ []) in
     leave_by p s v s.callers caller new (subst (λ fs. FramesStand p fs s.callers) frames stands.callers) resumes (stands.counter ∙ sym counter) (stands.draws ∙ sym draws)
 
+-- ---- a throw
+
+-- callers that are left, of which a throw finds the same
+abbrev pub SameHandling : PureParts → List KeptFrame → List Frame → Type 0
+SameHandling p fs gs = (rest : List Frame) × (FramesStand p fs rest × (handling rest ≡ handling gs))
+
+-- no caller is left
+pub none_handles : (p : PureParts) (gs : List Frame) → SameHandling p [] gs → HandlingStands p None [] (handling gs)
+none_handles p gs ([], (stand, same)) = subst (HandlingStands p None []) same tt
+none_handles p gs (g ∷ rest, (stand, same)) = absurd stand
+
+handled_by : (p : PureParts) (f : KeptFrame) (fs : List KeptFrame) (g : Frame) (gs : List Frame) (i : ℕ) (o : Option ℕ) → o ≡ Some i → FrameStands p f g → FramesStand p fs gs
+    → HandlingStands p (Some (i, f)) fs (handled_or o g gs (handling gs))
+handled_by p f fs g gs i (Some j) is stands below = let same : j ≡ i = cc in (same, stands, below)
+handled_by p f fs g gs i None is stands below = absurd (cc)
+
+-- the latest caller has a handler
+pub first_handles : (p : PureParts) (f : KeptFrame) (fs : List KeptFrame) (gs : List Frame) (i : ℕ) → f.handler ≡ Some i → SameHandling p (f ∷ fs) gs
+    → HandlingStands p (Some (i, f)) fs (handling gs)
+first_handles p f fs gs i is ([], (stand, same)) = absurd stand
+first_handles p f fs gs i is (g ∷ rest, (stand, same)) =
+    subst (HandlingStands p (Some (i, f)) fs) same (handled_by p f fs g rest i g.handler (stand.0.handler ∙ is) stand.0 stand.1)
+
+-- the latest caller has none
+pub first_passes : (p : PureParts) (f : KeptFrame) (fs : List KeptFrame) (gs : List Frame) → f.handler ≡ None → SameHandling p (f ∷ fs) gs → SameHandling p fs gs
+first_passes p f fs gs is ([], (stand, same)) = absurd stand
+first_passes p f fs gs is (g ∷ rest, (stand, same)) =
+    let none : g.handler ≡ None = stand.0.handler ∙ is in
+    (rest, (stand.1, sym (ap (λ o. handled_or o g rest (handling rest)) none) ∙ same))
+
 -- ---- the beginning of a call
 
-pub enter_comes : (p : PureParts) (s : State) (q : PureProc) (x : List ℕ) (args : List PureValue) (old new : Control) (caller : KeptFrame)
+pub enter_comes : (p : PureParts) (s : State) (q : PureProc) (x : List ℕ) (handler : Option ℕ) (args : List PureValue) (old new : Control) (caller : KeptFrame)
     → new.callers.items ≡ old.callers.items ++ caller ∷ [] → Stands p old s
     → FrameStands p new.current (first_frame q.name q.params args)
-    → FrameStands p caller (record s.current { next = s.current.next + 1; waits = Some x })
+    → FrameStands p caller (record s.current { next = s.current.next + 1; waits = Some x; handler = handler })
     → new.counter ≡ old.counter → new.draws ≡ old.draws
-    → Comes p None (enter q x args s) None new s.heap
-enter_comes p s q x args old new caller rest stands first waiting counter draws =
+    → Comes p None (enter q x handler args s) None new s.heap
+enter_comes p s q x handler args old new caller rest stands first waiting counter draws =
     let frames : reverse new.callers.items ≡ caller ∷ reverse old.callers.items = ap reverse rest ∙ reverse-append old.callers.items (caller ∷ []) in (
       record {
         current = first;
-        callers = subst (λ fs. FramesStand p fs (record s.current { next = s.current.next + 1; waits = Some x } ∷ s.callers)) (sym frames) (waiting, stands.callers);
+        callers = subst (λ fs. FramesStand p fs (record s.current { next = s.current.next + 1; waits = Some x; handler = handler } ∷ s.callers)) (sym frames) (waiting, stands.callers);
         counter = stands.counter ∙ sym counter;
         draws = stands.draws ∙ sym draws;
       },

@@ -48,6 +48,7 @@ module _ (p : PureParts) (memory : MemoryName) (m : Actions) (inputs : List Pure
       → number_or o s (after_held_step r (held_run p m inputs n)) ≡ e → HasMemory heap ending mem answer → heap mem ≡ after → IsEndOf heap answer e
   ends_by heap mem answer n (Some place) r s e (kept.Number other) new before after comes stays heap_is is answers has = number_ends heap mem answer place other s e before after comes (stays tt) heap_is is answers has
   ends_by heap mem answer n (Some place) r s e (kept.Returned v) new before after comes stays heap_is is answers has = absurd comes
+  ends_by heap mem answer n (Some place) r s e (kept.Threw v at) new before after comes stays heap_is is answers has = absurd comes
   ends_by heap mem answer n (Some place) r s e (kept.Failed v at) new before after comes stays heap_is is answers has = absurd comes
   ends_by heap mem answer n (Some place) r s e kept.Vanished new before after comes stays heap_is is answers has = absurd comes
   ends_by heap mem answer n (Some place) r s e (kept.NoInput k) new before after comes stays heap_is is answers has = absurd comes
@@ -55,6 +56,7 @@ module _ (p : PureParts) (memory : MemoryName) (m : Actions) (inputs : List Pure
   ends_by heap mem answer n None (goes_on t) s e ending new before after comes stays heap_is is answers has = absurd comes
   ends_by heap mem answer n None (ends d) s e (kept.Number other) new before after comes stays heap_is is answers has = absurd comes.0
   ends_by heap mem answer n None (ends d) s e (kept.Returned v) new before after comes stays heap_is is answers has = subst (IsEndOf heap answer) is (answers d comes.0 (comes.1 ∙ sym has))
+  ends_by heap mem answer n None (ends d) s e (kept.Threw v at) new before after comes stays heap_is is answers has = subst (IsEndOf heap answer) is (answers d comes.0 (comes.1 ∙ sym has))
   ends_by heap mem answer n None (ends d) s e (kept.Failed v at) new before after comes stays heap_is is answers has = subst (IsEndOf heap answer) is (answers d comes.0 (comes.1 ∙ sym has))
   ends_by heap mem answer n None (ends d) s e kept.Vanished new before after comes stays heap_is is answers has = subst (IsEndOf heap answer) is (answers d comes.0 (comes.1 ∙ sym has))
   ends_by heap mem answer n None (ends d) s e (kept.NoInput k) new before after comes stays heap_is is answers has = subst (IsEndOf heap answer) is (answers d comes.0 (comes.1 ∙ sym has))

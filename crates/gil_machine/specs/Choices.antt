@@ -3,7 +3,7 @@ use Rattle.std.specs.Prelude.{ℕ, zero, suc, List, [], ◌∷◌, true, false, 
 use Rattle.std.specs.Option.{option_and_then, option_map}
 use Rattle.gil_values.specs.Pure.{PureValue, boolean}
 use Rattle.gil_values.specs.Operators.{Outcome}
-use Rattle.gil_syntax.specs.Pure.{PureCommand, act, ifgoto, PureParts}
+use Rattle.gil_syntax.specs.Pure.{PureCommand, assign, call, act, usym, isym, ifgoto, return, fail, throw, vanish, fold_use, unfold_use, assert_that, loop_invariant, PureParts}
 use Rattle.gil_syntax.specs.Evaluation.{Outcomes, evaluate, evaluate_all}
 use Rattle.mem_model.specs.declared.keys.Key.{Key}
 use Rattle.mem_model.specs.Pure.{PureOutcome, done, failed, miss}
@@ -33,18 +33,43 @@ outcome_choice (failed v) = 1
 outcome_choice (miss k) = 2
 
 abbrev pub missed_key : PureOutcome → Option Key
+missed_key (done v) = None
+missed_key (failed v) = None
 missed_key (miss k) = Some k
-missed_key _ = None
 
 module _ (p : PureParts) (m : Actions) where
   -- what the action of a command makes of the heap, where the command is an action whose arguments have values
   abbrev pub result_of : PureCommand → State → Option ActionResult
+  result_of (assign x e) s = None
+  result_of (call x e es handler) s = None
   result_of (act x a es) s = of_values (λ args. Some (action_result (m.takes_symbol a) m a args s)) (evaluate_all es s.current.store)
-  result_of _ s = None
+  result_of (usym x) s = None
+  result_of (isym x k) s = None
+  result_of (ifgoto e i) s = None
+  result_of (return e) s = None
+  result_of (fail e) s = None
+  result_of (throw e) s = None
+  result_of vanish s = None
+  result_of (fold_use u) s = None
+  result_of (unfold_use u) s = None
+  result_of (assert_that items) s = None
+  result_of (loop_invariant xs ps items) s = None
 
   abbrev pub choice_of : PureCommand → State → Option ℕ
+  choice_of (assign x e) s = None
+  choice_of (call x e es handler) s = None
+  choice_of (act x a es) s = option_map (λ r. outcome_choice r.outcome) (result_of (act x a es) s)
+  choice_of (usym x) s = None
+  choice_of (isym x k) s = None
   choice_of (ifgoto e i) s = of_value guard_choice (evaluate e s.current.store)
-  choice_of c s = option_map (λ r. outcome_choice r.outcome) (result_of c s)
+  choice_of (return e) s = None
+  choice_of (fail e) s = None
+  choice_of (throw e) s = None
+  choice_of vanish s = None
+  choice_of (fold_use u) s = None
+  choice_of (unfold_use u) s = None
+  choice_of (assert_that items) s = None
+  choice_of (loop_invariant xs ps items) s = None
 
   -- the same at the command at which a state stands
   abbrev pub result_at : State → Option ActionResult

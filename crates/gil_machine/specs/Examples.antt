@@ -6,7 +6,7 @@ use Rattle.gil_values.specs.declared.operators.UnOp.TheVariants.{Neg}
 use Rattle.gil_values.specs.declared.operators.BinOp.TheVariants.{Add, LessOrEqual, Divide, Remainder}
 use Rattle.gil_values.specs.declared.places.Place.{Place}
 use Rattle.gil_values.specs.Pure.{PureValue, integer, boolean, text, symbol, procedure}
-use Rattle.gil_syntax.specs.Pure.{PureExpr, literal, name, list_of, unary_of, binary_of, from_list, assign, call, act, usym, isym, ifgoto, return, fail, vanish, assert_that, PureParts}
+use Rattle.gil_syntax.specs.Pure.{PureExpr, literal, name, list_of, unary_of, binary_of, from_list, assign, call, act, usym, isym, ifgoto, return, fail, throw, vanish, assert_that, PureParts}
 use Rattle.gil_syntax.specs.Programs.{numbered_from}
 use Rattle.gil_syntax.specs.Examples.{number, words, x, proc_of, program, main_only, one_by_zero, list_of_two}
 use Rattle.mem_model.specs.declared.keys.Sub.TheVariants.{Gone}
@@ -15,7 +15,7 @@ use Rattle.mem_model.specs.Pure.{PureOutcome, done, failed, miss}
 use Rattle.mem_model.specs.Actions.{Actions, no_memory}
 use Rattle.gil_machine.specs.State.{Ending}
 use Rattle.gil_machine.specs.Held.{HeldEnd, held_run_of}
-use Rattle.gil_machine.specs.Run.{test_run}
+use Rattle.gil_machine.specs.Run.{run_of, test_run}
 
 abbrev pub at_most : PureExpr → ℕ → PureExpr
 at_most e n = binary_of LessOrEqual e (number n)
@@ -76,15 +76,56 @@ guard_is_a_number = main_only (ifgoto (number 1) (pos 0) ∷ return (number 0) �
 abbrev pub runs_for_ever : PureParts
 runs_for_ever = main_only (ifgoto (literal (boolean true)) (pos 0) ∷ return (number 0) ∷ [])
 
--- proc main() { x := call CALLEE(ARGUMENTS); return x; } proc half(x) { return (x / 2); }
+abbrev pub callee : List ℕ → PureExpr
+callee f = literal (procedure f)
+
+-- proc main() { x := call CALLED(ARGUMENTS); return x; } proc half(x) { return (x / 2); }
 abbrev pub calls : PureExpr → List PureExpr → PureParts
-calls callee args = program (
-    proc_of (codes "main") [] (call (codes "x") callee args ∷ return x ∷ [])
+calls called args = program (
+    proc_of (codes "main") [] (call (codes "x") called args None ∷ return x ∷ [])
     ∷ proc_of (codes "half") (codes "x" ∷ []) (return (binary_of Divide x (number 2)) ∷ [])
     ∷ [])
 
 abbrev pub half : PureExpr
-half = literal (procedure (codes "half"))
+half = callee (codes "half")
+
+abbrev pub caught : PureExpr
+caught = callee (codes "caught")
+
+-- proc main() { x := call @F() catch 2; return 0; return x; } proc caught() { throw 7; }
+-- proc passed() { x := call @caught(); return 0; } proc failing() { fail "no"; } proc unset() { throw x; } proc one(x) { throw x; }
+abbrev pub catches : List ℕ → PureParts
+catches f = program (
+    proc_of (codes "main") [] (call (codes "x") (callee f) [] (Some (pos 2)) ∷ return (number 0) ∷ return x ∷ [])
+    ∷ proc_of (codes "caught") [] (throw (number 7) ∷ [])
+    ∷ proc_of (codes "passed") [] (call (codes "x") caught [] None ∷ return (number 0) ∷ [])
+    ∷ proc_of (codes "failing") [] (fail (words (codes "no")) ∷ [])
+    ∷ proc_of (codes "unset") [] (throw x ∷ [])
+    ∷ proc_of (codes "one") (codes "x" ∷ []) (throw x ∷ [])
+    ∷ [])
+
+-- proc main() { x := call @caught(); return 0; } proc caught() { throw 7; }
+abbrev pub catches_nothing : PureParts
+catches_nothing = program (
+    proc_of (codes "main") [] (call (codes "x") caught [] None ∷ return (number 0) ∷ [])
+    ∷ proc_of (codes "caught") [] (throw (number 7) ∷ [])
+    ∷ [])
+
+-- proc main() { x := call @caught() catch 1; return x; } proc caught() { x := call @inner() catch 1; throw 8; } proc inner() { throw 7; }
+abbrev pub throws_again : PureParts
+throws_again = program (
+    proc_of (codes "main") [] (call (codes "x") caught [] (Some (pos 1)) ∷ return x ∷ [])
+    ∷ proc_of (codes "caught") [] (call (codes "x") (callee (codes "inner")) [] (Some (pos 1)) ∷ throw (number 8) ∷ [])
+    ∷ proc_of (codes "inner") [] (throw (number 7) ∷ [])
+    ∷ [])
+
+-- proc main() { throw 7; }
+abbrev pub throws_at_once : PureParts
+throws_at_once = main_only (throw (number 7) ∷ [])
+
+-- the raw end of a run
+abbrev pub raw_ending_of : PureParts → ℕ → Ending
+raw_ending_of p n = (run_of p no_memory (codes "main") [] empty 0 [] n).ending
 
 -- proc main() { x := do lookup(); return x; }
 abbrev pub looks_up : PureParts
@@ -122,7 +163,7 @@ abbrev pub fails_at_forty : PureParts
 fails_at_forty = program (record { name = codes "main"; params = []; body = numbered_from 40 (fail (words (codes "no")) ∷ []) } ∷ [])
 
 abbrev pub third : PureExpr
-third = literal (procedure (codes "third"))
+third = callee (codes "third")
 
 -- proc main() { assert {emp}; vanish; }
 abbrev pub vanishes : PureParts

@@ -5,11 +5,11 @@ use Rattle.std.specs.Option.{option_and_then}
 use Rattle.gil_values.specs.declared.places.Place.{Place}
 use Rattle.gil_values.specs.Pure.{PureValue, integer, list, from_list as list_elements}
 use Rattle.gil_values.specs.Operators.{Fault, unset_variable, Outcome, unary, binary}
-use Rattle.gil_syntax.specs.Pure.{PureExpr, literal, name, logical, list_of, unary_of, binary_of, PureExprs, no_exprs, expr_and, from_list, PureCommand, assign, call, act, ifgoto, return, fail, PureNumberedCommand, PureParts}
+use Rattle.gil_syntax.specs.Pure.{PureExpr, literal, name, logical, list_of, unary_of, binary_of, PureExprs, no_exprs, expr_and, from_list, PureCommand, assign, call, act, usym, isym, ifgoto, return, fail, throw, vanish, fold_use, unfold_use, assert_that, loop_invariant, PureNumberedCommand, PureParts}
 use Rattle.gil_syntax.specs.Evaluation.{Store, value_of}
 use Rattle.mem_model.specs.Heaps.{Heap}
 use Rattle.mem_model.specs.Actions.{Actions}
-use Rattle.gil_machine.specs.State.{State, Step, goes_on, ends, End, end_at, cut}
+use Rattle.gil_machine.specs.State.{State, Step, goes_on, ends, End, end_at, cut, told_end}
 use Rattle.gil_machine.specs.Step.{command_at, step}
 use Rattle.gil_machine.specs.Run.{start}
 
@@ -80,12 +80,19 @@ is_too_wide _ = false
 -- the expressions that a command evaluates, in order; those of logic commands never are
 abbrev pub evaluated_by : PureCommand → List PureExpr
 evaluated_by (assign x e) = e ∷ []
-evaluated_by (call x e es) = e ∷ es
+evaluated_by (call x e es handler) = e ∷ es
 evaluated_by (act x a es) = es
+evaluated_by (usym x) = []
+evaluated_by (isym x k) = []
 evaluated_by (ifgoto e i) = e ∷ []
 evaluated_by (return e) = e ∷ []
 evaluated_by (fail e) = e ∷ []
-evaluated_by _ = []
+evaluated_by (throw e) = e ∷ []
+evaluated_by vanish = []
+evaluated_by (fold_use u) = []
+evaluated_by (unfold_use u) = []
+evaluated_by (assert_that items) = []
+evaluated_by (loop_invariant xs ps items) = []
 
 -- the place of a command where a result leaves 128 bits before any fault
 abbrev pub number_in : PureNumberedCommand → State → Option Place
@@ -102,6 +109,11 @@ number_at p s = option_and_then (λ c. number_in c s) (command_at p s.current)
 pub data HeldEnd : Type 0 where
   ended : End → HeldEnd
   number : Place → Heap → HeldEnd
+
+-- how a report tells it: a throw that no handler takes is a failure
+abbrev pub told_held : HeldEnd → HeldEnd
+told_held (ended e) = ended (told_end e)
+told_held (number place h) = number place h
 
 abbrev pub number_or : Option Place → State → HeldEnd → HeldEnd
 number_or (Some place) s rest = number place s.heap

@@ -1,5 +1,5 @@
 -- What holds of every run, whatever the program and its memory.
-use Rattle.std.specs.Prelude.{◌≡◌, ◌↔◌, ℕ, ◌<◌, ◌≤◌, List, [], Bool, true, false, Option, Some, None, Result, Ok, Err, slice_get, IsSome, IsTrue, codes}
+use Rattle.std.specs.Prelude.{◌≡◌, ◌↔◌, ℕ, suc, ◌+◌, ◌<◌, ◌≤◌, List, [], Bool, true, false, Option, Some, None, Result, Ok, Err, slice_get, IsSome, IsTrue, codes}
 use Rattle.std.specs.List.{list_all}
 use Rattle.std.specs.FinMap.{empty}
 use Rattle.gil_values.specs.declared.places.Place.{Place}
@@ -15,12 +15,14 @@ use Rattle.mem_model.specs.declared.keys.MemoryName.{MemoryName}
 use Rattle.mem_model.specs.declared.keys.Key.{Key}
 use Rattle.mem_model.specs.Heaps.{Heap, IsCompatible, IsHeapOf, OccursInHeap}
 use Rattle.mem_model.specs.Actions.{Actions, MayAct, IsMemory}
-use Rattle.gil_machine.specs.State.{State, End, failed, cut, IsOver, ends}
+use Rattle.gil_machine.specs.State.{Frame, State, End, failed, cut, IsOver, told_end, ends}
+use Rattle.gil_machine.specs.Above.{above, at_end, ending_above, step_above}
 use Rattle.gil_machine.specs.Beside.{beside, IsSameStepBeside}
 use Rattle.gil_machine.specs.Choices.{choice_at, miss_at}
 use Rattle.gil_machine.specs.Held.{HeldFault, of_table, too_wide, evaluate_held, number_at, ended, number, held_run}
+use Rattle.gil_machine.specs.Later.{later, later_end, later_step}
 use Rattle.gil_machine.specs.Step.{step}
-use Rattle.gil_machine.specs.Run.{run, reached, start, IsProperStart, IsBug, IsClean}
+use Rattle.gil_machine.specs.Run.{after, run, reached, start, IsProperStart, IsBug, IsClean}
 use Rattle.gil_machine.specs.Placed.{IsPlaced, IsPlacedStep}
 use Rattle.gil_machine.specs.Proper.{IsProperState, IsProperEnd, IsProperStep}
 
@@ -35,6 +37,17 @@ abbrev pub IsCutAtItsBound : Type 0
 IsCutAtItsBound =
     (p : PureParts) (m : Actions) (inputs : List PureValue) (n : ℕ) (s : State)
     → ((run p m inputs n s).ending ≡ cut) ↔ IsSome (reached p m inputs n s)
+
+-- the same of the run as it is told
+abbrev pub StaysOverAsTold : Type 0
+StaysOverAsTold =
+    (p : PureParts) (m : Actions) (inputs : List PureValue) (n k : ℕ) (s : State)
+    → n ≤ k → IsOver (told_end (run p m inputs n s)).ending → told_end (run p m inputs k s) ≡ told_end (run p m inputs n s)
+
+abbrev pub IsCutAsTold : Type 0
+IsCutAsTold =
+    (p : PureParts) (m : Actions) (inputs : List PureValue) (n : ℕ) (s : State)
+    → ((told_end (run p m inputs n s)).ending ≡ cut) ↔ IsSome (reached p m inputs n s)
 
 -- an end depends only on the inputs that were drawn: where another list has the same ones there, it is the same
 abbrev pub DependsOnDrawnInputs : Type 0
@@ -58,6 +71,11 @@ abbrev pub EndsProper : Type 0
 EndsProper =
     (p : PureParts) (memory : MemoryName) (m : Actions) (inputs : List PureValue) (n : ℕ) (s : State)
     → IsTrue (is_well_made p) → IsMemory memory m → IsProperState memory s → IsProperEnd memory (run p m inputs n s)
+
+abbrev pub EndsProperAsTold : Type 0
+EndsProperAsTold =
+    (p : PureParts) (memory : MemoryName) (m : Actions) (inputs : List PureValue) (n : ℕ) (s : State)
+    → IsTrue (is_well_made p) → IsMemory memory m → IsProperState memory s → IsProperEnd memory (told_end (run p m inputs n s))
 
 -- In a proper state the counter's symbol is new: it occurs neither in the heap nor in the store of the current frame.
 abbrev pub CounterIsNew : Type 0
@@ -119,6 +137,39 @@ StepsAreLocal =
     → IsHeapOf memory s.heap → IsHeapOf memory rest → IsCompatible s.heap rest → IsProperState memory (beside rest s)
     → miss_at p m s ≡ None
     → IsSameStepBeside rest (step p m inputs s) (step p m inputs (beside rest s))
+
+-- Frames below don't look at what runs above them: a state makes the same steps there, until its last frame returns or throws.
+abbrev pub StepsAboveFrames : Type 0
+StepsAboveFrames =
+    (p : PureParts) (m : Actions) (inputs : List PureValue) (s : State) (frames : List Frame)
+    → step p m inputs (above frames s) ≡ step_above frames s (step p m inputs s)
+
+-- so it comes to the same states
+abbrev pub ReachesAboveFrames : Type 0
+ReachesAboveFrames =
+    (p : PureParts) (m : Actions) (inputs : List PureValue) (k : ℕ) (s t : State) (frames : List Frame)
+    → reached p m inputs k s ≡ Some t → reached p m inputs k (above frames s) ≡ Some (above frames t)
+
+-- and where it has returned or thrown, the run goes on in the frames below
+abbrev pub EndsAboveFrames : Type 0
+EndsAboveFrames =
+    (p : PureParts) (m : Actions) (inputs : List PureValue) (k n : ℕ) (s t : State) (e : End) (frames : List Frame)
+    → reached p m inputs k s ≡ Some t → step p m inputs t ≡ ends e
+    → run p m inputs (k + suc n) (above frames s) ≡ after (ending_above frames e.ending (at_end e t)) (run p m inputs n)
+
+-- Draws that were made before don't count: where the next input is the same, so is the step, but for the numbers of the draws.
+abbrev pub StepsAreSameLater : Type 0
+StepsAreSameLater =
+    (p : PureParts) (m : Actions) (inputs others : List PureValue) (d : ℕ) (s : State)
+    → slice_get others (d + s.draws) ≡ slice_get inputs s.draws
+    → step p m others (later d s) ≡ later_step d (step p m inputs s)
+
+-- and where all inputs from there on are the same, so is the run
+abbrev pub RunsAreSameLater : Type 0
+RunsAreSameLater =
+    (p : PureParts) (m : Actions) (inputs others : List PureValue) (d n : ℕ) (s : State)
+    → ((i : ℕ) → slice_get others (d + i) ≡ slice_get inputs i)
+    → run p m others n (later d s) ≡ later_end d (run p m inputs n s)
 
 -- A missed key is what the machine fails with, and what is chosen there.
 abbrev pub MissesFail : Type 0

@@ -1,3 +1,4 @@
+pub mod Above
 pub mod Beside
 pub mod Choices
 pub mod Examples
@@ -5,6 +6,7 @@ pub mod Gives
 pub mod Held
 pub mod Kept
 pub mod Laws
+pub mod Later
 pub mod Placed
 pub mod Proper
 pub mod ResolvedView

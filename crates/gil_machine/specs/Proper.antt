@@ -6,7 +6,7 @@ use Rattle.gil_values.specs.Symbols.{IsBelow}
 use Rattle.gil_syntax.specs.Evaluation.{Store, value_of}
 use Rattle.mem_model.specs.declared.keys.MemoryName.{MemoryName}
 use Rattle.mem_model.specs.Heaps.{IsHeapOf, IsHeapBelow}
-use Rattle.gil_machine.specs.State.{Frame, State, Ending, returned, failed, End, Step, goes_on, ends}
+use Rattle.gil_machine.specs.State.{Frame, State, Ending, returned, threw, failed, vanished, no_input, bad_input, cut, End, Step, goes_on, ends}
 
 abbrev pub IsStoreBelow : ℕ → Store → Type 0
 IsStoreBelow counter s = (x : List ℕ) (v : PureValue) → value_of s x ≡ Some v → IsBelow counter v
@@ -23,8 +23,12 @@ pub record IsProperState (memory : MemoryName) (s : State) : Type 0 where
 
 abbrev pub IsEndingBelow : ℕ → Ending → Type 0
 IsEndingBelow counter (returned v) = IsBelow counter v
+IsEndingBelow counter (threw v place) = IsBelow counter v
 IsEndingBelow counter (failed v place) = IsBelow counter v
-IsEndingBelow counter _ = ⊤
+IsEndingBelow counter vanished = ⊤
+IsEndingBelow counter (no_input k) = ⊤
+IsEndingBelow counter (bad_input k) = ⊤
+IsEndingBelow counter cut = ⊤
 
 pub record IsProperEnd (memory : MemoryName) (e : End) : Type 0 where
   pub heap : IsHeapOf memory e.heap

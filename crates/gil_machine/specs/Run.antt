@@ -9,7 +9,7 @@ use Rattle.gil_syntax.specs.Programs.{find_proc}
 use Rattle.mem_model.specs.declared.keys.MemoryName.{MemoryName}
 use Rattle.mem_model.specs.Heaps.{Heap, IsHeapOf, IsHeapBelow}
 use Rattle.mem_model.specs.Actions.{Actions}
-use Rattle.gil_machine.specs.State.{State, End, failed, cut, IsFailed, Step, goes_on, ends, end_at}
+use Rattle.gil_machine.specs.State.{State, End, failed, cut, IsFailed, Step, goes_on, ends, end_at, told_end}
 use Rattle.gil_machine.specs.Step.{first_frame, step}
 
 abbrev pub after : Step → (State → End) → End
@@ -58,22 +58,26 @@ pub record IsProperStart (p : PureParts) (memory : MemoryName) (f : List ℕ) (a
   pub arguments_below : AreBelow counter args
   pub heap_below : IsHeapBelow counter h
 
--- the run of a procedure without parameters from the empty heap
+-- the same as it is told: a throw that no handler takes is a failure
+abbrev pub told_run_of : PureParts → Actions → List ℕ → List PureValue → Heap → ℕ → List PureValue → ℕ → End
+told_run_of p m f args h counter inputs n = told_end (run_of p m f args h counter inputs n)
+
+-- the run of a procedure without parameters from the empty heap, as a test tells it
 abbrev pub test_run : PureParts → Actions → List ℕ → List PureValue → ℕ → End
-test_run p m f inputs n = run_of p m f [] empty 0 inputs n
+test_run p m f inputs n = told_run_of p m f [] empty 0 inputs n
 
 -- the procedure is one of the program, and has no parameter
 abbrev pub IsEntry : PureParts → List ℕ → Type 0
 IsEntry p f = (q : PureProc) × ((find_proc p.procs f ≡ Some q) × (q.params ≡ []))
 
--- A bug: the procedure may be run, and with these inputs its run fails with this value at this place within n steps, and
--- draws each of them.
+-- A bug: the procedure may be run, and with these inputs its run fails with this value at this place within n steps, or
+-- throws it there and no handler takes it, and draws each of them.
 pub record IsBug (p : PureParts) (m : Actions) (f : List ℕ) (n : ℕ) (inputs : List PureValue) (v : PureValue) (place : Place) : Type 0 where
   pub entry : IsEntry p f
   pub fails : (test_run p m f inputs n).ending ≡ failed v place
   pub draws_each : (test_run p m f inputs n).draws ≡ length inputs
 
--- Clean: the procedure may be run, and no inputs make a run of it of at most n steps fail.
+-- Clean: the procedure may be run, and no inputs make a run of it of at most n steps fail or end with a throw.
 pub record IsClean (p : PureParts) (m : Actions) (f : List ℕ) (n : ℕ) : Type 0 where
   pub entry : IsEntry p f
   pub never_fails : (inputs : List PureValue) → ¬ IsFailed (test_run p m f inputs n).ending

@@ -19,14 +19,14 @@ use Rattle.gil_machine.specs.declared.endings.Ending.TheVariants as kept
 use Rattle.gil_machine.specs.declared.faults.EvaluationFault.{EvaluationFault}
 use Rattle.gil_machine.specs.declared.faults.EvaluationFault.TheVariants as faults
 use Rattle.gil_machine.specs.declared.running.End.{End as KeptEnd}
-use Rattle.gil_machine.specs.declared.running.End.TheVariants.{Returned, Failed, Vanished, Cut, NoInput, BadInput, Number, Memory}
+use Rattle.gil_machine.specs.declared.running.End.TheVariants.{Returned, Threw, Failed, Vanished, Cut, NoInput, BadInput, Number, Memory}
 use Rattle.gil_machine.specs.Held.{evaluate_all_held, is_too_wide, evaluated_by, HeldEnd, ended, number, held_run}
 use Rattle.gil_machine.specs.Kept.{Keeps}
 use Rattle.gil_machine.specs.ResolvedWhole.{IsResolvedProc, proc_slots}
 use Rattle.gil_machine.specs.SlotNames.{Names, name_at}
 use Rattle.gil_machine.specs.StoreView.{store_view}
-use Rattle.gil_machine.specs.State.{Frame, State, Ending, returned, failed, vanished, no_input, bad_input, cut, End, Step, goes_on, ends}
-use Rattle.gil_machine.specs.Step.{do_command}
+use Rattle.gil_machine.specs.State.{Frame, State, Ending, returned, threw, failed, vanished, no_input, bad_input, cut, End, Step, goes_on, ends}
+use Rattle.gil_machine.specs.Step.{Handling, do_command}
 use Rattle.gil_machine.specs.Proper.{IsProperState}
 
 -- the names of the slots of a call
@@ -43,6 +43,7 @@ pub record FrameStands (p : PureParts) (f : KeptFrame) (g : Frame) : Type 0 wher
   pub next : g.next ≡ f.next
   pub store : Keeps (frame_slots f) (store_view f.store) g.store
   pub waits : g.waits ≡ option_map (name_at (frame_slots f)) f.waits
+  pub handler : g.handler ≡ f.handler
   pub placed : IfSome f.waits (λ slot. slot < length (frame_slots f))
   pub resolved : IsResolvedProc f.proc.now
 
@@ -51,6 +52,13 @@ abbrev pub FramesStand : PureParts → List KeptFrame → List Frame → Type 0
 FramesStand p [] [] = Unit {0}
 FramesStand p (f ∷ fs) (g ∷ gs) = FrameStands p f g × FramesStand p fs gs
 FramesStand p _ _ = ⊥
+
+-- the frame that takes a throw and those below it
+abbrev pub HandlingStands : PureParts → Option (ℕ × KeptFrame) → List KeptFrame → Option Handling → Type 0
+HandlingStands p (Some taken) fs (Some h) = (h.label ≡ taken.0) × FrameStands p taken.1 h.frame × FramesStand p fs h.callers
+HandlingStands p (Some taken) fs None = ⊥
+HandlingStands p None fs (Some h) = ⊥
+HandlingStands p None fs None = Unit {0}
 
 -- All but the heap. The code's callers stand with the latest last.
 pub record Stands (p : PureParts) (c : Control) (s : State) : Type 0 where
@@ -69,6 +77,7 @@ pub record IsStanding (p : PureParts) (memory : MemoryName) (c : Control) (h : H
 -- the code's ending is that of a run
 abbrev pub EndsAs : KeptEnding → Ending → Type 0
 EndsAs (kept.Returned v) e = e ≡ returned (value_view v)
+EndsAs (kept.Threw v place) e = e ≡ threw (value_view v) place
 EndsAs (kept.Failed v place) e = e ≡ failed (value_view v) place
 EndsAs kept.Vanished e = e ≡ vanished
 EndsAs (kept.NoInput k) e = e ≡ no_input k
@@ -135,7 +144,13 @@ LeadsAnywhere old step end new = (p : PureParts) → LeadsTo p old step end new
 -- a result left 128 bits
 abbrev pub IsAtNumber : Option KeptEnding → Type 0
 IsAtNumber (Some (kept.Number place)) = ⊤
-IsAtNumber _ = ⊥
+IsAtNumber (Some (kept.Returned v)) = ⊥
+IsAtNumber (Some (kept.Threw v place)) = ⊥
+IsAtNumber (Some (kept.Failed v place)) = ⊥
+IsAtNumber (Some kept.Vanished) = ⊥
+IsAtNumber (Some (kept.NoInput k)) = ⊥
+IsAtNumber (Some (kept.BadInput k)) = ⊥
+IsAtNumber None = ⊥
 
 -- A run under way: the code stands for a proper state, from which so many steps lead to this end.
 pub record IsUnderWay (p : PureParts) (memory : MemoryName) (m : Actions) (inputs : List PureValue) (c : Control) (h : Heap)
@@ -151,6 +166,7 @@ EndedAs ending h (number place g) = ⊥
 -- an answer is the end of the run; want of memory says nothing of it
 abbrev pub IsEndOf : {M : Type 0} → (M → Heap) → KeptEnd M → HeldEnd → Type 0
 IsEndOf heap (Returned v m) e = EndedAs (returned (value_view v)) (heap m) e
+IsEndOf heap (Threw v place m) e = EndedAs (threw (value_view v) place) (heap m) e
 IsEndOf heap (Failed v place m) e = EndedAs (failed (value_view v) place) (heap m) e
 IsEndOf heap (Vanished m) e = EndedAs vanished (heap m) e
 IsEndOf heap (Cut m) e = EndedAs cut (heap m) e

@@ -10,6 +10,7 @@ ghost use Rattle.gil_syntax.specs.Pure.{
   isym as pure_isym,
   return as pure_return,
   fail as pure_fail,
+  throw as pure_throw,
   usym as pure_usym,
   call as pure_call,
 };
@@ -19,7 +20,7 @@ ghost use Rattle.gil_machine.specs.ResolvedView.{resolved_list_view, resolved_vi
 ghost use Rattle.gil_machine.specs.ResolvedWhole.{IsResolvedProg};
 ghost use Rattle.gil_machine.specs.SlotNames.{name_at};
 ghost use Rattle.gil_machine.specs.Standing.{DoesAnywhere, DoesBeside, GrowsByOne, LeadsAnywhere, LeadsTo, place_of, slots_of};
-ghost use Rattle.gil_machine.specs.Step.{branch as pure_branch, draw as pure_draw, enter_value};
+ghost use Rattle.gil_machine.specs.Step.{branch as pure_branch, draw as pure_draw, enter_value, handler_label as pure_handler_label};
 
 use crate::control::Control;
 use crate::endings::Ending;
@@ -143,6 +144,26 @@ impl<'r, 'p> Control<'r, 'p> {
         }
     }
 
+    /// `throw e`.
+    pub(crate) fn do_throw(
+        &mut self,
+        alloc: Global,
+        expression: &Resolved,
+        at: u32,
+    ) -> Result<Option<Ending>, AllocError>
+        ensures does { IfOk result (λ end. DoesAnywhere (pure_throw (resolved_view (slots_of self.old) expression.now))
+            (place_of self.old at) self.old end self.new) }
+        ensures grows { OnOk result (GrowsByOne self.old self.new) }
+    {
+        match evaluate(alloc, expression, &self.current.store) {
+            Ok(value) => {
+                let place = self.place(alloc, at)?;
+                self.throw(value, place)
+            }
+            Err(fault) => Ok(Some(self.fault_ending(alloc, fault, at)?)),
+        }
+    }
+
     /// `x := usym`.
     pub(crate) fn do_symbol(&mut self, slot: usize) -> Result<Option<Ending>, AllocError>
         requires next { self.old.current.next + 1 < 2 ^ 64 }
@@ -206,7 +227,7 @@ impl<'r, 'p> Control<'r, 'p> {
         }
     }
 
-    /// `x := e(es)`.
+    /// `x := e(es)`, where the call has a handler or has none.
     pub(crate) fn do_call(
         &mut self,
         alloc: Global,
@@ -214,6 +235,7 @@ impl<'r, 'p> Control<'r, 'p> {
         slot: usize,
         callee: &Resolved,
         expressions: &ResolvedList,
+        handler: Option<i64>,
         at: u32,
     ) -> Result<Option<Ending>, AllocError>
         requires resolved { IsResolvedProg prog.now }
@@ -221,7 +243,7 @@ impl<'r, 'p> Control<'r, 'p> {
         requires placed { slot < length (slots_of self.old) }
         ensures does { IfOk result (λ end. (m : Actions) (inputs : List PureValue)
             → DoesBeside (prog_view prog.now.prog.now) m inputs (pure_call (name_at (slots_of self.old) slot) (resolved_view
-            (slots_of self.old) callee.now) (resolved_list_view (slots_of self.old) expressions.now))
+            (slots_of self.old) callee.now) (resolved_list_view (slots_of self.old) expressions.now) handler)
             (place_of self.old at) self.old end self.new) }
         ensures grows { OnOk result (GrowsByOne self.old self.new) }
     {
@@ -233,7 +255,15 @@ impl<'r, 'p> Control<'r, 'p> {
             Ok(args) => args,
             Err(fault) => return Ok(Some(self.fault_ending(alloc, fault, at)?)),
         };
-        self.begin(alloc, prog, slot, &called, &args, at)
+        self.begin(
+            alloc,
+            prog,
+            slot,
+            handler_label(handler),
+            &called,
+            &args,
+            at,
+        )
     }
 
     /// The call of a value with arguments.
@@ -242,6 +272,7 @@ impl<'r, 'p> Control<'r, 'p> {
         alloc: Global,
         prog: &'r ResolvedProg<'p>,
         slot: usize,
+        handler: Option<usize>,
         called: &Value,
         args: &Values,
         at: u32,
@@ -251,7 +282,7 @@ impl<'r, 'p> Control<'r, 'p> {
         requires placed { slot < length (slots_of self.old) }
         ensures does { IfOk result
             (λ end. LeadsTo (prog_view prog.now.prog.now) self.old
-            (enter_value (prog_view prog.now.prog.now) (value_view called.now) (name_at (slots_of self.old) slot)
+            (enter_value (prog_view prog.now.prog.now) (value_view called.now) (name_at (slots_of self.old) slot) handler
             (values_view args.now) (place_of self.old at)) end self.new) }
         ensures grows { OnOk result (GrowsByOne self.old self.new) }
     {
@@ -261,10 +292,17 @@ impl<'r, 'p> Control<'r, 'p> {
         match prog.proc(proc) {
             None => Ok(Some(self.failure(alloc, "proc", at)?)),
             Some(proc) if proc.proc.params.len() == args.as_slice().len() => {
-                self.enter(alloc, slot, proc, args)?;
+                self.enter(alloc, slot, handler, proc, args)?;
                 Ok(None)
             }
             Some(_) => Ok(Some(self.failure(alloc, "arity", at)?)),
         }
     }
+}
+
+/// The index of the command at which a handler stands; one below 0 is none.
+fn handler_label(handler: Option<i64>) -> Option<usize>
+    ensures { result ≡ pure_handler_label handler }
+{
+    usize::try_from(handler?).ok()
 }

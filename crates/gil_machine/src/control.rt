@@ -1,5 +1,5 @@
 //! The calls in progress, the next symbol and the draws made: a state of the machine without its heap.
-ghost use Rattle.std.specs.Prelude.{◌≡◌, ◌+◌, ◌^◌, ◌<◌, slice_get, length, pos, Some, None, IfOk, IfSome, OnOk};
+ghost use Rattle.std.specs.Prelude.{◌≡◌, ◌+◌, ◌^◌, ◌<◌, slice_get, length, reverse, List, pos, Some, None, IfOk, IfSome, OnOk};
 ghost use Rattle.std.specs.Option.{option_map};
 ghost use Rattle.gil_values.specs.Characters.{IsText};
 ghost use Rattle.gil_values.specs.Pure.{text as pure_text};
@@ -11,9 +11,9 @@ ghost use Rattle.gil_machine.specs.Kept.{Keeps};
 ghost use Rattle.gil_machine.specs.ResolvedView.{IsOverSlots, resolved_numbered_view};
 ghost use Rattle.gil_machine.specs.ResolvedWhole.{IsResolvedProc, proc_slots};
 ghost use Rattle.gil_machine.specs.SlotNames.{name_at};
-ghost use Rattle.gil_machine.specs.Standing.{Comes, EndsAs, FaultEnds, FrameStands, GrowsByOne, LeadsAnywhere, Stands, place_of, slots_of};
+ghost use Rattle.gil_machine.specs.Standing.{Comes, EndsAs, FaultEnds, FrameStands, FramesStand, GrowsByOne, HandlingStands, LeadsAnywhere, Stands, place_of, slots_of};
 ghost use Rattle.gil_machine.specs.State.{Frame as PureFrame, State, failed};
-ghost use Rattle.gil_machine.specs.Step.{assigned, bind_all, enter, leave, resumed, to_label, to_next};
+ghost use Rattle.gil_machine.specs.Step.{assigned, bind_all, enter, handling, leave, resumed, throw_to, to_label, to_next};
 ghost use Rattle.gil_machine.specs.StoreView.{store_view};
 
 use crate::endings::{Ending, failure, fault_ending};
@@ -33,6 +33,8 @@ pub(crate) struct Frame<'r, 'p> {
     pub(crate) store: Store,
     /// The variable that waits for the result of the call that this one made.
     pub(crate) waits: Option<usize>,
+    /// The index of the command at which the handler of that call stands, where it has one.
+    pub(crate) handler: Option<usize>,
 }
 
 /// The call that runs, those that wait for it, the latest last, the number of the next new symbol, and how many draws
@@ -120,11 +122,12 @@ impl<'r, 'p> Control<'r, 'p> {
         }
     }
 
-    /// Begins a call of a procedure, whose result a variable waits for.
+    /// Begins a call of a procedure, whose result a variable waits for. What it throws goes to the handler, if there is one.
     pub(crate) fn enter(
         &mut self,
         alloc: Global,
         slot: usize,
+        handler: Option<usize>,
         proc: &'r ResolvedProc<'p>,
         args: &Values,
     ) -> Result<(), AllocError>
@@ -134,7 +137,7 @@ impl<'r, 'p> Control<'r, 'p> {
         requires resolved { IsResolvedProc proc.now }
         ensures goes { OnOk result ((p : PureParts) (s : State) → Stands p self.old s
             → find_proc p.procs proc.now.proc.now.name ≡ Some (proc_view proc.now.proc.now)
-            → Comes p None (enter (proc_view proc.now.proc.now) (name_at (slots_of self.old) slot) (values_view args.now) s) None
+            → Comes p None (enter (proc_view proc.now.proc.now) (name_at (slots_of self.old) slot) handler (values_view args.now) s) None
             self.new s.heap) }
         ensures grows { OnOk result (GrowsByOne self.old self.new) }
     {
@@ -144,10 +147,12 @@ impl<'r, 'p> Control<'r, 'p> {
             next: 0,
             store,
             waits: None,
+            handler: None,
         };
         let mut caller = mem::replace(&mut self.current, first);
         caller.next += 1;
         caller.waits = Some(slot);
+        caller.handler = handler;
         self.callers.push(caller)?;
         Ok(())
     }
@@ -165,6 +170,36 @@ impl<'r, 'p> Control<'r, 'p> {
             }
         }
     }
+
+    /// Throws a value: this call ends, and each caller's up to the first whose call has a handler. There the variable that
+    /// waits gets the value, and the run goes on at the handler. Where there is none, the run ends.
+    pub(crate) fn throw(&mut self, value: Value, place: Place) -> Result<Option<Ending>, AllocError>
+        ensures goes { IfOk result (λ end. LeadsAnywhere self.old (λ s. throw_to (handling s.callers) (value_view value) place s) end self.new) }
+        ensures grows { OnOk result (GrowsByOne self.old self.new) }
+    {
+        match take_handler(&mut self.callers) {
+            None => Ok(Some(Ending::Threw(value, place))),
+            Some((label, caller)) => {
+                let mut caller = resume(caller, value)?;
+                caller.next = label;
+                self.current = caller;
+                Ok(None)
+            }
+        }
+    }
+}
+
+/// Takes away the callers, the latest first, up to the first whose call has a handler, and gives that one with its handler.
+fn take_handler<'r, 'p>(callers: &mut Vec<Frame<'r, 'p>>) -> Option<(usize, Frame<'r, 'p>)>
+    ensures { (p : PureParts) (frames : List PureFrame) → FramesStand p (reverse callers.old.items) frames
+        → HandlingStands p result (reverse callers.new.items) (handling frames) }
+{
+    while let Some(caller) = callers.pop() {
+        if let Some(label) = caller.handler {
+            return Some((label, caller));
+        }
+    }
+    None
 }
 
 /// The frame that waits gets the value.
@@ -176,6 +211,7 @@ fn resume<'r, 'p>(mut caller: Frame<'r, 'p>, value: Value) -> Result<Frame<'r, '
         Some(slot) => {
             caller.store.set(slot, value)?;
             caller.waits = None;
+            caller.handler = None;
             Ok(caller)
         }
         None => Ok(caller),

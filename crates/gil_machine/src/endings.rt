@@ -13,6 +13,7 @@ use std::alloc::{AllocError, Global};
 #[derive(Debug, Drop)]
 pub(crate) enum Ending {
     Returned(Value),
+    Threw(Value, Place),
     Failed(Value, Place),
     Vanished,
     NoInput(u32),

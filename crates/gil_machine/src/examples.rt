@@ -4,7 +4,7 @@ ghost use Rattle.std.specs.Prelude.{◌≡◌, ◌-◌, ◌^◌, pos, negsuc, []
 ghost use Rattle.gil_values.specs.Pure.{integer, boolean, text, symbol, list, from_list};
 ghost use Rattle.gil_syntax.specs.Examples.{number, words, x, one_by_zero};
 ghost use Rattle.mem_model.specs.Actions.{no_memory};
-ghost use Rattle.gil_machine.specs.State.{returned, failed, vanished, no_input, bad_input, cut};
+ghost use Rattle.gil_machine.specs.State.{returned, threw, failed, vanished, no_input, bad_input, cut};
 ghost use Rattle.gil_machine.specs.Choices.{choices};
 ghost use Rattle.gil_machine.specs.Held.{ended, evaluate_held, is_too_wide, number as held_number};
 ghost use Rattle.gil_machine.specs.Run.{start, test_run};
@@ -21,6 +21,11 @@ ghost use Rattle.gil_machine.specs.Examples.{
   guard_is_a_number,
   runs_for_ever,
   calls,
+  catches,
+  catches_nothing,
+  throws_again,
+  throws_at_once,
+  raw_ending_of,
   looks_up,
   missing_memory,
   symbol_memory,
@@ -89,6 +94,26 @@ pub fn a_call_returns()
     ensures callee_first { ending_of (calls x (one_by_zero ∷ [])) [] 1000 ≡ failed (text (codes "unset")) (in_main 0) }
     ensures arguments_first { ending_of (calls third (one_by_zero ∷ [])) [] 1000 ≡ failed (text (codes "zero")) (in_main 0) }
     ensures no_procedure { ending_of (calls (words (codes "half")) (number 9 ∷ [])) [] 1000 ≡ failed (text (codes "proc")) (in_main 0) }
+{}
+
+/// A throw goes to the first call in progress that has a handler, whose variable gets the value, and is an end where there is none.
+pub fn a_throw_is_handled()
+    ensures value { ending_of (catches (codes "caught")) [] 1000 ≡ returned (integer (pos 7)) }
+    ensures through_a_call { ending_of (catches (codes "passed")) [] 1000 ≡ returned (integer (pos 7)) }
+    ensures three_steps { ending_of (catches (codes "passed")) [] 3 ≡ cut }
+    ensures four_steps { ending_of (catches (codes "passed")) [] 4 ≡ returned (integer (pos 7)) }
+    ensures from_the_handler { ending_of throws_again [] 1000 ≡ returned (integer (pos 8)) }
+    ensures entry { raw_ending_of throws_at_once 1 ≡ threw (integer (pos 7)) (in_main 0) }
+    ensures nowhere { raw_ending_of catches_nothing 1000 ≡ threw (integer (pos 7)) (record { proc = codes "caught"; at = 0 }) }
+    ensures told { ending_of catches_nothing [] 1000 ≡ failed (integer (pos 7)) (record { proc = codes "caught"; at = 0 }) }
+{}
+
+/// A failure is caught by no handler: that of a command, of a throw whose value has a fault, and of a call that can't begin.
+pub fn no_failure_is_handled()
+    ensures failing { ending_of (catches (codes "failing")) [] 1000 ≡ failed (text (codes "no")) (record { proc = codes "failing"; at = 0 }) }
+    ensures fault { ending_of (catches (codes "unset")) [] 1000 ≡ failed (text (codes "unset")) (record { proc = codes "unset"; at = 0 }) }
+    ensures no_procedure { ending_of (catches (codes "nowhere")) [] 1000 ≡ failed (text (codes "proc")) (in_main 0) }
+    ensures arity { ending_of (catches (codes "one")) [] 1000 ≡ failed (text (codes "arity")) (in_main 0) }
 {}
 
 /// An action that misses a key fails, and so does every action where there is no memory.

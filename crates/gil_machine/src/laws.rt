@@ -1,6 +1,14 @@
 //! What holds of every run: laws of the definitions, which no code is needed for.
 ghost use Rattle.gil_machine.specs.Laws.{
   StaysOver,
+  StaysOverAsTold,
+  IsCutAsTold,
+  EndsProperAsTold,
+  StepsAboveFrames,
+  ReachesAboveFrames,
+  EndsAboveFrames,
+  StepsAreSameLater,
+  RunsAreSameLater,
   IsCutAtItsBound,
   DependsOnDrawnInputs,
   StaysProper,
@@ -23,12 +31,14 @@ ghost use Rattle.gil_machine.specs.Laws.{
 
 /// A run that is over is over with any larger bound, with the same end.
 pub fn runs_stay_over()
-    ensures { StaysOver }
+    ensures raw { StaysOver }
+    ensures told { StaysOverAsTold }
 {}
 
 /// A run is cut exactly where as many steps as its bound were done without an end.
 pub fn bounds_cut()
-    ensures { IsCutAtItsBound }
+    ensures raw { IsCutAtItsBound }
+    ensures told { IsCutAsTold }
 {}
 
 /// The end of a run depends only on the inputs that it drew.
@@ -48,7 +58,8 @@ pub fn starts_are_proper()
 
 /// The run from a proper state has a proper end.
 pub fn ends_are_proper()
-    ensures { EndsProper }
+    ensures raw { EndsProper }
+    ensures told { EndsProperAsTold }
 {}
 
 /// A test of a procedure without parameters begins in a proper start.
@@ -90,6 +101,19 @@ pub fn the_counter_is_new()
 /// A step that misses no key is the same beside any compatible rest of the heap, which it keeps.
 pub fn steps_are_local()
     ensures { StepsAreLocal }
+{}
+
+/// Calls on a machine with more callers below do the same, until the last of them returns or throws.
+pub fn calls_go_on_above()
+    ensures steps { StepsAboveFrames }
+    ensures states { ReachesAboveFrames }
+    ensures ends { EndsAboveFrames }
+{}
+
+/// States that differ in their number of draws alone do the same where their next inputs agree.
+pub fn earlier_draws_are_ignored()
+    ensures steps { StepsAreSameLater }
+    ensures runs { RunsAreSameLater }
 {}
 
 /// A key that is missed is what the machine fails with.

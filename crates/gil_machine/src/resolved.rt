@@ -46,13 +46,15 @@ impl ResolvedList {
 #[derive(Drop)]
 pub(crate) enum ResolvedCommand<'p> {
     Assign(usize, Resolved),
-    Call(usize, Resolved, ResolvedList),
+    /// The label is that of the handler.
+    Call(usize, Resolved, ResolvedList, Option<i64>),
     Act(usize, &'p Text, ResolvedList),
     Usym(usize),
     Isym(usize, Kind),
     IfGoto(Resolved, i64),
     Return(Resolved),
     Fail(Resolved),
+    Throw(Resolved),
     Vanish,
     Fold(&'p PredUse),
     Unfold(&'p PredUse),

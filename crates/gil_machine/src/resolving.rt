@@ -131,10 +131,11 @@ fn resolve_command<'p>(
             let slot = names.slot(name)?;
             Ok(ResolvedCommand::Assign(slot, resolve(alloc, names, expression)?))
         }
-        Command::Call(name, callee, args) => {
+        Command::Call(name, callee, args, handler) => {
             let slot = names.slot(name)?;
             let callee = resolve(alloc, names, callee)?;
-            Ok(ResolvedCommand::Call(slot, callee, resolve_all(alloc, names, args)?))
+            let args = resolve_all(alloc, names, args)?;
+            Ok(ResolvedCommand::Call(slot, callee, args, *handler))
         }
         Command::Act(name, action, args) => {
             let slot = names.slot(name)?;
@@ -149,6 +150,9 @@ fn resolve_command<'p>(
             Ok(ResolvedCommand::Return(resolve(alloc, names, expression)?))
         }
         Command::Fail(expression) => Ok(ResolvedCommand::Fail(resolve(alloc, names, expression)?)),
+        Command::Throw(expression) => {
+            Ok(ResolvedCommand::Throw(resolve(alloc, names, expression)?))
+        }
         Command::Vanish => Ok(ResolvedCommand::Vanish),
         Command::Fold(pred_use) => Ok(ResolvedCommand::Fold(pred_use)),
         Command::Unfold(pred_use) => Ok(ResolvedCommand::Unfold(pred_use)),

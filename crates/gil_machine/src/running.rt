@@ -29,6 +29,8 @@ use std::alloc::{AllocError, Global};
 #[derive(Drop)]
 pub enum End<M> {
     Returned(Value, M),
+    /// The value thrown, where no call has a handler, and the place of the command that threw it.
+    Threw(Value, Place, M),
     /// The value of the failure, and the place of the command that failed.
     Failed(Value, Place, M),
     Vanished(M),
@@ -149,6 +151,7 @@ fn begin<'r, 'p>(
                 next: 0,
                 store,
                 waits: None,
+                handler: None,
             };
             Ok(Control {
                 current,
@@ -176,6 +179,7 @@ fn with_memory<M: LocalMemory>(ending: Box<Ending>, memory: M) -> End<M>
 {
     match Box::into_inner(ending) {
         Ending::Returned(value) => End::Returned(value, memory),
+        Ending::Threw(value, place) => End::Threw(value, place, memory),
         Ending::Failed(value, place) => End::Failed(value, place, memory),
         Ending::Vanished => End::Vanished(memory),
         Ending::NoInput(draw) => End::NoInput(draw, memory),
@@ -313,8 +317,8 @@ impl<'r, 'p> Control<'r, 'p> {
             ResolvedCommand::Assign(slot, expression) => self.do_assign(
                 alloc, *slot, expression, at,
             ),
-            ResolvedCommand::Call(slot, callee, args) => self.do_call(
-                alloc, prog, *slot, callee, args, at,
+            ResolvedCommand::Call(slot, callee, args, handler) => self.do_call(
+                alloc, prog, *slot, callee, args, *handler, at,
             ),
             ResolvedCommand::Act(slot, action, args) => self.do_act(
                 alloc, memory, *slot, action, args, at,
@@ -324,6 +328,7 @@ impl<'r, 'p> Control<'r, 'p> {
             ResolvedCommand::IfGoto(guard, label) => self.do_branch(alloc, guard, label, at),
             ResolvedCommand::Return(expression) => self.do_return(alloc, expression, at),
             ResolvedCommand::Fail(expression) => self.do_fail(alloc, expression, at),
+            ResolvedCommand::Throw(expression) => self.do_throw(alloc, expression, at),
             ResolvedCommand::Vanish => Ok(Some(Ending::Vanished)),
             ResolvedCommand::Fold(_)
             | ResolvedCommand::Unfold(_)

@@ -13,12 +13,13 @@ returns-in_ok-set-in-Some c = λ p g stands.
     let names = frame_slots c.args.caller in
     let waits : g.waits ≡ Some (name_at names c.in-Some.slot) = stands.waits ∙ ap (option_map (name_at names)) c.in-Some.is in
     let placed : c.in-Some.slot < length names = subst (λ o. IfSome o (λ slot. slot < length names)) c.in-Some.is stands.placed in
-    subst (λ o. FrameStands p (record c.args.caller { store = c.set.new.self; waits = None }) (resumed o (value_view c.args.value) g)) (sym waits) (record {
+    subst (λ o. FrameStands p (record c.args.caller { store = c.set.new.self; waits = None; handler = None }) (resumed o (value_view c.args.value) g)) (sym waits) (record {
       name = stands.name;
       procedure = stands.procedure;
       next = stands.next;
       store = sets_keeps names _ _ g.store c.in-Some.slot (value_view c.args.value) stands.resolved.table placed c.in_ok-set-in-Some.ensures stands.store;
       waits = refl;
+      handler = refl;
       placed = tt;
       resolved = stands.resolved;
     })

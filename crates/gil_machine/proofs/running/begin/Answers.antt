@@ -24,6 +24,7 @@ returns-clause-stands c = λ h.
         next = refl;
         store = subst (λ q. Keeps (proc_slots c.in-Some.proc.now) (store_view c.in_ok-store-in-Some.store) (bind_all (params_of q) (values_view c.args.args.now))) (sym found) c.in_ok-store-in-Some.ensures;
         waits = refl;
+        handler = refl;
         placed = tt;
         resolved = c.in-Some.ensures.resolved;
       };

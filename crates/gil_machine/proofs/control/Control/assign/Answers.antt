@@ -14,6 +14,7 @@ returns-clause-goes c = λ p s stands. (
       next = ap (λ n. n + 1) stands.current.next;
       store = sets_keeps (slots_of c.args.self.now) _ _ s.current.store c.args.slot (value_view c.args.value) stands.current.resolved.table c.requires.placed c.in_ok-set.ensures stands.current.store;
       waits = stands.current.waits;
+      handler = stands.current.handler;
       placed = stands.current.placed;
       resolved = stands.current.resolved;
     };

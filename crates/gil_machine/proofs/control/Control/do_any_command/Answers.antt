@@ -30,3 +30,6 @@ returns-in-Return-clause-does g c = IfOk-weaker c.do_return.result _ _ (λ end d
 
 pub returns-in-Fail-clause-does : goal.returns-in-Fail-clause-does
 returns-in-Fail-clause-does g c = IfOk-weaker c.do_fail.result _ _ (λ end does. subst (λ command. Does (prog_view c.args.prog.now.prog.now) g.M.LocalMemory.actions (values_view c.args.inputs.now) command (place_of c.args.self.now c.args.at) c.args.self.now (g.M.LocalMemory.heap c.args.memory.now) end c.do_fail.new.self (g.M.LocalMemory.heap c.args.memory.now)) (sym (ap (resolved_command_view (slots_of c.args.self.now)) c.in-Fail.is)) (does (prog_view c.args.prog.now.prog.now) g.M.LocalMemory.actions (values_view c.args.inputs.now) (g.M.LocalMemory.heap c.args.memory.now))) c.do_fail.ensures.does
+
+pub returns-in-Throw-clause-does : goal.returns-in-Throw-clause-does
+returns-in-Throw-clause-does g c = IfOk-weaker c.do_throw.result _ _ (λ end does. subst (λ command. Does (prog_view c.args.prog.now.prog.now) g.M.LocalMemory.actions (values_view c.args.inputs.now) command (place_of c.args.self.now c.args.at) c.args.self.now (g.M.LocalMemory.heap c.args.memory.now) end c.do_throw.new.self (g.M.LocalMemory.heap c.args.memory.now)) (sym (ap (resolved_command_view (slots_of c.args.self.now)) c.in-Throw.is)) (does (prog_view c.args.prog.now.prog.now) g.M.LocalMemory.actions (values_view c.args.inputs.now) (g.M.LocalMemory.heap c.args.memory.now))) c.do_throw.ensures.does

@@ -35,5 +35,6 @@ returns-clause-does c = IfOk-weaker c.begin.result _ _ (λ end goes. λ m inputs
     (c.in-Ok.ensures (slots_of c.args.self.now) s.current.store stands.current.store) (evaluate-tells (resolved_view (slots_of c.args.self.now) c.args.callee.now) s.current.store)
     (values_go (prog_view c.args.prog.now.prog.now) (evaluate_all_held (resolved_list_view (slots_of c.args.self.now) c.args.expressions.now) s.current.store) _ (values_view c.in-Ok-evaluate_all.args) (place_of c.args.self.now c.args.at) s _ end _ h
     (c.in-Ok-evaluate_all.ensures (slots_of c.args.self.now) s.current.store stands.current.store) (elements-tell (from_list (resolved_list_view (slots_of c.args.self.now) c.args.expressions.now)) s.current.store)
-    (subst (Comes (prog_view c.args.prog.now.prog.now) None (enter_value (prog_view c.args.prog.now.prog.now) (value_view c.in-Ok.called) (name_at (slots_of c.args.self.now) c.args.slot) (values_view c.in-Ok-evaluate_all.args) (place_of c.args.self.now c.args.at) s) end c.begin.new.self) heap
-    (goes s stands)))) c.begin.ensures.does
+    (subst (λ o. Comes (prog_view c.args.prog.now.prog.now) None (enter_value (prog_view c.args.prog.now.prog.now) (value_view c.in-Ok.called) (name_at (slots_of c.args.self.now) c.args.slot) o (values_view c.in-Ok-evaluate_all.args) (place_of c.args.self.now c.args.at) s) end c.begin.new.self h) c.handler_label.ensures
+    (subst (Comes (prog_view c.args.prog.now.prog.now) None (enter_value (prog_view c.args.prog.now.prog.now) (value_view c.in-Ok.called) (name_at (slots_of c.args.self.now) c.args.slot) c.handler_label.result (values_view c.in-Ok-evaluate_all.args) (place_of c.args.self.now c.args.at) s) end c.begin.new.self) heap
+    (goes s stands))))) c.begin.ensures.does
