@@ -12,7 +12,8 @@ use Rattle.gil_grammar.specs.Expressions.{SpellsExpr}
 use Rattle.gil_grammar.specs.Lists.{SpellsEach}
 use Rattle.gil_grammar.specs.Nesting.{IsNested}
 use Rattle.gil_grammar.specs.declared.positions.Position.TheVariants.{Command}
-use Rattle.gil_text.specs.Refusals.{HasNoTokens}
+use Rattle.gil_text.specs.Refusals.{HasNoTokens, place_of, IsTokenPlace, IsTooDeep}
+use Rattle.gil_text.proofs.RefusalLemmas.{none_or_tokens}
 use Rattle.gil_text.specs.declared.refused.RefusedKind.{RefusedKind}
 use Rattle.gil_text.specs.declared.refused.RefusedKind.TheVariants as kinds
 use Rattle.pure_terms.specs.Meaning.{AreOver}
@@ -36,7 +37,7 @@ use Rattle.atom_text.proofs.TermLaws.{made_atom, made_atoms, unmade_atom, atom_n
 
 -- ---- the kinds of texts that spell nothing
 
-pub lexical_refusal : (bytes : List ℕ) (at : ℕ) (kind : RefusedKind) → HasNoTokens bytes kind → IsRefusedFor bytes at kind
+pub lexical_refusal : (bytes : List ℕ) (at : ℕ) (kind : RefusedKind) → HasNoTokens bytes at kind → IsRefusedFor bytes at kind
 lexical_refusal bytes at kinds.Lex h = h
 lexical_refusal bytes at kinds.Memory h = tt
 lexical_refusal bytes at kinds.Nesting h = absurd h
@@ -46,13 +47,14 @@ lexical_refusal bytes at kinds.Limit h = absurd h
 lexical_refusal bytes at kinds.Entry h = absurd h
 lexical_refusal bytes at kinds.Modes h = absurd h
 
-pub nesting_refusal : (bytes : List ℕ) (tokens : List Token) (ls : List Lexeme) (at : ℕ) → AreTokensOf tokens bytes → StandForAll bytes tokens ls → (IsNested ls → ⊥) → IsRefusedFor bytes at kinds.Nesting
-nesting_refusal bytes tokens ls at text stand deep = (tokens, ls, record { text = text; stand = stand }, deep)
+pub nesting_refusal : (bytes : List ℕ) (tokens : List Token) (ls : List Lexeme) (left at : ℕ) → AreTokensOf tokens bytes → StandForAll bytes tokens ls → IsTooDeep IsNested ls left
+    → at ≡ place_of bytes tokens left → IsRefusedFor bytes at kinds.Nesting
+nesting_refusal bytes tokens ls left at text stand deep place = (tokens, ls, record { text = text; stand = stand }, (left, deep, place))
 
 pub syntax_refusal : (bytes : List ℕ) (tokens : List Token) (ls : List Lexeme) (at : ℕ) → AreTokensOf tokens bytes → StandForAll bytes tokens ls → IsNested ls
-    → source_at tokens ls ≡ None → IsRefusedFor bytes at kinds.Syntax
-syntax_refusal bytes tokens ls at text stand nested none =
-    (tokens, ls, record { text = text; stand = stand }, nested, λ source spells. let some = source_again tokens ls source nested spells in cc (none, some))
+    → source_at tokens ls ≡ None → IsTokenPlace bytes tokens at → IsRefusedFor bytes at kinds.Syntax
+syntax_refusal bytes tokens ls at text stand nested none place =
+    (tokens, ls, record { text = text; stand = stand }, nested, (λ source spells. let some = source_again tokens ls source nested spells in cc (none, some)), place)
 
 pub source_spells : (bytes : List ℕ) (tokens : List Token) (ls : List Lexeme) (source : PureSource) → AreTokensOf tokens bytes → StandForAll bytes tokens ls → IsNested ls
     → source_at tokens ls ≡ Some source → Spell bytes source
@@ -148,9 +150,9 @@ no_fault source t at faults.Memory says f = absurd f
 
 -- a text that spells variables and atoms is refused for want of memory alone
 pub no_refusal : (bytes : List ℕ) (at : ℕ) (kind : RefusedKind) (t : PureAtomText) → IsRefusedFor bytes at kind → SpellAtoms bytes t → kind ≡ kinds.Memory
-no_refusal bytes at kinds.Lex t h (source, s, says) = absurd (h s.tokens s.text)
-no_refusal bytes at kinds.Nesting t (tokens, ls, are, deep) (source, s, says) = absurd (deep (spelled_as_read bytes tokens ls source are.text are.stand s).0)
-no_refusal bytes at kinds.Syntax t (tokens, ls, are, nested, none) (source, s, says) = absurd (none source (spelled_as_read bytes tokens ls source are.text are.stand s).1)
+no_refusal bytes at kinds.Lex t h (source, s, says) = absurd (none_or_tokens bytes at s.tokens h s.text)
+no_refusal bytes at kinds.Nesting t (tokens, ls, are, (left, deep, place)) (source, s, says) = absurd (deep.whole (spelled_as_read bytes tokens ls source are.text are.stand s).0)
+no_refusal bytes at kinds.Syntax t (tokens, ls, are, nested, none, place) (source, s, says) = absurd (none source (spelled_as_read bytes tokens ls source are.text are.stand s).1)
 no_refusal bytes at (kinds.Invalid kind) t (other, s, fault) (source, spell, says) =
     absurd (no_fault other t at kind (subst (λ k. Says k t) (one_reading bytes source other spell s) says) fault)
 no_refusal bytes at kinds.Limit t h spells = absurd h

@@ -1,12 +1,11 @@
 -- Why a text of atoms is refused.
 use Rattle.std.specs.Prelude.{◌≡◌, ℕ, ◌<◌, List, slice_get, Some}
 use Rattle.gil_lexer.specs.declared.forms.Token.{Token}
-use Rattle.gil_lexer.specs.Texts.{AreTokensOf}
 use Rattle.gil_lexemes.specs.declared.standing.Lexeme.{Lexeme}
 use Rattle.gil_syntax.specs.declared.validity.InvalidKind.{InvalidKind}
 use Rattle.gil_syntax.specs.declared.validity.InvalidKind.TheVariants as faults
 use Rattle.gil_grammar.specs.Nesting.{IsNested}
-use Rattle.gil_text.specs.Refusals.{AreLexemesOf}
+use Rattle.gil_text.specs.Refusals.{AreLexemesOf, HasNoTokenAt, IsTokenPlace, IsTooDeepAt}
 use Rattle.gil_text.specs.declared.refused.Refused.{Refused}
 use Rattle.gil_text.specs.declared.refused.RefusedKind.{RefusedKind}
 use Rattle.gil_text.specs.declared.refused.RefusedKind.TheVariants.{Lex, Nesting, Syntax, Invalid, Limit, Entry, Modes, Memory}
@@ -67,16 +66,17 @@ IsUnfit source (unfit.UnknownName at) = IsAtFault source at faults.UnknownName
 IsUnfit source (unfit.TooMany at) = IsAtFault source at faults.TooMany
 IsUnfit source unfit.Memory = Unit {0}
 
--- A text is refused with the first of these kinds that applies: its bytes are no tokens; more brackets are open than may
--- be; the tokens are those of no declarations and expressions; a name is declared twice; an expression names what isn't
--- declared; too many variables are declared. The other kinds are none of a text of atoms. Want of memory may come before
--- any.
+-- A text is refused with the first of these kinds that applies: at that byte stands no token; the token there is the first
+-- behind which more brackets are open than may be; the tokens are those of no declarations and expressions, and a token begins
+-- at that byte, or the text ends there; a name is declared twice; an expression names what isn't declared; too many variables
+-- are declared. The other kinds are none of a text of atoms. Want of memory may come before any.
 abbrev pub IsRefusedFor : List ℕ → ℕ → RefusedKind → Type 0
-IsRefusedFor bytes at Lex = (tokens : List Token) → AreTokensOf tokens bytes → ⊥
-IsRefusedFor bytes at Nesting = (tokens : List Token) × (lexemes : List Lexeme) × AreLexemesOf tokens lexemes bytes × (IsNested lexemes → ⊥)
+IsRefusedFor bytes at Lex = HasNoTokenAt bytes at
+IsRefusedFor bytes at Nesting =
+    (tokens : List Token) × (lexemes : List Lexeme) × AreLexemesOf tokens lexemes bytes × IsTooDeepAt IsNested bytes tokens lexemes at
 IsRefusedFor bytes at Syntax =
     (tokens : List Token) × (lexemes : List Lexeme) × AreLexemesOf tokens lexemes bytes × IsNested lexemes
-    × ((source : PureSource) → SpellsSource tokens source lexemes → ⊥)
+    × ((source : PureSource) → SpellsSource tokens source lexemes → ⊥) × IsTokenPlace bytes tokens at
 IsRefusedFor bytes at (Invalid kind) = (source : PureSource) × Spell bytes source × IsAtFault source at kind
 IsRefusedFor bytes at Limit = ⊥
 IsRefusedFor bytes at Entry = ⊥

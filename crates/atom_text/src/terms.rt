@@ -13,6 +13,7 @@ use gil_syntax::{Expr, Exprs};
 use gil_values::Value;
 use pure_terms::{Literal, Term, Terms};
 use std::alloc::{AllocError, AllocFailed, Global};
+use std::rc::Rc;
 
 /// Why there is no term of an expression.
 #[derive(Clone, Copy, Debug, PartialEq, Eq)]
@@ -89,12 +90,12 @@ pub(crate) fn term_of(
         }
         Expr::Op1(op, operand) => {
             let operand = term_of(alloc, variables, operand)?;
-            Ok(Term::Op1(*op, Box::new(alloc, operand)?))
+            Ok(Term::Op1(*op, Rc::new(alloc, operand)?))
         }
         Expr::Op2(op, left, right) => {
             let left = term_of(alloc, variables, left)?;
             let right = term_of(alloc, variables, right)?;
-            Ok(Term::Op2(*op, Box::new(alloc, left)?, Box::new(alloc, right)?))
+            Ok(Term::Op2(*op, Rc::new(alloc, left)?, Rc::new(alloc, right)?))
         }
     }
 }

@@ -15,22 +15,25 @@ use Rattle.gil_syntax.specs.Pure.{PureExpr, literal, name, logical, list_of, una
 use Rattle.gil_grammar.specs.declared.positions.Position.TheVariants.{Command, Predicate}
 use Rattle.gil_grammar.specs.declared.positions.Naming.TheVariants.{Program}
 use Rattle.gil_grammar.specs.declared.positions.Extent.TheVariants.{Longest}
+use Rattle.gil_grammar.specs.declared.positions.Opening.{Opening}
+use Rattle.gil_grammar.specs.declared.positions.Opening.TheVariants.{Brace, Throw}
 use Rattle.gil_grammar.specs.Annotations.{PureAnnotation, specification, predicate, logic, expression, SpellsAnnotation}
-use Rattle.gil_grammar.specs.Assertions.{SpellsBlock, SpellsBlocks}
+use Rattle.gil_grammar.specs.Assertions.{SpellsPosts}
 use Rattle.gil_grammar.specs.Commands.{is_logic}
 use Rattle.gil_grammar.specs.Expressions.{SpellsExpr}
-use Rattle.gil_grammar.specs.Lists.{SpellsEach}
+use Rattle.gil_grammar.specs.Lists.{SpellsEach, SpellsSome}
 use Rattle.gil_grammar.specs.Programs.{SpellsSpec, SpellsPred}
 use Rattle.gil_grammar.specs.Vocabulary.{literal_lexeme, IsNameAt}
-use Rattle.gil_grammar.specs.Reading.Assertions.{expression_at, use_at, variables_at, block_at, more_blocks, blocks_at}
+use Rattle.gil_grammar.specs.Reading.Assertions.{expression_at, use_at, variables_at, block_at, opens_by, opened_at, more_blocks, blocks_at, posts_at}
 use Rattle.gil_grammar.specs.Reading.Commands.{names_at, invariant_at, logic_by, command_at}
 use Rattle.gil_grammar.specs.Reading.Programs.{spec_at, pred_at}
 use Rattle.gil_grammar.specs.Reading.Annotations.{specification_at, predicate_at, logic_at, value_at, annotation_by, annotation_at}
 use Rattle.gil_grammar.proofs.ListLaws.{Takes, found_is}
 use Rattle.gil_grammar.proofs.VocabularyLaws.{named_again}
 use Rattle.gil_grammar.proofs.NestingLaws.{Nested, nested_tail, expression_again}
-use Rattle.gil_grammar.proofs.AssertionLaws.{in_place, expression_takes, block_takes}
+use Rattle.gil_grammar.proofs.AssertionLaws.{in_place, expression_takes}
 use Rattle.gil_grammar.proofs.AssertionReads.{parenthesis_closes, semicolon_closes, params_again, variables_again, block_again}
+use Rattle.gil_grammar.proofs.BlockLaws.{SpellsOpened, opened_takes, opened_again, opened_opens, brace_is_no_throw, throw_is_no_brace, blocks_again}
 use Rattle.gil_grammar.proofs.CommandLaws.{logic_takes}
 use Rattle.gil_grammar.proofs.CommandReads.{command_again}
 use Rattle.gil_grammar.proofs.ProgramLaws.{spec_takes, pred_takes}
@@ -97,53 +100,93 @@ pub record ReadsPast {X : Type 0} (read : List Lexeme → Reading X) (ls left : 
   pub is : read ls ≡ Some found
   pub past : length found.1 ≤ length left
 
--- what is read of blocks leaves no more than there was
-pub record ReadsAny (n : ℕ) (ls : List Lexeme) : Type 0 where
-  pub found : List (List PureItem) × List Lexeme
-  pub is : more_blocks Longest n ls ≡ Some found
-  pub past : length found.1 ≤ length ls
+-- the same of assertions in braces, behind which no more brackets are open than may be
+record ReadsBlocks {X : Type 0} (read : List Lexeme → Reading X) (ls left : List Lexeme) : Type 0 where
+  found : X × List Lexeme
+  is : read ls ≡ Some found
+  under : Nested found.1
+  past : length found.1 ≤ length left
 
-block_or_none : (ls : List Lexeme) (n : ℕ) (read : Reading (List PureItem)) → block_at ls ≡ read → is_sign signs.LeftBrace (first_form ls) ≡ true → Nested ls
-    → ((after : List Lexeme) → Nested after → ReadsAny n after) → ReadsAny (suc n) ls
-unfolding more_blocks
-block_or_none ls n None e test p more = record { found = ([], ls); is = rw (test, e) refl; past = omega arith }
-block_or_none ls n (Some block) e test p more =
-    let spelled = block_takes ls block e in
-    let read = block_again block.0 ls block.1 p spelled in
-    let others = more block.1 read.under in
-    record { found = (block.0 ∷ others.found.0, others.found.1); is = rw (test, e, others.is) refl; past = omega (arith, others.past, read.shorter) }
+module _ (opening : Opening) where
+  block_or_none : (ls : List Lexeme) (n : ℕ) (read : Reading (List PureItem)) → opened_at opening ls ≡ read → opens_by opening (first_form ls) ≡ true → Nested ls
+      → ((after : List Lexeme) → Nested after → ReadsBlocks (more_blocks opening Longest n) after after) → ReadsBlocks (more_blocks opening Longest (suc n)) ls ls
+  unfolding more_blocks
+  block_or_none ls n None e test p more = record { found = ([], ls); is = rw (test, e) refl; under = p; past = omega arith }
+  block_or_none ls n (Some block) e test p more =
+      let spelled = opened_takes opening ls block e in
+      let read = opened_again opening block.0 ls block.1 p spelled in
+      let others = more block.1 read.under in
+      record {
+        found = (block.0 ∷ others.found.0, others.found.1);
+        is = rw (test, e, others.is) refl;
+        under = others.under;
+        past = omega (arith, others.past, read.shorter);
+      }
 
-no_more : (ls : List Lexeme) (n : ℕ) → is_sign signs.LeftBrace (first_form ls) ≡ false → ReadsAny (suc n) ls
-unfolding more_blocks
-no_more ls n test = record { found = ([], ls); is = rw test refl; past = omega arith }
+  no_more : (ls : List Lexeme) (n : ℕ) → opens_by opening (first_form ls) ≡ false → Nested ls → ReadsBlocks (more_blocks opening Longest (suc n)) ls ls
+  unfolding more_blocks
+  no_more ls n test p = record { found = ([], ls); is = rw test refl; under = p; past = omega arith }
 
-any_blocks : (n : ℕ) (ls : List Lexeme) → Nested ls → ReadsAny n ls
-unfolding more_blocks
-any_blocks zero ls p = record { found = ([], ls); is = refl; past = omega arith }
-any_blocks (suc n) ls p =
-    elim (cases_Bool (is_sign signs.LeftBrace (first_form ls))) [
-      | inl test ↦ block_or_none ls n (block_at ls) refl test p (λ after q. any_blocks n after q)
-      | inr test ↦ no_more ls n test
-    ]
+  any_blocks : (n : ℕ) (ls : List Lexeme) → Nested ls → ReadsBlocks (more_blocks opening Longest n) ls ls
+  unfolding more_blocks
+  any_blocks zero ls p = record { found = ([], ls); is = refl; under = p; past = omega arith }
+  any_blocks (suc n) ls p =
+      elim (cases_Bool (opens_by opening (first_form ls))) [
+        | inl test ↦ block_or_none ls n (opened_at opening ls) refl test p (λ after q. any_blocks n after q)
+        | inr test ↦ no_more ls n test p
+      ]
 
--- no other such blocks leave fewer lexemes
-more_blocks_past : (n : ℕ) (ys : List (List PureItem)) (ls left : List Lexeme) → length ls ≤ n → Nested ls → SpellsEach SpellsBlock ys ls left → ReadsPast (more_blocks Longest n) ls left
-unfolding more_blocks
-more_blocks_past n [] ls left within p is = let read = any_blocks n ls p in record { found = read.found; is = read.is; past = omega (arith, read.past, ap length is) }
-more_blocks_past zero (y ∷ ys) ls left within p (after, one, more) = absurd (let first = block_again y ls after p one in omega (arith, first.shorter))
-more_blocks_past (suc n) (y ∷ ys) ls left within p (after, one, more) =
-    let first = block_again y ls after p one in
-    let others = more_blocks_past n ys after left (omega (arith, first.shorter)) first.under more in
-    let opens : is_sign signs.LeftBrace (first_form ls) ≡ true = rw (one.1) (same_sign-refl signs.LeftBrace) in
-    record { found = (y ∷ others.found.0, others.found.1); is = rw (opens, first.is, others.is) refl; past = others.past }
+  -- no other such blocks leave fewer lexemes
+  more_blocks_past : (n : ℕ) (ys : List (List PureItem)) (ls left : List Lexeme) → length ls ≤ n → Nested ls → SpellsEach (SpellsOpened opening) ys ls left
+      → ReadsBlocks (more_blocks opening Longest n) ls left
+  unfolding more_blocks
+  more_blocks_past n [] ls left within p is =
+      let read = any_blocks n ls p in
+      record { found = read.found; is = read.is; under = read.under; past = omega (arith, read.past, ap length is) }
+  more_blocks_past zero (y ∷ ys) ls left within p (after, one, more) = absurd (let first = opened_again opening y ls after p one in omega (arith, first.shorter))
+  more_blocks_past (suc n) (y ∷ ys) ls left within p (after, one, more) =
+      let first = opened_again opening y ls after p one in
+      let others = more_blocks_past n ys after left (omega (arith, first.shorter)) first.under more in
+      record {
+        found = (y ∷ others.found.0, others.found.1);
+        is = rw (opened_opens opening y ls after one, first.is, others.is) refl;
+        under = others.under;
+        past = others.past;
+      }
 
-blocks_past : (ys : List (List PureItem)) (ls left : List Lexeme) → Nested ls → SpellsBlocks ys ls left → ReadsPast (blocks_at Longest) ls left
-unfolding blocks_at
-blocks_past [] ls left p h = absurd h
-blocks_past (y ∷ ys) ls left p (after, one, more) =
-    let first = block_again y ls after p one in
-    let others = more_blocks_past (length after) ys after left (omega arith) first.under more in
-    record { found = (y ∷ others.found.0, others.found.1); is = rw (first.is, others.is) refl; past = others.past }
+  blocks_past : (ys : List (List PureItem)) (ls left : List Lexeme) → Nested ls → SpellsSome (SpellsOpened opening) ys ls left → ReadsBlocks (blocks_at opening Longest) ls left
+  unfolding blocks_at
+  blocks_past [] ls left p h = absurd h
+  blocks_past (y ∷ ys) ls left p (after, one, more) =
+      let first = opened_again opening y ls after p one in
+      let others = more_blocks_past (length after) ys after left (omega arith) first.under more in
+      record { found = (y ∷ others.found.0, others.found.1); is = rw (first.is, others.is) refl; under = others.under; past = others.past }
+
+-- postconditions, and then error postconditions
+posts_past : (posts errors : List (List PureItem)) (ls left : List Lexeme) → Nested ls → SpellsPosts posts errors ls left → ReadsBlocks (posts_at Longest) ls left
+unfolding posts_at
+posts_past [] [] ls left p h = absurd h
+posts_past [] (y ∷ ys) ls left p h =
+    let read = blocks_past Throw (y ∷ ys) ls left p h in
+    record { found = (([], read.found.0), read.found.1); is = rw (opened_opens Throw y ls _ h.1, read.is) refl; under = read.under; past = read.past }
+posts_past (x ∷ xs) [] ls left p (middle, h, is) =
+    let posts = blocks_past Brace (x ∷ xs) ls middle p h in
+    let errors = any_blocks Throw (length posts.found.1) posts.found.1 posts.under in
+    record {
+      found = ((posts.found.0, errors.found.0), errors.found.1);
+      is = rw (brace_is_no_throw x ls _ h.1, posts.is, errors.is) refl;
+      under = errors.under;
+      past = omega (arith, posts.past, errors.past, ap length is);
+    }
+posts_past (x ∷ xs) (y ∷ ys) ls left p (middle, h, k) =
+    let posts = blocks_again Brace Longest (x ∷ xs) ls middle p h (throw_is_no_brace y middle _ k.1) in
+    let errors = more_blocks_past Throw (length middle) (y ∷ ys) middle left (omega arith) posts.under k in
+    record {
+      found = ((x ∷ xs, errors.found.0), errors.found.1);
+      is = rw (brace_is_no_throw x ls _ h.1, posts.is, errors.is) refl;
+      under = errors.under;
+      past = errors.past;
+    }
 
 spec_past : (s : PureSpec) (ls left : List Lexeme) → Nested ls → SpellsSpec s ls left → (inner : List Lexeme) × (ls ≡ lexemes.Word words.Spec ∷ inner) × ReadsPast (spec_at Longest) inner left
 unfolding spec_at
@@ -153,11 +196,11 @@ spec_past s ls left p (params, variables, pre, posts, is, a, b, c, d) =
     let ps = params_again Program signs.RightParenthesis parenthesis_closes s.params params variables (nested_tail _ params (nested_tail _ _ under)) a in
     let vs = variables_again s.logicals variables pre (nested_tail _ variables ps.under) b in
     let pre' = block_again s.pre pre posts vs.under c in
-    let posts' = blocks_past s.posts posts left pre'.under d in (
+    let posts' = posts_past s.posts s.errors posts left pre'.under d in (
       inner,
       is,
       record {
-        found = (record { name = s.name; params = s.params; logicals = s.logicals; pre = s.pre; posts = posts'.found.0 }, posts'.found.1);
+        found = (record { name = s.name; params = s.params; logicals = s.logicals; pre = s.pre; posts = posts'.found.0.0; errors = posts'.found.0.1 }, posts'.found.1);
         is = rw (same_sign-refl signs.LeftParenthesis, ps.is, same_sign-refl signs.RightParenthesis, vs.is, pre'.is, posts'.is) refl;
         past = posts'.past;
       },
@@ -171,7 +214,7 @@ pred_past d ls left p (lexeme, ins, outs, variables, cases, named, is, a, b, v, 
     let given = params_again Program signs.Semicolon semicolon_closes d.ins ins outs (nested_tail _ ins (nested_tail _ _ under)) a in
     let gives = params_again Program signs.RightParenthesis parenthesis_closes d.outs outs variables (nested_tail _ outs given.under) b in
     let vs = variables_again d.logicals variables cases (nested_tail _ variables gives.under) v in
-    let cases' = blocks_past d.cases cases left vs.under c in (
+    let cases' = blocks_past Brace d.cases cases left vs.under c in (
       inner,
       is,
       record {
@@ -239,10 +282,10 @@ annotation_past (specification s) ls left p h =
 annotation_past (predicate d) ls left p h =
     let read = pred_past d ls left p h in
     record { found = (predicate read.2.found.0, read.2.found.1); is = ap annotation_at read.1 ∙ rw read.2.is refl; past = read.2.past }
-annotation_past (logic (fold_use u)) ls left p (test, (inner, is, h)) = logic_past words.Fold (fold_use u) ls inner left is (command_again (fold_use u) ls left p (inner, is, h)).is refl refl
-annotation_past (logic (unfold_use u)) ls left p (test, (inner, is, h)) = logic_past words.Unfold (unfold_use u) ls inner left is (command_again (unfold_use u) ls left p (inner, is, h)).is refl refl
-annotation_past (logic (assert_that items)) ls left p (test, (block, is, h)) = logic_past words.Assert (assert_that items) ls block left is (command_again (assert_that items) ls left p (block, is, h)).is refl refl
-annotation_past (logic (loop_invariant xs ps items)) ls left p (test, h) = logic_past words.Invariant (loop_invariant xs ps items) ls _ left h.3 (command_again (loop_invariant xs ps items) ls left p h).is refl refl
+annotation_past (logic (fold_use u)) ls left p (test, (inner, is, h)) = logic_past words.Fold (fold_use u) ls inner left is (command_again (fold_use u) ls left p (inner, is, h) tt).is refl refl
+annotation_past (logic (unfold_use u)) ls left p (test, (inner, is, h)) = logic_past words.Unfold (unfold_use u) ls inner left is (command_again (unfold_use u) ls left p (inner, is, h) tt).is refl refl
+annotation_past (logic (assert_that items)) ls left p (test, (block, is, h)) = logic_past words.Assert (assert_that items) ls block left is (command_again (assert_that items) ls left p (block, is, h) tt).is refl refl
+annotation_past (logic (loop_invariant xs ps items)) ls left p (test, h) = logic_past words.Invariant (loop_invariant xs ps items) ls _ left h.3 (command_again (loop_invariant xs ps items) ls left p h tt).is refl refl
 annotation_past (logic _) ls left p (test, h) = absurd (cc test)
 annotation_past (expression e) ls left p h =
     let read = expression_again Command e ls left p h in

@@ -17,20 +17,18 @@ use Rattle.gil_grammar.specs.declared.positions.Position.{Position}
 use Rattle.gil_grammar.specs.declared.positions.Position.TheVariants.{Assertion, Predicate}
 use Rattle.gil_grammar.specs.declared.positions.Naming.{Naming}
 use Rattle.gil_grammar.specs.declared.positions.Naming.TheVariants.{Program, Logical}
-use Rattle.gil_grammar.specs.declared.positions.Extent.{Extent}
-use Rattle.gil_grammar.specs.declared.positions.Extent.TheVariants.{Whole, Longest}
-use Rattle.gil_grammar.specs.Assertions.{SpellsParam, SpellsVariables, SpellsUse, SpellsItem, SpellsAssertion, SpellsBlock, SpellsBlocks}
+use Rattle.gil_grammar.specs.Assertions.{SpellsParam, SpellsVariables, SpellsUse, SpellsItem, SpellsAssertion, SpellsBlock}
 use Rattle.gil_grammar.specs.Expressions.{SpellsExpr, SpellsExprs}
-use Rattle.gil_grammar.specs.Lists.{SpellsEach, SpellsMore, SpellsSeparated}
+use Rattle.gil_grammar.specs.Lists.{SpellsMore, SpellsSeparated}
 use Rattle.gil_grammar.specs.Nesting.{most_open}
 use Rattle.gil_grammar.specs.Vocabulary.{comma, word_name, IsNameAt}
 use Rattle.gil_grammar.specs.Reading.Expressions.{expr_at}
-use Rattle.gil_grammar.specs.Reading.Assertions.{variable_at, sort_at, param_at, params_at, variables_at, expressions_at, use_at, pure_at, uses_at, item_by, item_at, assertion_at, block_at, block_and, more_blocks, blocks_at}
-use Rattle.gil_grammar.proofs.ListLaws.{Takes, Again, Reads, ReadsList, NeverBegins, cond_cases, more_again, separated_again}
+use Rattle.gil_grammar.specs.Reading.Assertions.{variable_at, sort_at, param_at, params_at, variables_at, expressions_at, use_at, pure_at, uses_at, item_by, item_at, assertion_at, block_at}
+use Rattle.gil_grammar.proofs.ListLaws.{Again, Reads, ReadsList, NeverBegins, more_again, separated_again}
 use Rattle.gil_grammar.proofs.VocabularyLaws.{sort_again, named_again}
 use Rattle.gil_grammar.proofs.ExpressionLaws.{expr_never}
 use Rattle.gil_grammar.proofs.NestingLaws.{Nested, nested_tail, expression_again}
-use Rattle.gil_grammar.proofs.AssertionLaws.{in_place, named_as, block_takes}
+use Rattle.gil_grammar.proofs.AssertionLaws.{named_as}
 
 -- ---- closing signs
 
@@ -246,60 +244,4 @@ block_again items ls rest p (inner, is, spells) =
       is = rw (is, same_sign-refl signs.LeftBrace, read.is, same_sign-refl signs.RightBrace) refl;
       under = nested_tail _ rest read.under;
       shorter = omega (arith, ap length is, read.shorter);
-    }
-
--- ---- assertions in braces, one after another
-
-block_and_takes : (extent : Extent) (ls : List Lexeme) (read : Reading (List PureItem)) (more : List Lexeme → Reading (List (List PureItem))) (found : List (List PureItem) × List Lexeme)
-    → block_at ls ≡ read → Takes (SpellsEach SpellsBlock) more → block_and extent ls read more ≡ Some found → SpellsEach SpellsBlock found.0 ls found.1
-block_and_takes Whole ls None more found is takes e = absurd cc
-block_and_takes Longest ls None more found is takes e = in_place (SpellsEach SpellsBlock) ls [] ls found e refl
-block_and_takes extent ls (Some block) more found is takes e =
-    let xs = bind_some (more block.1) _ found e in
-    in_place (SpellsEach SpellsBlock) ls (block.0 ∷ xs.0.0) xs.0.1 found xs.2 (block.1, block_takes ls block is, takes block.1 xs.0 xs.1)
-
-more_blocks_take : (extent : Extent) (n : ℕ) → Takes (SpellsEach SpellsBlock) (more_blocks extent n)
-unfolding more_blocks
-more_blocks_take extent zero ls found e = in_place (SpellsEach SpellsBlock) ls [] ls found e refl
-more_blocks_take extent (suc n) ls found e =
-    cond_cases (is_sign signs.LeftBrace (first_form ls)) _ _ found e
-    (λ test read. block_and_takes extent ls (block_at ls) (more_blocks extent n) found refl (more_blocks_take extent n) read)
-    (λ test ends. in_place (SpellsEach SpellsBlock) ls [] ls found ends refl)
-
-pub blocks_take : (extent : Extent) → Takes SpellsBlocks (blocks_at extent)
-unfolding blocks_at
-blocks_take extent ls found e =
-    let block = bind_some (block_at ls) _ found e in
-    let xs = bind_some (more_blocks extent (length block.0.1) block.0.1) _ found block.2 in
-    in_place SpellsBlocks ls (block.0.0 ∷ xs.0.0) xs.0.1 found xs.2
-    (block.0.1, block_takes ls block.0 block.1, more_blocks_take extent (length block.0.1) block.0.1 xs.0 xs.1)
-
--- up to what is no opening brace
-more_blocks_again : (extent : Extent) (n : ℕ) (xs : List (List PureItem)) (ls rest : List Lexeme) → length ls ≤ n → Nested ls → SpellsEach SpellsBlock xs ls rest
-    → is_sign signs.LeftBrace (first_form rest) ≡ false → ReadsList Nested (more_blocks extent n) xs ls rest
-unfolding more_blocks
-more_blocks_again extent zero [] ls rest within p h ends = record { is = ap (λ (l : List Lexeme). Some ([], l)) h; under = subst Nested h p; shorter = omega (arith, ap length h) }
-more_blocks_again extent zero (x ∷ xs) ls rest within p (after, one, more) ends = absurd (let first = block_again x ls after p one in omega (arith, first.shorter))
-more_blocks_again extent (suc n) [] ls rest within p h ends = record { is = rw (h, ends) refl; under = subst Nested h p; shorter = omega (arith, ap length h) }
-more_blocks_again extent (suc n) (x ∷ xs) ls rest within p (after, one, more) ends =
-    let first = block_again x ls after p one in
-    let others = more_blocks_again extent n xs after rest (omega (arith, first.shorter)) first.under more ends in
-    let opens : is_sign signs.LeftBrace (first_form ls) ≡ true = rw (one.1) (same_sign-refl signs.LeftBrace) in
-    record {
-      is = rw (opens, first.is, others.is) refl;
-      under = others.under;
-      shorter = omega (arith, first.shorter, others.shorter);
-    }
-
-pub blocks_again : (extent : Extent) (xs : List (List PureItem)) (ls rest : List Lexeme) → Nested ls → SpellsBlocks xs ls rest
-    → is_sign signs.LeftBrace (first_form rest) ≡ false → Reads Nested (blocks_at extent) xs ls rest
-unfolding blocks_at
-blocks_again extent [] ls rest p h ends = absurd h
-blocks_again extent (x ∷ xs) ls rest p (after, one, more) ends =
-    let first = block_again x ls after p one in
-    let others = more_blocks_again extent (length after) xs after rest (omega arith) first.under more ends in
-    record {
-      is = rw (first.is, others.is) refl;
-      under = others.under;
-      shorter = omega (arith, first.shorter, others.shorter);
     }

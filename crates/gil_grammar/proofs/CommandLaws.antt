@@ -1,22 +1,22 @@
 -- What is read as a command is spelled so, and what is spelled so is read.
-use Rattle.std.proofs.Common.{◌≡◌, ℕ, List, [], ◌∷◌, Some, refl, sym, ap, ◌∙◌, subst}
+use Rattle.std.proofs.Common.{◌≡◌, ℕ, ℤ, List, [], ◌∷◌, Option, Some, None, refl, sym, ap, ◌∙◌, subst}
 use Rattle.gil_lexer.specs.declared.words.Word.{Word}
 use Rattle.gil_lexer.specs.declared.words.Word.TheVariants as words
 use Rattle.gil_lexer.specs.declared.signs.Sign.{Sign}
 use Rattle.gil_lexer.specs.declared.signs.Sign.TheVariants as signs
 use Rattle.gil_lexemes.specs.declared.standing.Lexeme.{Lexeme}
 use Rattle.gil_lexemes.specs.declared.standing.Lexeme.TheVariants as lexemes
-use Rattle.gil_lexemes.specs.Reading.{◌>>=◌, behind, first_form, sign_at, name_at, number_at}
-use Rattle.gil_lexemes.proofs.ReadingLaws.{bind_some, sign_takes, name_takes, number_takes}
-use Rattle.gil_syntax.specs.Pure.{PureCommand, assign, call, act, usym, isym, ifgoto, return, fail, vanish, fold_use, unfold_use, assert_that, loop_invariant}
+use Rattle.gil_lexemes.specs.Reading.{◌>>=◌, behind, first_form, is_word, sign_at, name_at, number_at}
+use Rattle.gil_lexemes.proofs.ReadingLaws.{bind_some, at_word_is, sign_takes, name_takes, number_takes}
+use Rattle.gil_syntax.specs.Pure.{PureCommand, assign, call, act, usym, isym, ifgoto, return, fail, throw, vanish, fold_use, unfold_use, assert_that, loop_invariant}
 use Rattle.gil_grammar.specs.declared.positions.Position.TheVariants.{Command, Action}
-use Rattle.gil_grammar.specs.Commands.{SpellsName, SpellsNames, SpellsCommand, SpellsStatement}
+use Rattle.gil_grammar.specs.Commands.{SpellsName, SpellsNames, SpellsHandler, SpellsCommand, SpellsStatement}
 use Rattle.gil_grammar.specs.Expressions.{SpellsExpr, SpellsExprs}
 use Rattle.gil_grammar.specs.Vocabulary.{becomes}
 use Rattle.gil_grammar.specs.Reading.Vocabulary.{input_of_word, word_of, named_at}
 use Rattle.gil_grammar.specs.Reading.Assertions.{expression_at, expressions_at, use_at, block_at, variables_at}
-use Rattle.gil_grammar.specs.Reading.Commands.{call_at, act_at, isym_at, assigned_at, assignment_at, ifgoto_at, names_at, invariant_at, logic_by, worded_by, command_at, statement_at}
-use Rattle.gil_grammar.proofs.ListLaws.{Takes, separated_takes}
+use Rattle.gil_grammar.specs.Reading.Commands.{handler_at, call_at, act_at, isym_at, assigned_at, assignment_at, ifgoto_at, names_at, invariant_at, logic_by, worded_by, command_at, statement_at}
+use Rattle.gil_grammar.proofs.ListLaws.{Takes, cond_cases, separated_takes}
 use Rattle.gil_grammar.proofs.VocabularyLaws.{input_takes, named_takes}
 use Rattle.gil_grammar.proofs.AssertionLaws.{in_place, word_of_takes, expression_takes, expressions_take, use_takes, block_takes, variables_take}
 
@@ -39,6 +39,16 @@ assign_takes x ls found e =
     let d = bind_some (expression_at Command ls) _ found e in
     in_place (Assigned x) ls (assign x d.0.0) d.0.1 found d.2 (ls, refl, expression_takes Command ls d.0 d.1)
 
+handler_takes : Takes SpellsHandler handler_at
+unfolding handler_at
+handler_takes ls found e =
+    cond_cases (is_word words.Catch (first_form ls)) _ _ found e
+    (λ test read.
+    let n = bind_some (number_at (behind ls)) _ found read in
+    in_place SpellsHandler ls (Some n.0.0) n.0.1 found n.2
+    (at_word_is words.Catch ls test ∙ ap (λ (l : List Lexeme). lexemes.Word words.Catch ∷ l) (number_takes (behind ls) n.0 n.1)))
+    (λ test ends. in_place SpellsHandler ls None ls found ends refl)
+
 call_takes : (x : List ℕ) (ls : List Lexeme) (found : PureCommand × List Lexeme) → call_at x ls ≡ Some found → Assigned x found.0 (lexemes.Word words.Call ∷ ls) found.1
 unfolding call_at
 call_takes x ls found e =
@@ -46,12 +56,15 @@ call_takes x ls found e =
     let a = bind_some (sign_at signs.LeftParenthesis d.0.1) _ found d.2 in
     let es = bind_some (expressions_at Command signs.RightParenthesis a.0) _ found a.2 in
     let r = bind_some (sign_at signs.RightParenthesis es.0.1) _ found es.2 in
-    in_place (Assigned x) _ (call x d.0.0 es.0.0) r.0 found r.2 (
+    let handler = bind_some (handler_at r.0) _ found r.2 in
+    in_place (Assigned x) _ (call x d.0.0 es.0.0 handler.0.0) handler.0.1 found handler.2 (
       ls,
       a.0,
+      r.0,
       refl,
       subst (SpellsExpr Command d.0.0 ls) (sign_takes signs.LeftParenthesis d.0.1 a.0 a.1) (expression_takes Command ls d.0 d.1),
       subst (SpellsExprs Command es.0.0 a.0) (sign_takes signs.RightParenthesis es.0.1 r.0 r.1) (expressions_take Command signs.RightParenthesis a.0 es.0 es.1),
+      handler_takes r.0 handler.0 handler.1,
     )
 
 act_takes : (x : List ℕ) (ls : List Lexeme) (found : PureCommand × List Lexeme) → act_at x ls ≡ Some found → Assigned x found.0 (lexemes.Word words.Do ∷ ls) found.1
@@ -113,6 +126,11 @@ fail_takes ls found e =
     let d = bind_some (expression_at Command ls) _ found e in
     in_place (Worded words.Fail) ls (fail d.0.0) d.0.1 found d.2 (ls, refl, expression_takes Command ls d.0 d.1)
 
+throw_takes : (ls : List Lexeme) (found : PureCommand × List Lexeme) → (expression_at Command ls >>= λ e. Some (throw e.0, e.1)) ≡ Some found → Worded words.Throw found.0 ls found.1
+throw_takes ls found e =
+    let d = bind_some (expression_at Command ls) _ found e in
+    in_place (Worded words.Throw) ls (throw d.0.0) d.0.1 found d.2 (ls, refl, expression_takes Command ls d.0 d.1)
+
 fold_takes : (ls : List Lexeme) (found : PureCommand × List Lexeme) → (use_at ls >>= λ u. Some (fold_use u.0, u.1)) ≡ Some found → Worded words.Fold found.0 ls found.1
 fold_takes ls found e =
     let u = bind_some (use_at ls) _ found e in
@@ -161,6 +179,7 @@ worded_takes : (word : Word) (ls : List Lexeme) (found : PureCommand × List Lex
 worded_takes words.Ifgoto ls found e = ifgoto_takes ls found e
 worded_takes words.Return ls found e = return_takes ls found e
 worded_takes words.Fail ls found e = fail_takes ls found e
+worded_takes words.Throw ls found e = throw_takes ls found e
 worded_takes words.Vanish ls found e = in_place (Worded words.Vanish) ls vanish ls found e refl
 worded_takes words.Fold ls found e = fold_takes ls found e
 worded_takes words.Unfold ls found e = unfold_takes ls found e

@@ -1,5 +1,5 @@
 -- What is spelled as a command is read so, where no more brackets are open than may be.
-use Rattle.std.proofs.Common.{◌≡◌, ℕ, true, false, List, ◌∷◌, length, Some, refl, sym, ap, ◌∙◌, subst, arith, inl, inr}
+use Rattle.std.proofs.Common.{◌≡◌, ℕ, ℤ, true, false, List, ◌∷◌, length, Option, Some, None, refl, sym, ap, ◌∙◌, subst, arith, inl, inr}
 use Rattle.gil_values.specs.declared.kinds.Kind.{Kind}
 use Rattle.gil_values.specs.declared.kinds.Kind.TheVariants as kinds
 use Rattle.gil_values.specs.Pure.{PureValue, integer, boolean, text, symbol, kind, procedure, list}
@@ -11,14 +11,14 @@ use Rattle.gil_lexer.specs.declared.signs.Sign.{Sign}
 use Rattle.gil_lexer.specs.declared.signs.Sign.TheVariants as signs
 use Rattle.gil_lexemes.specs.declared.standing.Lexeme.{Lexeme}
 use Rattle.gil_lexemes.specs.declared.standing.Lexeme.TheVariants as lexemes
-use Rattle.gil_lexemes.specs.Reading.{first_form, name_at}
-use Rattle.gil_lexemes.proofs.ReadingLaws.{same_sign-refl}
-use Rattle.gil_syntax.specs.Pure.{PureExpr, literal, name, logical, list_of, unary_of, binary_of, PureCommand, assign, call, act, usym, isym, ifgoto, return, fail, vanish, fold_use, unfold_use, assert_that, loop_invariant}
+use Rattle.gil_lexemes.specs.Reading.{first_form, is_word, name_at}
+use Rattle.gil_lexemes.proofs.ReadingLaws.{same_sign-refl, same_word-refl}
+use Rattle.gil_syntax.specs.Pure.{PureExpr, literal, name, logical, list_of, unary_of, binary_of, PureCommand, assign, call, act, usym, isym, ifgoto, return, fail, throw, vanish, fold_use, unfold_use, assert_that, loop_invariant}
 use Rattle.gil_grammar.specs.declared.positions.Position.TheVariants.{Command, Action}
-use Rattle.gil_grammar.specs.Commands.{SpellsName, SpellsNames, SpellsCommand, SpellsStatement}
+use Rattle.gil_grammar.specs.Commands.{SpellsName, SpellsNames, SpellsHandler, SpellsCommand, SpellsStatement}
 use Rattle.gil_grammar.specs.Expressions.{SpellsExpr}
 use Rattle.gil_grammar.specs.Vocabulary.{becomes, literal_lexeme, IsNameAt}
-use Rattle.gil_grammar.specs.Reading.Commands.{assign_at, call_at, act_at, isym_at, assigned_by, assigned_at, assignment_at, ifgoto_at, names_at, invariant_at, command_at, statement_at}
+use Rattle.gil_grammar.specs.Reading.Commands.{assign_at, handler_at, call_at, act_at, isym_at, assigned_by, assigned_at, assignment_at, ifgoto_at, names_at, invariant_at, command_at, statement_at}
 use Rattle.gil_grammar.proofs.ListLaws.{Again, Reads, ReadsList, NeverBegins, found_is, separated_again}
 use Rattle.gil_grammar.proofs.VocabularyLaws.{input_again, named_again}
 use Rattle.gil_grammar.proofs.NestingLaws.{Nested, nested_tail, expression_again}
@@ -99,15 +99,31 @@ command_assign x e ls rest p (value, is, h) =
       shorter = omega (arith, ap length is, read.shorter);
     }
 
-command_call : (x : List ℕ) (e : PureExpr) (es : List PureExpr) (ls rest : List Lexeme) → Nested ls → SpellsCommand (call x e es) ls rest → Reads Nested command_at (call x e es) ls rest
+-- what follows a call without handler is no `catch`
+abbrev EndsHandler : Option ℤ → List Lexeme → Type 0
+EndsHandler None rest = is_word words.Catch (first_form rest) ≡ false
+EndsHandler (Some label) rest = Unit {0}
+
+handler_again : (handler : Option ℤ) (ls rest : List Lexeme) → Nested ls → SpellsHandler handler ls rest → EndsHandler handler rest → ReadsList Nested handler_at handler ls rest
+unfolding handler_at
+handler_again None ls rest p is ends = record { is = rw (is, ends) refl; under = subst Nested is p; shorter = omega (arith, ap length is) }
+handler_again (Some label) ls rest p is ends = record {
+  is = rw (is, same_word-refl words.Catch) refl;
+  under = two_tails _ _ rest (subst Nested is p);
+  shorter = omega (arith, ap length is);
+}
+
+command_call : (x : List ℕ) (e : PureExpr) (es : List PureExpr) (handler : Option ℤ) (ls rest : List Lexeme) → Nested ls → SpellsCommand (call x e es handler) ls rest → EndsHandler handler rest
+    → Reads Nested command_at (call x e es handler) ls rest
 unfolding call_at
-command_call x e es ls rest p (callee, arguments, is, h, k) =
+command_call x e es handler ls rest p (callee, arguments, after, is, h, k, j) ends =
     let read = expression_again Command e callee _ (three_tails _ _ _ callee (subst Nested is p)) h in
-    let given = expressions_again Command signs.RightParenthesis parenthesis_closes es arguments rest (nested_tail _ arguments read.under) k in
+    let given = expressions_again Command signs.RightParenthesis parenthesis_closes es arguments after (nested_tail _ arguments read.under) k in
+    let label = handler_again handler after rest (nested_tail _ after given.under) j ends in
     record {
-      is = assigned_again x ls _ is ∙ rw (read.is, same_sign-refl signs.LeftParenthesis, given.is, same_sign-refl signs.RightParenthesis) refl;
-      under = nested_tail _ rest given.under;
-      shorter = omega (arith, ap length is, read.shorter, given.shorter);
+      is = assigned_again x ls _ is ∙ rw (read.is, same_sign-refl signs.LeftParenthesis, given.is, same_sign-refl signs.RightParenthesis, label.is) refl;
+      under = label.under;
+      shorter = omega (arith, ap length is, read.shorter, given.shorter, label.shorter);
     }
 
 command_act : (x action : List ℕ) (es : List PureExpr) (ls rest : List Lexeme) → Nested ls → SpellsCommand (act x action es) ls rest → Reads Nested command_at (act x action es) ls rest
@@ -136,33 +152,41 @@ worded_again word c ls inner rest is read = record {
   shorter = omega (arith, ap length is, read.shorter);
 }
 
-pub command_again : Again Nested SpellsCommand command_at
+-- what follows a command doesn't go on it
+abbrev pub Ends : PureCommand → List Lexeme → Type 0
+Ends (call x e es handler) rest = EndsHandler handler rest
+Ends _ rest = Unit {0}
+
+pub command_again : (c : PureCommand) (ls rest : List Lexeme) → Nested ls → SpellsCommand c ls rest → Ends c rest → Reads Nested command_at c ls rest
 unfolding command_at ifgoto_at invariant_at
-command_again (assign x e) ls rest p h = command_assign x e ls rest p h
-command_again (call x e es) ls rest p h = command_call x e es ls rest p h
-command_again (act x action es) ls rest p h = command_act x action es ls rest p h
-command_again (usym x) ls rest p is = record { is = assigned_again x ls _ is; under = three_tails _ _ _ rest (subst Nested is p); shorter = omega (arith, ap length is) }
-command_again (isym x k) ls rest p h = command_isym x k ls rest p h
-command_again (ifgoto e i) ls rest p (guard, is, h) =
+command_again (assign x e) ls rest p h ends = command_assign x e ls rest p h
+command_again (call x e es handler) ls rest p h ends = command_call x e es handler ls rest p h ends
+command_again (act x action es) ls rest p h ends = command_act x action es ls rest p h
+command_again (usym x) ls rest p is ends = record { is = assigned_again x ls _ is; under = three_tails _ _ _ rest (subst Nested is p); shorter = omega (arith, ap length is) }
+command_again (isym x k) ls rest p h ends = command_isym x k ls rest p h
+command_again (ifgoto e i) ls rest p (guard, is, h) ends =
     let read = expression_again Command e guard _ (nested_tail _ guard (subst Nested is p)) h in
     worded_again words.Ifgoto _ ls guard rest is (record { is = rw read.is refl; under = nested_tail _ rest read.under; shorter = omega (arith, read.shorter) })
-command_again (return e) ls rest p (value, is, h) =
+command_again (return e) ls rest p (value, is, h) ends =
     let read = expression_again Command e value rest (nested_tail _ value (subst Nested is p)) h in
     worded_again words.Return _ ls value rest is (record { is = rw read.is refl; under = read.under; shorter = read.shorter })
-command_again (fail e) ls rest p (value, is, h) =
+command_again (fail e) ls rest p (value, is, h) ends =
     let read = expression_again Command e value rest (nested_tail _ value (subst Nested is p)) h in
     worded_again words.Fail _ ls value rest is (record { is = rw read.is refl; under = read.under; shorter = read.shorter })
-command_again vanish ls rest p is = record { is = ap command_at is; under = nested_tail _ rest (subst Nested is p); shorter = omega (arith, ap length is) }
-command_again (fold_use u) ls rest p (inner, is, h) =
+command_again (throw e) ls rest p (value, is, h) ends =
+    let read = expression_again Command e value rest (nested_tail _ value (subst Nested is p)) h in
+    worded_again words.Throw _ ls value rest is (record { is = rw read.is refl; under = read.under; shorter = read.shorter })
+command_again vanish ls rest p is ends = record { is = ap command_at is; under = nested_tail _ rest (subst Nested is p); shorter = omega (arith, ap length is) }
+command_again (fold_use u) ls rest p (inner, is, h) ends =
     let read = use_again u inner rest (nested_tail _ inner (subst Nested is p)) h in
     worded_again words.Fold _ ls inner rest is (record { is = rw read.is refl; under = read.under; shorter = read.shorter })
-command_again (unfold_use u) ls rest p (inner, is, h) =
+command_again (unfold_use u) ls rest p (inner, is, h) ends =
     let read = use_again u inner rest (nested_tail _ inner (subst Nested is p)) h in
     worded_again words.Unfold _ ls inner rest is (record { is = rw read.is refl; under = read.under; shorter = read.shorter })
-command_again (assert_that items) ls rest p (block, is, h) =
+command_again (assert_that items) ls rest p (block, is, h) ends =
     let read = block_again items block rest (nested_tail _ block (subst Nested is p)) h in
     worded_again words.Assert _ ls block rest is (record { is = rw read.is refl; under = read.under; shorter = read.shorter })
-command_again (loop_invariant xs ps items) ls rest p (names, variables, block, is, a, b, d) =
+command_again (loop_invariant xs ps items) ls rest p (names, variables, block, is, a, b, d) ends =
     let xs' = names_again signs.RightParenthesis parenthesis_closes xs names variables (two_tails _ _ names (subst Nested is p)) a in
     let ps' = variables_again ps variables block (nested_tail _ variables xs'.under) b in
     let items' = block_again items block rest ps'.under d in
@@ -172,22 +196,29 @@ command_again (loop_invariant xs ps items) ls rest p (names, variables, block, i
       shorter = omega (arith, xs'.shorter, ps'.shorter, items'.shorter);
     })
 
+-- a semicolon goes on no command
+semicolon_ends : (c : PureCommand) (rest : List Lexeme) → Ends c (lexemes.Sign signs.Semicolon ∷ rest)
+semicolon_ends (call x e es None) rest = refl
+semicolon_ends (call x e es (Some label)) rest = tt
+semicolon_ends _ rest = tt
+
 pub statement_again : Again Nested SpellsStatement statement_at
 unfolding statement_at
 statement_again c ls rest p h =
-    let read = command_again c ls _ p h in
+    let read = command_again c ls _ p h (semicolon_ends c rest) in
     record { is = rw (read.is, same_sign-refl signs.Semicolon) refl; under = nested_tail _ rest read.under; shorter = omega (arith, read.shorter) }
 
 -- a command begins with no brace
 pub statement_never : NeverBegins SpellsStatement signs.RightBrace
 statement_never (assign x e) ls rest h = rw (h.1) refl
-statement_never (call x e es) ls rest h = rw (h.2) refl
+statement_never (call x e es handler) ls rest h = rw (h.3) refl
 statement_never (act x action es) ls rest h = rw (h.3) refl
 statement_never (usym x) ls rest is = rw is refl
 statement_never (isym x k) ls rest h = rw (h.2) refl
 statement_never (ifgoto e i) ls rest h = rw (h.1) refl
 statement_never (return e) ls rest h = rw (h.1) refl
 statement_never (fail e) ls rest h = rw (h.1) refl
+statement_never (throw e) ls rest h = rw (h.1) refl
 statement_never vanish ls rest is = rw is refl
 statement_never (fold_use u) ls rest h = rw (h.1) refl
 statement_never (unfold_use u) ls rest h = rw (h.1) refl

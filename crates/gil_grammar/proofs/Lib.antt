@@ -1,6 +1,7 @@
 pub mod AnnotationLaws
 pub mod AssertionLaws
 pub mod AssertionReads
+pub mod BlockLaws
 pub mod CommandLaws
 pub mod CommandReads
 pub mod ExpressionLaws

@@ -1,6 +1,6 @@
 -- What a text spells is well made: a name begins with no `#`, a logical name begins with one, and no literal is a symbol
 -- or a list.
-use Rattle.std.proofs.Common.{◌≡◌, ℕ, Bool, true, false, ◌&&◌, List, [], ◌∷◌, ◌++◌, Some, refl, sym, ◌∙◌, subst, inl, inr}
+use Rattle.std.proofs.Common.{◌≡◌, ℕ, ℤ, Bool, true, false, ◌&&◌, List, [], ◌∷◌, ◌++◌, Option, Some, None, refl, sym, ◌∙◌, subst, inl, inr}
 use Rattle.std.specs.List.{list_all, flat_map, filter_map, cons_option, All}
 use Rattle.std.proofs.lemmas.Bool.{and_from, and_parts, not_from_false}
 use Rattle.std.proofs.lemmas.List.Folds.{list_all-append}
@@ -23,7 +23,7 @@ use Rattle.gil_lexemes.specs.declared.standing.Lexeme.{Lexeme}
 use Rattle.gil_lexemes.specs.declared.standing.Lexeme.TheVariants as lexemes
 use Rattle.gil_lexemes.specs.Lexemes.{StandsFor, StandForAll}
 use Rattle.gil_syntax.specs.declared.assertions.Param.{Param}
-use Rattle.gil_syntax.specs.Pure.{PureExpr, literal, name, logical, list_of, unary_of, binary_of, PureExprs, no_exprs, expr_and, PureItem, pure, uses, assign, call, act, usym, isym, ifgoto, return, fail, vanish, fold_use, unfold_use, assert_that, loop_invariant, PureNumberedCommand, PureProc, PureSpec, PurePredDef, PureParts}
+use Rattle.gil_syntax.specs.Pure.{PureExpr, literal, name, logical, list_of, unary_of, binary_of, PureExprs, no_exprs, expr_and, PureItem, pure, uses, assign, call, act, usym, isym, ifgoto, return, fail, throw, vanish, fold_use, unfold_use, assert_that, loop_invariant, PureNumberedCommand, PureProc, PureSpec, PurePredDef, PureParts}
 use Rattle.gil_syntax.specs.Subexpressions.{subexpressions, subexpressions_of_all, exprs_of_use, exprs_of_item}
 use Rattle.gil_syntax.specs.Valid.{ProgramItem, a_proc, a_spec, a_pred}
 use Rattle.gil_syntax.specs.WellMade.{is_spellable, is_drawable, has_hash, is_program_name, is_well_made_node, is_well_made_expr, are_logical, are_program_names, is_well_made_command, is_well_made_assertion, is_well_made_proc, is_well_made_spec, is_well_made_pred, is_well_made}
@@ -32,8 +32,8 @@ use Rattle.gil_grammar.specs.declared.positions.Position.TheVariants as position
 use Rattle.gil_grammar.specs.Vocabulary.{literal_lexeme, before_operands, comma, input_word, word_name, IsNameAt}
 use Rattle.gil_grammar.specs.Lists.{SpellsEach, SpellsSome, SpellsMore, SpellsSeparated}
 use Rattle.gil_grammar.specs.Expressions.{SpellsExpr, SpellsElements, SpellsMoreElements, SpellsExprs}
-use Rattle.gil_grammar.specs.Assertions.{SpellsParam, SpellsVariables, SpellsUse, SpellsItem, SpellsAssertion, SpellsBlock, SpellsBlocks}
-use Rattle.gil_grammar.specs.Commands.{SpellsName, SpellsCommand, SpellsStatement}
+use Rattle.gil_grammar.specs.Assertions.{SpellsParam, SpellsVariables, SpellsUse, SpellsItem, SpellsAssertion, SpellsBlock, SpellsBlocks, SpellsError, SpellsPosts}
+use Rattle.gil_grammar.specs.Commands.{SpellsName, SpellsHandler, SpellsCommand, SpellsStatement}
 use Rattle.gil_grammar.specs.Programs.{commands_of, SpellsProc, SpellsSpec, SpellsPred, SpellsProgramItem}
 use Rattle.gil_grammar.proofs.ListLaws.{found_is}
 use Rattle.gil_grammar.specs.Texts.{PlacedItem, SpellsItems, Spell, as_proc, as_spec, as_pred, parts_of, SpellProgram}
@@ -230,6 +230,17 @@ block_makes items ls rest p (inner, is, h) =
 blocks_make : (blocks : List (List PureItem)) (ls rest : List Lexeme) → AreProper ls → SpellsBlocks blocks ls rest → Made (list_all is_well_made_assertion blocks) rest
 blocks_make blocks ls rest p h = some_make SpellsBlock is_well_made_assertion block_makes blocks ls rest p h
 
+error_makes : Makes SpellsError is_well_made_assertion
+error_makes items ls rest p (block, is, h) = block_makes items block rest (after _ ls block is p) h
+
+posts_make : (posts errors : List (List PureItem)) (ls rest : List Lexeme) → AreProper ls → SpellsPosts posts errors ls rest → Made (list_all is_well_made_assertion (posts ++ errors)) rest
+posts_make [] [] ls rest p h = absurd h
+posts_make [] (x ∷ xs) ls rest p h = each_makes SpellsError is_well_made_assertion error_makes (x ∷ xs) ls rest p h
+posts_make (x ∷ xs) errors ls rest p (middle, h, k) =
+    let posts = each_makes SpellsBlock is_well_made_assertion block_makes (x ∷ xs) ls middle p h in
+    let others = each_makes SpellsError is_well_made_assertion error_makes errors middle rest posts.proper k in
+    record { is = list_all-append is_well_made_assertion (x ∷ xs) errors ∙ and_from _ _ posts.is others.is; proper = others.proper }
+
 -- ---- commands
 
 item_exprs : (items : List PureItem) → is_well_made_assertion items ≡ true → list_all is_well_made_expr (flat_map exprs_of_item items) ≡ true
@@ -251,16 +262,20 @@ name_makes x ls rest p is = let h = subst AreProper is p in record { is = progra
 one_expr : (e : PureExpr) → is_well_made_expr e ≡ true → list_all is_well_made_expr (e ∷ []) ≡ true
 one_expr e h = and_from _ true h refl
 
+handler_proper : (handler : Option ℤ) (ls rest : List Lexeme) → AreProper ls → SpellsHandler handler ls rest → AreProper rest
+handler_proper None ls rest p is = subst AreProper is p
+handler_proper (Some label) ls rest p is = (subst AreProper is p).1.1
+
 pub command_makes : Makes SpellsCommand is_well_made_command
 command_makes (assign x e) ls rest p (value, is, h) =
     let front = subst AreProper is p in
     let read = expr_makes positions.Command e value rest front.1.1 h in
     record { is = and_from _ _ (program_name x front.0) (one_expr e read.is); proper = read.proper }
-command_makes (call x e es) ls rest p (callee, arguments, is, h, k) =
+command_makes (call x e es handler) ls rest p (callee, arguments, behind, is, h, k, j) =
     let front = subst AreProper is p in
     let first = expr_makes positions.Command e callee _ front.1.1.1 h in
     let others = exprs_make positions.Command es arguments _ first.proper.1 k in
-    record { is = and_from _ _ (program_name x front.0) (and_from _ _ first.is others.is); proper = others.proper.1 }
+    record { is = and_from _ _ (program_name x front.0) (and_from _ _ first.is others.is); proper = handler_proper handler behind rest others.proper.1 j }
 command_makes (act x action es) ls rest p (l, arguments, named, is, k) =
     let front = subst AreProper is p in
     let others = exprs_make positions.Command es arguments _ front.1.1.1.1.1 k in
@@ -278,6 +293,9 @@ command_makes (return e) ls rest p (value, is, h) =
     let read = expr_makes positions.Command e value rest (after _ ls value is p) h in
     record { is = one_expr e read.is; proper = read.proper }
 command_makes (fail e) ls rest p (value, is, h) =
+    let read = expr_makes positions.Command e value rest (after _ ls value is p) h in
+    record { is = one_expr e read.is; proper = read.proper }
+command_makes (throw e) ls rest p (value, is, h) =
     let read = expr_makes positions.Command e value rest (after _ ls value is p) h in
     record { is = one_expr e read.is; proper = read.proper }
 command_makes vanish ls rest p is = record { is = refl; proper = after _ ls rest is p }
@@ -318,7 +336,7 @@ spec_makes s ls rest p (params, variables, pre, posts, is, a, b, c, d) =
     let ps = params_make s.params params _ (subst AreProper is p).1.1.1 a in
     let vs = variables_make s.logicals variables pre ps.proper.1 b in
     let pre' = block_makes s.pre pre posts vs.proper c in
-    let posts' = blocks_make s.posts posts rest pre'.proper d in
+    let posts' = posts_make s.posts s.errors posts rest pre'.proper d in
     record { is = and_from _ _ (and_from _ _ ps.is vs.is) (and_from _ _ pre'.is posts'.is); proper = posts'.proper }
 
 pub pred_makes : Makes SpellsPred is_well_made_pred

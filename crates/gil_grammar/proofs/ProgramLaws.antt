@@ -6,7 +6,7 @@ use Rattle.gil_lexer.specs.declared.signs.Sign.TheVariants as signs
 use Rattle.gil_lexemes.specs.declared.standing.Lexeme.{Lexeme}
 use Rattle.gil_lexemes.specs.declared.standing.Lexeme.TheVariants as lexemes
 use Rattle.gil_lexemes.specs.Lists.{each_until}
-use Rattle.gil_lexemes.specs.Reading.{first_form, is_sign, sign_at, name_at}
+use Rattle.gil_lexemes.specs.Reading.{first_form, is_sign, same_word, sign_at, name_at}
 use Rattle.gil_lexemes.proofs.ReadingLaws.{bind_some, sign_takes, name_takes, same_sign-refl}
 use Rattle.gil_syntax.specs.Pure.{PureCommand, PureNumberedCommand, PureProc, PureSpec, PurePredDef}
 use Rattle.gil_syntax.specs.Programs.{numbered_from}
@@ -15,19 +15,21 @@ use Rattle.gil_grammar.specs.declared.positions.Position.TheVariants.{Predicate}
 use Rattle.gil_grammar.specs.declared.positions.Naming.TheVariants.{Program}
 use Rattle.gil_grammar.specs.declared.positions.Extent.{Extent}
 use Rattle.gil_grammar.specs.declared.positions.Extent.TheVariants.{Whole}
+use Rattle.gil_grammar.specs.declared.positions.Opening.TheVariants.{Brace, Throw}
 use Rattle.gil_grammar.specs.Assertions.{SpellsParams}
 use Rattle.gil_grammar.specs.Commands.{SpellsNames, SpellsStatement}
 use Rattle.gil_grammar.specs.Lists.{SpellsEach}
 use Rattle.gil_grammar.specs.Programs.{commands_of, SpellsProc, SpellsSpec, SpellsPred, SpellsProgramItem}
 use Rattle.gil_grammar.specs.Reading.Vocabulary.{named_at}
-use Rattle.gil_grammar.specs.Reading.Assertions.{params_at, variables_at, block_at, blocks_at}
+use Rattle.gil_grammar.specs.Reading.Assertions.{opens_by, params_at, variables_at, block_at, blocks_at, posts_at}
 use Rattle.gil_grammar.specs.Reading.Commands.{names_at, statement_at}
 use Rattle.gil_grammar.specs.Reading.Programs.{body_at, proc_at, spec_at, pred_at, item_by, item_at}
 use Rattle.gil_grammar.proofs.ListLaws.{Takes, Reads, ReadsList, each_takes, each_again}
 use Rattle.gil_grammar.proofs.VocabularyLaws.{named_takes, named_again}
 use Rattle.gil_grammar.proofs.NestingLaws.{Nested, nested_tail}
 use Rattle.gil_grammar.proofs.AssertionLaws.{in_place, params_take, block_takes, variables_take}
-use Rattle.gil_grammar.proofs.AssertionReads.{parenthesis_closes, semicolon_closes, params_again, block_again, variables_again, blocks_take, blocks_again}
+use Rattle.gil_grammar.proofs.AssertionReads.{parenthesis_closes, semicolon_closes, params_again, block_again, variables_again}
+use Rattle.gil_grammar.proofs.BlockLaws.{NoPost, blocks_take, blocks_again, posts_take, posts_again}
 use Rattle.gil_grammar.proofs.CommandLaws.{names_take, statement_takes}
 use Rattle.gil_grammar.proofs.CommandReads.{names_again, statement_again, statement_never}
 
@@ -88,9 +90,9 @@ spec_takes extent ls found e =
     let b = bind_some (sign_at signs.RightParenthesis ps.0.1) _ found ps.2 in
     let vs = bind_some (variables_at b.0) _ found b.2 in
     let pre = bind_some (block_at vs.0.1) _ found vs.2 in
-    let posts = bind_some (blocks_at extent pre.0.1) _ found pre.2 in
+    let posts = bind_some (posts_at extent pre.0.1) _ found pre.2 in
     let head : ls ≡ lexemes.Name x.0.0 ∷ lexemes.Sign signs.LeftParenthesis ∷ a.0 = name_takes ls x.0 x.1 ∙ ap (λ (l : List Lexeme). lexemes.Name x.0.0 ∷ l) (sign_takes signs.LeftParenthesis x.0.1 a.0 a.1) in
-    in_place SpellsSpec _ (record { name = x.0.0; params = ps.0.0; logicals = vs.0.0; pre = pre.0.0; posts = posts.0.0 }) posts.0.1 found posts.2 (
+    in_place SpellsSpec _ (record { name = x.0.0; params = ps.0.0; logicals = vs.0.0; pre = pre.0.0; posts = posts.0.0.0; errors = posts.0.0.1 }) posts.0.1 found posts.2 (
       a.0,
       b.0,
       vs.0.1,
@@ -99,7 +101,7 @@ spec_takes extent ls found e =
       subst (SpellsParams ps.0.0 a.0) (sign_takes signs.RightParenthesis ps.0.1 b.0 b.1) (params_take Program signs.RightParenthesis a.0 ps.0 ps.1),
       variables_take b.0 vs.0 vs.1,
       block_takes vs.0.1 pre.0 pre.1,
-      blocks_take extent pre.0.1 posts.0 posts.1,
+      posts_take extent pre.0.1 posts.0 posts.1,
     )
 
 pub pred_takes : (extent : Extent) (ls : List Lexeme) (found : PurePredDef × List Lexeme) → pred_at extent ls ≡ Some found → SpellsPred found.0 (lexemes.Word words.Pred ∷ ls) found.1
@@ -112,7 +114,7 @@ pred_takes extent ls found e =
     let outs = bind_some (params_at Program signs.RightParenthesis b.0) _ found b.2 in
     let c = bind_some (sign_at signs.RightParenthesis outs.0.1) _ found outs.2 in
     let vs = bind_some (variables_at c.0) _ found c.2 in
-    let cases = bind_some (blocks_at extent vs.0.1) _ found vs.2 in
+    let cases = bind_some (blocks_at Brace extent vs.0.1) _ found vs.2 in
     let says = named_takes Predicate ls x.0 x.1 in
     let head : ls ≡ says.0 ∷ lexemes.Sign signs.LeftParenthesis ∷ a.0 = says.2 ∙ ap (λ (l : List Lexeme). says.0 ∷ l) (sign_takes signs.LeftParenthesis x.0.1 a.0 a.1) in
     in_place SpellsPred _ (record { name = x.0.0; ins = ins.0.0; outs = outs.0.0; logicals = vs.0.0; cases = cases.0.0 }) cases.0.1 found cases.2 (
@@ -126,7 +128,7 @@ pred_takes extent ls found e =
       subst (SpellsParams ins.0.0 a.0) (sign_takes signs.Semicolon ins.0.1 b.0 b.1) (params_take Program signs.Semicolon a.0 ins.0 ins.1),
       subst (SpellsParams outs.0.0 b.0) (sign_takes signs.RightParenthesis outs.0.1 c.0 c.1) (params_take Program signs.RightParenthesis b.0 outs.0 outs.1),
       variables_take c.0 vs.0 vs.1,
-      blocks_take extent vs.0.1 cases.0 cases.1,
+      blocks_take Brace extent vs.0.1 cases.0 cases.1,
     )
 
 item_by_takes : (word : Word) (ls : List Lexeme) (found : ProgramItem × List Lexeme) → item_by word (lexemes.Word word ∷ ls) ≡ Some found → SpellsProgramItem found.0 (lexemes.Word word ∷ ls) found.1
@@ -164,8 +166,8 @@ proc_again q ls rest p (params, body, is, a, b, numbered) =
       },
     )
 
--- a specification behind which no opening brace follows
-pub spec_again : (extent : Extent) (s : PureSpec) (ls rest : List Lexeme) → Nested ls → SpellsSpec s ls rest → is_sign signs.LeftBrace (first_form rest) ≡ false
+-- a specification behind which no postcondition follows
+pub spec_again : (extent : Extent) (s : PureSpec) (ls rest : List Lexeme) → Nested ls → SpellsSpec s ls rest → NoPost rest
     → (inner : List Lexeme) × (ls ≡ lexemes.Word words.Spec ∷ inner) × Reads Nested (spec_at extent) s inner rest
 unfolding spec_at
 spec_again extent s ls rest p (params, variables, pre, posts, is, a, b, c, d) ends =
@@ -174,7 +176,7 @@ spec_again extent s ls rest p (params, variables, pre, posts, is, a, b, c, d) en
     let ps = params_again Program signs.RightParenthesis parenthesis_closes s.params params variables (nested_tail _ params (nested_tail _ _ under)) a in
     let vs = variables_again s.logicals variables pre (nested_tail _ variables ps.under) b in
     let pre' = block_again s.pre pre posts vs.under c in
-    let posts' = blocks_again extent s.posts posts rest pre'.under d ends in (
+    let posts' = posts_again extent s.posts s.errors posts rest pre'.under d ends in (
       inner,
       is,
       record {
@@ -185,7 +187,7 @@ spec_again extent s ls rest p (params, variables, pre, posts, is, a, b, c, d) en
     )
 
 -- a predicate behind which no opening brace follows
-pub pred_again : (extent : Extent) (d : PurePredDef) (ls rest : List Lexeme) → Nested ls → SpellsPred d ls rest → is_sign signs.LeftBrace (first_form rest) ≡ false
+pub pred_again : (extent : Extent) (d : PurePredDef) (ls rest : List Lexeme) → Nested ls → SpellsPred d ls rest → opens_by Brace (first_form rest) ≡ false
     → (inner : List Lexeme) × (ls ≡ lexemes.Word words.Pred ∷ inner) × Reads Nested (pred_at extent) d inner rest
 unfolding pred_at
 pred_again extent d ls rest p (lexeme, ins, outs, variables, cases, named, is, a, b, v, c) ends =
@@ -194,7 +196,7 @@ pred_again extent d ls rest p (lexeme, ins, outs, variables, cases, named, is, a
     let given = params_again Program signs.Semicolon semicolon_closes d.ins ins outs (nested_tail _ ins (nested_tail _ _ under)) a in
     let gives = params_again Program signs.RightParenthesis parenthesis_closes d.outs outs variables (nested_tail _ outs given.under) b in
     let vs = variables_again d.logicals variables cases (nested_tail _ variables gives.under) v in
-    let cases' = blocks_again extent d.cases cases rest vs.under c ends in (
+    let cases' = blocks_again Brace extent d.cases cases rest vs.under c ends in (
       inner,
       is,
       record {
@@ -204,8 +206,8 @@ pred_again extent d ls rest p (lexeme, ins, outs, variables, cases, named, is, a
       },
     )
 
--- an item behind which no opening brace follows
-pub item_again : (item : ProgramItem) (ls rest : List Lexeme) → Nested ls → SpellsProgramItem item ls rest → is_sign signs.LeftBrace (first_form rest) ≡ false → Reads Nested item_at item ls rest
+-- an item behind which no postcondition follows
+pub item_again : (item : ProgramItem) (ls rest : List Lexeme) → Nested ls → SpellsProgramItem item ls rest → NoPost rest → Reads Nested item_at item ls rest
 unfolding item_at
 item_again (a_proc q) ls rest p h ends =
     let read = proc_again q ls rest p h in
@@ -214,11 +216,16 @@ item_again (a_spec s) ls rest p h ends =
     let read = spec_again Whole s ls rest p h ends in
     record { is = rw (read.1, read.2.is) refl; under = read.2.under; shorter = omega (arith, ap length (read.1), read.2.shorter) }
 item_again (a_pred d) ls rest p h ends =
-    let read = pred_again Whole d ls rest p h ends in
+    let read = pred_again Whole d ls rest p h (ends Brace) in
     record { is = rw (read.1, read.2.is) refl; under = read.2.under; shorter = omega (arith, ap length (read.1), read.2.shorter) }
 
--- an item begins with no opening brace
-pub item_never : (item : ProgramItem) (ls rest : List Lexeme) → SpellsProgramItem item ls rest → is_sign signs.LeftBrace (first_form ls) ≡ false
-item_never (a_proc q) ls rest h = rw (h.2) refl
-item_never (a_spec s) ls rest h = rw (h.4) refl
-item_never (a_pred d) ls rest h = rw (h.6) refl
+-- an item goes on no specification
+item_is_no_throw : (word : Word) → same_word word words.Throw ≡ false → (ls inner : List Lexeme) → ls ≡ lexemes.Word word ∷ inner → NoPost ls
+item_is_no_throw word other ls inner is Brace = rw is refl
+item_is_no_throw word other ls inner is Throw = rw is other
+
+pub item_never : (item : ProgramItem) (ls rest : List Lexeme) → SpellsProgramItem item ls rest → NoPost ls
+unfolding same_word
+item_never (a_proc q) ls rest h = item_is_no_throw words.Proc refl ls _ h.2
+item_never (a_spec s) ls rest h = item_is_no_throw words.Spec refl ls _ h.4
+item_never (a_pred d) ls rest h = item_is_no_throw words.Pred refl ls _ h.6

@@ -10,7 +10,7 @@ use Rattle.gil_grammar.specs.declared.positions.Position.TheVariants as position
 use Rattle.gil_grammar.specs.Annotations.{specification, predicate, logic, expression, SpellsAnnotation}
 use Rattle.gil_grammar.specs.Lists.{SpellsEach, SpellsMore, SpellsSeparated}
 use Rattle.gil_grammar.specs.Expressions.{SpellsExpr, SpellsElements, SpellsMoreElements}
-use Rattle.gil_grammar.specs.Assertions.{SpellsParam, SpellsVariables, SpellsUse, SpellsItem, SpellsAssertion, SpellsBlock, SpellsBlocks}
+use Rattle.gil_grammar.specs.Assertions.{SpellsParam, SpellsVariables, SpellsUse, SpellsItem, SpellsAssertion, SpellsBlock, SpellsBlocks, SpellsError, SpellsPosts}
 use Rattle.gil_grammar.specs.Commands.{SpellsName}
 use Rattle.gil_grammar.specs.Programs.{SpellsSpec, SpellsPred}
 use Rattle.gil_grammar.specs.Vocabulary.{before_operands}
@@ -105,6 +105,14 @@ some_blocks : (blocks : List (List PureItem)) (ls rest : List Lexeme) → Spells
 some_blocks [] ls rest h = absurd h
 some_blocks (x ∷ xs) ls rest h = blocks_leave (x ∷ xs) ls rest h
 
+error_leaves : Leaves SpellsError
+error_leaves items ls rest (block, is, h) = step _ ls block rest is (block_leaves items block rest h)
+
+posts_leave : (posts errors : List (List PureItem)) (ls rest : List Lexeme) → SpellsPosts posts errors ls rest → IsRest ls rest
+posts_leave [] [] ls rest h = absurd h
+posts_leave [] (x ∷ xs) ls rest h = each_leaves SpellsError error_leaves (x ∷ xs) ls rest h
+posts_leave (x ∷ xs) errors ls rest (middle, h, k) = join ls middle rest (blocks_leave (x ∷ xs) ls middle h) (each_leaves SpellsError error_leaves errors middle rest k)
+
 name_leaves : Leaves SpellsName
 name_leaves x ls rest is = step _ ls rest rest is (all rest rest refl)
 
@@ -120,7 +128,7 @@ logic_leaves _ ls rest (test, h) = absurd (cc test)
 spec_leaves : Leaves SpellsSpec
 spec_leaves s ls rest (params, variables, pre, posts, is, a, b, c, d) =
     step _ ls _ rest is (step _ _ _ rest refl (step _ _ params rest refl (join params variables rest (past _ params variables (separated_leave _ (param_leaves _) _ s.params params _ a))
-    (join variables pre rest (variables_leave s.logicals variables pre b) (join pre posts rest (block_leaves s.pre pre posts c) (some_blocks s.posts posts rest d))))))
+    (join variables pre rest (variables_leave s.logicals variables pre b) (join pre posts rest (block_leaves s.pre pre posts c) (posts_leave s.posts s.errors posts rest d))))))
 
 pred_leaves : Leaves SpellsPred
 pred_leaves d ls rest (l, ins, outs, variables, cases, named, is, a, b, v, c) =

@@ -2,17 +2,17 @@
 use Rattle.std.proofs.Common.{◌≡◌, ◌≤◌, max, ℕ, zero, suc, true, false, List, [], ◌∷◌, length, Some, refl, sym, ap, ◌∙◌, subst, arith}
 use Rattle.gil_lexer.specs.declared.forms.Token.{Token}
 use Rattle.gil_lexer.specs.declared.words.Word.TheVariants as words
-use Rattle.gil_lexer.specs.declared.signs.Sign.TheVariants as signs
 use Rattle.gil_lexer.specs.Texts.{AreTokensOf}
 use Rattle.gil_lexer.proofs.TextLaws.{one_list}
 use Rattle.gil_lexemes.specs.declared.standing.Lexeme.{Lexeme}
 use Rattle.gil_lexemes.specs.declared.standing.Lexeme.TheVariants as lexemes
 use Rattle.gil_lexemes.specs.Lexemes.{StandForAll}
-use Rattle.gil_lexemes.specs.Reading.{◌>>=◌, behind, first_form, is_sign, is_word}
+use Rattle.gil_lexemes.specs.Reading.{◌>>=◌, behind, first_form, is_word}
 use Rattle.gil_lexemes.proofs.ReadingLaws.{bind_some, if_some, at_word_is, same_word-refl}
 use Rattle.gil_lexemes.proofs.StandingLemmas.{stand_once}
 use Rattle.gil_syntax.specs.Pure.{PureExpr, PureProc, PureParts}
 use Rattle.gil_syntax.specs.Valid.{ProgramItem, a_proc, a_spec, a_pred}
+use Rattle.gil_grammar.specs.declared.positions.Opening.TheVariants.{Brace, Throw}
 use Rattle.gil_grammar.specs.declared.positions.Position.{Position}
 use Rattle.gil_grammar.specs.Expressions.{SpellsExpr}
 use Rattle.gil_grammar.specs.Nesting.{IsNested}
@@ -23,6 +23,7 @@ use Rattle.gil_grammar.specs.Reading.Texts.{items_at, program_at}
 use Rattle.gil_grammar.proofs.ListLaws.{found_is}
 use Rattle.gil_grammar.proofs.ExpressionLaws.{depth, expr_again}
 use Rattle.gil_grammar.proofs.NestingLaws.{Nested}
+use Rattle.gil_grammar.proofs.BlockLaws.{NoPost}
 use Rattle.gil_grammar.proofs.ProgramLaws.{item_takes, item_again, item_never}
 
 -- ---- items
@@ -38,8 +39,12 @@ items_take tokens (suc n) (l ∷ ls) items e =
     subst (λ is. SpellsItems tokens is (l ∷ ls)) (found_is _ items others.2)
     (x.0.1, item_takes (l ∷ ls) x.0 x.1, refl, items_take tokens n x.0.1 others.0 others.1)
 
-items_never : (tokens : List Token) (items : List PlacedItem) (ls : List Lexeme) → SpellsItems tokens items ls → is_sign signs.LeftBrace (first_form ls) ≡ false
-items_never tokens [] ls is = rw is refl
+no_lexeme_never : NoPost []
+no_lexeme_never Brace = refl
+no_lexeme_never Throw = refl
+
+items_never : (tokens : List Token) (items : List PlacedItem) (ls : List Lexeme) → SpellsItems tokens items ls → NoPost ls
+items_never tokens [] ls is = subst NoPost (sym is) no_lexeme_never
 items_never tokens (i ∷ items) ls (after, one, at, more) = item_never i.item ls after one
 
 some_left : (l : Lexeme) (ls : List Lexeme) → length (l ∷ ls) ≤ 0 → ⊥

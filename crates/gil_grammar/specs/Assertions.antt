@@ -11,7 +11,7 @@ use Rattle.gil_syntax.specs.declared.assertions.Param.{Param}
 use Rattle.gil_syntax.specs.declared.assertions.SpecSort.TheVariants.{Any}
 use Rattle.gil_syntax.specs.Pure.{PureExpr, unary_of, binary_of, PurePredUse, PureItem, pure, uses}
 use Rattle.gil_grammar.specs.declared.positions.Position.TheVariants.{Assertion, Predicate}
-use Rattle.gil_grammar.specs.Lists.{SpellsSome, SpellsSeparated}
+use Rattle.gil_grammar.specs.Lists.{SpellsEach, SpellsSome, SpellsSeparated}
 use Rattle.gil_grammar.specs.Expressions.{SpellsExpr, SpellsExprs}
 use Rattle.gil_grammar.specs.Vocabulary.{opening_parenthesis, closing_parenthesis, opening_bracket, closing_bracket, opening_brace, closing_brace, comma, semicolon, colon, sort_word, IsNameAt}
 
@@ -59,6 +59,16 @@ abbrev pub SpellsBlock : List PureItem → List Lexeme → List Lexeme → Type 
 SpellsBlock items from rest =
     (inner : List Lexeme) × (from ≡ opening_brace ∷ inner) × SpellsAssertion items inner (closing_brace ∷ rest)
 
+-- throw { assertion }
+abbrev pub SpellsError : List PureItem → List Lexeme → List Lexeme → Type 0
+SpellsError items from rest = (block : List Lexeme) × (from ≡ Word words.Throw ∷ block) × SpellsBlock items block rest
+
 -- { assertion } .. { assertion }, at least one
 abbrev pub SpellsBlocks : List (List PureItem) → List Lexeme → List Lexeme → Type 0
 SpellsBlocks blocks from rest = SpellsSome SpellsBlock blocks from rest
+
+-- { postcondition } .. throw { error postcondition } .., at least one of either
+abbrev pub SpellsPosts : List (List PureItem) → List (List PureItem) → List Lexeme → List Lexeme → Type 0
+SpellsPosts [] errors from rest = SpellsSome SpellsError errors from rest
+SpellsPosts (post ∷ posts) errors from rest =
+    (middle : List Lexeme) × SpellsEach SpellsBlock (post ∷ posts) from middle × SpellsEach SpellsError errors middle rest

@@ -7,7 +7,7 @@ use Rattle.gil_syntax.specs.Pure.{PureCommand, PureNumberedCommand, PureProc, Pu
 use Rattle.gil_syntax.specs.Programs.{numbered_from}
 use Rattle.gil_syntax.specs.Valid.{ProgramItem, a_proc, a_spec, a_pred}
 use Rattle.gil_grammar.specs.declared.positions.Position.TheVariants.{Predicate}
-use Rattle.gil_grammar.specs.Assertions.{SpellsParams, SpellsVariables, SpellsBlock, SpellsBlocks}
+use Rattle.gil_grammar.specs.Assertions.{SpellsParams, SpellsVariables, SpellsBlock, SpellsBlocks, SpellsPosts}
 use Rattle.gil_grammar.specs.Commands.{SpellsNames, SpellsStatement}
 use Rattle.gil_grammar.specs.Lists.{SpellsEach}
 use Rattle.gil_grammar.specs.Vocabulary.{opening_parenthesis, closing_parenthesis, opening_brace, closing_brace, semicolon, IsNameAt}
@@ -23,12 +23,12 @@ SpellsProc q from rest =
     × SpellsEach SpellsStatement (commands_of q.body) body (closing_brace ∷ rest)
     × (q.body ≡ numbered_from 0 (commands_of q.body))
 
--- spec name(x : sort, ..) [#x : sort, ..] { precondition } { postcondition } ..
+-- spec name(x : sort, ..) [#x : sort, ..] { precondition } { postcondition } .. throw { error postcondition } ..
 abbrev pub SpellsSpec : PureSpec → List Lexeme → List Lexeme → Type 0
 SpellsSpec s from rest =
     (params variables pre posts : List Lexeme) × (from ≡ Word words.Spec ∷ Name s.name ∷ opening_parenthesis ∷ params)
     × SpellsParams s.params params (closing_parenthesis ∷ variables) × SpellsVariables s.logicals variables pre
-    × SpellsBlock s.pre pre posts × SpellsBlocks s.posts posts rest
+    × SpellsBlock s.pre pre posts × SpellsPosts s.posts s.errors posts rest
 
 -- pred name(x : sort, ..; x : sort, ..) [#x : sort, ..] { case } ..
 abbrev pub SpellsPred : PurePredDef → List Lexeme → List Lexeme → Type 0

@@ -22,6 +22,15 @@ pub enum Naming {
     Logical,
 }
 
+/// What an assertion in braces begins with.
+#[derive(Clone, Copy, Debug, PartialEq, Eq)]
+pub enum Opening {
+    /// Its brace.
+    Brace,
+    /// The word `throw`, which stands before its brace.
+    Throw,
+}
+
 /// How many assertions in braces are read, where what follows them isn't known.
 #[derive(Clone, Copy, Debug, PartialEq, Eq)]
 pub enum Extent {

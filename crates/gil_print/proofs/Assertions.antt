@@ -1,6 +1,7 @@
 -- Printed parameters and assertions.
 use Rattle.std.proofs.Common.{◌≡◌, ℕ, ◌+◌, ◌≤◌, List, [], ◌∷◌, ◌++◌, Option, Some, refl, sym, subst, inl, inr, append_assoc, append-nil}
 use Rattle.std.specs.Prelude.{codes}
+use Rattle.std.specs.List.{flat_map}
 use Rattle.gil_lexer.specs.Words.{word_bytes}
 use Rattle.gil_lexer.specs.declared.forms.Form.{Form}
 use Rattle.gil_lexer.specs.declared.forms.Form.TheVariants as forms
@@ -15,19 +16,22 @@ use Rattle.gil_syntax.specs.declared.assertions.SpecSort.{SpecSort}
 use Rattle.gil_syntax.specs.declared.assertions.SpecSort.TheVariants as sorts
 use Rattle.gil_syntax.specs.Pure.{PurePredUse, PureItem, pure, uses}
 use Rattle.gil_grammar.specs.declared.positions.Position.TheVariants as positions
-use Rattle.gil_grammar.specs.Assertions.{SpellsParam, SpellsParams, SpellsVariables, SpellsUse, SpellsItem, SpellsAssertion, SpellsBlock, SpellsBlocks}
-use Rattle.gil_grammar.specs.Lists.{SpellsSeparated}
+use Rattle.gil_grammar.specs.Assertions.{SpellsParam, SpellsParams, SpellsVariables, SpellsUse, SpellsItem, SpellsAssertion, SpellsBlock, SpellsBlocks, SpellsError, SpellsPosts}
+use Rattle.gil_grammar.specs.Lists.{SpellsEach, SpellsSeparated}
 use Rattle.gil_grammar.specs.Nesting.{most_open}
 use Rattle.gil_grammar.specs.Vocabulary as grammar
-use Rattle.syntax_print.specs.Assertions.{printed_sort, printed_param, printed_params, printed_variables, behind_semicolon, printed_use, printed_item, printed_assertion, printed_block, printed_blocks}
+use Rattle.syntax_print.specs.Assertions.{printed_sort, printed_param, printed_params, printed_variables, behind_semicolon, printed_use, printed_item, printed_assertion, printed_block, printed_error, printed_posts, printed_blocks}
 use Rattle.syntax_print.specs.Expressions.{printed_exprs}
 use Rattle.gil_print.proofs.Lexing.{IsSpelled, Stands, Written, Lexes, Anywhere, MayStand, lexes_blank}
 use Rattle.gil_print.proofs.Expressions.{within_of, behind_of, parenthesis_closed, bracket_closed, brace_closed, expr_prints, exprs_print}
-use Rattle.gil_print.proofs.Pieces.{PrintsFirst, PrintsAny, first_of, first_of_any, three, separated_prints, some_print}
-use Rattle.gil_print.proofs.Tokens.{Stops, Opens, TokenOf, named, name_token, logical_token, lexes_of, lexes_word, comma_step, colon_step, star_step, semicolon_step, left_parenthesis, right_parenthesis, left_bracket, right_bracket, left_brace, right_brace}
+use Rattle.gil_print.proofs.Pieces.{PrintsFirst, PrintsAny, first_of, first_of_any, three, separated_prints, each_prints, some_print}
+use Rattle.gil_print.proofs.Tokens.{Stops, Opens, TokenOf, named, name_token, logical_token, lexes_of, lexes_word, word_and_blank, comma_step, colon_step, star_step, semicolon_step, left_parenthesis, right_parenthesis, left_bracket, right_bracket, left_brace, right_brace}
 
 pub six : (a b c d e f g : List ℕ) → (((((a ++ b) ++ c) ++ d) ++ e) ++ f) ++ g ≡ a ++ (b ++ (c ++ (d ++ (e ++ (f ++ g)))))
 six a b c d e f g = simp append_assoc
+
+pub seven : (a b c d e f g h : List ℕ) → ((((((a ++ b) ++ c) ++ d) ++ e) ++ f) ++ g) ++ h ≡ a ++ (b ++ (c ++ (d ++ (e ++ (f ++ (g ++ h))))))
+seven a b c d e f g h = simp append_assoc
 
 -- ---- parameters, by names of one form
 
@@ -200,3 +204,45 @@ block_prints items from rest b count (inner, is, k) w =
 pub blocks_print : (blocks : List (List PureItem)) (from rest : List Lexeme) (b : Option Form) (count : ℕ) → SpellsBlocks blocks from rest → Written b count from
     → PrintsAny (SpellsBlocks blocks) (printed_blocks blocks) count rest
 blocks_print = some_print SpellsBlock printed_block (codes " ") (λ b count bytes ls h. lexes_blank 32 b count bytes ls refl h) block_prints
+
+-- ---- postconditions, each behind a blank
+
+error_prints : (items : List PureItem) (from rest : List Lexeme) (b : Option Form) (count : ℕ) → SpellsError items from rest → Written b count from → PrintsAny (SpellsError items) (printed_error items) count rest
+unfolding word_bytes
+error_prints items from rest b count (block, is, k) w =
+    let here = subst (Written b count) is w in
+    let inner = block_prints items block rest _ count k here.1 in
+    record {
+      before = _;
+      behind = inner.behind;
+      again = λ bytes ls any.
+          let x = inner.again bytes ls any in
+          (lexemes.Word words.Throw ∷ x.0, (x.0, refl, x.1), λ b'. word_and_blank words.Throw b' count (printed_block items ++ bytes) x.0 here.0.within (x.2 _));
+    }
+
+some_blocks : (blocks : List (List PureItem)) (from rest : List Lexeme) (b : Option Form) (count : ℕ) → SpellsEach SpellsBlock blocks from rest → Written b count from
+    → PrintsAny (SpellsEach SpellsBlock blocks) (flat_map (λ items. codes " " ++ printed_block items) blocks) count rest
+some_blocks = each_prints SpellsBlock printed_block (codes " ") (λ b count bytes ls h. lexes_blank 32 b count bytes ls refl h) block_prints
+
+some_errors : (blocks : List (List PureItem)) (from rest : List Lexeme) (b : Option Form) (count : ℕ) → SpellsEach SpellsError blocks from rest → Written b count from
+    → PrintsAny (SpellsEach SpellsError blocks) (flat_map (λ items. codes " " ++ printed_error items) blocks) count rest
+some_errors = each_prints SpellsError printed_error (codes " ") (λ b count bytes ls h. lexes_blank 32 b count bytes ls refl h) error_prints
+
+pub posts_print : (posts errors : List (List PureItem)) (from rest : List Lexeme) (b : Option Form) (count : ℕ) → SpellsPosts posts errors from rest → Written b count from
+    → PrintsAny (SpellsPosts posts errors) (printed_posts posts errors) count rest
+posts_print [] [] from rest b count h w = absurd h
+posts_print [] (x ∷ xs) from rest b count h w =
+    let all = some_errors (x ∷ xs) from rest b count h w in
+    record { before = all.before; behind = all.behind; again = all.again }
+posts_print (x ∷ xs) errors from rest b count (middle, h, k) w =
+    let posts = some_blocks (x ∷ xs) from middle b count h w in
+    let others = some_errors errors middle rest _ count k posts.behind in
+    let late = flat_map (λ items. codes " " ++ printed_error items) errors in
+    record {
+      before = _;
+      behind = others.behind;
+      again = λ bytes ls any.
+          let z = others.again bytes ls any in
+          let y = posts.again (late ++ bytes) z.0 z.2 in
+          (y.0, (z.0, y.1, z.1), λ b'. subst (λ t. Lexes b' count t y.0) (sym (append_assoc (flat_map (λ items. codes " " ++ printed_block items) (x ∷ xs)) late bytes)) (y.2 b'));
+    }

@@ -1,5 +1,5 @@
 -- Printed commands.
-use Rattle.std.proofs.Common.{◌≡◌, ℕ, ◌+◌, ◌≤◌, ℤ, List, ◌∷◌, ◌++◌, Option, Some, refl, sym, subst, append_assoc}
+use Rattle.std.proofs.Common.{◌≡◌, ℕ, ◌+◌, ◌≤◌, ℤ, List, ◌∷◌, ◌++◌, Option, Some, None, refl, sym, subst, append_assoc}
 use Rattle.std.specs.Prelude.{codes}
 use Rattle.gil_values.specs.declared.kinds.Kind.{Kind}
 use Rattle.gil_values.specs.declared.kinds.Kind.TheVariants as kinds
@@ -13,20 +13,20 @@ use Rattle.gil_lexer.specs.declared.words.Word.TheVariants as words
 use Rattle.gil_lexemes.specs.declared.standing.Lexeme.{Lexeme}
 use Rattle.gil_lexemes.specs.declared.standing.Lexeme.TheVariants as lexemes
 use Rattle.gil_syntax.specs.declared.assertions.Param.{Param}
-use Rattle.gil_syntax.specs.Pure.{PureExpr, PureItem, PureCommand, assign, call, act, usym, isym, ifgoto, return, fail, vanish, fold_use, unfold_use, assert_that, loop_invariant}
+use Rattle.gil_syntax.specs.Pure.{PureExpr, PureItem, PureCommand, assign, call, act, usym, isym, ifgoto, return, fail, throw, vanish, fold_use, unfold_use, assert_that, loop_invariant}
 use Rattle.gil_grammar.specs.declared.positions.Position.TheVariants as positions
 use Rattle.gil_grammar.specs.Assertions.{SpellsBlock, SpellsUse}
-use Rattle.gil_grammar.specs.Commands.{SpellsName, SpellsNames, SpellsCommand, SpellsStatement}
+use Rattle.gil_grammar.specs.Commands.{SpellsName, SpellsNames, SpellsHandler, SpellsCommand, SpellsStatement}
 use Rattle.gil_grammar.specs.Expressions.{SpellsExpr, SpellsExprs}
 use Rattle.gil_grammar.specs.Nesting.{most_open}
 use Rattle.gil_grammar.specs.Vocabulary as grammar
 use Rattle.gil_grammar.proofs.ListLaws.{found_is}
 use Rattle.syntax_print.specs.Assertions.{printed_variables, printed_use, printed_block}
-use Rattle.syntax_print.specs.Commands.{input_name, printed_names, printed_command}
+use Rattle.syntax_print.specs.Commands.{input_name, printed_names, printed_handler, printed_command}
 use Rattle.syntax_print.specs.Expressions.{printed_expr, printed_exprs}
 use Rattle.gil_print.proofs.Lexing.{IsSpelled, Written, Lexes, Anywhere, lexes_blank}
 use Rattle.gil_print.proofs.Expressions.{four, behind_of, parenthesis_closed, expr_prints, exprs_print}
-use Rattle.gil_print.proofs.Assertions.{six, variables_print, use_prints, block_prints}
+use Rattle.gil_print.proofs.Assertions.{six, seven, variables_print, use_prints, block_prints}
 use Rattle.gil_print.proofs.Pieces.{PrintsFirst, PrintsAny, PrintsBare, first_of, first_of_any, three, separated_prints}
 use Rattle.gil_print.proofs.Tokens.{named, name_token, number_token, lexes_of, lexes_word, word_and_blank, comma_step, becomes_step, semicolon_step, left_parenthesis, right_parenthesis}
 
@@ -104,24 +104,48 @@ assign_prints x e from rest b count (value, is, k) w =
           );
     }
 
-call_prints : (x : List ℕ) (e : PureExpr) (es : List PureExpr) (from rest : List Lexeme) (b : Option Form) (count : ℕ) → SpellsCommand (call x e es) from rest → Written b count from
-    → PrintsBare (SpellsCommand (call x e es)) (printed_command (call x e es)) count rest
+-- ` catch label`, or nothing
+handler_prints : (handler : Option ℤ) (from rest : List Lexeme) (b : Option Form) (count : ℕ) → SpellsHandler handler from rest → Written b count from
+    → PrintsBare (SpellsHandler handler) (printed_handler handler) count rest
 unfolding word_bytes
-call_prints x e es from rest b count (callee, arguments, is, k, j) w =
+handler_prints None from rest b count is w = record { before = b; behind = subst (Written b count) is w; again = λ bytes ls stops any. (ls, refl, any) }
+handler_prints (Some label) from rest b count is w =
     let here = subst (Written b count) is w in
-    let expression = expr_prints positions.Command e callee (grammar.opening_parenthesis ∷ arguments) _ count k here.1.1.1 in
-    let given = arguments_print es arguments rest _ count j expression.behind in
+    let number = here.1 in
     record {
       before = _;
-      behind = given.behind;
+      behind = number.1;
       again = λ bytes ls stops any.
-          let z = given.again bytes ls any in
-          let text = 40 ∷ (printed_exprs es ++ 41 ∷ bytes) in
+          let text = signed_numeral label ++ bytes in (
+            lexemes.Word words.Catch ∷ lexemes.Number label ∷ ls,
+            refl,
+            λ b'. lexes_blank 32 b' count (codes "catch " ++ text) (lexemes.Word words.Catch ∷ lexemes.Number label ∷ ls) refl
+                (word_and_blank words.Catch b' count text (lexemes.Number label ∷ ls) here.0.within
+                (lexes_of (lexemes.Number label) (signed_numeral label) (λ n. refl) (number_token label number.0.spelled) (Some (forms.Word words.Catch)) count bytes ls number.0.may number.0.within stops (any _))),
+          );
+    }
+
+call_prints : (x : List ℕ) (e : PureExpr) (es : List PureExpr) (handler : Option ℤ) (from rest : List Lexeme) (b : Option Form) (count : ℕ)
+    → SpellsCommand (call x e es handler) from rest → Written b count from → PrintsBare (SpellsCommand (call x e es handler)) (printed_command (call x e es handler)) count rest
+unfolding word_bytes
+call_prints x e es handler from rest b count (callee, arguments, after, is, k, j, i) w =
+    let here = subst (Written b count) is w in
+    let expression = expr_prints positions.Command e callee (grammar.opening_parenthesis ∷ arguments) _ count k here.1.1.1 in
+    let given = arguments_print es arguments after _ count j expression.behind in
+    let label = handler_prints handler after rest _ count i given.behind in
+    record {
+      before = _;
+      behind = label.behind;
+      again = λ bytes ls stops any.
+          let v = label.again bytes ls stops any in
+          let late = printed_handler handler ++ bytes in
+          let z = given.again late v.0 v.2 in
+          let text = 40 ∷ (printed_exprs es ++ 41 ∷ late) in
           let y = expression.again (Some (forms.Word words.Call)) text (grammar.opening_parenthesis ∷ z.0) refl refl (z.2 _) in
           let read = lexemes.Name x ∷ grammar.becomes ∷ lexemes.Word words.Call ∷ y.0 in (
             read,
-            (y.0, z.0, refl, y.1, z.1),
-            λ b'. subst (λ t. Lexes b' count t read) (sym (six x (codes " := call ") (printed_expr e) (codes "(") (printed_exprs es) (codes ")") bytes))
+            (y.0, z.0, v.0, refl, y.1, z.1, v.1),
+            λ b'. subst (λ t. Lexes b' count t read) (sym (seven x (codes " := call ") (printed_expr e) (codes "(") (printed_exprs es) (codes ")") (printed_handler handler) bytes))
                 (assigned x b' count (codes "call " ++ (printed_expr e ++ text)) (lexemes.Word words.Call ∷ y.0) here.0.spelled here.0.within
                 (word_and_blank words.Call _ count (printed_expr e ++ text) y.0 here.0.within y.2)),
           );
@@ -270,7 +294,7 @@ pub command_prints : (c : PureCommand) (from rest : List Lexeme) (b : Option For
     → PrintsBare (SpellsCommand c) (printed_command c) count rest
 unfolding word_bytes
 command_prints (assign x e) from rest b count h w = assign_prints x e from rest b count h w
-command_prints (call x e es) from rest b count h w = call_prints x e es from rest b count h w
+command_prints (call x e es handler) from rest b count h w = call_prints x e es handler from rest b count h w
 command_prints (act x action es) from rest b count h w = act_prints x action es from rest b count h w
 command_prints (usym x) from rest b count h w = usym_prints x from rest b count h w
 command_prints (isym x k) from rest b count h w = isym_prints x k from rest b count h w
@@ -280,6 +304,9 @@ command_prints (return e) from rest b count (value, is, k) w =
     (λ w'. first_of (expr_prints positions.Command e value rest _ count k w'))
 command_prints (fail e) from rest b count (value, is, k) w =
     worded words.Fail (codes "fail ") refl (SpellsExpr positions.Command e) (printed_expr e) from value rest b count is w
+    (λ w'. first_of (expr_prints positions.Command e value rest _ count k w'))
+command_prints (throw e) from rest b count (value, is, k) w =
+    worded words.Throw (codes "throw ") refl (SpellsExpr positions.Command e) (printed_expr e) from value rest b count is w
     (λ w'. first_of (expr_prints positions.Command e value rest _ count k w'))
 command_prints vanish from rest b count h w = vanish_prints from rest b count h w
 command_prints (fold_use u) from rest b count (inner, is, k) w =

@@ -15,18 +15,19 @@ use Rattle.gil_grammar.specs.declared.positions.Position.TheVariants as position
 use Rattle.gil_grammar.specs.Commands.{SpellsStatement}
 use Rattle.gil_grammar.specs.Programs.{commands_of, SpellsProc, SpellsSpec, SpellsPred, SpellsProgramItem}
 use Rattle.gil_grammar.specs.Vocabulary as grammar
-use Rattle.syntax_print.specs.Assertions.{printed_params, printed_variables, printed_block, printed_blocks, behind_semicolon}
+use Rattle.syntax_print.specs.Assertions.{printed_params, printed_variables, printed_block, printed_posts, printed_blocks, behind_semicolon}
 use Rattle.syntax_print.specs.Commands.{printed_names}
 use Rattle.syntax_print.specs.Programs.{printed_statement, printed_proc, printed_spec, printed_pred}
 use Rattle.gil_print.proofs.Lexing.{Written, Lexes, lexes_blank}
 use Rattle.gil_print.proofs.Expressions.{behind_of, parenthesis_closed, brace_closed}
-use Rattle.gil_print.proofs.Assertions.{program_params_print, variables_print, block_prints, blocks_print, semicolon_blank}
+use Rattle.gil_print.proofs.Assertions.{seven, program_params_print, variables_print, block_prints, blocks_print, posts_print, semicolon_blank}
 use Rattle.gil_print.proofs.Commands.{names_print, line_of, statement_prints}
 use Rattle.gil_print.proofs.Pieces.{PrintsAny, each_prints}
 use Rattle.gil_print.proofs.Tokens.{named, name_token, lexes_of, word_and_blank, semicolon_step, left_parenthesis, right_parenthesis, left_brace, right_brace}
 
-seven : (a b c d e f g h : List ℕ) → ((((((a ++ b) ++ c) ++ d) ++ e) ++ f) ++ g) ++ h ≡ a ++ (b ++ (c ++ (d ++ (e ++ (f ++ (g ++ h))))))
-seven a b c d e f g h = simp append_assoc
+ten : (a b c d e f g h i j k : List ℕ)
+    → (((((((((a ++ b) ++ c) ++ d) ++ e) ++ f) ++ g) ++ h) ++ i) ++ j) ++ k ≡ a ++ (b ++ (c ++ (d ++ (e ++ (f ++ (g ++ (h ++ (i ++ (j ++ k)))))))))
+ten a b c d e f g h i j k = simp append_assoc
 
 eleven : (a b c d e f g h i j k l : List ℕ)
     → ((((((((((a ++ b) ++ c) ++ d) ++ e) ++ f) ++ g) ++ h) ++ i) ++ j) ++ k) ++ l ≡ a ++ (b ++ (c ++ (d ++ (e ++ (f ++ (g ++ (h ++ (i ++ (j ++ (k ++ l))))))))))
@@ -79,15 +80,15 @@ spec_prints s from rest b count (params, variables, pre, posts, is, k, j, i, h) 
     let behind = parenthesis_closed _ count variables listed.behind in
     let logicals = variables_print s.logicals variables pre _ count j behind.behind in
     let before = block_prints s.pre pre posts _ count i logicals.behind in
-    let after = blocks_print s.posts posts rest _ count h before.behind in
+    let after = posts_print s.posts s.errors posts rest _ count h before.behind in
     record {
       before = _;
       behind = after.behind;
       again = λ bytes ls any.
           let x = after.again (10 ∷ bytes) ls (λ b''. lexes_blank 10 b'' count bytes ls refl (any b'')) in
-          let late = printed_blocks s.posts ++ (10 ∷ bytes) in
-          let y = before.again (32 ∷ late) x.0 (λ b''. lexes_blank 32 b'' count late x.0 refl (x.2 b'')) in
-          let blocks = printed_block s.pre ++ (32 ∷ late) in
+          let late = printed_posts s.posts s.errors ++ (10 ∷ bytes) in
+          let y = before.again late x.0 x.2 in
+          let blocks = printed_block s.pre ++ late in
           let z = logicals.again (32 ∷ blocks) y.0 (λ b''. lexes_blank 32 b'' count blocks y.0 refl (y.2 b'')) in
           let tail = printed_variables s.logicals ++ (32 ∷ blocks) in
           let v = listed.again (Some (forms.Sign signs.LeftParenthesis)) (41 ∷ 32 ∷ tail) (grammar.closing_parenthesis ∷ z.0) refl refl
@@ -97,7 +98,7 @@ spec_prints s from rest b count (params, variables, pre, posts, is, k, j, i, h) 
             read,
             (v.0, z.0, y.0, x.0, refl, v.1, z.1, y.1, x.1),
             λ b'. subst (λ t. Lexes b' count t read)
-                (sym (eleven (codes "spec ") s.name (codes "(") (printed_params s.params) (codes ") ") (printed_variables s.logicals) (codes " ") (printed_block s.pre) (codes " ") (printed_blocks s.posts) (codes "\n") bytes))
+                (sym (ten (codes "spec ") s.name (codes "(") (printed_params s.params) (codes ") ") (printed_variables s.logicals) (codes " ") (printed_block s.pre) (printed_posts s.posts s.errors) (codes "\n") bytes))
                 (word_and_blank words.Spec b' count (s.name ++ (40 ∷ text)) (lexemes.Name s.name ∷ grammar.opening_parenthesis ∷ v.0) here.0.within
                 (lexes_of (lexemes.Name s.name) s.name (λ n. refl) (name_token s.name here.1.0.spelled) _ count (40 ∷ text) (grammar.opening_parenthesis ∷ v.0) tt here.0.within refl
                 (left_parenthesis _ count text v.0 here.1.1.0.within v.2))),

@@ -10,7 +10,9 @@ use Rattle.gil_syntax.specs.Valid.{ProgramItem, a_proc, a_spec, a_pred, items_of
 use Rattle.gil_lexer.specs.declared.forms.Token.{Token}
 use Rattle.gil_lexer.specs.declared.faults.LexKind.{LexKind}
 use Rattle.gil_lexer.specs.declared.faults.LexKind.TheVariants as kinds
+use Rattle.gil_lexer.specs.Faults.{StopsAt}
 use Rattle.gil_lexer.specs.Texts.{AreTokensOf}
+use Rattle.gil_lexer.proofs.TextLaws.{fault_or_tokens}
 use Rattle.gil_lexemes.specs.declared.standing.Lexeme.{Lexeme}
 use Rattle.gil_lexemes.specs.Lexemes.{StandForAll}
 use Rattle.gil_grammar.specs.Nesting.{IsNested}
@@ -22,21 +24,25 @@ use Rattle.gil_grammar.proofs.TextLaws.{program_takes, program_again, nested_who
 use Rattle.gil_text.specs.declared.refused.RefusedKind.{RefusedKind}
 use Rattle.gil_text.specs.declared.refused.RefusedKind.TheVariants as refusals
 use Rattle.gil_text.specs.Located.{PureLocated, located_of}
-use Rattle.gil_text.specs.Refusals.{lexical, HasNoTokens, IsRefusedFor}
+use Rattle.gil_text.specs.Refusals.{lexical, HasNoTokenAt, HasNoTokens, place_of, IsTokenPlace, IsTooDeep, IsRefusedFor}
 
-pub lexical_refusal : (kind : LexKind) (bytes : List ℕ) (at : ℕ) → (kind ≢ kinds.Memory → (tokens : List Token) → AreTokensOf tokens bytes → ⊥) → IsRefusedFor bytes at (lexical kind)
+pub lexical_refusal : (kind : LexKind) (bytes : List ℕ) (at : ℕ) → StopsAt kind at bytes → IsRefusedFor bytes at (lexical kind)
 lexical_refusal kinds.Memory bytes at h = tt
-lexical_refusal kinds.Byte bytes at h = h (λ e. cc)
-lexical_refusal kinds.Open bytes at h = h (λ e. cc)
-lexical_refusal kinds.Escape bytes at h = h (λ e. cc)
-lexical_refusal kinds.Wide bytes at h = h (λ e. cc)
+lexical_refusal kinds.Byte bytes at h = (kinds.Byte, (λ e. cc), h)
+lexical_refusal kinds.Open bytes at h = (kinds.Open, (λ e. cc), h)
+lexical_refusal kinds.Escape bytes at h = (kinds.Escape, (λ e. cc), h)
+lexical_refusal kinds.Wide bytes at h = (kinds.Wide, (λ e. cc), h)
 
-pub no_tokens : (kind : LexKind) (bytes : List ℕ) → (kind ≢ kinds.Memory → (tokens : List Token) → AreTokensOf tokens bytes → ⊥) → HasNoTokens bytes (lexical kind)
-no_tokens kinds.Memory bytes h = tt
-no_tokens kinds.Byte bytes h = h (λ e. cc)
-no_tokens kinds.Open bytes h = h (λ e. cc)
-no_tokens kinds.Escape bytes h = h (λ e. cc)
-no_tokens kinds.Wide bytes h = h (λ e. cc)
+pub no_tokens : (kind : LexKind) (bytes : List ℕ) (at : ℕ) → StopsAt kind at bytes → HasNoTokens bytes at (lexical kind)
+no_tokens kinds.Memory bytes at h = tt
+no_tokens kinds.Byte bytes at h = (kinds.Byte, (λ e. cc), h)
+no_tokens kinds.Open bytes at h = (kinds.Open, (λ e. cc), h)
+no_tokens kinds.Escape bytes at h = (kinds.Escape, (λ e. cc), h)
+no_tokens kinds.Wide bytes at h = (kinds.Wide, (λ e. cc), h)
+
+-- a text in which no token stands somewhere is no tokens
+pub none_or_tokens : (bytes : List ℕ) (at : ℕ) (tokens : List Token) → HasNoTokenAt bytes at → AreTokensOf tokens bytes → ⊥
+none_or_tokens bytes at tokens (kind, real, stops) text = fault_or_tokens kind at bytes tokens real stops text
 
 map_some : {X Y : Type 0} (f : X → Y) (o : Option X) (y : Y) → option_map f o ≡ Some y → (x : X) × (o ≡ Some x) × (f x ≡ y)
 map_some f (Some x) y e = (x, refl, cc)
@@ -54,29 +60,31 @@ items_spell bytes tokens ls located text stand nested e =
     let spelled = program_takes tokens ls found.0 found.1 in
     (found.0, record { tokens = tokens; lexemes = ls; text = text; stand = stand; nested = nested; spelled = spelled.0; first = spelled.1 }, sym found.2)
 
--- a text with another number of brackets
-pub nesting_refusal : (bytes : List ℕ) (tokens : List Token) (ls : List Lexeme) (at : ℕ) → AreTokensOf tokens bytes → StandForAll bytes tokens ls → (IsNested ls → ⊥) → IsRefusedFor bytes at refusals.Nesting
-nesting_refusal bytes tokens ls at text stand deep = (tokens, ls, record { text = text; stand = stand }, deep)
+-- a text in which too many brackets are open
+pub nesting_refusal : (bytes : List ℕ) (tokens : List Token) (ls : List Lexeme) (left at : ℕ) → AreTokensOf tokens bytes → StandForAll bytes tokens ls → IsTooDeep IsNested ls left
+    → at ≡ place_of bytes tokens left → IsRefusedFor bytes at refusals.Nesting
+nesting_refusal bytes tokens ls left at text stand deep place = (tokens, ls, record { text = text; stand = stand }, (left, deep, place))
 
 -- a text without items
 pub syntax_refusal : (bytes : List ℕ) (tokens : List Token) (ls : List Lexeme) (at : ℕ) → AreTokensOf tokens bytes → StandForAll bytes tokens ls → IsNested ls
-    → option_map located_of (program_at tokens ls) ≡ None → IsRefusedFor bytes at refusals.Syntax
-syntax_refusal bytes tokens ls at text stand nested e =
+    → option_map located_of (program_at tokens ls) ≡ None → IsTokenPlace bytes tokens at → IsRefusedFor bytes at refusals.Syntax
+syntax_refusal bytes tokens ls at text stand nested e place =
     let none = map_none located_of (program_at tokens ls) e in (
       tokens,
       ls,
       record { text = text; stand = stand },
       nested,
-      λ items spells first. let some = program_again tokens ls items (nested_whole ls nested) spells first in cc (none, some),
+      (λ items spells first. let some = program_again tokens ls items (nested_whole ls nested) spells first in cc (none, some)),
+      place,
     )
 
 -- ---- what excludes what
 
 -- a text of a valid program is refused for want of memory alone
 pub no_refusal : (bytes : List ℕ) (at : ℕ) (kind : RefusedKind) (program : PureParts) → IsRefusedFor bytes at kind → SpellProgram bytes program → IsValid program → kind ≡ refusals.Memory
-no_refusal bytes at refusals.Lex program h (items, s, is) valid = absurd (h s.tokens s.text)
-no_refusal bytes at refusals.Nesting program (tokens, ls, are, deep) (items, s, is) valid = absurd (deep (spelled_as_read bytes tokens ls items are.text are.stand s).0)
-no_refusal bytes at refusals.Syntax program (tokens, ls, are, nested, none) (items, s, is) valid =
+no_refusal bytes at refusals.Lex program h (items, s, is) valid = absurd (none_or_tokens bytes at s.tokens h s.text)
+no_refusal bytes at refusals.Nesting program (tokens, ls, are, (left, deep, place)) (items, s, is) valid = absurd (deep.whole (spelled_as_read bytes tokens ls items are.text are.stand s).0)
+no_refusal bytes at refusals.Syntax program (tokens, ls, are, nested, none, place) (items, s, is) valid =
     let spelled = spelled_as_read bytes tokens ls items are.text are.stand s in
     absurd (none items spelled.1 spelled.2)
 no_refusal bytes at (refusals.Invalid kind) program (items, i, s, named, place) spells valid =

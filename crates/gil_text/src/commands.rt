@@ -28,7 +28,19 @@ fn assign_at<'a>(
     Ok((Command::Assign(variable, value), cursor))
 }
 
-/// `e(e, ..)`, behind `call`.
+/// `catch label`, or nothing.
+#[tactic(auto, unfolding(gil_grammar::specs::Reading::Commands::handler_at))]
+fn handler_at<'a>(cursor: Cursor<'a>) -> Result<(Option<i64>, Cursor<'a>), Stop>
+    ensures { Gives (λ found. (found.0, found.1)) result (read.handler_at cursor.entry) }
+{
+    if !cursor.is_at_word(Word::Catch) {
+        return Ok((None, cursor));
+    }
+    let (label, cursor) = cursor.behind().number()?;
+    Ok((Some(label), cursor))
+}
+
+/// `e(e, ..)` and the label of its handler, behind `call`.
 #[tactic(auto, unfolding(gil_grammar::specs::Reading::Commands::call_at))]
 fn call_at<'a>(
     alloc: Global,
@@ -46,7 +58,9 @@ fn call_at<'a>(
         cursor,
     )?;
     let cursor = cursor.sign(Sign::RightParenthesis)?;
-    Ok((Command::Call(variable, callee, arguments), cursor))
+    let (handler, cursor) = handler_at(cursor)?;
+    let call = Command::Call(variable, callee, arguments, handler);
+    Ok((call, cursor))
 }
 
 /// `action(e, ..)`, behind `do`.
@@ -135,6 +149,14 @@ fn fail_at<'a>(alloc: Global, cursor: Cursor<'a>) -> Result<(Command, Cursor<'a>
 {
     let (value, cursor) = expression_at(alloc, Position::Command, cursor)?;
     Ok((Command::Fail(value), cursor))
+}
+
+/// `e`, behind `throw`.
+fn throw_at<'a>(alloc: Global, cursor: Cursor<'a>) -> Result<(Command, Cursor<'a>), Stop>
+    ensures { Gives (λ found. (command_view found.0, found.1)) result (read.throw_at cursor.entry) }
+{
+    let (value, cursor) = expression_at(alloc, Position::Command, cursor)?;
+    Ok((Command::Throw(value), cursor))
 }
 
 /// A use of a predicate, behind `fold`.
@@ -244,6 +266,7 @@ fn worded_at<'a>(
         Word::Ifgoto => ifgoto_at(alloc, cursor.behind()),
         Word::Return => return_at(alloc, cursor.behind()),
         Word::Fail => fail_at(alloc, cursor.behind()),
+        Word::Throw => throw_at(alloc, cursor.behind()),
         Word::Vanish => Ok((Command::Vanish, cursor.behind())),
         _ => logic_at(alloc, word, cursor),
     }

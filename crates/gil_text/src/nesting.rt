@@ -1,7 +1,8 @@
 //! How many brackets are open in a text.
-ghost use Rattle.std.specs.Prelude.{◌≡◌, ◌≤◌, IfNone, OnSome};
+ghost use Rattle.std.specs.Prelude.{◌≡◌, ◌≤◌, IfNone, IfSome};
 ghost use Rattle.gil_grammar.specs.Nesting.{most_open, IsNested};
 ghost use Rattle.gil_text.specs.Brackets.{open_by};
+ghost use Rattle.gil_text.specs.Refusals.{IsTooDeep};
 
 use crate::assertions::MOST_OPEN;
 use gil_lexemes::Cursor;
@@ -24,7 +25,7 @@ fn open_by(count: u32, form: Form) -> u32
 /// Where more brackets are open than may be, how many tokens are left from the first one on that opens one too many.
 pub fn nesting_fault(cursor: Cursor<'_>) -> Option<usize>
     ensures none { IfNone result (IsNested cursor.entry) }
-    ensures some { OnSome result (IsNested cursor.entry → ⊥) }
+    ensures some { IfSome result (IsTooDeep IsNested cursor.entry) }
 {
     let mut count = 0u32;
     let mut rest = cursor;

@@ -6,11 +6,11 @@ ghost use Rattle.gil_grammar.specs.Reading.Programs as read;
 ghost use Rattle.gil_text.specs.Located.{text_item_view};
 
 use crate::assertions::{block_at, params_at, variables_at};
-use crate::blocks::blocks_at;
+use crate::blocks::{blocks_at, posts_at};
 use crate::commands::{names_at, statement_at};
 use crate::located::TextItem;
 use crate::vocabulary::{named_at, word_of};
-use gil_grammar::{Extent, Naming, Position};
+use gil_grammar::{Extent, Naming, Opening, Position};
 use gil_lexemes::{Cursor, Stop};
 use gil_lexer::{Sign, Word};
 use gil_syntax::{Body, NumberedCommand, PredDef, Proc, Spec};
@@ -55,7 +55,7 @@ fn proc_at<'a>(alloc: Global, cursor: Cursor<'a>) -> Result<(Proc, Cursor<'a>), 
     Ok((Proc { name, params, body }, cursor))
 }
 
-/// `name(x : sort, ..) [#x : sort, ..] { precondition } { postcondition } ..`, behind `spec`.
+/// `name(x : sort, ..) [#x : sort, ..] { precondition } { postcondition } .. throw { error postcondition } ..`, behind `spec`.
 #[tactic(auto, unfolding(gil_grammar::specs::Reading::Programs::spec_at))]
 pub fn spec_at<'a>(
     alloc: Global,
@@ -70,13 +70,14 @@ pub fn spec_at<'a>(
     let cursor = cursor.sign(Sign::RightParenthesis)?;
     let (logicals, cursor) = variables_at(alloc, cursor)?;
     let (pre, cursor) = block_at(alloc, cursor)?;
-    let (posts, cursor) = blocks_at(alloc, extent, cursor)?;
+    let ((posts, errors), cursor) = posts_at(alloc, extent, cursor)?;
     let specification = Spec {
         name,
         params,
         logicals,
         pre,
         posts,
+        errors,
     };
     Ok((specification, cursor))
 }
@@ -97,7 +98,7 @@ pub fn pred_at<'a>(
     let (outs, cursor) = params_at(alloc, Naming::Program, Sign::RightParenthesis, cursor)?;
     let cursor = cursor.sign(Sign::RightParenthesis)?;
     let (logicals, cursor) = variables_at(alloc, cursor)?;
-    let (cases, cursor) = blocks_at(alloc, extent, cursor)?;
+    let (cases, cursor) = blocks_at(alloc, Opening::Brace, extent, cursor)?;
     let predicate = PredDef {
         name,
         ins,

@@ -8,12 +8,12 @@ ghost use Rattle.gil_program.specs.Program.{prog_view};
 ghost use Rattle.gil_grammar.specs.Texts.{PlacedItem, Spell, SpellProgram};
 ghost use Rattle.gil_text.specs.declared.refused.RefusedKind.TheVariants.{Memory};
 ghost use Rattle.gil_text.specs.Located.{located_of, located_view};
-ghost use Rattle.gil_text.specs.Refusals.{HasNoTokens, IsRefused, lexical, place_of};
+ghost use Rattle.gil_text.specs.Refusals.{HasNoTokens, IsRefused, IsTokenPlace, lexical, place_of};
 
 use crate::located::Located;
 use crate::nesting::nesting_fault;
 use crate::places::place_at;
-use crate::reading::{byte_before, program_at};
+use crate::reading::program_at;
 use crate::refused::{Refused, RefusedKind};
 use gil_lexemes::{Cursor, Stop};
 use gil_lexer::{LexKind, Token, Tokens, lex};
@@ -35,7 +35,7 @@ fn lexical(kind: LexKind) -> RefusedKind
 pub fn tokens_of(alloc: Global, bytes: &[u8]) -> Result<Tokens, Refused>
     ensures tokens { IfOk result (λ tokens. AreTokensOf tokens bytes.now) }
     ensures slices { IfOk result (λ tokens. All (IsSlice bytes.now) tokens) }
-    ensures lexical { IfErr result (λ refused. HasNoTokens bytes.now refused.kind) }
+    ensures lexical { IfErr result (λ refused. HasNoTokens bytes.now refused.at refused.kind) }
     ensures refused { IfErr result (IsRefused bytes.now) }
 {
     match lex(alloc, bytes) {
@@ -49,12 +49,12 @@ pub fn tokens_of(alloc: Global, bytes: &[u8]) -> Result<Tokens, Refused>
 
 /// The byte at which the last tokens of the text begin, so many of them, or its length where there are none.
 pub fn place_of(bytes: &[u8], tokens: &[Token], left: usize) -> usize
-    ensures { result ≡ place_of bytes.now tokens.now left }
+    ensures place { result ≡ place_of bytes.now tokens.now left }
+    ensures token { IsTokenPlace bytes.now tokens.now result }
 {
-    if left == 0 {
-        bytes.len()
-    } else {
-        byte_before(tokens, left)
+    match tokens.get(tokens.len().saturating_sub(left)) {
+        Some(token) => token.from,
+        None => bytes.len(),
     }
 }
 

@@ -32,12 +32,12 @@ pub invariant_added : (names variables block start a b c d e all : List ℕ)
     → all ≡ start ++ (codes "invariant (" ++ names ++ codes ") " ++ variables ++ codes " " ++ block)
 invariant_added names variables block start a b c d e all f g h i j k = rw (k, j, i, h, g, f) (simp append_assoc)
 
-pub spec_added : (name params variables pre posts start a b c d e f g h i j all : List ℕ)
+pub spec_added : (name params variables pre posts start a b c d e f g h i all : List ℕ)
     → a ≡ start ++ codes "spec " → b ≡ a ++ name → c ≡ b ++ codes "(" → d ≡ c ++ params → e ≡ d ++ codes ") " → f ≡ e ++ variables
-    → g ≡ f ++ codes " " → h ≡ g ++ pre → i ≡ h ++ codes " " → j ≡ i ++ posts → all ≡ j ++ codes "\n"
-    → all ≡ start ++ (codes "spec " ++ name ++ codes "(" ++ params ++ codes ") " ++ variables ++ codes " " ++ pre ++ codes " " ++ posts ++ codes "\n")
-spec_added name params variables pre posts start a b c d e f g h i j all k l m n o p q r s t u =
-    rw (u, t, s, r, q, p, o, n, m, l, k) (simp append_assoc)
+    → g ≡ f ++ codes " " → h ≡ g ++ pre → i ≡ h ++ posts → all ≡ i ++ codes "\n"
+    → all ≡ start ++ (codes "spec " ++ name ++ codes "(" ++ params ++ codes ") " ++ variables ++ codes " " ++ pre ++ posts ++ codes "\n")
+spec_added name params variables pre posts start a b c d e f g h i all k l m n o p q r s t =
+    rw (t, s, r, q, p, o, n, m, l, k) (simp append_assoc)
 
 pub pred_added : (name ins outs variables cases start a b c d e f g h i j all : List ℕ)
     → a ≡ start ++ codes "pred " → b ≡ a ++ name → c ≡ b ++ codes "(" → d ≡ c ++ ins → e ≡ d ++ codes ";" → f ≡ e ++ outs

@@ -1,6 +1,6 @@
 -- Printed parameters and assertions.
 use Rattle.std.specs.Prelude.{ℕ, List, [], ◌∷◌, ◌++◌, codes}
-use Rattle.std.specs.List.{join_by}
+use Rattle.std.specs.List.{flat_map, join_by}
 use Rattle.gil_syntax.specs.declared.assertions.Param.{Param}
 use Rattle.gil_syntax.specs.declared.assertions.SpecSort.{SpecSort}
 use Rattle.gil_syntax.specs.declared.assertions.SpecSort.TheVariants as sorts
@@ -48,6 +48,15 @@ printed_assertion (item ∷ items) = join_by printed_item (codes " * ") (item �
 -- { assertion }
 abbrev pub printed_block : List PureItem → List ℕ
 printed_block items = codes "{ " ++ printed_assertion items ++ codes " }"
+
+-- throw { assertion }
+abbrev pub printed_error : List PureItem → List ℕ
+printed_error items = codes "throw " ++ printed_block items
+
+-- postconditions and error postconditions, each behind a blank
+abbrev pub printed_posts : List (List PureItem) → List (List PureItem) → List ℕ
+printed_posts posts errors =
+    flat_map (λ items. codes " " ++ printed_block items) posts ++ flat_map (λ items. codes " " ++ printed_error items) errors
 
 -- { assertion } .. { assertion }
 abbrev pub printed_blocks : List (List PureItem) → List ℕ

@@ -3,7 +3,7 @@
 use Rattle.std.specs.Prelude.{ℕ, List, ◌++◌, codes}
 use Rattle.std.specs.List.{flat_map}
 use Rattle.gil_syntax.specs.Pure.{PureNumberedCommand, PureProc, PureSpec, PurePredDef, PureParts}
-use Rattle.syntax_print.specs.Assertions.{printed_params, printed_variables, printed_block, printed_blocks, behind_semicolon}
+use Rattle.syntax_print.specs.Assertions.{printed_params, printed_variables, printed_block, printed_posts, printed_blocks, behind_semicolon}
 use Rattle.syntax_print.specs.Commands.{printed_names, printed_command}
 
 -- the line of a command
@@ -18,11 +18,11 @@ printed_proc q =
     codes "proc " ++ q.name ++ codes "(" ++ printed_names q.params ++ codes ") {\n"
     ++ flat_map printed_statement q.body ++ codes "}\n"
 
--- spec name(x: sort, ..) [#x: sort, ..] { precondition } { postcondition } ..
+-- spec name(x: sort, ..) [#x: sort, ..] { precondition } { postcondition } .. throw { error postcondition } ..
 abbrev pub printed_spec : PureSpec → List ℕ
 printed_spec s =
     codes "spec " ++ s.name ++ codes "(" ++ printed_params s.params ++ codes ") " ++ printed_variables s.logicals
-    ++ codes " " ++ printed_block s.pre ++ codes " " ++ printed_blocks s.posts ++ codes "\n"
+    ++ codes " " ++ printed_block s.pre ++ printed_posts s.posts s.errors ++ codes "\n"
 
 -- pred name(x: sort, ..; x: sort, ..) [#x: sort, ..] { case } ..
 abbrev pub printed_pred : PurePredDef → List ℕ

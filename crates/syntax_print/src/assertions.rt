@@ -1,6 +1,6 @@
 //! Parameters and assertions.
 ghost use Rattle.std.specs.Prelude.{◌≡◌, ◌++◌, map, codes, string_bytes, OnOk};
-ghost use Rattle.std.specs.List.{join_by};
+ghost use Rattle.std.specs.List.{flat_map, join_by};
 ghost use Rattle.gil_syntax.specs.View.{exprs_view, pred_use_view, item_view, assertion_view};
 ghost use Rattle.syntax_print.specs.Expressions.{printed_exprs};
 ghost use Rattle.syntax_print.specs.Assertions.{
@@ -13,6 +13,7 @@ ghost use Rattle.syntax_print.specs.Assertions.{
   printed_item,
   printed_assertion,
   printed_block,
+  printed_posts,
   printed_blocks,
 };
 
@@ -145,4 +146,29 @@ pub(crate) fn push_blocks(out: &mut String, assertions: &Assertions) -> Result<(
         push_block(out, assertion)?;
     }
     Ok(())
+}
+
+/// Adds assertions in braces, each behind these characters.
+fn push_each(out: &mut String, before: &str, assertions: &Assertions) -> Result<(), AllocError>
+    ensures { OnOk result (string_bytes out.new ≡ string_bytes out.old
+        ++ flat_map (λ items. before.now ++ printed_block items) (map assertion_view assertions.now)) }
+{
+    for assertion in assertions.as_slice() {
+        out.push_str(before)?;
+        push_block(out, assertion)?;
+    }
+    Ok(())
+}
+
+/// Adds postconditions and error postconditions, each behind a blank.
+pub(crate) fn push_posts(
+    out: &mut String,
+    posts: &Assertions,
+    errors: &Assertions,
+) -> Result<(), AllocError>
+    ensures { OnOk result (string_bytes out.new ≡ string_bytes out.old
+        ++ printed_posts (map assertion_view posts.now) (map assertion_view errors.now)) }
+{
+    push_each(out, " ", posts)?;
+    push_each(out, " throw ", errors)
 }

@@ -2,7 +2,7 @@
 ghost use Rattle.std.specs.Prelude.{◌≡◌, ◌++◌, string_bytes, OnOk};
 ghost use Rattle.gil_syntax.specs.Pure.{assign, call, act, isym, ifgoto, loop_invariant};
 ghost use Rattle.gil_syntax.specs.View.{expr_view, exprs_view, assertion_view, command_view};
-ghost use Rattle.syntax_print.specs.Commands.{input_name, printed_names, printed_command};
+ghost use Rattle.syntax_print.specs.Commands.{input_name, printed_names, printed_handler, printed_command};
 
 use crate::assertions::{push_block, push_use, push_variables};
 use crate::expressions::{push_expr, push_exprs};
@@ -41,21 +41,36 @@ fn push_assign(out: &mut String, variable: &Text, value: &Expr) -> Result<(), Al
     push_expr(out, value)
 }
 
+/// Adds the label of a call's handler, if it has one.
+fn push_handler(out: &mut String, handler: Option<i64>) -> Result<(), AllocError>
+    ensures { OnOk result (string_bytes out.new ≡ string_bytes out.old ++ printed_handler handler) }
+{
+    match handler {
+        Some(label) => {
+            out.push_str(" catch ")?;
+            push_integer(out, i128::from(label))
+        }
+        None => Ok(()),
+    }
+}
+
 fn push_call(
     out: &mut String,
     variable: &Text,
     callee: &Expr,
     arguments: &Exprs,
+    handler: Option<i64>,
 ) -> Result<(), AllocError>
     ensures { OnOk result (string_bytes out.new ≡ string_bytes out.old
-        ++ printed_command (call variable.now (expr_view callee.now) (exprs_view arguments.now))) }
+        ++ printed_command (call variable.now (expr_view callee.now) (exprs_view arguments.now) handler)) }
 {
     out.push_str(variable.as_str())?;
     out.push_str(" := call ")?;
     push_expr(out, callee)?;
     out.push_str("(")?;
     push_exprs(out, arguments)?;
-    out.push_str(")")
+    out.push_str(")")?;
+    push_handler(out, handler)
 }
 
 fn push_action(
@@ -116,7 +131,9 @@ pub fn push_command(out: &mut String, command: &Command) -> Result<(), AllocErro
 {
     match command {
         Command::Assign(variable, value) => push_assign(out, variable, value),
-        Command::Call(variable, callee, arguments) => push_call(out, variable, callee, arguments),
+        Command::Call(variable, callee, arguments, handler) => {
+            push_call(out, variable, callee, arguments, *handler)
+        }
         Command::Act(variable, action, arguments) => push_action(out, variable, action, arguments),
         Command::Usym(variable) => {
             out.push_str(variable.as_str())?;
@@ -130,6 +147,10 @@ pub fn push_command(out: &mut String, command: &Command) -> Result<(), AllocErro
         }
         Command::Fail(value) => {
             out.push_str("fail ")?;
+            push_expr(out, value)
+        }
+        Command::Throw(value) => {
+            out.push_str("throw ")?;
             push_expr(out, value)
         }
         Command::Vanish => out.push_str("vanish"),

@@ -4,7 +4,9 @@ ghost use Rattle.std.specs.List.{flat_map};
 ghost use Rattle.gil_syntax.specs.View.{numbered_command_view, proc_view, spec_view, pred_def_view};
 ghost use Rattle.syntax_print.specs.Programs.{printed_statement, printed_proc, printed_spec, printed_pred};
 
-use crate::assertions::{push_block, push_blocks, push_later_params, push_params, push_variables};
+use crate::assertions::{
+    push_block, push_blocks, push_later_params, push_params, push_posts, push_variables,
+};
 use crate::commands::{push_command, push_names};
 use gil_syntax::{Body, NumberedCommand, PredDef, Proc, Spec};
 use std::alloc::AllocError;
@@ -52,8 +54,7 @@ pub fn push_spec(out: &mut String, spec: &Spec) -> Result<(), AllocError>
     push_variables(out, &spec.logicals)?;
     out.push_str(" ")?;
     push_block(out, &spec.pre)?;
-    out.push_str(" ")?;
-    push_blocks(out, &spec.posts)?;
+    push_posts(out, &spec.posts, &spec.errors)?;
     out.push_str("\n")?;
     Ok(())
 }

@@ -5,9 +5,24 @@ use std::alloc::Global;
 use std::test::Fail;
 
 /// Texts, the number of a token, and the number of the token behind the longest annotation there or the byte of the refusal.
-const ANNOTATIONS: [(&str, usize, Result<usize, usize>); 11] = [
+const ANNOTATIONS: [(&str, usize, Result<usize, usize>); 14] = [
     ("spec f(a) [] { emp } { emp } { broken", 0, Ok(13)),
     ("spec f(a) [] { emp } { emp } { emp } )", 0, Ok(16)),
+    (
+        "spec f(a) [] { emp } throw { emp } throw { broken",
+        0,
+        Ok(14),
+    ),
+    (
+        "spec f(a) [] { emp } { emp } throw { emp } { emp }",
+        0,
+        Ok(17),
+    ),
+    (
+        "spec f(a) [] { emp } { emp } { broken throw { emp }",
+        0,
+        Ok(13),
+    ),
     ("x := (a + 1);", 2, Ok(7)),
     ("fold list(x;);", 0, Ok(6)),
     ("assert { emp };", 0, Ok(4)),

@@ -6,4 +6,6 @@ mod annotations;
 #[cfg(test)]
 mod devices;
 #[cfg(test)]
+mod throws;
+#[cfg(test)]
 mod words;

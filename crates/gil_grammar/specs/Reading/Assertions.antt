@@ -1,5 +1,5 @@
 -- Reading parameters and assertions.
-use Rattle.std.specs.Prelude.{ℕ, zero, suc, List, [], ◌∷◌, length, Option, Some, None, if◌then◌else◌}
+use Rattle.std.specs.Prelude.{ℕ, zero, suc, Bool, List, [], ◌∷◌, length, Option, Some, None, if◌then◌else◌}
 use Rattle.gil_lexer.specs.declared.forms.Form.{Form}
 use Rattle.gil_lexer.specs.declared.forms.Form.TheVariants as forms
 use Rattle.gil_lexer.specs.declared.words.Word.TheVariants as words
@@ -7,7 +7,7 @@ use Rattle.gil_lexer.specs.declared.signs.Sign.{Sign}
 use Rattle.gil_lexer.specs.declared.signs.Sign.TheVariants.{LeftParenthesis, RightParenthesis, LeftBracket, RightBracket, LeftBrace, RightBrace, Comma, Semicolon, Colon, Star}
 use Rattle.gil_lexemes.specs.declared.standing.Lexeme.{Lexeme}
 use Rattle.gil_lexemes.specs.Lists.{with_front, more_at, separated_at}
-use Rattle.gil_lexemes.specs.Reading.{Reading, ◌>>=◌, first_form, behind, is_sign, is_word, sign_at, name_at, logical_at}
+use Rattle.gil_lexemes.specs.Reading.{Reading, ◌>>=◌, first_form, behind, is_sign, is_word, sign_at, word_at, name_at, logical_at}
 use Rattle.gil_syntax.specs.declared.assertions.Param.{Param}
 use Rattle.gil_syntax.specs.declared.assertions.SpecSort.{SpecSort}
 use Rattle.gil_syntax.specs.declared.assertions.SpecSort.TheVariants.{Any}
@@ -18,6 +18,8 @@ use Rattle.gil_grammar.specs.declared.positions.Naming.{Naming}
 use Rattle.gil_grammar.specs.declared.positions.Naming.TheVariants.{Program, Logical}
 use Rattle.gil_grammar.specs.declared.positions.Extent.{Extent}
 use Rattle.gil_grammar.specs.declared.positions.Extent.TheVariants.{Whole, Longest}
+use Rattle.gil_grammar.specs.declared.positions.Opening.{Opening}
+use Rattle.gil_grammar.specs.declared.positions.Opening.TheVariants.{Brace, Throw}
 use Rattle.gil_grammar.specs.Nesting.{most_open}
 use Rattle.gil_grammar.specs.Reading.Vocabulary.{sort_of_word, word_of, named_at}
 use Rattle.gil_grammar.specs.Reading.Expressions.{expr_at}
@@ -101,6 +103,21 @@ block_at ls = do
   rest ← sign_at RightBrace items.1
   Some (items.0, rest)
 
+-- throw { assertion }
+unfoldable pub error_at : List Lexeme → Reading (List PureItem)
+error_at ls = word_at words.Throw ls >>= λ block. block_at block
+
+-- ---- assertions in braces, one after another
+
+-- whether an assertion in braces may begin with a token of this form
+abbrev pub opens_by : Opening → Option Form → Bool
+opens_by Brace = is_sign LeftBrace
+opens_by Throw = is_word words.Throw
+
+abbrev pub opened_at : Opening → List Lexeme → Reading (List PureItem)
+opened_at Brace = block_at
+opened_at Throw = error_at
+
 -- where no assertion in braces is read, that one alone is left out, or none is read at all
 abbrev pub without_block : Extent → List Lexeme → Reading (List (List PureItem))
 without_block Whole ls = None
@@ -112,13 +129,24 @@ block_and extent ls None more = without_block extent ls
 block_and extent ls (Some block) more = with_front (block.0 ∷ []) (more block.1)
 
 -- as many as there are, up to n
-unfoldable pub more_blocks : Extent → ℕ → List Lexeme → Reading (List (List PureItem))
-more_blocks extent zero ls = Some ([], ls)
-more_blocks extent (suc n) ls =
-    if is_sign LeftBrace (first_form ls)
-    then block_and extent ls (block_at ls) (more_blocks extent n)
+unfoldable pub more_blocks : Opening → Extent → ℕ → List Lexeme → Reading (List (List PureItem))
+more_blocks opening extent zero ls = Some ([], ls)
+more_blocks opening extent (suc n) ls =
+    if opens_by opening (first_form ls)
+    then block_and extent ls (opened_at opening ls) (more_blocks opening extent n)
     else Some ([], ls)
 
 -- at least one
-unfoldable pub blocks_at : Extent → List Lexeme → Reading (List (List PureItem))
-blocks_at extent ls = block_at ls >>= λ block. with_front (block.0 ∷ []) (more_blocks extent (length block.1) block.1)
+unfoldable pub blocks_at : Opening → Extent → List Lexeme → Reading (List (List PureItem))
+blocks_at opening extent ls =
+    opened_at opening ls >>= λ block. with_front (block.0 ∷ []) (more_blocks opening extent (length block.1) block.1)
+
+-- postconditions, and then error postconditions: at least one of either
+unfoldable pub posts_at : Extent → List Lexeme → Reading (List (List PureItem) × List (List PureItem))
+posts_at extent ls =
+    if opens_by Throw (first_form ls)
+    then (blocks_at Throw extent ls >>= λ errors. Some (([], errors.0), errors.1))
+    else (
+    blocks_at Brace extent ls >>= λ posts.
+    more_blocks Throw extent (length posts.1) posts.1 >>= λ errors. Some ((posts.0, errors.0), errors.1)
+    )

@@ -1,5 +1,5 @@
 -- Reading commands.
-use Rattle.std.specs.Prelude.{ℕ, List, Option, Some, None}
+use Rattle.std.specs.Prelude.{ℕ, ℤ, List, Option, Some, None, if◌then◌else◌}
 use Rattle.gil_lexer.specs.declared.forms.Form.{Form}
 use Rattle.gil_lexer.specs.declared.forms.Form.TheVariants as forms
 use Rattle.gil_lexer.specs.declared.words.Word.{Word}
@@ -8,8 +8,8 @@ use Rattle.gil_lexer.specs.declared.signs.Sign.{Sign}
 use Rattle.gil_lexer.specs.declared.signs.Sign.TheVariants.{LeftParenthesis, RightParenthesis, Comma, Semicolon, ColonEqual}
 use Rattle.gil_lexemes.specs.declared.standing.Lexeme.{Lexeme}
 use Rattle.gil_lexemes.specs.Lists.{separated_at}
-use Rattle.gil_lexemes.specs.Reading.{Reading, ◌>>=◌, first_form, behind, sign_at, name_at, number_at}
-use Rattle.gil_syntax.specs.Pure.{PureCommand, assign, call, act, usym, isym, ifgoto, return, fail, vanish, fold_use, unfold_use, assert_that, loop_invariant}
+use Rattle.gil_lexemes.specs.Reading.{Reading, ◌>>=◌, first_form, behind, is_word, sign_at, name_at, number_at}
+use Rattle.gil_syntax.specs.Pure.{PureCommand, assign, call, act, usym, isym, ifgoto, return, fail, throw, vanish, fold_use, unfold_use, assert_that, loop_invariant}
 use Rattle.gil_grammar.specs.declared.positions.Position.TheVariants.{Command, Action}
 use Rattle.gil_grammar.specs.Reading.Vocabulary.{input_of_word, word_of, named_at}
 use Rattle.gil_grammar.specs.Reading.Assertions.{expression_at, expressions_at, use_at, block_at, variables_at}
@@ -19,14 +19,22 @@ use Rattle.gil_grammar.specs.Reading.Assertions.{expression_at, expressions_at, 
 abbrev pub assign_at : List ℕ → List Lexeme → Reading PureCommand
 assign_at x ls = expression_at Command ls >>= λ e. Some (assign x e.0, e.1)
 
--- e(e, ..)
+-- the label behind `catch`, or none
+unfoldable pub handler_at : List Lexeme → Reading (Option ℤ)
+handler_at ls =
+    if is_word words.Catch (first_form ls)
+    then (number_at (behind ls) >>= λ label. Some (Some label.0, label.1))
+    else Some (None, ls)
+
+-- e(e, ..), and the label of its handler
 unfoldable pub call_at : List ℕ → List Lexeme → Reading PureCommand
 call_at x ls = do
   callee ← expression_at Command ls
   inner ← sign_at LeftParenthesis callee.1
   es ← expressions_at Command RightParenthesis inner
   rest ← sign_at RightParenthesis es.1
-  Some (call x callee.0 es.0, rest)
+  handler ← handler_at rest
+  Some (call x callee.0 es.0 handler.0, handler.1)
 
 -- action(e, ..)
 unfoldable pub act_at : List ℕ → List Lexeme → Reading PureCommand
@@ -76,6 +84,9 @@ return_at ls = expression_at Command ls >>= λ e. Some (return e.0, e.1)
 abbrev pub fail_at : List Lexeme → Reading PureCommand
 fail_at ls = expression_at Command ls >>= λ e. Some (fail e.0, e.1)
 
+abbrev pub throw_at : List Lexeme → Reading PureCommand
+throw_at ls = expression_at Command ls >>= λ e. Some (throw e.0, e.1)
+
 abbrev pub fold_at : List Lexeme → Reading PureCommand
 fold_at ls = use_at ls >>= λ u. Some (fold_use u.0, u.1)
 
@@ -111,6 +122,7 @@ abbrev pub worded_by : Word → List Lexeme → Reading PureCommand
 worded_by words.Ifgoto ls = ifgoto_at (behind ls)
 worded_by words.Return ls = return_at (behind ls)
 worded_by words.Fail ls = fail_at (behind ls)
+worded_by words.Throw ls = throw_at (behind ls)
 worded_by words.Vanish ls = Some (vanish, behind ls)
 worded_by word ls = logic_by word ls
 

@@ -13,8 +13,9 @@ use Rattle.gil_grammar.specs.declared.positions.Position.TheVariants.{Predicate}
 use Rattle.gil_grammar.specs.declared.positions.Naming.TheVariants.{Program}
 use Rattle.gil_grammar.specs.declared.positions.Extent.{Extent}
 use Rattle.gil_grammar.specs.declared.positions.Extent.TheVariants.{Whole}
+use Rattle.gil_grammar.specs.declared.positions.Opening.TheVariants.{Brace}
 use Rattle.gil_grammar.specs.Reading.Vocabulary.{word_of, named_at}
-use Rattle.gil_grammar.specs.Reading.Assertions.{params_at, variables_at, block_at, blocks_at}
+use Rattle.gil_grammar.specs.Reading.Assertions.{params_at, variables_at, block_at, blocks_at, posts_at}
 use Rattle.gil_grammar.specs.Reading.Commands.{names_at, statement_at}
 
 -- the commands up to the closing brace, each with its index as its number
@@ -42,8 +43,8 @@ spec_at extent ls = do
   variables ← sign_at RightParenthesis ps.1
   vs ← variables_at variables
   pre ← block_at vs.1
-  posts ← blocks_at extent pre.1
-  Some (record { name = x.0; params = ps.0; logicals = vs.0; pre = pre.0; posts = posts.0 }, posts.1)
+  posts ← posts_at extent pre.1
+  Some (record { name = x.0; params = ps.0; logicals = vs.0; pre = pre.0; posts = posts.0.0; errors = posts.0.1 }, posts.1)
 
 -- behind the word `pred`
 unfoldable pub pred_at : Extent → List Lexeme → Reading PurePredDef
@@ -55,7 +56,7 @@ pred_at extent ls = do
   gives ← params_at Program RightParenthesis out_place
   variables ← sign_at RightParenthesis gives.1
   vs ← variables_at variables
-  cases ← blocks_at extent vs.1
+  cases ← blocks_at Brace extent vs.1
   Some (record { name = x.0; ins = given.0; outs = gives.0; logicals = vs.0; cases = cases.0 }, cases.1)
 
 -- an item, by its word

@@ -6,5 +6,5 @@ use Rattle.gil_text.proofs.blocks.more_blocks.Given as goal
 
 abbrev pub invariant-loop : goal.invariant-loop
 invariant-loop l =
-    with_front (map assertion_view l.list) (read.more_blocks l.extent (l.most - l.counter) l.rest)
-    ≡ with_front (map assertion_view l.fn.list) (read.more_blocks l.extent (length l.fn.cursor) l.fn.cursor)
+    with_front (map assertion_view l.list) (read.more_blocks l.opening l.extent (l.most - l.counter) l.rest)
+    ≡ with_front (map assertion_view l.fn.list) (read.more_blocks l.opening l.extent (length l.fn.cursor) l.fn.cursor)

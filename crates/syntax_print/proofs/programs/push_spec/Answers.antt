@@ -4,7 +4,7 @@ use Rattle.syntax_print.proofs.programs.push_spec.Goals as goal
 
 pub returns : goal.returns
 returns c =
-    spec_added _ _ _ _ _ _ _ _ _ _ _ _ _ _ _ _ _
+    spec_added _ _ _ _ _ _ _ _ _ _ _ _ _ _ _ _
     c.in_ok-push_str.ensures.bytes
     (c.in_ok-push_str-2.ensures.bytes ∙ ap (λ text. string_bytes c.push_str.new.self ++ text) c.as_str.ensures.characters)
     c.in_ok-push_str-3.ensures.bytes
@@ -13,6 +13,5 @@ returns c =
     c.in_ok-push_variables.ensures
     c.in_ok-push_str-5.ensures.bytes
     c.in_ok-push_block.ensures
+    c.in_ok-push_posts.ensures
     c.in_ok-push_str-6.ensures.bytes
-    c.in_ok-push_blocks.ensures
-    c.in_ok-push_str-7.ensures.bytes
