@@ -17,7 +17,7 @@ use Rattle.gil_machine.specs.Step.{bind_all, first_frame}
 use Rattle.gil_machine.specs.Run.{run, params_of, start, run_of, IsProperStart as IsProperStartOfRun}
 use Rattle.gil_machine.proofs.Runs.{stays_over}
 use Rattle.source_language.specs.Calls.{Calls, Bodies, at_entry, calls_within, entered, source_end, IsProperStart}
-use Rattle.source_language.specs.Completions.{Situation, Completion, normal, returns, over, unfinished, after_body, returned_from_entry, end_if_over}
+use Rattle.source_language.specs.Completions.{Situation, Completion, normal, returns, throws, over, unfinished, after_body, returned_from_entry, thrown_from_entry, end_if_over}
 use Rattle.source_language.specs.Names.{IsExtendedBy}
 use Rattle.source_language.specs.Procedures.{compiled_function}
 use Rattle.source_language.specs.Pure.{PureFunction, PureSource, find_function}
@@ -121,7 +121,7 @@ module _ {B : Type 0} (temporaries : PureFunction B → ℕ) (code : PureFunctio
         → (g : List ℕ) (h : PureFunction B) → find_function source.functions g ≡ Some h
         → (callers : List Frame) (store : Store) (s : Situation) → IsExtendedBy s.store store
         → HasAt (procedure h).body (temporaries h) (code h (temporaries h))
-        → Runs (run p m inputs) least h.name callers (temporaries h + length (code h (temporaries h)))
+        → Runs (run p m inputs) None least h.name callers (temporaries h + length (code h (temporaries h)))
         (state_at h.name (temporaries h) callers store s) (body loops calls h.name h.body s)
 
     module _ (body : Bodies B) (follows : CodeFollows body) where
@@ -149,7 +149,7 @@ module _ {B : Type 0} (temporaries : PureFunction B → ℕ) (code : PureFunctio
             ∙ ap (λ x. state_at x 0 [] (bind_all g.params args) (at_entry h counter)) (sym (found_name source.functions f g is))
 
         source_is : (n : ℕ) → source_end body source f args h counter n ≡ end_if_over
-            (after_body (calls_within body n n g args (at_entry h counter)) returned_from_entry)
+            (after_body (calls_within body n n g args (at_entry h counter)) returned_from_entry thrown_from_entry)
         source_is n = ap (λ o. end_if_over (entered body n o args (at_entry h counter))) is
 
         finishes_within : (n : ℕ) → Finishes (run p m inputs) n [] (start p f args h counter) (calls_within body n n g args (at_entry h counter))
@@ -164,9 +164,10 @@ module _ {B : Type 0} (temporaries : PureFunction B → ℕ) (code : PureFunctio
 
         -- a run that is over is one whose source has an end with as many turns as steps
         has_end : (n : ℕ) (c : Completion) → IsOver (run p m inputs n (start p f args h counter)).ending
-            → Finishes (run p m inputs) n [] (start p f args h counter) c → (e : End) × (end_if_over (after_body c returned_from_entry) ≡ Some e)
+            → Finishes (run p m inputs) n [] (start p f args h counter) c → (e : End) × (end_if_over (after_body c returned_from_entry thrown_from_entry) ≡ Some e)
         has_end n (normal s) done r = (_, refl)
         has_end n (returns v s) done r = (_, refl)
+        has_end n (throws v here s) done r = (_, refl)
         has_end n (over e) done r = (e, refl)
         has_end n unfinished done r =
             let same = stays_over p m inputs n r.0 (start p f args h counter) r.1 done in

@@ -6,18 +6,20 @@ use Rattle.gil_values.specs.Pure.{PureValue, integer, boolean, text, symbol, kin
 use Rattle.gil_values.specs.Operators.{Outcome}
 use Rattle.gil_syntax.specs.Evaluation.{Outcomes}
 use Rattle.gil_machine.specs.State.{End}
-use Rattle.source_language.specs.Completions.{Situation, Completion, normal, returns, over, unfinished, then_do, with_value, with_values, choose, Test, turns, value_test, after_body, end_if_over}
+use Rattle.source_language.specs.Completions.{Situation, Completion, normal, returns, throws, over, unfinished, then_do, handled_by, with_value, with_values, choose, Test, turns, value_test, after_body, end_if_over}
 
 -- the second completion is the first one, where that is none that is unfinished
 abbrev pub Extends : Completion → Completion → Type 0
 Extends (normal s) d = d ≡ normal s
 Extends (returns v s) d = d ≡ returns v s
+Extends (throws v here s) d = d ≡ throws v here s
 Extends (over e) d = d ≡ over e
 Extends unfinished d = Unit {0}
 
 pub extends_itself : (c : Completion) → Extends c c
 extends_itself (normal s) = refl
 extends_itself (returns v s) = refl
+extends_itself (throws v here s) = refl
 extends_itself (over e) = refl
 extends_itself unfinished = tt
 
@@ -25,6 +27,7 @@ pub then-extends : (c d : Completion) (f g : Situation → Completion) → Exten
     → Extends (then_do c f) (then_do d g)
 then-extends (normal s) d f g h k = subst (λ x. Extends (f s) (then_do x g)) (sym h) (k s)
 then-extends (returns v s) d f g h k = ap (λ x. then_do x g) h
+then-extends (throws v here s) d f g h k = ap (λ x. then_do x g) h
 then-extends (over e) d f g h k = ap (λ x. then_do x g) h
 then-extends unfinished d f g h k = tt
 
@@ -66,14 +69,26 @@ turns-extend test test' here body body' tests more (suc n) (suc k) le s =
     tests s _ _ (λ v t. choice-extends v here _ _ _ _ t
     (then-extends (body t) (body' t) _ _ (more t) (turns-extend test test' here body body' tests more n k (omega arith))) refl)
 
-pub body-extends : (c d : Completion) (f : PureValue → Situation → Completion) → Extends c d → Extends (after_body c f) (after_body d f)
-body-extends (normal s) d f h = subst (λ x. Extends (f (kind Null) s) (after_body x f)) (sym h) (extends_itself (f (kind Null) s))
-body-extends (returns v s) d f h = subst (λ x. Extends (f v s) (after_body x f)) (sym h) (extends_itself (f v s))
-body-extends (over e) d f h = ap (λ x. after_body x f) h
-body-extends unfinished d f h = tt
+pub body-extends : (c d : Completion) (f : PureValue → Situation → Completion) (g : PureValue → Place → Situation → Completion) → Extends c d
+    → Extends (after_body c f g) (after_body d f g)
+body-extends (normal s) d f g h = subst (λ x. Extends (f (kind Null) s) (after_body x f g)) (sym h) (extends_itself (f (kind Null) s))
+body-extends (returns v s) d f g h = subst (λ x. Extends (f v s) (after_body x f g)) (sym h) (extends_itself (f v s))
+body-extends (throws v here s) d f g h = subst (λ x. Extends (g v here s) (after_body x f g)) (sym h) (extends_itself (g v here s))
+body-extends (over e) d f g h = ap (λ x. after_body x f g) h
+body-extends unfinished d f g h = tt
+
+-- what a handler does with a value that is thrown
+pub handled-extends : (c d : Completion) (f g : PureValue → Situation → Completion) → Extends c d → ((v : PureValue) (s : Situation) → Extends (f v s) (g v s))
+    → Extends (handled_by c f) (handled_by d g)
+handled-extends (normal s) d f g h k = ap (λ x. handled_by x g) h
+handled-extends (returns v s) d f g h k = ap (λ x. handled_by x g) h
+handled-extends (throws v here s) d f g h k = subst (λ x. Extends (f v s) (handled_by x g)) (sym h) (k v s)
+handled-extends (over e) d f g h k = ap (λ x. handled_by x g) h
+handled-extends unfinished d f g h k = tt
 
 pub end-extends : (c d : Completion) (e : End) → Extends c d → end_if_over c ≡ Some e → end_if_over d ≡ Some e
 end-extends (normal s) d e h is = absurd (cc)
 end-extends (returns v s) d e h is = absurd (cc)
+end-extends (throws v here s) d e h is = absurd (cc)
 end-extends (over x) d e h is = subst (λ y. end_if_over y ≡ Some e) (sym h) is
 end-extends unfinished d e h is = absurd (cc)

@@ -7,14 +7,14 @@ use Rattle.gil_machine.specs.State.{End}
 use Rattle.gil_machine.specs.Step.{bind_all}
 use Rattle.mem_model.specs.Heaps.{Heap}
 use Rattle.source_language.specs.Calls.{Calls, Bodies, at_entry, call_found, calls_within, entered, source_end}
-use Rattle.source_language.specs.Completions.{Situation, Completion, fails, after_body, back_in, returned_from_entry}
+use Rattle.source_language.specs.Completions.{Situation, Completion, fails, after_body, back_in, thrown_in, returned_from_entry, thrown_from_entry}
 use Rattle.source_language.specs.Pure.{PureFunction, PureSource, find_function}
 use Rattle.source_language.proofs.Longer.{Extends, body-extends, end-extends}
 
 arity-extends : (b : Bool) (c d : Completion) (x : List ℕ) (here : Place) (s : Situation) → Extends c d
-    → Extends (cond b (after_body c (back_in s x)) (fails (text (codes "arity")) here s))
-    (cond b (after_body d (back_in s x)) (fails (text (codes "arity")) here s))
-arity-extends true c d x here s h = body-extends c d (back_in s x) h
+    → Extends (cond b (after_body c (back_in s x) (thrown_in s)) (fails (text (codes "arity")) here s))
+    (cond b (after_body d (back_in s x) (thrown_in s)) (fails (text (codes "arity")) here s))
+arity-extends true c d x here s h = body-extends c d (back_in s x) (thrown_in s) h
 arity-extends false c d x here s h = refl
 
 module _ {B : Type 0} where
@@ -46,7 +46,7 @@ module _ {B : Type 0} where
         → Extends (entered body n o args s) (entered body k o args s)
     entry-extends n k le None args s = tt
     entry-extends n k le (Some f) args s =
-        body-extends (calls_within body n n f args s) (calls_within body k k f args s) returned_from_entry (calls-extend n k le n k le f args s)
+        body-extends (calls_within body n n f args s) (calls_within body k k f args s) returned_from_entry thrown_from_entry (calls-extend n k le n k le f args s)
 
     pub ends_stay : (source : PureSource (PureFunction B)) (f : List ℕ) (args : List PureValue) (h : Heap) (counter n k : ℕ) (e : End) → n ≤ k
         → source_end body source f args h counter n ≡ Some e → source_end body source f args h counter k ≡ Some e

@@ -52,6 +52,11 @@ extended_both x v s t more y is = ap (λ o. cond (bytes_eq x y) (Some v) o) (mor
 pub extended_more : (i : ℕ) (v : PureValue) (s t : Store) → IsExtendedBy s t → IsExtendedBy s (bind (temporary i) v t)
 extended_more i v s t more y is = unbound_value (temporary i) y v t (not_temporary i y is) ∙ more y is
 
+-- a variable that is none of the source
+pub extended_aside : (x : List ℕ) (v : PureValue) (s t : Store) → is_source_name x ≡ false → IsExtendedBy s t → IsExtendedBy s (bind x v t)
+extended_aside x v s t other more y is =
+    unbound_value x y v t (other_name x y (λ same. true≢false (sym is ∙ ap is_source_name (sym same) ∙ other))) ∙ more y is
+
 -- ---- values of expressions
 
 mutual

@@ -7,7 +7,7 @@ use Rattle.mem_model.specs.declared.keys.MemoryName.{MemoryName}
 use Rattle.mem_model.specs.Heaps.{Heap, IsHeapOf, IsHeapBelow}
 use Rattle.gil_machine.specs.State.{End}
 use Rattle.gil_machine.specs.Step.{bind_all}
-use Rattle.source_language.specs.Completions.{Situation, Completion, unfinished, fails, after_body, back_in, returned_from_entry, end_if_over}
+use Rattle.source_language.specs.Completions.{Situation, Completion, unfinished, fails, after_body, back_in, thrown_in, returned_from_entry, thrown_from_entry, end_if_over}
 use Rattle.source_language.specs.Pure.{PureFunction, PureSource, find_function}
 
 -- what the body of a function comes to with these arguments, from the heap, counter and draws of the caller
@@ -28,7 +28,7 @@ module _ {B : Type 0} where
   abbrev pub call_found : Calls B → Option (PureFunction B) → List ℕ → List PureValue → Place → Situation → Completion
   call_found calls None x args here s = fails (text (codes "proc")) here s
   call_found calls (Some f) x args here s =
-      if length args == length f.params then after_body (calls f args s) (back_in s x) else fails (text (codes "arity")) here s
+      if length args == length f.params then after_body (calls f args s) (back_in s x) (thrown_in s) else fails (text (codes "arity")) here s
 
   -- what calls come to that nest at most so deep
   abbrev pub calls_within : Bodies B → ℕ → ℕ → Calls B
@@ -38,7 +38,7 @@ module _ {B : Type 0} where
 
   abbrev pub entered : Bodies B → ℕ → Option (PureFunction B) → List PureValue → Situation → Completion
   entered body n None args s = unfinished
-  entered body n (Some f) args s = after_body (calls_within body n n f args s) returned_from_entry
+  entered body n (Some f) args s = after_body (calls_within body n n f args s) returned_from_entry thrown_from_entry
 
   -- The end of the program from the function f, where each loop is tested at most n times and calls nest at most n deep; where more is
   -- needed there is none.

@@ -11,7 +11,7 @@ use Rattle.gil_syntax.specs.Evaluation.{Store, bind, Outcomes}
 use Rattle.mem_model.specs.Heaps.{Heap}
 use Rattle.mem_model.specs.Pure.{PureOutcome, done, failed as action_failed, miss}
 use Rattle.mem_model.specs.Actions.{ActionResult}
-use Rattle.gil_machine.specs.State.{Ending, returned, failed, no_input, bad_input, End}
+use Rattle.gil_machine.specs.State.{Ending, returned, threw, failed, no_input, bad_input, End}
 
 -- What a statement starts from: the values of the variables of its function, the heap, the counter, which is the number of
 -- the next new symbol, and how many inputs were drawn.
@@ -21,11 +21,12 @@ pub record Situation : Type 0 where
   pub counter : ℕ
   pub draws : ℕ
 
--- What a statement comes to: the statement after it follows, its function returns a value, the run is over, or more turns of
--- a loop or deeper calls are needed than are allowed.
+-- What a statement comes to: the statement after it follows, its function returns a value, it throws a value at a place, the run is
+-- over, or more turns of a loop or deeper calls are needed than are allowed.
 pub data Completion : Type 0 where
   normal : Situation → Completion
   returns : PureValue → Situation → Completion
+  throws : PureValue → Place → Situation → Completion
   over : End → Completion
   unfinished : Completion
 
@@ -33,8 +34,17 @@ pub data Completion : Type 0 where
 abbrev pub then_do : Completion → (Situation → Completion) → Completion
 then_do (normal s) go_on = go_on s
 then_do (returns v s) go_on = returns v s
+then_do (throws v here s) go_on = throws v here s
 then_do (over e) go_on = over e
 then_do unfinished go_on = unfinished
+
+-- what follows where a value is thrown; a failure is handled by nobody
+abbrev pub handled_by : Completion → (PureValue → Situation → Completion) → Completion
+handled_by (normal s) handler = normal s
+handled_by (returns v s) handler = returns v s
+handled_by (throws v here s) handler = handler v s
+handled_by (over e) handler = over e
+handled_by unfinished handler = unfinished
 
 -- the run is over here
 abbrev pub end_of : Ending → Situation → End
@@ -100,22 +110,33 @@ turns (suc n) test here body s =
 abbrev pub value_test : (Situation → Outcome) → Place → Test
 value_test value here s go_on = with_value (value s) here s (λ v. go_on v s)
 
--- What is done with the value that a function returns, from what its body comes to. A function that ends without a return
--- returns Null.
-abbrev pub after_body : Completion → (PureValue → Situation → Completion) → Completion
-after_body (normal s) go_on = go_on (kind Null) s
-after_body (returns v s) go_on = go_on v s
-after_body (over e) go_on = over e
-after_body unfinished go_on = unfinished
+-- What is done with the value that a function returns, or with one that it throws, from what its body comes to. A function that ends
+-- without a return returns Null.
+abbrev pub after_body : Completion → (PureValue → Situation → Completion) → (PureValue → Place → Situation → Completion) → Completion
+after_body (normal s) go_on thrown = go_on (kind Null) s
+after_body (returns v s) go_on thrown = go_on v s
+after_body (throws v here s) go_on thrown = thrown v here s
+after_body (over e) go_on thrown = over e
+after_body unfinished go_on thrown = unfinished
 
 -- back in the caller, whose variables are as they were before the call, but for the one that gets the result
 abbrev pub back_in : Situation → List ℕ → PureValue → Situation → Completion
 back_in caller x v s = normal (record s { store = bind x v caller.store })
 
+-- the caller hands on what is thrown, and its variables are as they were before the call
+abbrev pub thrown_in : Situation → PureValue → Place → Situation → Completion
+thrown_in caller v here s = throws v here (record s { store = caller.store })
+
 -- the end of a run that begins with a function, if it has one
 abbrev pub returned_from_entry : PureValue → Situation → Completion
 returned_from_entry v s = over (end_of (returned v) s)
 
+abbrev pub thrown_from_entry : PureValue → Place → Situation → Completion
+thrown_from_entry v here s = over (end_of (threw v here) s)
+
 abbrev pub end_if_over : Completion → Option End
+end_if_over (normal s) = None
+end_if_over (returns v s) = None
+end_if_over (throws v here s) = None
 end_if_over (over e) = Some e
-end_if_over _ = None
+end_if_over unfinished = None

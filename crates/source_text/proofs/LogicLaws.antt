@@ -74,15 +74,15 @@ logic_word (assert_that items) = words.Assert
 pub logic_again : (c : PureLogic) (ls rest : List Lexeme) → Nested ls → SpellsLogic c ls rest → Reads Nested (logic_at (logic_word c)) c ls rest
 unfolding logic_at command_at same_sign
 logic_again (fold_use u) ls rest p (inner, is, h) =
-    let read = command_again (gil.fold_use u) ls _ p (inner, is, h) in
+    let read = command_again (gil.fold_use u) ls _ p (inner, is, h) tt in
     let read_is = subst (λ (l : List Lexeme). command_at l ≡ Some (gil.fold_use u, semicolon ∷ rest)) is read.is in
     record { is = rw (is, read_is) refl; under = nested_tail _ rest read.under; shorter = omega (arith, read.shorter) }
 logic_again (unfold_use u) ls rest p (inner, is, h) =
-    let read = command_again (gil.unfold_use u) ls _ p (inner, is, h) in
+    let read = command_again (gil.unfold_use u) ls _ p (inner, is, h) tt in
     let read_is = subst (λ (l : List Lexeme). command_at l ≡ Some (gil.unfold_use u, semicolon ∷ rest)) is read.is in
     record { is = rw (is, read_is) refl; under = nested_tail _ rest read.under; shorter = omega (arith, read.shorter) }
 logic_again (assert_that items) ls rest p (block, is, (inner, braced, h)) =
-    let read = command_again (gil.assert_that items) ls _ p (block, is, (inner, braced, h)) in
+    let read = command_again (gil.assert_that items) ls _ p (block, is, (inner, braced, h)) tt in
     let whole = is ∙ ap (λ (l : List Lexeme). lexemes.Word words.Assert ∷ l) braced in
     let read_is = subst (λ (l : List Lexeme). command_at l ≡ Some (gil.assert_that items, semicolon ∷ rest)) whole read.is in
     record { is = rw (whole, read_is) refl; under = nested_tail _ rest read.under; shorter = omega (arith, read.shorter) }
@@ -101,6 +101,6 @@ invariant_again None ls (lexemes.Number n ∷ rest) p is braced = absurd (cc bra
 invariant_again None ls (lexemes.Literal x ∷ rest) p is braced = absurd (cc braced)
 invariant_again (Some i) ls rest p (names, variables, block, is, a, b, d) braced =
     let c = gil.loop_invariant i.names i.logicals i.items in
-    let read = command_again c ls rest p (names, variables, block, is, a, b, d) in
+    let read = command_again c ls rest p (names, variables, block, is, a, b, d) tt in
     let read_is = subst (λ (l : List Lexeme). command_at l ≡ Some (c, rest)) is read.is in
     record { is = rw (is, same_word-refl words.Invariant, read_is) refl; under = read.under; shorter = omega (arith, read.shorter) }

@@ -20,7 +20,8 @@ use Rattle.gil_grammar.specs.Texts.{byte_before, place_if}
 use Rattle.gil_text.specs.declared.refused.RefusedKind.{RefusedKind}
 use Rattle.gil_text.specs.declared.refused.RefusedKind.TheVariants as refusals
 use Rattle.gil_text.specs.Located.{PureLocated}
-use Rattle.gil_text.specs.Refusals.{HasNoTokens}
+use Rattle.gil_text.specs.Refusals.{HasNoTokens, place_of, IsTokenPlace, IsTooDeep}
+use Rattle.gil_text.proofs.RefusalLemmas.{none_or_tokens}
 use Rattle.source_language.specs.Pure.{PureSource}
 use Rattle.source_text.specs.Grammar.{HasReading}
 use Rattle.source_text.specs.Located.{located_of}
@@ -44,24 +45,24 @@ map_none f None e = refl
 
 module _ {F : Type 0} (is_nested : List Lexeme → Type 0) (spells : (ℕ → ℕ) → F → List Lexeme → List Lexeme → Type 0) where
   -- bytes without tokens
-  pub lexical : (bytes : List ℕ) (kind : RefusedKind) → HasNoTokens bytes kind → SpellsNoTree is_nested spells bytes kind
-  lexical bytes refusals.Lex h = h
-  lexical bytes refusals.Memory h = tt
-  lexical bytes refusals.Nesting h = absurd h
-  lexical bytes refusals.Syntax h = absurd h
-  lexical bytes (refusals.Invalid kind) h = absurd h
-  lexical bytes refusals.Limit h = absurd h
-  lexical bytes refusals.Entry h = absurd h
-  lexical bytes refusals.Modes h = absurd h
+  pub lexical : (bytes : List ℕ) (at : ℕ) (kind : RefusedKind) → HasNoTokens bytes at kind → SpellsNoTree is_nested spells bytes at kind
+  lexical bytes at refusals.Lex h = h
+  lexical bytes at refusals.Memory h = tt
+  lexical bytes at refusals.Nesting h = absurd h
+  lexical bytes at refusals.Syntax h = absurd h
+  lexical bytes at (refusals.Invalid kind) h = absurd h
+  lexical bytes at refusals.Limit h = absurd h
+  lexical bytes at refusals.Entry h = absurd h
+  lexical bytes at refusals.Modes h = absurd h
 
   module _ (bytes : List ℕ) (tokens : List Token) (ls : List Lexeme) (text : AreTokensOf tokens bytes) (stand : StandForAll bytes tokens ls) where
     -- they nest too deep
-    pub nesting_refusal : (is_nested ls → ⊥) → SpellsNoTree is_nested spells bytes refusals.Nesting
-    nesting_refusal deep = (tokens, ls, record { text = text; stand = stand }, deep)
+    pub nesting_refusal : (left at : ℕ) → IsTooDeep is_nested ls left → at ≡ place_of bytes tokens left → SpellsNoTree is_nested spells bytes at refusals.Nesting
+    nesting_refusal left at deep place = (tokens, ls, record { text = text; stand = stand }, (left, deep, place))
 
     -- a name with a '$'
-    pub name_refusal : is_nested ls → (IsTrue (are_source_lexemes ls) → ⊥) → SpellsNoTree is_nested spells bytes refusals.Syntax
-    name_refusal nested foreign = (tokens, ls, record { text = text; stand = stand }, nested, λ items spelled first names. foreign names)
+    pub name_refusal : (at : ℕ) → IsTokenPlace bytes tokens at → is_nested ls → (IsTrue (are_source_lexemes ls) → ⊥) → SpellsNoTree is_nested spells bytes at refusals.Syntax
+    name_refusal at place nested foreign = (tokens, ls, record { text = text; stand = stand }, nested, (λ items spelled first names. foreign names), place)
 
     module _ (bracketed : (l : List Lexeme) → is_nested l → IsNested l) (first : Word) (function_at : (ℕ → ℕ) → List Lexeme → Reading F)
         (reading : HasReading first spells function_at) where
@@ -80,34 +81,35 @@ module _ {F : Type 0} (is_nested : List Lexeme → Type 0) (spells : (ℕ → �
           )
 
       -- no items
-      pub syntax_refusal : is_nested ls → option_map located_of Read ≡ None → SpellsNoTree is_nested spells bytes refusals.Syntax
-      syntax_refusal nested e =
+      pub syntax_refusal : (at : ℕ) → IsTokenPlace bytes tokens at → is_nested ls → option_map located_of Read ≡ None → SpellsNoTree is_nested spells bytes at refusals.Syntax
+      syntax_refusal at place nested e =
           let none = map_none located_of Read e in (
             tokens,
             ls,
             record { text = text; stand = stand },
             nested,
-            λ items spelled begins names.
-                let some = source_again first spells function_at reading (byte_before tokens) ls items (nested_whole ls (bracketed ls nested)) spelled begins in cc (none, some),
+            (λ items spelled begins names.
+                let some = source_again first spells function_at reading (byte_before tokens) ls items (nested_whole ls (bracketed ls nested)) spelled begins in cc (none, some)),
+            place,
           )
 
       -- a reader that stops
-      pub stop_refusal : is_nested ls → (stop : Stop) → Fails stop (option_map located_of Read) → SpellsNoTree is_nested spells bytes (kind_of stop)
-      stop_refusal nested stops.Memory e = tt
-      stop_refusal nested (stops.Syntax left) e = syntax_refusal nested e
+      pub stop_refusal : (at : ℕ) → IsTokenPlace bytes tokens at → is_nested ls → (stop : Stop) → Fails stop (option_map located_of Read) → SpellsNoTree is_nested spells bytes at (kind_of stop)
+      stop_refusal at place nested stops.Memory e = tt
+      stop_refusal at place nested (stops.Syntax left) e = syntax_refusal at place nested e
 
   -- a text of trees is refused for want of memory alone
-  pub no_refusal : (bytes : List ℕ) (kind : RefusedKind) (source : PureSource F) → SpellsNoTree is_nested spells bytes kind → SpellSource is_nested spells bytes source → kind ≡ refusals.Memory
-  no_refusal bytes refusals.Lex source h (items, s, is) = absurd (h s.tokens s.text)
-  no_refusal bytes refusals.Nesting source (tokens, ls, are, deep) (items, s, is) = absurd (deep (spelled_as_read is_nested spells bytes tokens ls items are.text are.stand s).nested)
-  no_refusal bytes refusals.Syntax source (tokens, ls, are, nested, none) (items, s, is) =
+  pub no_refusal : (bytes : List ℕ) (at : ℕ) (kind : RefusedKind) (source : PureSource F) → SpellsNoTree is_nested spells bytes at kind → SpellSource is_nested spells bytes source → kind ≡ refusals.Memory
+  no_refusal bytes at refusals.Lex source h (items, s, is) = absurd (none_or_tokens bytes at s.tokens h s.text)
+  no_refusal bytes at refusals.Nesting source (tokens, ls, are, (left, deep, place)) (items, s, is) = absurd (deep.whole (spelled_as_read is_nested spells bytes tokens ls items are.text are.stand s).nested)
+  no_refusal bytes at refusals.Syntax source (tokens, ls, are, nested, none, place) (items, s, is) =
       let so = spelled_as_read is_nested spells bytes tokens ls items are.text are.stand s in
       absurd (none items so.spelled so.first so.names)
-  no_refusal bytes (refusals.Invalid kind) source h spelled = absurd h
-  no_refusal bytes refusals.Limit source h spelled = absurd h
-  no_refusal bytes refusals.Entry source h spelled = absurd h
-  no_refusal bytes refusals.Modes source h spelled = absurd h
-  no_refusal bytes refusals.Memory source h spelled = refl
+  no_refusal bytes at (refusals.Invalid kind) source h spelled = absurd h
+  no_refusal bytes at refusals.Limit source h spelled = absurd h
+  no_refusal bytes at refusals.Entry source h spelled = absurd h
+  no_refusal bytes at refusals.Modes source h spelled = absurd h
+  no_refusal bytes at refusals.Memory source h spelled = refl
 
   -- the trees that were read are the text's, and no others are
   pub located_spells : (bytes : List ℕ) (located : PureLocated F) (items : List (PlacedItem F)) → SpellItems is_nested spells bytes items → located ≡ located_of items
@@ -120,7 +122,7 @@ module _ {F : Type 0} (is_nested : List Lexeme → Type 0) (spells : (ℕ → �
       sym is ∙ ap source_of (one_reading is_nested spells bracketed first function_at reading bytes items others s t) ∙ are
 
   -- a text without trees is refused as one of a source
-  pub tree_refusal : (compiled : PureSource F → PureParts) (besides bytes : List ℕ) (at : ℕ) (kind : RefusedKind) → SpellsNoTree is_nested spells bytes kind
+  pub tree_refusal : (compiled : PureSource F → PureParts) (besides bytes : List ℕ) (at : ℕ) (kind : RefusedKind) → SpellsNoTree is_nested spells bytes at kind
       → IsRefusedFor is_nested spells compiled besides bytes at kind
   tree_refusal compiled besides bytes at refusals.Lex h = h
   tree_refusal compiled besides bytes at refusals.Nesting h = h

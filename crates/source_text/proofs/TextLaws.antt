@@ -3,28 +3,49 @@ use Rattle.std.proofs.Common.{◌≡◌, ◌≤◌, ℕ, zero, suc, true, false,
 use Rattle.gil_lexer.specs.declared.forms.Token.{Token}
 use Rattle.gil_lexer.specs.declared.words.Word.{Word}
 use Rattle.gil_lexer.specs.declared.words.Word.TheVariants as words
-use Rattle.gil_lexer.specs.declared.signs.Sign.TheVariants as signs
 use Rattle.gil_lexer.specs.Texts.{AreTokensOf}
 use Rattle.gil_lexer.proofs.TextLaws.{one_list}
 use Rattle.gil_lexemes.specs.declared.standing.Lexeme.{Lexeme}
 use Rattle.gil_lexemes.specs.declared.standing.Lexeme.TheVariants as lexemes
 use Rattle.gil_lexemes.specs.Lexemes.{StandForAll}
-use Rattle.gil_lexemes.specs.Reading.{Reading, behind, first_form, is_sign, is_word}
+use Rattle.gil_lexemes.specs.Reading.{Reading, behind, first_form, same_word, is_word}
 use Rattle.gil_lexemes.proofs.ReadingLaws.{bind_some, if_some, at_word_is, same_word-refl}
 use Rattle.gil_lexemes.proofs.StandingLemmas.{stand_once}
+use Rattle.gil_syntax.specs.Pure.{PureSpec, PurePredDef}
 use Rattle.gil_grammar.specs.declared.positions.Extent.TheVariants.{Whole}
+use Rattle.gil_grammar.specs.declared.positions.Opening.TheVariants.{Brace, Throw}
 use Rattle.gil_grammar.specs.Nesting.{IsNested}
 use Rattle.gil_grammar.specs.Reading.Programs.{spec_at, pred_at}
+use Rattle.gil_grammar.specs.Programs.{SpellsSpec, SpellsPred}
 use Rattle.gil_grammar.specs.Texts.{byte_before}
 use Rattle.gil_grammar.proofs.AssertionLaws.{in_place}
 use Rattle.gil_grammar.proofs.ListLaws.{Takes, Reads, found_is, cond_cases}
 use Rattle.gil_grammar.proofs.NestingLaws.{Nested}
+use Rattle.gil_grammar.proofs.BlockLaws.{NoPost}
 use Rattle.gil_grammar.proofs.ProgramLaws.{spec_takes, pred_takes, spec_again, pred_again}
 use Rattle.source_text.specs.Grammar.{HasReading}
 use Rattle.source_text.specs.Reading.{a_function_at, logical_by, logical_item_at, item_at, items_at, source_at}
 use Rattle.source_text.specs.Texts.{SourceItem, a_function, a_spec, a_pred, SpellsSourceItem, PlacedItem, SpellsItems, BeginsWithFunction, SpellItems}
 use Rattle.source_text.specs.Vocabulary.{are_source_lexemes}
 use Rattle.std.specs.Prelude.{IsTrue}
+
+-- ---- what goes on no specification
+
+word_goes_on_none : (word : Word) → same_word word words.Throw ≡ false → (ls inner : List Lexeme) → ls ≡ lexemes.Word word ∷ inner → NoPost ls
+word_goes_on_none word other ls inner is Brace = rw is refl
+word_goes_on_none word other ls inner is Throw = rw is other
+
+spec_goes_on_none : (s : PureSpec) (ls rest : List Lexeme) → SpellsSpec s ls rest → NoPost ls
+unfolding same_word
+spec_goes_on_none s ls rest h = word_goes_on_none words.Spec refl ls _ h.4
+
+pred_goes_on_none : (d : PurePredDef) (ls rest : List Lexeme) → SpellsPred d ls rest → NoPost ls
+unfolding same_word
+pred_goes_on_none d ls rest h = word_goes_on_none words.Pred refl ls _ h.6
+
+no_lexeme_never : NoPost []
+no_lexeme_never Brace = refl
+no_lexeme_never Throw = refl
 
 pub nested_whole : (ls : List Lexeme) → IsNested ls → Nested ls
 nested_whole ls h = record { count = 0; nested = h }
@@ -61,8 +82,8 @@ module _ {F : Type 0} (first : Word) (spells : (ℕ → ℕ) → F → List Lexe
         in_place Spells ls (a_function f.0.0) f.0.1 found f.2 (reading.takes place ls f.0 test f.1))
         (λ test other. logical_takes ls found other)
 
-    -- an item behind which no opening brace follows
-    item_again : (item : SourceItem F) (ls rest : List Lexeme) → Nested ls → Spells item ls rest → is_sign signs.LeftBrace (first_form rest) ≡ false
+    -- an item behind which no postcondition follows
+    item_again : (item : SourceItem F) (ls rest : List Lexeme) → Nested ls → Spells item ls rest → NoPost rest
         → Reads Nested (item_at first function_at place) item ls rest
     unfolding item_at logical_item_at
     item_again (a_function f) ls rest p h ends =
@@ -76,14 +97,14 @@ module _ {F : Type 0} (first : Word) (spells : (ℕ → ℕ) → F → List Lexe
         let read = spec_again Whole s ls rest p h ends in
         record { is = rw (read.1, reading.no_spec, read.2.is) refl; under = read.2.under; shorter = omega (arith, ap length (read.1), read.2.shorter) }
     item_again (a_pred d) ls rest p h ends =
-        let read = pred_again Whole d ls rest p h ends in
+        let read = pred_again Whole d ls rest p h (ends Brace) in
         record { is = rw (read.1, reading.no_pred, read.2.is) refl; under = read.2.under; shorter = omega (arith, ap length (read.1), read.2.shorter) }
 
-    -- an item begins with no opening brace
-    item_never : (item : SourceItem F) (ls rest : List Lexeme) → Spells item ls rest → is_sign signs.LeftBrace (first_form ls) ≡ false
-    item_never (a_function f) ls rest h = ap (λ (l : List Lexeme). is_sign signs.LeftBrace (first_form l)) (at_word_is first ls (reading.begins place f ls rest h))
-    item_never (a_spec s) ls rest h = rw (h.4) refl
-    item_never (a_pred d) ls rest h = rw (h.6) refl
+    -- an item goes on no specification
+    item_never : (item : SourceItem F) (ls rest : List Lexeme) → Spells item ls rest → NoPost ls
+    item_never (a_function f) ls rest h = word_goes_on_none first reading.no_throw ls (behind ls) (at_word_is first ls (reading.begins place f ls rest h))
+    item_never (a_spec s) ls rest h = spec_goes_on_none s ls rest h
+    item_never (a_pred d) ls rest h = pred_goes_on_none d ls rest h
 
     -- ---- items
 
@@ -98,8 +119,8 @@ module _ {F : Type 0} (first : Word) (spells : (ℕ → ℕ) → F → List Lexe
         subst (λ is. SpellsItems spells place is (l ∷ ls)) (found_is _ items others.2)
         (x.0.1, item_takes (l ∷ ls) x.0 x.1, refl, items_take n x.0.1 others.0 others.1)
 
-    items_never : (items : List (PlacedItem F)) (ls : List Lexeme) → SpellsItems spells place items ls → is_sign signs.LeftBrace (first_form ls) ≡ false
-    items_never [] ls is = rw is refl
+    items_never : (items : List (PlacedItem F)) (ls : List Lexeme) → SpellsItems spells place items ls → NoPost ls
+    items_never [] ls is = subst NoPost (sym is) no_lexeme_never
     items_never (i ∷ items) ls (after, one, at, more) = item_never i.item ls after one
 
     some_left : (l : Lexeme) (ls : List Lexeme) → length (l ∷ ls) ≤ 0 → ⊥

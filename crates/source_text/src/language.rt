@@ -1,10 +1,11 @@
 //! What a reader of a source language has to give.
-ghost use Rattle.std.specs.Prelude.{◌≡◌, ℕ, List, IfNone, OnSome};
+ghost use Rattle.std.specs.Prelude.{◌≡◌, ℕ, List, IfNone, IfSome};
 ghost use Rattle.gil_lexer.specs.declared.words.Word.{Word};
 ghost use Rattle.gil_lexemes.specs.declared.standing.Lexeme.{Lexeme};
 ghost use Rattle.gil_lexemes.specs.Reading.{Gives, Reading};
 ghost use Rattle.gil_grammar.specs.Nesting.{IsNested};
 ghost use Rattle.gil_grammar.specs.Texts.{byte_before};
+ghost use Rattle.gil_text.specs.Refusals.{IsTooDeep};
 ghost use Rattle.source_text.specs.Grammar.{HasReading};
 
 use gil_lexemes::{Cursor, Stop};
@@ -46,7 +47,7 @@ pub trait SourceLanguage {
     /// Where the lexemes nest too deep, how many tokens are left from the first one on at which they do.
     fn nesting_fault(cursor: Cursor<'_>) -> Option<usize>
         ensures none { IfNone result (nested cursor.entry) }
-        ensures some { OnSome result (nested cursor.entry → ⊥) };
+        ensures some { IfSome result (IsTooDeep nested cursor.entry) };
 
     ghost bracketed: { (ls : List Lexeme) → nested ls → IsNested ls };
 

@@ -1,7 +1,8 @@
 //! Reading whole texts to their trees.
-ghost use Rattle.std.specs.Prelude.{◌≡◌, List, IfOk, IfErr};
+ghost use Rattle.std.specs.Prelude.{◌≡◌, List, length, IfOk, IfErr};
 ghost use Rattle.gil_text.specs.Located.{located_view};
 ghost use Rattle.gil_text.specs.declared.refused.RefusedKind.TheVariants.{Memory};
+ghost use Rattle.gil_text.specs.Refusals.{IsTokenPlace};
 ghost use Rattle.source_text.specs.Located.{located_of};
 ghost use Rattle.source_text.specs.Refusals.{IsRefusedTree, kind_of};
 ghost use Rattle.source_text.specs.Texts.{PlacedItem, SpellItems};
@@ -16,7 +17,8 @@ use std::alloc::Global;
 
 /// The refusal of a text of which so many tokens are left, or that memory ran out.
 fn stopped(bytes: &[u8], tokens: &Tokens, stop: Stop) -> Refused
-    ensures { result.kind ≡ kind_of stop }
+    ensures kind { result.kind ≡ kind_of stop }
+    ensures place { IsTokenPlace bytes.now tokens.now result.at }
 {
     match stop {
         Stop::Syntax(left) => Refused {
@@ -29,7 +31,8 @@ fn stopped(bytes: &[u8], tokens: &Tokens, stop: Stop) -> Refused
 
 /// That memory ran out.
 pub fn stopped_for_memory(bytes: &[u8]) -> Refused
-    ensures { result.kind ≡ Memory }
+    ensures kind { result.kind ≡ Memory }
+    ensures place { result.at ≡ length bytes.now }
 {
     Refused {
         at: bytes.len(),

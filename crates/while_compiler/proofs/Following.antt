@@ -16,7 +16,7 @@ use Rattle.gil_machine.specs.Run.{run}
 use Rattle.source_language.specs.Code.{truth, jump}
 use Rattle.source_language.specs.Compiled.{while_code, invariant_code}
 use Rattle.source_language.specs.Calls.{call_found}
-use Rattle.source_language.specs.Completions.{Situation, Completion, normal, fails, sets, with_value, after_action, draws_input, new_symbol, value_test, after_body, back_in}
+use Rattle.source_language.specs.Completions.{Situation, Completion, normal, fails, sets, with_value, after_action, draws_input, new_symbol, value_test, after_body, back_in, thrown_in}
 use Rattle.source_language.specs.Names.{is_source_expr, is_source_name, has_source_invariant, temporary, IsExtendedBy}
 use Rattle.source_language.specs.Pure.{find_function}
 use Rattle.source_language.proofs.Branches.{is_there, assert_runs, assume_runs, if_runs, invariant_leads, value_tests, loop_runs, logic_runs}
@@ -58,9 +58,9 @@ module _ (p : PureParts) (m : Actions) (takes : TakesForNew m) (inputs : List Pu
         (then' : PureValue → Step) → IsExtendedBy s.store store → is_source_expr e ≡ true
         → machine.step p m inputs (state_at f pc callers store s) ≡ machine.with_value (evaluate e store) (Here f at) (state_at f pc callers store s) then'
         → ((v : PureValue) → Matches f callers pc' (then v) (then' v))
-        → Runs (run p m inputs) least f callers pc' (state_at f pc callers store s) (with_value (evaluate e s.store) (Here f at) s then)
+        → Runs (run p m inputs) None least f callers pc' (state_at f pc callers store s) (with_value (evaluate e s.store) (Here f at) s then)
     value_steps pc pc' at store s o e then then' ext names is match =
-        matched p m inputs f q found callers least pc' (state_at f pc callers store s) _ (with_value (evaluate e s.store) (Here f at) s then)
+        matched p m inputs f q found callers None least pc' (state_at f pc callers store s) _ (with_value (evaluate e s.store) (Here f at) s then)
         (is ∙ ap (λ o. machine.with_value o (Here f at) (state_at f pc callers store s) then') (same_value e s.store store ext names))
         (value_matches f callers pc pc' store s (Here f at) (evaluate e s.store) then then' match)
 
@@ -68,10 +68,10 @@ module _ (p : PureParts) (m : Actions) (takes : TakesForNew m) (inputs : List Pu
     act_runs : (pc pc' at : ℕ) (a x : List ℕ) (args : List PureValue) (store : Store) (s : Situation)
         (then : PureValue → Situation → Completion) → m.takes_symbol a ≡ false
         → machine.step p m inputs (state_at f pc callers store s) ≡ machine.do_action (m.takes_symbol a) m x a args (Here f at) (state_at f pc callers store s)
-        → ((v : PureValue) (t : Situation) → t.store ≡ s.store → Runs (run p m inputs) least f callers pc' (state_at f (pc + 1) callers (bind x v store) t) (then v t))
-        → Runs (run p m inputs) least f callers pc' (state_at f pc callers store s) (after_action (m.act a None args s.heap) (Here f at) s then)
+        → ((v : PureValue) (t : Situation) → t.store ≡ s.store → Runs (run p m inputs) None least f callers pc' (state_at f (pc + 1) callers (bind x v store) t) (then v t))
+        → Runs (run p m inputs) None least f callers pc' (state_at f pc callers store s) (after_action (m.act a None args s.heap) (Here f at) s then)
     act_runs pc pc' at a x args store s then off is next =
-        outcome_runs p m inputs f q found callers least pc pc' x store (record s { heap = (m.act a None args s.heap).heap }) (Here f at)
+        outcome_runs p m inputs f q found callers None least pc pc' x store (record s { heap = (m.act a None args s.heap).heap }) (Here f at)
         (state_at f pc callers store s) (m.act a None args s.heap).outcome then
         (is ∙ ap (λ b. machine.do_action b m x a args (Here f at) (state_at f pc callers store s)) off)
         (λ v. next v _ refl)
@@ -79,92 +79,92 @@ module _ (p : PureParts) (m : Actions) (takes : TakesForNew m) (inputs : List Pu
     -- a call of a function, of none, or with another number of arguments
     called : (pc at : ℕ) (x g : List ℕ) (o : Option PureFunction) (args : List PureValue) (store : Store) (s : Situation)
         → find_function functions g ≡ o → IsExtendedBy s.store store
-        → machine.step p m inputs (state_at f pc callers store s) ≡ machine.enter_found (option_map compiled_function o) x args (Here f at)
-        (state_at f pc callers store s) → Runs (run p m inputs) least f callers (pc + 1) (state_at f pc callers store s) (call_found calls o x args (Here f at) s)
-    called pc at x g None args store s there ext is = (leads _ _ _ (one_step p m inputs f q found callers _ _ is), tt)
+        → machine.step p m inputs (state_at f pc callers store s) ≡ machine.enter_found (option_map compiled_function o) x None args (Here f at)
+        (state_at f pc callers store s) → Runs (run p m inputs) None least f callers (pc + 1) (state_at f pc callers store s) (call_found calls o x args (Here f at) s)
+    called pc at x g None args store s there ext is = (leads _ _ _ (one_step p m inputs f q found callers None _ _ is), tt)
     called pc at x g (Some h) args store s there ext is = by_arity (length args == length h.params) is
       where
         caller : Frame
-        caller = record { procedure = f; next = pc + 1; store = store; waits = Some x }
+        caller = record { procedure = f; next = pc + 1; store = store; waits = Some x; handler = None }
 
         by_arity : (b : Bool) → machine.step p m inputs (state_at f pc callers store s) ≡ cond b
-            (machine.enter (compiled_function h) x args (state_at f pc callers store s))
+            (machine.enter (compiled_function h) x None args (state_at f pc callers store s))
             (machine.fails_with (text (codes "arity")) (Here f at) (state_at f pc callers store s))
-            → Runs (run p m inputs) least f callers (pc + 1) (state_at f pc callers store s) (cond b (after_body (calls h args s) (back_in s x)) (fails (text (codes "arity"))
+            → Runs (run p m inputs) None least f callers (pc + 1) (state_at f pc callers store s) (cond b (after_body (calls h args s) (back_in s x) (thrown_in s)) (fails (text (codes "arity"))
             (Here f at) s))
         by_arity true goes =
-            fewer (run p m inputs) least (suc (least - 1)) f callers (pc + 1) _ _ (omega arith)
-            (call_runs (run p m inputs) (least - 1) f x callers (pc + 1) store s (state_at f pc callers store s)
-            (state_at h.name 0 (caller ∷ callers) (machine.bind_all h.params args) s) (calls h args s) ext
-            (one_step p m inputs f q found callers _ _ goes) (calls_follow g h args (caller ∷ callers) s there))
-        by_arity false goes = (leads _ _ _ (one_step p m inputs f q found callers _ _ goes), tt)
+            fewer (run p m inputs) None least (suc (least - 1)) f callers (pc + 1) _ _ (omega arith)
+            (call_runs (run p m inputs) None (least - 1) f x callers (pc + 1) store s (state_at f pc callers store s)
+            (state_at h.name 0 (caller ∷ callers) (machine.bind_all h.params args) s) (calls h args s) ext tt
+            (one_step p m inputs f q found callers None _ _ goes) (calls_follow g h args (caller ∷ callers) s there))
+        by_arity false goes = (leads _ _ _ (one_step p m inputs f q found callers None _ _ goes), tt)
 
     mutual
       pub statement_runs : (c : PureStatement) (pc at : ℕ) (store : Store) (s : Situation) → IsExtendedBy s.store store
           → is_source_statement c ≡ true → HasAt q.body pc (statement_code pc at c)
-          → Runs (run p m inputs) least f callers (pc + length (statement_code pc at c)) (state_at f pc callers store s) (statement functions m inputs loops calls c (Here f at) s)
+          → Runs (run p m inputs) None least f callers (pc + length (statement_code pc at c)) (state_at f pc callers store s) (statement functions m inputs loops calls c (Here f at) s)
       statement_runs (assign x e) pc at store s ext names has =
           value_steps pc (pc + 1) at store s (evaluate e s.store) e _ _ ext (and_parts (is_source_name x) _ names).1
-          (steps p m inputs f q found callers pc _ store s has.0)
+          (steps p m inputs f q found callers None pc _ store s has.0)
           (λ v. (bind x v store, extended_both x v s.store store ext, refl))
       statement_runs (input x k) pc at store s ext names has =
-          matched p m inputs f q found callers least (pc + 1) _ _ (draws_input inputs x k s)
-          (steps p m inputs f q found callers pc _ store s has.0)
+          matched p m inputs f q found callers None least (pc + 1) _ _ (draws_input inputs x k s)
+          (steps p m inputs f q found callers None pc _ store s has.0)
           (input_matches f x k callers pc store (record s { draws = s.draws + 1 }) (slice_get inputs s.draws) ext)
       statement_runs (new_symbol_in x) pc at store s ext names has =
-          matched p m inputs f q found callers least (pc + 1) _ _ (normal (new_symbol x s))
-          (steps p m inputs f q found callers pc _ store s has.0)
+          matched p m inputs f q found callers None least (pc + 1) _ _ (normal (new_symbol x s))
+          (steps p m inputs f q found callers None pc _ store s has.0)
           (bind x (symbol s.counter) store, extended_both x (symbol s.counter) s.store store ext, refl)
       statement_runs (new x fields) pc at store s ext names has =
           new_runs p m takes inputs f q found callers least pc at x fields store s ext (and_parts (is_source_name x) _ names).1 has
       statement_runs (lookup x y prop) pc at store s ext names has =
-          value_runs p m inputs f q found callers least pc (pc + 1) store s (Here f at) (evaluate (name y) s.store) _ _
-          (steps p m inputs f q found callers pc _ store s has.0
+          value_runs p m inputs f q found callers None least pc (pc + 1) store s (Here f at) (evaluate (name y) s.store) _ _
+          (steps p m inputs f q found callers None pc _ store s has.0
           ∙ value_and_text (evaluate (name y) store) prop (Here f at) (state_at f pc callers store s) _
           ∙ ap (λ o. machine.with_value o (Here f at) (state_at f pc callers store s)
           (λ v. machine.do_action (m.takes_symbol (codes "lookup")) m x (codes "lookup") (v ∷ text prop ∷ []) (Here f at)
           (state_at f pc callers store s))) (same_value (name y) s.store store ext (and_parts (is_source_name x) _ names).1))
           (λ l is. act_runs pc (pc + 1) at (codes "lookup") x (l ∷ text prop ∷ []) store s _ takes.lookup is
-          (λ v t same. is_there p m inputs f q found callers least (pc + 1) (bind x v store) (sets x v t)
+          (λ v t same. is_there p m inputs f q found callers None least (pc + 1) (bind x v store) (sets x v t)
           (extended_both x v t.store store (subst (λ st. IsExtendedBy st store) (sym same) ext))))
       statement_runs (call x g es) pc at store s ext names has =
-          values_run p m inputs f q found callers least pc (pc + 1) store s (Here f at) (evaluate_all es s.store) _ _
-          (steps p m inputs f q found callers pc _ store s has.0
+          values_run p m inputs f q found callers None least pc (pc + 1) store s (Here f at) (evaluate_all es s.store) _ _
+          (steps p m inputs f q found callers None pc _ store s has.0
           ∙ ap (λ o. machine.with_values o (Here f at) (state_at f pc callers store s)
-          (λ args. machine.enter_found (find_proc p.procs g) x args (Here f at) (state_at f pc callers store s)))
+          (λ args. machine.enter_found (find_proc p.procs g) x None args (Here f at) (state_at f pc callers store s)))
           (same_elements (from_list es) s.store store ext (and_parts (is_source_name x) _ names).1))
           (λ args is. called pc at x g (find_function functions g) args store s refl ext
-          (is ∙ ap (λ o. machine.enter_found o x args (Here f at) (state_at f pc callers store s)) (programs g)))
+          (is ∙ ap (λ o. machine.enter_found o x None args (Here f at) (state_at f pc callers store s)) (programs g)))
       statement_runs (mutate y prop e) pc at store s ext names has =
-          value_runs p m inputs f q found callers least pc (pc + 1) store s (Here f at) (evaluate (name y) s.store) _ _
-          (steps p m inputs f q found callers pc _ store s has.0
+          value_runs p m inputs f q found callers None least pc (pc + 1) store s (Here f at) (evaluate (name y) s.store) _ _
+          (steps p m inputs f q found callers None pc _ store s has.0
           ∙ value_text_value (evaluate (name y) store) (evaluate e store) prop (Here f at) (state_at f pc callers store s) _
           ∙ ap (λ o. machine.with_value o (Here f at) (state_at f pc callers store s)
           (λ v. machine.with_value (evaluate e store) (Here f at) (state_at f pc callers store s)
           (λ w. machine.do_action (m.takes_symbol (codes "mutate")) m (temporary 0) (codes "mutate") (v ∷ text prop ∷ w ∷ [])
           (Here f at) (state_at f pc callers store s)))) (same_value (name y) s.store store ext (and_parts (is_source_name y) _ names).0))
-          (λ l is. value_runs p m inputs f q found callers least pc (pc + 1) store s (Here f at) (evaluate e s.store) _ _
+          (λ l is. value_runs p m inputs f q found callers None least pc (pc + 1) store s (Here f at) (evaluate e s.store) _ _
           (is ∙ ap (λ o. machine.with_value o (Here f at) (state_at f pc callers store s)
           (λ w. machine.do_action (m.takes_symbol (codes "mutate")) m (temporary 0) (codes "mutate") (l ∷ text prop ∷ w ∷ [])
           (Here f at) (state_at f pc callers store s))) (same_value e s.store store ext (and_parts (is_source_name y) _ names).1))
           (λ v is'. act_runs pc (pc + 1) at (codes "mutate") (temporary 0) (l ∷ text prop ∷ v ∷ []) store s _ takes.mutate is'
-          (λ w t same. is_there p m inputs f q found callers least (pc + 1) (bind (temporary 0) w store) t
+          (λ w t same. is_there p m inputs f q found callers None least (pc + 1) (bind (temporary 0) w store) t
           (extended_more 0 w t.store store (subst (λ st. IsExtendedBy st store) (sym same) ext)))))
       statement_runs (dispose e) pc at store s ext names has =
-          value_runs p m inputs f q found callers least pc (pc + 1) store s (Here f at) (evaluate e s.store) _ _
-          (steps p m inputs f q found callers pc _ store s has.0 ∙ one_value (evaluate e store) (Here f at) (state_at f pc callers store s) _
+          value_runs p m inputs f q found callers None least pc (pc + 1) store s (Here f at) (evaluate e s.store) _ _
+          (steps p m inputs f q found callers None pc _ store s has.0 ∙ one_value (evaluate e store) (Here f at) (state_at f pc callers store s) _
           ∙ ap (λ o. machine.with_value o (Here f at) (state_at f pc callers store s)
           (λ v. machine.do_action (m.takes_symbol (codes "dispose")) m (temporary 0) (codes "dispose") (v ∷ []) (Here f at)
           (state_at f pc callers store s))) (same_value e s.store store ext names))
           (λ l is. act_runs pc (pc + 1) at (codes "dispose") (temporary 0) (l ∷ []) store s _ takes.dispose is
-          (λ w t same. is_there p m inputs f q found callers least (pc + 1) (bind (temporary 0) w store) t
+          (λ w t same. is_there p m inputs f q found callers None least (pc + 1) (bind (temporary 0) w store) t
           (extended_more 0 w t.store store (subst (λ st. IsExtendedBy st store) (sym same) ext))))
       statement_runs (assert e) pc at store s ext names has =
-          assert_runs p m inputs f q found callers least pc at e store s (evaluate e s.store) (same_value e s.store store ext names) ext has
+          assert_runs p m inputs f q found callers None least pc at e store s (evaluate e s.store) (same_value e s.store store ext names) ext has
       statement_runs (assume e) pc at store s ext names has =
-          assume_runs p m inputs f q found callers least pc at e store s (evaluate e s.store) (same_value e s.store store ext names) ext has
+          assume_runs p m inputs f q found callers None least pc at e store s (evaluate e s.store) (same_value e s.store store ext names) ext has
       statement_runs (if_else e on off) pc at store s ext names has =
-          if_runs p m inputs f q found callers least pc at e off_code on_code store s (evaluate e s.store)
+          if_runs p m inputs f q found callers None least pc at e off_code on_code store s (evaluate e s.store)
           (block functions m inputs loops calls f on) (block functions m inputs loops calls f off)
           (same_value e s.store store ext parts.0) has
           (λ at_on. block_runs on (pc + 1 + length off_code + 1) store s ext sides.0 at_on)
@@ -182,10 +182,10 @@ module _ (p : PureParts) (m : Actions) (takes : TakesForNew m) (inputs : List Pu
           sides : (is_source_block on ≡ true) × (is_source_block off ≡ true)
           sides = and_parts _ _ parts.1
       statement_runs (while e invariant body) pc at store s ext names has =
-          loop_runs p m inputs f q found callers least pc at e front code (value_test (λ t. evaluate e t.store) (Here f at))
+          loop_runs p m inputs f q found callers None least pc at e front code (value_test (λ t. evaluate e t.store) (Here f at))
           (block functions m inputs loops calls f body) has
-          (value_tests p m inputs f q found callers least pc (pc + length front) start (pc + length (while_code pc at e front code)) at e parts.0 at_test.0
-          (λ more t. invariant_leads p m inputs f q found callers least pc at (block_temporaries body) invariant more t (has_front q.body pc front _ has)))
+          (value_tests p m inputs f q found callers None least pc (pc + length front) start (pc + length (while_code pc at e front code)) at e parts.0 at_test.0
+          (λ more t. invariant_leads p m inputs f q found callers None least pc at (block_temporaries body) invariant more t (has_front q.body pc front _ has)))
           (λ more t ext'. block_runs body start more t ext' (and_parts (has_source_invariant invariant) _ parts.1).1 at_body)
           loops least enough (omega arith) store s ext
         where
@@ -207,21 +207,21 @@ module _ (p : PureParts) (m : Actions) (takes : TakesForNew m) (inputs : List Pu
           at_body : HasAt q.body start code
           at_body = has_front q.body _ code _ at_test.1.1
       statement_runs (return e) pc at store s ext names has =
-          value_steps pc (pc + 1) at store s (evaluate e s.store) e _ _ ext names (steps p m inputs f q found callers pc _ store s has.0)
+          value_steps pc (pc + 1) at store s (evaluate e s.store) e _ _ ext names (steps p m inputs f q found callers None pc _ store s has.0)
           (λ v. leaves callers callers f pc v store s)
       statement_runs (fail e) pc at store s ext names has =
           value_steps pc (pc + 1) at store s (evaluate e s.store) e _ _ ext names
-          (steps p m inputs f q found callers pc _ store s has.0) (λ v. (refl, tt))
-      statement_runs (logic c) pc at store s ext names has = logic_runs p m inputs f q found callers least pc at c store s ext has
+          (steps p m inputs f q found callers None pc _ store s has.0) (λ v. (refl, tt))
+      statement_runs (logic c) pc at store s ext names has = logic_runs p m inputs f q found callers None least pc at c store s ext has
 
       pub block_runs : (b : PureBlock) (pc : ℕ) (store : Store) (s : Situation) → IsExtendedBy s.store store → is_source_block b ≡ true
-          → HasAt q.body pc (block_code pc b) → Runs (run p m inputs) least f callers (pc + length (block_code pc b)) (state_at f pc callers store s)
+          → HasAt q.body pc (block_code pc b) → Runs (run p m inputs) None least f callers (pc + length (block_code pc b)) (state_at f pc callers store s)
           (block functions m inputs loops calls f b s)
       block_runs no_statements pc store s ext names has =
-          at_place (run p m inputs) least f callers pc (pc + 0) _ (normal s) (omega arith) (is_there p m inputs f q found callers least pc store s ext)
+          at_place (run p m inputs) None least f callers pc (pc + 0) _ (normal s) (omega arith) (is_there p m inputs f q found callers None least pc store s ext)
       block_runs (statement_and at c rest) pc store s ext names has =
-          at_place (run p m inputs) least f callers _ _ _ _ ends
-          (runs_then (run p m inputs) least f callers (pc + length code)
+          at_place (run p m inputs) None least f callers _ _ _ _ ends
+          (runs_then (run p m inputs) None least f callers (pc + length code)
           (pc + length code + length (block_code (pc + length code) rest)) _ _ _
           (statement_runs c pc at store s ext parts.0 (has_front q.body pc code _ has))
           (λ more t ext'. block_runs rest (pc + length code) more t ext' parts.1 (has_back q.body pc code _ has)))

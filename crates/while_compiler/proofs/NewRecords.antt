@@ -56,28 +56,28 @@ names_value (field ∷ fields) store = ap (λ r. both (Ok (text field.name)) r) 
 module _ (p : PureParts) (m : Actions) (takes : TakesForNew m) (inputs : List PureValue) (f : List ℕ) (q : PureProc)
     (found : find_proc p.procs f ≡ Some q) (callers : List Frame) where
   follows_from : (least pc pc' from : ℕ) (store : Store) (s : Situation) (c : Completion) → pc ≡ from
-      → Runs (run p m inputs) least f callers pc' (state_at f pc callers store s) c → Runs (run p m inputs) least f callers pc' (state_at f from callers store s) c
-  follows_from least pc pc' from store s c e r = subst (λ n. Runs (run p m inputs) least f callers pc' (state_at f n callers store s) c) e r
+      → Runs (run p m inputs) None least f callers pc' (state_at f pc callers store s) c → Runs (run p m inputs) None least f callers pc' (state_at f from callers store s) c
+  follows_from least pc pc' from store s c e r = subst (λ n. Runs (run p m inputs) None least f callers pc' (state_at f n callers store s) c) e r
 
   -- the values of the fields are put into temporaries
   values_run : (fields : List PureField) (least i pc pc' at : ℕ) (store : Store) (s : Situation) (then : List PureValue → Completion)
       → IsExtendedBy s.store store → are_source_exprs (from_exprs (field_values fields)) ≡ true
       → HasAt q.body pc (field_values_code at i fields) → ((vs : List PureValue) (more : Store) → length vs ≡ length fields
       → IsExtendedBy s.store more → ((j : ℕ) → j < i → value_of more (temporary j) ≡ value_of store (temporary j)) → Holds more i vs
-      → Runs (run p m inputs) least f callers pc' (state_at f (pc + length (field_values_code at i fields)) callers more s) (then vs))
-      → Runs (run p m inputs) least f callers pc' (state_at f pc callers store s) (with_values (evaluate_all (field_values fields) s.store) (Here f at) s then)
+      → Runs (run p m inputs) None least f callers pc' (state_at f (pc + length (field_values_code at i fields)) callers more s) (then vs))
+      → Runs (run p m inputs) None least f callers pc' (state_at f pc callers store s) (with_values (evaluate_all (field_values fields) s.store) (Here f at) s then)
   values_run [] least i pc pc' at store s then more names has next =
       let e : pc + 0 ≡ pc = omega arith in
       follows_from least (pc + 0) pc' pc store s (then []) e (next [] store refl more (λ j lt. refl) tt)
   values_run (field ∷ fields) least i pc pc' at store s then more names has next =
-      subst (Runs (run p m inputs) least f callers pc' (state_at f pc callers store s))
+      subst (Runs (run p m inputs) None least f callers pc' (state_at f pc callers store s))
       (sym (first_then (evaluate field.value s.store) (evaluate_all (field_values fields) s.store)
       (Here f at) s then))
-      (value_runs p m inputs f q found callers least pc pc' store s (Here f at) (evaluate field.value s.store) _ _
-      (steps p m inputs f q found callers pc _ store s has.0 ∙ ap
+      (value_runs p m inputs f q found callers None least pc pc' store s (Here f at) (evaluate field.value s.store) _ _
+      (steps p m inputs f q found callers None pc _ store s has.0 ∙ ap
       (λ o. machine.with_value o (Here f at) (state_at f pc callers store s)
       (λ v. machine.assigned (temporary i) v (state_at f pc callers store s))) (same_value field.value s.store store more parts.0))
-      (λ v is. runs_after _ least f callers pc' _ _ _ (leads _ _ _ (one_step p m inputs f q found callers _ _ is))
+      (λ v is. runs_after (run p m inputs) None least f callers pc' _ _ _ (leads _ _ _ (one_step p m inputs f q found callers None _ _ is))
       (values_run fields least (i + 1) (pc + 1) pc' at (bind (temporary i) v store) s (λ vs. then (v ∷ vs))
       (extended_more i v s.store store more) parts.1 has.1
       (λ vs last len ext below holds.
@@ -110,8 +110,8 @@ module _ (p : PureParts) (m : Actions) (takes : TakesForNew m) (inputs : List Pu
       → IsExtendedBy s.store store → value_of store (temporary record_at) ≡ Some l → Holds store i vs
       → HasAt q.body pc (fill_code at record_at written i fields)
       → ((more : Store) (t : Situation) → IsExtendedBy t.store more → value_of more (temporary record_at) ≡ Some l
-      → Runs (run p m inputs) least f callers pc' (state_at f (pc + length (fill_code at record_at written i fields)) callers more t) (then t))
-      → Runs (run p m inputs) least f callers pc' (state_at f pc callers store s) (fill m l fields vs (Here f at) s then)
+      → Runs (run p m inputs) None least f callers pc' (state_at f (pc + length (fill_code at record_at written i fields)) callers more t) (then t))
+      → Runs (run p m inputs) None least f callers pc' (state_at f pc callers store s) (fill m l fields vs (Here f at) s then)
   fill_runs [] [] least i record_at written pc pc' at l store s then le ne len ext is holds has next =
       let e : pc + 0 ≡ pc = omega arith in
       follows_from least (pc + 0) pc' pc store s (then s) e (next store s ext is)
@@ -119,7 +119,7 @@ module _ (p : PureParts) (m : Actions) (takes : TakesForNew m) (inputs : List Pu
   fill_runs (field ∷ fields) [] least i record_at written pc pc' at l store s then le ne len ext is holds has next = absurd
       (omega (arith, len))
   fill_runs (field ∷ fields) (v ∷ vs) least i record_at written pc pc' at l store s then le ne len ext is holds has next =
-      outcome_runs p m inputs f q found callers least pc pc' (temporary written) store (record s { heap = result.heap }) here
+      outcome_runs p m inputs f q found callers None least pc pc' (temporary written) store (record s { heap = result.heap }) here
       (state_at f pc callers store s) result.outcome _ goes
       (λ w. fill_runs fields vs least (i + 1) record_at written (pc + 1) pc' at l (bind (temporary written) w store)
       (record s { heap = result.heap }) then (omega arith) ne (omega arith) (extended_more written w s.store store ext)
@@ -143,7 +143,7 @@ module _ (p : PureParts) (m : Actions) (takes : TakesForNew m) (inputs : List Pu
       goes : machine.step p m inputs (state_at f pc callers store s) ≡ machine.after_action result.outcome (temporary written) here
           (state_at f pc callers store (record s { heap = result.heap }))
       goes =
-          steps p m inputs f q found callers pc _ store s has.0
+          steps p m inputs f q found callers None pc _ store s has.0
           ∙ ap (λ o. machine.with_values o here (state_at f pc callers store s)
           (λ vs. machine.do_action (m.takes_symbol (codes "mutate")) m (temporary written) (codes "mutate") vs here
           (state_at f pc callers store s))) args
@@ -152,7 +152,7 @@ module _ (p : PureParts) (m : Actions) (takes : TakesForNew m) (inputs : List Pu
   -- a new record
   pub new_runs : (least pc at : ℕ) (x : List ℕ) (fields : List PureField) (store : Store) (s : Situation) → IsExtendedBy s.store store
       → are_source_exprs (from_exprs (field_values fields)) ≡ true → HasAt q.body pc (new_code at x fields)
-      → Runs (run p m inputs) least f callers (pc + length (new_code at x fields)) (state_at f pc callers store s)
+      → Runs (run p m inputs) None least f callers (pc + length (new_code at x fields)) (state_at f pc callers store s)
       (with_values (evaluate_all (field_values fields) s.store) (Here f at) s
       (λ vs. after_action (m.act (codes "new") (Some s.counter) (list (from_list (field_names fields)) ∷ []) s.heap)
       (Here f at) (record s { counter = s.counter + 1 })
@@ -204,20 +204,20 @@ module _ (p : PureParts) (m : Actions) (takes : TakesForNew m) (inputs : List Pu
 
       -- the variable gets the record
       named : (l : PureValue) (more : Store) (t : Situation) → IsExtendedBy t.store more → value_of more (temporary count) ≡ Some l
-          → Runs (run p m inputs) least f callers end (state_at f (pc1 + 1 + length filling) callers more t) (normal (sets x l t))
+          → Runs (run p m inputs) None least f callers end (state_at f (pc1 + 1 + length filling) callers more t) (normal (sets x l t))
       named l more t ext' is =
-          matched p m inputs f q found callers least end (state_at f (pc1 + 1 + length filling) callers more t) _ (normal (sets x l t))
-          (steps p m inputs f q found callers (pc1 + 1 + length filling) _ more t at_last.0
+          matched p m inputs f q found callers None least end (state_at f (pc1 + 1 + length filling) callers more t) _ (normal (sets x l t))
+          (steps p m inputs f q found callers None (pc1 + 1 + length filling) _ more t at_last.0
           ∙ ap (λ o. machine.with_value (set_or_fault o) here (state_at f (pc1 + 1 + length filling) callers more t)
           (λ v. machine.assigned x v (state_at f (pc1 + 1 + length filling) callers more t))) is)
           (bind x l more, extended_both x l t.store more ext', ap (λ n. goes_on (state_at f n callers (bind x l more) (sets x l t))) ends)
 
       made : (vs : List PureValue) (more : Store) → length vs ≡ count → IsExtendedBy s.store more
           → ((j : ℕ) → j < 0 → value_of more (temporary j) ≡ value_of store (temporary j)) → Holds more 0 vs
-          → Runs (run p m inputs) least f callers end (state_at f pc1 callers more s) (after_action result here (record s { counter = s.counter + 1 })
+          → Runs (run p m inputs) None least f callers end (state_at f pc1 callers more s) (after_action result here (record s { counter = s.counter + 1 })
           (λ l t. fill m l fields vs here t (λ u. normal (sets x l u))))
       made vs more len ext' below holds =
-          outcome_runs p m inputs f q found callers least pc1 end (temporary count) more then here (state_at f pc1 callers more s) result.outcome _ goes
+          outcome_runs p m inputs f q found callers None least pc1 end (temporary count) more then here (state_at f pc1 callers more s) result.outcome _ goes
           (λ l. fill_runs fields vs least 0 count (count + 1) (pc1 + 1) end at l (bind (temporary count) l more) then
           (λ u. normal (sets x l u)) (omega arith) (omega arith) len
           (extended_more count l s.store more ext') (bound_value (temporary count) l more)
@@ -225,7 +225,7 @@ module _ (p : PureParts) (m : Actions) (takes : TakesForNew m) (inputs : List Pu
         where
           goes : machine.step p m inputs (state_at f pc1 callers more s) ≡ machine.after_action result.outcome (temporary count) here (state_at f pc1 callers more then)
           goes =
-              steps p m inputs f q found callers pc1 _ more s at_making.0
+              steps p m inputs f q found callers None pc1 _ more s at_making.0
               ∙ ap (λ r. machine.with_values (both (as_list r) (Ok [])) here (state_at f pc1 callers more s)
               (λ vs. machine.do_action (m.takes_symbol (codes "new")) m (temporary count) (codes "new") vs here (state_at f pc1 callers more s)))
               (names_value fields more)

@@ -1,7 +1,7 @@
 -- The GIL program that a While program is compiled to. The commands of a statement have the byte at which it begins as their
 -- place; labels are indices of the procedure's commands. Temporaries are numbered anew in each statement, in the order in which
 -- they are assigned.
-use Rattle.std.specs.Prelude.{ℕ, suc, ◌+◌, List, [], ◌∷◌, ◌++◌, map, length, codes, max}
+use Rattle.std.specs.Prelude.{ℕ, suc, ◌+◌, List, [], ◌∷◌, ◌++◌, map, length, codes, max, None}
 use Rattle.gil_values.specs.Pure.{text, procedure}
 use Rattle.gil_syntax.specs.Pure.{PureExpr, literal, name, list_of, from_list, assign, call, act, usym, isym, return, fail, PureNumberedCommand, PureProc, PureParts}
 use Rattle.source_language.specs.Compiled.{if_code, while_code, assert_code, assume_code, invariant_code, logic_command}
@@ -67,7 +67,7 @@ abbrev mutual
   statement_code pc at (while.symbol x) = placed at (usym x) ∷ []
   statement_code pc at (while.new x fields) = new_code at x fields
   statement_code pc at (while.lookup x y p) = placed at (act x (codes "lookup") (name y ∷ property p ∷ [])) ∷ []
-  statement_code pc at (while.call x f es) = placed at (call x (literal (procedure f)) es) ∷ []
+  statement_code pc at (while.call x f es) = placed at (call x (literal (procedure f)) es None) ∷ []
   statement_code pc at (while.mutate y p e) = placed at (act (temporary 0) (codes "mutate") (name y ∷ property p ∷ e ∷ [])) ∷ []
   statement_code pc at (while.dispose e) = placed at (act (temporary 0) (codes "dispose") (e ∷ [])) ∷ []
   statement_code pc at (while.assert e) = assert_code pc at e

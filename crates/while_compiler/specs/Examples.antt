@@ -1,5 +1,5 @@
 -- A function with every statement, and the commands that it is compiled to.
-use Rattle.std.specs.Prelude.{ℕ, pos, List, [], ◌∷◌, codes, Some}
+use Rattle.std.specs.Prelude.{ℕ, pos, List, [], ◌∷◌, codes, Some, None}
 use Rattle.gil_values.specs.declared.kinds.Kind.TheVariants.{Int}
 use Rattle.gil_values.specs.Pure.{integer, text, procedure}
 use Rattle.gil_syntax.specs.Pure.{PureExpr, literal, name, list_of, from_list, PurePredUse, assign, call, act, usym, isym, return, fail, vanish, fold_use, loop_invariant, PureNumberedCommand}
@@ -88,7 +88,7 @@ its_commands =
     ∷ placed 8 (act (codes "x") (codes "lookup") (y ∷ words (codes "p") ∷ []))
     ∷ jump 9 b 24
     ∷ placed 9 (fail (words (codes "assert")))
-    ∷ placed 10 (call (codes "x") (literal (procedure (codes "f"))) (y ∷ []))
+    ∷ placed 10 (call (codes "x") (literal (procedure (codes "f"))) (y ∷ []) None)
     ∷ placed 11 (isym (codes "x") Int)
     ∷ placed 12 (usym (codes "x"))
     ∷ placed 13 (assign (codes "x") y)

@@ -1,5 +1,5 @@
 //! Statements that one command stands for.
-ghost use Rattle.std.specs.Prelude.{◌≡◌, [], ◌∷◌, IfOk, codes};
+ghost use Rattle.std.specs.Prelude.{◌≡◌, [], ◌∷◌, IfOk, None, codes};
 ghost use Rattle.gil_values.specs.Characters.{IsText};
 ghost use Rattle.gil_values.specs.Pure.{procedure};
 ghost use Rattle.gil_syntax.specs.Pure.{literal, name, assign, call, act, usym, isym, return, fail};
@@ -56,14 +56,14 @@ pub(crate) fn call_code(
     arguments: &Exprs,
 ) -> Result<Body, AllocError>
     ensures { IfOk result
-        (λ code. code_view code ≡ placed at (call target.now (literal (procedure function.now)) (exprs_view arguments.now)) ∷ []) }
+        (λ code. code_view code ≡ placed at (call target.now (literal (procedure function.now)) (exprs_view arguments.now) None) ∷ []) }
 {
     let callee = procedure_literal(alloc, function)?;
     let arguments = copy_of_expressions(alloc, arguments)?;
     one(
         alloc,
         at,
-        Command::Call(target.copy(alloc)?, callee, arguments),
+        Command::Call(target.copy(alloc)?, callee, arguments, None),
     )
 }
 

@@ -26,10 +26,15 @@ no_pred : same_word words.Pred words.Func ≡ false
 unfolding same_word
 no_pred = refl
 
+no_throw : same_word words.Func words.Throw ≡ false
+unfolding same_word
+no_throw = refl
+
 pub functions_read : HasReading words.Func SpellsFunction function_at
 functions_read = record {
   no_spec = no_spec;
   no_pred = no_pred;
+  no_throw = no_throw;
   begins = λ place f ls rest h. ap (λ (l : List Lexeme). is_word words.Func (first_form l)) (h.3) ∙ same_word-refl words.Func;
   takes = λ place ls found test e.
       let is = at_word_is words.Func ls test in

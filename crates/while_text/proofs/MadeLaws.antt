@@ -1,6 +1,6 @@
 -- What a text spells compiles to a well made program: what it holds of names, kinds and literals is well made, and the names of
 -- temporaries, which the compiled commands have besides, begin with no `#`.
-use Rattle.std.proofs.Common.{◌≡◌, ℕ, ◌+◌, true, List, [], ◌∷◌, ◌++◌, length, refl, subst, inl, inr}
+use Rattle.std.proofs.Common.{◌≡◌, ℕ, ◌+◌, true, List, [], ◌∷◌, ◌++◌, length, refl, subst, inl, inr, None}
 use Rattle.std.specs.Prelude.{codes}
 use Rattle.std.specs.List.{list_all}
 use Rattle.std.proofs.lemmas.Bool.{and_from, and_parts}
@@ -104,7 +104,7 @@ module _ (place : ℕ → ℕ) where
     statement_makes (while.call x f es) ls rest p (arguments, is, h) =
         let front = subst AreProper is p in
         let read = exprs_make Command es arguments _ front.1.1.1.1 h in
-        record { is = λ pc at. made_one at (call x (literal (procedure f)) es) (and_from _ _ (program_name x front.0) read.is); proper = read.proper.1.1 }
+        record { is = λ pc at. made_one at (call x (literal (procedure f)) es None) (and_from _ _ (program_name x front.0) read.is); proper = read.proper.1.1 }
     statement_makes (while.mutate y q e) ls rest p (value, is, h) =
         let front = subst AreProper is p in
         let read = expr_makes Command e value _ front.1.1.1.1 h in

@@ -16,6 +16,6 @@ returns-in-Ok-None-clause-refused g c =
     let stand = rw c.as_slice.ensures at c.new-cursor.ensures in
     let nested = rw c.copy.ensures at c.in_default.ensures.none in
     let read = rw c.as_slice-in-Ok-None.ensures at c.in-Err-source_at.ensures in
-    rw c.stopped.ensures
+    rw c.stopped.ensures.kind
     (stop_refusal g.L.SourceLanguage.nested g.L.SourceLanguage.spells c.args.bytes.now c.in_ok-tokens.tokens c.new-cursor.result c.in_ok-tokens.ensures.tokens stand g.met.L.SourceLanguage.bracketed g.L.SourceLanguage.first g.L.SourceLanguage.reads g.met.L.SourceLanguage.reading
-    nested c.in-Err-source_at.stop read)
+    c.stopped.result.at c.stopped.ensures.place nested c.in-Err-source_at.stop read)

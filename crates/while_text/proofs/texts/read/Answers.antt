@@ -16,7 +16,7 @@ pub returns-in_err-functions-clause-only : goal.returns-in_err-functions-clause-
 returns-in_err-functions-clause-only c =
     let p = err_from_is_err_and c.from_residual.result c.from_residual.ensures.1 in
     let refused = c.in_err-functions.field-0.0 in
-    rw (p.1, p.2) (λ source spells valid. no_refusal IsNested SpellsFunction c.args.bytes.now refused.kind source c.in_err-functions.ensures.refused spells)
+    rw (p.1, p.2) (λ source spells valid. no_refusal IsNested SpellsFunction c.args.bytes.now refused.at refused.kind source c.in_err-functions.ensures.refused spells)
 
 pub new-requires-clause-named : goal.new-requires-clause-named
 new-requires-clause-named c =
