@@ -2,7 +2,7 @@
 use Rattle.std.proofs.Common.{◌≡◌, inl, inr, ℕ, ℤ, ◌-ℤ◌, ◌+ℤ◌, List, [], ◌∷◌, ◌++◌, Option, Some, None, IsTrue, refl, sym, ap, subst, ◌∙◌}
 use Rattle.gil_values.proofs.OperatorSymbols.{none_contained}
 use Rattle.gil_values.specs.Pure.{PureValue, text}
-use Rattle.least_memory.specs.Notes.{HasValue, terms_of_note, IsPlainNote, note_of, noted_stands, noted_terms, no_form_matters, noted_plain}
+use Rattle.least_memory.specs.Notes.{HasValue, terms_of_note, IsPlainNote, note_of, noted_stands, noted_terms, no_form_matters, noted_plain, all_asked}
 use Rattle.least_memory.specs.declared.noted.Noted.{Noted}
 use Rattle.mem_model.specs.declared.failures.Failure.{Failure}
 use Rattle.mem_model.specs.Actions.{no_memory}
@@ -62,12 +62,12 @@ module _ (action : List ℕ) (fresh : Option Var) (args : List PureTerm) (s : No
   no_condition : (P : _ → Type 0) → Each P b.conds
   no_condition P = subst (Each P) (sym is.conds) tt
 
-  pub law : ActLaw noted_stands noted_terms no_memory action fresh args args s (b ∷ [])
+  pub law : ActLaw noted_stands noted_terms no_memory action fresh args (all_asked action args) s (b ∷ [])
   law = record {
     cover = λ vars v args' h serves. inl (subst (λ conds. IsTrue (all_true v conds)) (sym is.conds) refl, inr (stands_then v args' h serves.has_heap));
     exact = λ vars v args' h serves. ((λ all_hold no_open. stands_then v args' h serves.has_heap), tt);
     variables = λ vars over fresh_over. ((no_condition (λ a. IsOver vars (term_of a)), (of_state (IsOver vars) over, of_result (IsOver vars) (λ x has. absurd (none_contained x has)))), tt);
-    own = (no_condition (IsOwnCondition (asked_of args (noted_terms s))), tt);
+    own = (no_condition (IsOwnCondition (asked_of (all_asked action args) (noted_terms s))), tt);
     made = (
       (
         of_state (IsMadeOf (args ++ all_of (noted_terms s)) fresh)
@@ -99,8 +99,8 @@ module _ (action : List ℕ) (fresh : Option Var) (args : List PureTerm) (s : No
   only : bs ≡ b ∷ []
   only = are ∙ ap (λ xs. xs ++ b ∷ []) is_none
 
-  pub laws_of : ActLaw noted_stands noted_terms no_memory action fresh args args s (branches_view bs)
-  laws_of = subst (λ rows. ActLaw noted_stands noted_terms no_memory action fresh args args s (branches_view rows)) (sym only) (law action fresh args s (branch_view b) is)
+  pub laws_of : ActLaw noted_stands noted_terms no_memory action fresh args (all_asked action args) s (branches_view bs)
+  laws_of = subst (λ rows. ActLaw noted_stands noted_terms no_memory action fresh args (all_asked action args) s (branches_view rows)) (sym only) (law action fresh args s (branch_view b) is)
 
   pub plainly_of : ActsPlainly noted_plain action args s (branches_view bs)
   plainly_of = subst (λ rows. ActsPlainly noted_plain action args s (branches_view rows)) (sym only) (plainly action fresh args s (branch_view b) is)

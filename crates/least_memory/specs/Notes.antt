@@ -20,7 +20,7 @@ HasValue v (Some t) = (w : PureValue) × (value v t ≡ Some w)
 
 abbrev pub terms_of_note : Option PureTerm → StateTerms
 terms_of_note None = no_state_terms
-terms_of_note (Some t) = record { placed = []; described = t ∷ []; held = []; offsets = []; located = [] }
+terms_of_note (Some t) = record { placed = []; described = []; held = t ∷ []; offsets = []; located = [] }
 
 abbrev pub IsPlainNote : Option PureTerm → ℤ → ℤ → Type 0
 IsPlainNote None low high = ⊤
@@ -36,9 +36,13 @@ noted_terms s = terms_of_note (note_of s)
 abbrev pub noted_plain : Noted → ℤ → ℤ → Type 0
 noted_plain s low high = IsPlainNote (note_of s) low high
 
-abbrev pub all_asked : List ℕ → List PureTerm → List PureTerm
-all_asked action args = args
+abbrev pub all_asked : List ℕ → List PureTerm → List PureTerm × List PureTerm
+all_asked action args = (args, [])
 
 -- no action depends on the literal form of a term
 abbrev pub no_form_matters : Noted → List ℕ → List PureTerm → List PureValue → Heap → PureTerm → Type 0
 no_form_matters s action args v h t = ⊥
+
+-- there is nothing to keep
+abbrev pub noted_kept : Noted → Type 0
+noted_kept s = ⊤

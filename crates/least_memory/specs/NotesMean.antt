@@ -1,9 +1,10 @@
 -- States with a note have a meaning.
-use Rattle.std.specs.Prelude.{ℕ, List, [], ◌∷◌, Option, Some, None}
+use Rattle.std.specs.Prelude.{◌↔◌, ℕ, ℤ, List, [], ◌∷◌, Option, Some, None}
 use Rattle.std.specs.FinMap.{empty}
 use Rattle.std.proofs.Common.{inl, sym, subst, ◌∙◌}
 use Rattle.gil_values.specs.Pure.{PureValue}
-use Rattle.least_memory.specs.Notes.{HasValue, terms_of_note, note_of, noted_stands, noted_terms, all_asked}
+use Rattle.least_memory.specs.Notes.{HasValue, terms_of_note, IsPlainNote, note_of, noted_stands, noted_terms, noted_plain, all_asked}
+use Rattle.least_memory.specs.declared.noted.Noted.{Noted}
 use Rattle.mem_model.specs.declared.keys.MemoryName.TheVariants.{Record}
 use Rattle.mem_model.specs.Heaps.{IsHeapOf, OccursInHeap}
 use Rattle.mem_model.proofs.Joins.{has_key}
@@ -13,6 +14,7 @@ use Rattle.pure_terms.specs.Pure.{PureTerm, variables}
 use Rattle.pure_terms.proofs.VariableLaws.{depend_on_variables}
 use Rattle.sym_model.specs.Laws.{IsMeaning, AsksItsArguments}
 use Rattle.sym_model.specs.Lists.{Each, IsAmong}
+use Rattle.sym_model.specs.Plain.{IsPlainState}
 use Rattle.sym_model.specs.Terms.{all_of}
 use Rattle.sym_model.proofs.ListLaws.{each_to, each_is_among}
 
@@ -40,4 +42,11 @@ notes_mean = record {
 }
 
 pub all_are_given : AsksItsArguments all_asked
-all_are_given action args = each_to (λ t. IsAmong t args) _ args (λ t among. inl among) (each_is_among args)
+all_are_given action args = (each_to (λ t. IsAmong t args) _ args (λ t among. inl among) (each_is_among args), tt)
+
+plain_note : (note : Option PureTerm) (low high : ℤ) → IsPlainNote note low high ↔ IsPlainState Record (terms_of_note note) low high
+plain_note None low high = (λ plain. record { plain = tt; described = tt }, λ is. tt)
+plain_note (Some t) low high = (λ plain. record { plain = (plain, tt); described = tt }, λ is. is.plain.0)
+
+pub notes_are_plain : (s : Noted) (low high : ℤ) → noted_plain s low high ↔ IsPlainState Record (noted_terms s) low high
+notes_are_plain s low high = plain_note (note_of s) low high

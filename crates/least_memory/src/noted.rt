@@ -38,8 +38,8 @@ impl Noted {
 
 impl SymMemory for Noted {
     ghost use Rattle.std.specs.Prelude.{⊤};
-    ghost use Rattle.least_memory.specs.Notes.{noted_stands, noted_terms, noted_plain, all_asked, no_form_matters};
-    ghost use Rattle.least_memory.specs.NotesMean.{notes_mean, all_are_given};
+    ghost use Rattle.least_memory.specs.Notes.{noted_stands, noted_terms, noted_plain, noted_kept, all_asked, no_form_matters};
+    ghost use Rattle.least_memory.specs.NotesMean.{notes_mean, all_are_given, notes_are_plain};
 
     type Local = NoActions;
 
@@ -55,9 +55,15 @@ impl SymMemory for Noted {
 
     ghost keeps_plain = { ⊤ };
 
+    ghost keeps_narrow = { ⊥ };
+
+    ghost kept = { noted_kept };
+
     ghost meaning = { notes_mean };
 
     ghost asked_are_given = { all_are_given };
+
+    ghost plain_is_said = { notes_are_plain };
 
     fn name() -> MemoryName {
         MemoryName::Record

@@ -2,6 +2,7 @@ pub mod ArgumentSymbols
 pub mod Cases
 pub mod Changes
 pub mod Compatible
+pub mod CoreLaws
 pub mod Disposing
 pub mod EntryLists
 pub mod Formed

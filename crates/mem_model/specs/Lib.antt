@@ -1,5 +1,7 @@
 pub mod Actions
 pub mod Arguments
+pub mod CoreNames
+pub mod Cores
 pub mod Heaps
 pub mod KeyOrder
 pub mod Keys

@@ -3,6 +3,7 @@
 #![tactic(auto)]
 
 pub mod arguments;
+mod cores;
 mod failures;
 mod keys;
 mod laws;
@@ -13,6 +14,7 @@ mod order;
 mod rows;
 mod stored;
 
+pub use cores::{Core, cores_stand_for_keys, one_key_more_is_a_heap, one_key_more_is_a_union};
 pub use failures::Failure;
 pub use keys::{Key, MemoryName, Sub};
 pub use laws::{

@@ -9,7 +9,7 @@ use Rattle.pure_terms.specs.Pure.{PureTerm}
 use Rattle.record_heap.specs.Names.{action_of}
 use Rattle.record_heap.specs.Table.{record_actions}
 use Rattle.record_sym.specs.declared.states.RecordSym.{RecordSym}
-use Rattle.record_sym.specs.Plain.{record_stands, record_terms, record_plain, record_asked, record_depends, ArePlainChunks}
+use Rattle.record_sym.specs.Plain.{record_stands, record_terms, record_plain, record_kept, record_asked, record_depends, ArePlainChunks}
 use Rattle.record_sym.specs.Table.{table}
 use Rattle.record_sym.specs.View.{state_view, record_branch_view, record_branches_view}
 use Rattle.sym_model.specs.declared.branches.Branch.{Branch}
@@ -21,7 +21,10 @@ use Rattle.sym_model.specs.Pure.{PureChunk, PureBranch}
 use Rattle.sym_model.specs.View.{branch_view, branches_view}
 use Rattle.record_sym.proofs.FormLaws.{Opens, table_depends}
 use Rattle.record_sym.specs.Forms.{DependsOn}
+use Rattle.record_sym.proofs.Keeping.{table_keeps, table_misses}
 use Rattle.record_sym.proofs.Law.{table_law, table_plain}
+use Rattle.core_uses.specs.Kept.{AreKept}
+use Rattle.sym_model.specs.Cores.{MissesItsOwn}
 
 module _ (P : PureBranch (List PureChunk) → Type 0) (P' : PureBranch RecordSym → Type 0) (f : (b : Branch RecordSym) → P (record_branch_view b) → P' (branch_view b)) where
   each_branch : (bs : List (Branch RecordSym)) → Each P (record_branches_view bs) → Each P' (branches_view bs)
@@ -65,3 +68,16 @@ module _ (action : List ℕ) (fresh : Option Var) (args : List PureTerm) (s : Re
       each_branch (Opens v (DependsOn (action_of action) (state_view s) args v h)) _ (λ b is. is) bs
       (subst (λ rows. Each (Opens v (DependsOn (action_of action) (state_view s) args v h)) rows) (sym are)
       (table_depends (action_of action) fresh args (state_view s) vars v args' h (serves_chunks vars v args' h serves)))
+
+-- ---- what is kept, and what is missed
+
+module _ (action : List ℕ) (fresh : Option Var) (args : List PureTerm) (s : RecordSym) (bs : List (Branch RecordSym)) (are : record_branches_view bs ≡ table (action_of action) fresh args (state_view s)) where
+  pub keeps : record_kept s → Each (λ b. record_kept b.state) (branches_view bs)
+  keeps kept =
+      each_branch (λ b. AreKept Record b.state) (λ b. record_kept b.state) (λ b is. is) bs
+      (subst (Each (λ b. AreKept Record b.state)) (sym are) (table_keeps fresh args (state_view s) kept (action_of action)))
+
+  pub misses : Each (λ b. MissesItsOwn Record b.result) (branches_view bs)
+  misses =
+      each_branch (λ b. MissesItsOwn Record b.result) (λ b. MissesItsOwn Record b.result) (λ b is. is) bs
+      (subst (Each (λ b. MissesItsOwn Record b.result)) (sym are) (table_misses (action_of action) fresh args (state_view s)))

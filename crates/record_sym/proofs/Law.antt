@@ -22,7 +22,7 @@ use Rattle.record_heap.specs.Table.{act_of, record_actions}
 use Rattle.record_sym.specs.Laws.{AreRight}
 use Rattle.record_sym.specs.Plain.{ListsByTerm, ArePlainChunks}
 use Rattle.record_sym.specs.RecordMeaning.{each_asked}
-use Rattle.record_sym.specs.Table.{failure, asked_by, branches_of, unknown_action, table}
+use Rattle.record_sym.specs.Table.{failure, asked_by, formed_by, branches_of, unknown_action, table}
 use Rattle.sym_conditions.specs.Alternatives.{Alternatives, always, never, given, kind_is, by_kind, of_kind}
 use Rattle.sym_model.specs.Chunks.{StandFor, placed_in, value_where_described, located_in, terms_of}
 use Rattle.sym_model.specs.Laws.{MayBeAsked, Serves, ActLaw, ActsPlainly, EachTerm, IsPlainWithin, IsDecidedWithin, growth}
@@ -68,7 +68,7 @@ module _ (fresh : Option Var) (args : List PureTerm) (cs : List PureChunk) where
     over_fresh (Some y) is x e = subst (λ z. IsFreshOver vars z) e is
 
     abbrev OverState : List PureChunk → Type 0
-    OverState ds = Each (IsFine (λ a. IsOver vars (term_of a)) (IsOver vars) (IsOver vars) (IsOver vars) (IsOver vars) (over_accepts vars) (IsOver vars) Anything (λ k. over_literal (Literal.Str k)) (over_literal (Literal.Kind Kind.Null)) (over_literal (Literal.Bool true)) (λ ts is. elements_over vars ts is) (λ q t. tt) (λ t. tt) (λ ts. tt)) ds
+    OverState ds = Each (IsFine (λ a. IsOver vars (term_of a)) (IsOver vars) (IsOver vars) (IsOver vars) (IsOver vars) (over_accepts vars) (IsOver vars) Anything (λ k. over_literal (Literal.Str k)) (over_literal (Literal.Kind Kind.Null)) (over_literal (Literal.Bool true)) (λ ts is. elements_over vars ts is) (λ q t. tt) tt (λ ts. tt)) ds
 
     over_state : OverState cs
     over_state = each_to (ChunkTerms (IsOver vars)) _ cs (λ c is. record { terms = is; holds = tt }) over_chunks
@@ -79,7 +79,7 @@ module _ (fresh : Option Var) (args : List PureTerm) (cs : List PureChunk) where
     over_shaped : (o : Option RecordAction) → Each (Shaped (λ a. IsOver vars (term_of a)) OverState (IsOver vars)) (table o fresh args cs)
     over_shaped None = unknown_shaped (λ a. IsOver vars (term_of a)) OverState (IsOver vars) cs over_state (λ k. over_literal (Literal.Str k))
     over_shaped (Some op) =
-        shaped (λ a. IsOver vars (term_of a)) (IsOver vars) (IsOver vars) (IsOver vars) (IsOver vars) (over_accepts vars) (IsOver vars) Anything (λ k. over_literal (Literal.Str k)) (over_literal (Literal.Kind Kind.Null)) (over_literal (Literal.Bool true)) (λ ts is. elements_over vars ts is) (λ q t. tt) (λ t. tt) (λ ts. tt)
+        shaped (λ a. IsOver vars (term_of a)) (IsOver vars) (IsOver vars) (IsOver vars) (IsOver vars) (over_accepts vars) (IsOver vars) Anything (λ k. over_literal (Literal.Str k)) (over_literal (Literal.Kind Kind.Null)) (over_literal (Literal.Bool true)) (λ ts is. elements_over vars ts is) (λ q t. tt) tt (λ ts. tt)
         cs over_sides over_state op fresh args (over_fresh fresh fresh_over) (each_asked (IsOver vars) (Some op) args over_args) over_args
         (λ d new e no_list. inr (subst (λ xs. Each (IsOver vars) xs) e over_args).0)
 
@@ -96,7 +96,7 @@ module _ (fresh : Option Var) (args : List PureTerm) (cs : List PureChunk) where
 
   module _ (o : Option RecordAction) where
     abbrev asks : Asked
-    asks = asked_of (asked_by o args) (terms_of cs)
+    asks = asked_of (asked_by o args, formed_by o args) (terms_of cs)
 
     abbrev Made : PureTerm → Type 0
     Made = IsMadeOf (args ++ all_of (terms_of cs)) fresh
@@ -111,7 +111,7 @@ module _ (fresh : Option Var) (args : List PureTerm) (cs : List PureChunk) where
     made_chunks = chunk_by_chunk Made cs (each_right Made args (all_of (terms_of cs)) made_all)
 
     abbrev MadeState : List PureChunk → Type 0
-    MadeState ds = Each (IsFine (IsOwnCondition asks) (IsSide asks) (IsListed asks.about) (IsNear asks) (MayNeedForm asks) (own_accepts asks) Made Anything (λ k. tt) tt tt (elements_made (args ++ all_of (terms_of cs)) fresh) (λ q t. tt) (λ t. tt) (λ ts. tt)) ds
+    MadeState ds = Each (IsFine (IsOwnCondition asks) (IsSide asks) (IsListed asks.about) (IsNear asks) (MayNeedForm asks) (own_accepts asks) Made Anything (λ k. tt) tt tt (elements_made (args ++ all_of (terms_of cs)) fresh) (λ q t. tt) tt (λ ts. tt)) ds
 
     made_state : MadeState cs
     made_state = each_to (ChunkTerms Made) _ cs (λ c is. record { terms = is; holds = tt }) made_chunks
@@ -183,15 +183,15 @@ module _ (fresh : Option Var) (args : List PureTerm) (cs : List PureChunk) where
       by_test true = inr (inl refl)
       by_test false = inl refl
 
-  new_asks : (op : RecordAction) (d : PureTerm) → op ≡ RecordAction.New → args ≡ d ∷ [] → (of_kind d Kind.List ≡ never) ⊎ IsAmong d (asked_by (Some op) args)
+  new_asks : (op : RecordAction) (d : PureTerm) → op ≡ RecordAction.New → args ≡ d ∷ [] → (of_kind d Kind.List ≡ never) ⊎ IsAmong d (formed_by (Some op) args)
   new_asks op d is e =
-      subst (λ a. (of_kind d Kind.List ≡ never) ⊎ IsAmong d (asked_by (Some a) args)) (sym is)
-      (subst (λ ts. (of_kind d Kind.List ≡ never) ⊎ IsAmong d (asked_by (Some RecordAction.New) ts)) (sym e) (list_asked d (given (positive (kind_is d Kind.List))) (known_kind d)))
+      subst (λ a. (of_kind d Kind.List ≡ never) ⊎ IsAmong d (formed_by (Some a) args)) (sym is)
+      (subst (λ ts. (of_kind d Kind.List ≡ never) ⊎ IsAmong d (formed_by (Some RecordAction.New) ts)) (sym e) (list_asked d (given (positive (kind_is d Kind.List))) (known_kind d)))
 
   made_shaped : (o : Option RecordAction) → Each (Shaped (IsOwnCondition (asks o)) (MadeState o) (Made o)) (table o fresh args cs)
   made_shaped None = unknown_shaped (IsOwnCondition (asks None)) (MadeState None) (Made None) cs (made_state None) (λ k. tt)
   made_shaped (Some op) =
-      shaped (IsOwnCondition (asks (Some op))) (IsSide (asks (Some op))) (IsListed (asks (Some op)).about) (IsNear (asks (Some op))) (MayNeedForm (asks (Some op))) (own_accepts (asks (Some op))) (Made (Some op)) Anything (λ k. tt) tt tt (elements_made (args ++ all_of (terms_of cs)) fresh) (λ q t. tt) (λ t. tt) (λ ts. tt)
+      shaped (IsOwnCondition (asks (Some op))) (IsSide (asks (Some op))) (IsListed (asks (Some op)).about) (IsNear (asks (Some op))) (MayNeedForm (asks (Some op))) (own_accepts (asks (Some op))) (Made (Some op)) Anything (λ k. tt) tt tt (elements_made (args ++ all_of (terms_of cs)) fresh) (λ q t. tt) tt (λ ts. tt)
       cs (own_sides (Some op)) (made_state (Some op)) op fresh args (λ x is. inr (inr (x, (is, refl))))
       (listed_itself (asks (Some op)).about) (made_args (Some op))
       (λ d new e no_list. ⊎_elim inl (λ among. inr (inl among)) (new_asks op d new e))
@@ -203,7 +203,7 @@ module _ (fresh : Option Var) (args : List PureTerm) (cs : List PureChunk) where
     plain_fresh x is = (ap (λ s. true && (not (same_sort s Sort.Any) && not (same_sort s Sort.List))) (of_sort x is), refl)
 
     abbrev PlainState : List PureChunk → Type 0
-    PlainState ds = Each (IsFine (IsDecidedWithin low high) (IsPlainWithin low high) (IsPlainWithin low high) (IsPlainWithin low high) (λ t. ⊥) (plain_accepts low high) (IsPlainWithin low high) ListsByTerm (λ k. (refl, refl)) (refl, refl) (refl, refl) (elements_plain low high) (λ q t. tt) (λ t. tt) (λ ts. refl)) ds
+    PlainState ds = Each (IsFine (IsDecidedWithin low high) (IsPlainWithin low high) (IsPlainWithin low high) (IsPlainWithin low high) (λ t. ⊥) (plain_accepts low high) (IsPlainWithin low high) ListsByTerm (λ k. (refl, refl)) (refl, refl) (refl, refl) (elements_plain low high) (λ q t. tt) tt (λ ts. refl)) ds
 
     plain_zipped : (ds : List PureChunk) → Each (ChunkTerms (IsPlainWithin low high)) ds → Each (λ c. ListsByTerm c.sub c.val) ds → PlainState ds
     plain_zipped [] terms lists = tt
@@ -249,7 +249,7 @@ module _ (fresh : Option Var) (args : List PureTerm) (cs : List PureChunk) where
     plain_shaped : (o : Option RecordAction) → Each (Shaped (IsDecidedWithin low high) PlainState (IsPlainWithin low high)) (table o fresh args cs)
     plain_shaped None = unknown_shaped (IsDecidedWithin low high) PlainState (IsPlainWithin low high) cs plain_state (λ k. (refl, refl))
     plain_shaped (Some op) =
-        shaped (IsDecidedWithin low high) (IsPlainWithin low high) (IsPlainWithin low high) (IsPlainWithin low high) (λ t. ⊥) (plain_accepts low high) (IsPlainWithin low high) ListsByTerm (λ k. (refl, refl)) (refl, refl) (refl, refl) (elements_plain low high) (λ q t. tt) (λ t. tt) (λ ts. refl)
+        shaped (IsDecidedWithin low high) (IsPlainWithin low high) (IsPlainWithin low high) (IsPlainWithin low high) (λ t. ⊥) (plain_accepts low high) (IsPlainWithin low high) ListsByTerm (λ k. (refl, refl)) (refl, refl) (refl, refl) (elements_plain low high) (λ q t. tt) tt (λ ts. refl)
         cs plain_sides plain_state op fresh args plain_fresh (each_asked (IsPlainWithin low high) (Some op) args plain_args) plain_args
         (λ d new e no_list. inl (no_list_kind d (subst (λ xs. Each (IsPlainWithin low high) xs) e plain_args).0 no_list))
 
@@ -279,7 +279,7 @@ table_right None action fresh args cs is asked = unknown_right action fresh args
 table_right (Some op) action fresh args cs is asked = right_by op action fresh args cs is asked
 
 module _ (o : Option RecordAction) (action : List ℕ) (fresh : Option Var) (args : List PureTerm) (cs : List PureChunk) (is : action_of action ≡ o) (asked : MayBeAsked record_actions action fresh args (terms_of cs)) where
-  pub table_law : ActLaw (StandFor Record) terms_of record_actions action fresh args (asked_by o args) cs (table o fresh args cs)
+  pub table_law : ActLaw (StandFor Record) terms_of record_actions action fresh args (asked_by o args, formed_by o args) cs (table o fresh args cs)
   table_law = record {
     cover = (table_right o action fresh args cs is asked).cover;
     exact = (table_right o action fresh args cs is asked).exact;

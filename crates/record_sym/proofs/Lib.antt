@@ -6,6 +6,7 @@ pub mod Elements
 pub mod Facts
 pub mod FormLaws
 pub mod Instance
+pub mod Keeping
 pub mod Law
 pub mod LookupLaws
 pub mod NameLists

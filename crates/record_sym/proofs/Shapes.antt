@@ -242,7 +242,7 @@ module _ (Q : PureAtom → Type 0) (Side Given Near Form : PureTerm → Type 0) 
   -- ---- the actions, with R of each term of a state and of a result, and N of what chunks hold
 
   module _ (R : PureTerm → Type 0) (N : PureSub → PureTerm → Type 0) (r_text : (k : List ℕ) → R (literal (Literal.Str k))) (r_null : R null) (r_true : R true_term) (r_elements : (ts : PureTerms) → R (list_of ts) → Each R (to_list ts))
-      (n_name : (q t : PureTerm) → N (named q) t) (n_gone : (t : PureTerm) → N gone t) (n_list : (ts : PureTerms) → N shape (list_of ts)) where
+      (n_name : (q t : PureTerm) → N (named q) t) (n_gone : N gone true_term) (n_list : (ts : PureTerms) → N shape (list_of ts)) where
     pub record IsFine (c : PureChunk) : Type 0 where
       pub terms : ChunkTerms R c
       pub holds : N c.sub c.val
@@ -468,7 +468,7 @@ module _ (Q : PureAtom → Type 0) (Side Given Near Form : PureTerm → Type 0) 
         disposed_shaped : (k : PureTaking) → IsFineTaking k → Shapes (disposed loc k)
         disposed_shaped k is =
             shaped_cases Q State R k.when (k.left ++ record { loc = loc; sub = gone; val = true_term } ∷ []) (done true_term) is.when
-            (each_append IsFine k.left (record { loc = loc; sub = gone; val = true_term } ∷ []) is.fine (record { terms = record { places = (r_loc, tt); described = tt; held = (r_true, tt) }; holds = n_gone true_term }, tt))
+            (each_append IsFine k.left (record { loc = loc; sub = gone; val = true_term } ∷ []) is.fine (record { terms = record { places = (r_loc, tt); described = tt; held = (r_true, tt) }; holds = n_gone }, tt))
             (r_true, tt)
 
         names_shaped : (ds : List PureTerm) → Each Side ds → Each R ds → (ks : List PureTaking) → Each IsFineTaking ks → Shapes (dispose_names cs loc ds ks)

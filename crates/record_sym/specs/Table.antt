@@ -213,6 +213,14 @@ abbrev pub asked_by : Option RecordAction → List PureTerm → List PureTerm
 asked_by (Some op) args = if may_be_taken op args then unstored op args else []
 asked_by None args = []
 
+-- those whose literal form an action may need by itself: the names that `new` is given
+abbrev pub formed_by : Option RecordAction → List PureTerm → List PureTerm
+formed_by (Some RecordAction.New) args = asked_by (Some RecordAction.New) args
+formed_by (Some RecordAction.Lookup) args = []
+formed_by (Some RecordAction.Mutate) args = []
+formed_by (Some RecordAction.Dispose) args = []
+formed_by None args = []
+
 abbrev pub table : Option RecordAction → Option Var → List PureTerm → List PureChunk → RecordBranches
 table (Some op) fresh args cs = branches_of op fresh args cs
 table None fresh args cs = unknown_action cs

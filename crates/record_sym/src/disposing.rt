@@ -73,6 +73,9 @@ fn take_here(
         (term_view loc.now) (term_view name.now) (chunk_view chunk.now))) (remove (frag_view taking.now.left) index)) }
 {
     let here = combine(alloc, &taking.when, &key_here(alloc, loc, name, chunk)?)?;
+    if here.len() == 0 {
+        return Ok(takings);
+    }
     let left = without_chunk(alloc, &taking.left, index)?;
     with_taking(takings, here, left)
 }

@@ -10,8 +10,8 @@ use sym_model::{Branches, SymFrag, SymMemory};
 
 impl SymMemory for RecordSym {
     ghost use Rattle.std.specs.Prelude.{⊤};
-    ghost use Rattle.record_sym.specs.Plain.{record_stands, record_terms, record_plain, record_asked, record_depends};
-    ghost use Rattle.record_sym.specs.RecordMeaning.{record_meaning, record_asks_its_arguments};
+    ghost use Rattle.record_sym.specs.Plain.{record_stands, record_terms, record_plain, record_kept, record_asked, record_depends};
+    ghost use Rattle.record_sym.specs.RecordMeaning.{record_meaning, record_asks_its_arguments, record_plain_is_said};
 
     type Local = RecordHeap;
 
@@ -27,9 +27,15 @@ impl SymMemory for RecordSym {
 
     ghost keeps_plain = { ⊤ };
 
+    ghost keeps_narrow = { ⊥ };
+
+    ghost kept = { record_kept };
+
     ghost meaning = { record_meaning };
 
     ghost asked_are_given = { record_asks_its_arguments };
+
+    ghost plain_is_said = { record_plain_is_said };
 
     fn name() -> MemoryName {
         MemoryName::Record

@@ -205,6 +205,9 @@ fn with_change(
         (term_view val.now)) (done (term_view val.now))) }
 {
     let here = combine(alloc, when, &key_here(alloc, l, p, chunk)?)?;
+    if here.len() == 0 {
+        return Ok(branches);
+    }
     let mut changed = chunks.copy(alloc)?;
     changed.set_held(index, val.copy(alloc)?);
     let outcome = SymResult::Done(val.copy(alloc)?);

@@ -10,6 +10,7 @@ use crate::combining::{Alternatives, always, asked, never};
 use gil_values::{BinOp, Kind, UnOp};
 use pure_terms::{Atom, Literal, Sort, Term};
 use std::alloc::{AllocError, Global};
+use std::rc::Rc;
 
 /// What is known of whether two terms have equal values.
 #[derive(Clone, Copy, Debug, PartialEq, Eq)]
@@ -75,8 +76,8 @@ fn is_fresh_above(s: &Term, t: &Term) -> bool
 fn equality(alloc: Global, s: &Term, t: &Term) -> Result<Term, AllocError>
     ensures { IfOk result (λ u. term_view u ≡ equal (term_view s.now) (term_view t.now)) }
 {
-    let left = Box::new(alloc, s.copy(alloc)?)?;
-    let right = Box::new(alloc, t.copy(alloc)?)?;
+    let left = Rc::new(alloc, s.copy(alloc)?)?;
+    let right = Rc::new(alloc, t.copy(alloc)?)?;
     Ok(Term::Op2(BinOp::Equal, left, right))
 }
 
@@ -84,9 +85,9 @@ fn equality(alloc: Global, s: &Term, t: &Term) -> Result<Term, AllocError>
 fn kind_question(alloc: Global, t: &Term, kind: Kind) -> Result<Term, AllocError>
     ensures { IfOk result (λ u. term_view u ≡ kind_term (term_view t.now) kind) }
 {
-    let operand = Box::new(alloc, t.copy(alloc)?)?;
-    let left = Box::new(alloc, Term::Op1(UnOp::Kind, operand))?;
-    let right = Box::new(alloc, Term::Lit(Literal::Kind(kind)))?;
+    let operand = Rc::new(alloc, t.copy(alloc)?)?;
+    let left = Rc::new(alloc, Term::Op1(UnOp::Kind, operand))?;
+    let right = Rc::new(alloc, Term::Lit(Literal::Kind(kind)))?;
     Ok(Term::Op2(BinOp::Equal, left, right))
 }
 

@@ -15,7 +15,7 @@ use Rattle.sym_model.specs.Chunks.{IsEntry, IsUnion, StandFor, with_held, terms_
 use Rattle.sym_model.specs.Laws.{IsMeaning, MayBeAsked, Serves}
 use Rattle.sym_model.specs.Meaning.{fresh_symbol}
 use Rattle.sym_model.specs.Pure.{PureChunk}
-use Rattle.sym_model.specs.Terms.{StateTerms, asked_of, IsOwnCondition}
+use Rattle.sym_model.specs.Terms.{StateTerms, asked_of, nothing_asked, IsOwnCondition}
 
 -- Lists of chunks have a meaning, whatever the memory.
 abbrev pub ChunksAreMeaning : Type 0
@@ -41,7 +41,7 @@ pub record UnionsChange : Type 0 where
 
 -- Where nothing is asked about, a memory may give no condition.
 abbrev pub NothingAskedGivesNoCondition : Type 0
-NothingAskedGivesNoCondition = (state : StateTerms) (a : PureAtom) → ¬ IsOwnCondition (asked_of [] state) a
+NothingAskedGivesNoCondition = (state : StateTerms) (a : PureAtom) → ¬ IsOwnCondition (asked_of nothing_asked state) a
 
 -- Where a valuation serves, the concrete action may be asked of the heap and the values that it gives.
 abbrev pub ServingMayAct : {S : Type 0} → (S → List PureValue → Heap → Type 0) → (S → StateTerms) → Actions → Type 0

@@ -49,10 +49,13 @@ pub record IsCopy {S : Type 0} (stands : S → List PureValue → Heap → Type 
 
 -- ---- asking
 
--- an action asks about some of its arguments, of nothing else that is handed to it, and about literals
-abbrev pub AsksItsArguments : (List ℕ → List PureTerm → List PureTerm) → Type 0
+-- An action asks about some of its arguments, of nothing else that is handed to it, and about literals. It may need the form of some
+-- arguments that it asks about.
+abbrev pub AsksItsArguments : (List ℕ → List PureTerm → List PureTerm × List PureTerm) → Type 0
 AsksItsArguments asked =
-    (action : List ℕ) (args : List PureTerm) → Each (λ t. IsAmong t args ⊎ IsTrue (is_literal t)) (asked action args)
+    (action : List ℕ) (args : List PureTerm)
+    → Each (λ t. IsAmong t args ⊎ IsTrue (is_literal t)) (asked action args).0
+    × Each (λ t. IsAmong t args × IsAmong t (asked action args).0) (asked action args).1
 
 -- The condition under which an action may be asked: the fresh variable is there exactly where the concrete action takes a new
 -- symbol, it is of sort Fresh, and its number is above those of all variables of the arguments and of the state.
@@ -134,9 +137,9 @@ module _ {S : Type 0} (stands : S → List PureValue → Heap → Type 0) (terms
       → Each (λ b. IsTrue (all_true v b.conds) → has_open b.conds ≡ false → IsBranchFor stands v (acted action v fresh args' h) b) bs
 
 -- The laws that hold of the branches of every action: `asked` are the arguments that it asks about, and not those that it only
--- stores.
+-- stores, and those whose literal form it may need.
 pub record ActLaw {S : Type 0} (stands : S → List PureValue → Heap → Type 0) (terms : S → StateTerms) (m : Actions) (action : List ℕ)
-    (fresh : Option Var) (args asked : List PureTerm) (s : S) (bs : List (PureBranch S)) : Type 0 where
+    (fresh : Option Var) (args : List PureTerm) (asked : List PureTerm × List PureTerm) (s : S) (bs : List (PureBranch S)) : Type 0 where
   pub cover : Covers stands terms m action fresh args s bs
   pub exact : AreExact stands terms m action fresh args s bs
   pub variables : NameNoOthers terms (args ++ all_of (terms s)) fresh bs

@@ -1,9 +1,14 @@
 pub mod ChunkLaws
 pub mod Chunks
+pub mod CoreLaws
+pub mod Cores
+pub mod Fixing
 pub mod Forms
 pub mod Laws
+pub mod Listing
 pub mod Lists
 pub mod Meaning
+pub mod Plain
 pub mod Pure
 pub mod Terms
 pub mod View

@@ -1,5 +1,6 @@
 -- Symbolic keys, chunks and branches as pure data. Terms stand where the concrete ones have values.
-use Rattle.std.specs.Prelude.{List, [], ◌∷◌}
+use Rattle.std.specs.Prelude.{ℕ, List, [], ◌∷◌}
+use Rattle.pure_terms.specs.declared.variables.Sort.{Sort}
 use Rattle.pure_terms.specs.Pure.{PureTerm, PureAtom}
 
 pub data PureSub : Type 0 where
@@ -42,3 +43,14 @@ abbrev pub result_terms : PureResult → List PureTerm
 result_terms (done t) = t ∷ []
 result_terms (failed t) = t ∷ []
 result_terms (missed k) = k.loc ∷ sub_terms k.sub
+
+-- a use of a core predicate, and what fixes a missed key: a core predicate with outs of these sorts
+pub record PureUse : Type 0 where
+  pub core : List ℕ
+  pub ins : List PureTerm
+  pub outs : List PureTerm
+
+pub record PureFix : Type 0 where
+  pub core : List ℕ
+  pub ins : List PureTerm
+  pub outs : List Sort

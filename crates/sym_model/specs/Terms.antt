@@ -105,13 +105,20 @@ are_apart s t = (is_literal s && is_literal t) || (are_other_kinds (known_kind s
 
 -- ---- the forms of conditions
 
--- What conditions may speak of: what an action asks about, and the terms of the state.
+-- What conditions may speak of: what an action asks about, the arguments whose literal form it may need by itself, and the terms of
+-- the state.
 pub record Asked : Type 0 where
   pub about : List PureTerm
+  pub formed : List PureTerm
   pub state : StateTerms
 
-abbrev pub asked_of : List PureTerm → StateTerms → Asked
-asked_of about s = record { about = about; state = s }
+-- of what is asked about and of the arguments whose form may be needed, as two lists
+abbrev pub asked_of : List PureTerm × List PureTerm → StateTerms → Asked
+asked_of asked s = record { about = asked.0; formed = asked.1; state = s }
+
+-- nothing is asked about
+abbrev pub nothing_asked : List PureTerm × List PureTerm
+nothing_asked = ([], [])
 
 -- The terms that may be compared: of the state everything but what its other keys hold.
 abbrev pub compared_terms : Asked → List PureTerm
@@ -162,9 +169,13 @@ abbrev pub AreOrdered : Asked → PureTerm → PureTerm → Type 0
 AreOrdered g s t =
     ((IsListed g.about s ⊎ IsLimit g s) × IsLimit g t) ⊎ ((IsLimit g s × IsListed g.about t) ⊎ IsNextToLimit g s t)
 
+-- a literal, and an offset that stands near: the place of a cell, counted from 0
+abbrev pub IsPlaceOfCell : Asked → PureTerm → PureTerm → Type 0
+IsPlaceOfCell g s t = IsTrue (is_literal s) × (IsAmong t g.state.offsets × StandsNear g t)
+
 -- the sides of `=`, and of `<` and `<=`, which may be numbers
 abbrev pub AreSides : Asked → BinOp → PureTerm → PureTerm → Type 0
-AreSides g BinOp.Equal s t = (IsSide g s × IsSide g t) ⊎ IsNextToLimit g s t
+AreSides g BinOp.Equal s t = (IsSide g s × IsSide g t) ⊎ (IsNextToLimit g s t ⊎ IsPlaceOfCell g s t)
 AreSides g BinOp.Less s t = IsTrue (may_be_ordered s t) × AreOrdered g s t
 AreSides g BinOp.LessOrEqual s t = IsTrue (may_be_ordered s t) × AreOrdered g s t
 AreSides g _ s t = ⊥
@@ -190,9 +201,10 @@ abbrev pub IsQuestion : Asked → PureTerm → Type 0
 IsQuestion g (binary_of op s t) = AreCompared g op s t ⊎ ((op ≡ BinOp.Equal) × IsKindQuestion g s t)
 IsQuestion g _ = ⊥
 
--- a term whose literal form may be needed: one that is asked about, or what a descriptor holds at a location that is near
+-- a term whose literal form may be needed: an argument whose form the action may need by itself, or what a descriptor holds at a
+-- location that is near
 abbrev pub MayNeedForm : Asked → PureTerm → Type 0
-MayNeedForm g t = IsAmong t g.about ⊎ (IsAmong t g.state.described × StandsNear g t)
+MayNeedForm g t = IsAmong t g.formed ⊎ (IsAmong t g.state.described × StandsNear g t)
 
 -- such a term that is no list term and no literal, where its literal form is needed
 abbrev pub IsFormAsked : Asked → PureTerm → Type 0

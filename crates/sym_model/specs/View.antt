@@ -1,15 +1,17 @@
 -- The pure data of symbolic keys, chunks and branches.
 use Rattle.std.specs.Prelude.{List, map}
 use Rattle.pure_terms.specs.Pure.{PureAtom}
-use Rattle.pure_terms.specs.View.{term_view, atoms_view}
+use Rattle.pure_terms.specs.View.{term_view, terms_view, atoms_view}
 use Rattle.sym_model.specs.declared.keys.SymSub.{SymSub}
 use Rattle.sym_model.specs.declared.keys.SymKey.{SymKey}
 use Rattle.sym_model.specs.declared.chunks.Chunk.{Chunk}
 use Rattle.sym_model.specs.declared.chunks.SymFrag.{SymFrag}
+use Rattle.sym_model.specs.declared.uses.CoreUse.{CoreUse}
+use Rattle.sym_model.specs.declared.uses.Fix.{Fix}
 use Rattle.sym_model.specs.declared.path_conditions.PathCond.{PathCond}
 use Rattle.sym_model.specs.declared.branches.SymResult.{SymResult}
 use Rattle.sym_model.specs.declared.branches.Branch.{Branch}
-use Rattle.sym_model.specs.Pure.{PureSub, named, cell, shape, bound, dom, proto, gone, PureKey, PureChunk, PureResult, done, failed, missed, PureBranch}
+use Rattle.sym_model.specs.Pure.{PureSub, named, cell, shape, bound, dom, proto, gone, PureKey, PureChunk, PureResult, done, failed, missed, PureBranch, PureUse, PureFix}
 
 abbrev pub sub_view : SymSub → PureSub
 sub_view (SymSub.Name t) = named (term_view t)
@@ -45,3 +47,15 @@ branches_view bs = map branch_view bs
 
 abbrev pub path_view : PathCond → List PureAtom
 path_view p = atoms_view p.conds
+
+abbrev pub use_view : CoreUse → PureUse
+use_view u = record { core = u.core; ins = terms_view u.ins; outs = terms_view u.outs }
+
+abbrev pub uses_view : List CoreUse → List PureUse
+uses_view us = map use_view us
+
+abbrev pub fix_view : Fix → PureFix
+fix_view f = record { core = f.core; ins = terms_view f.ins; outs = f.outs }
+
+abbrev pub fixes_view : List Fix → List PureFix
+fixes_view fs = map fix_view fs

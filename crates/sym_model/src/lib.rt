@@ -7,6 +7,7 @@ mod keys;
 mod laws;
 mod memory;
 mod path_conditions;
+mod uses;
 
 pub use branches::{Branch, Branches, SymResult};
 pub use chunks::{Chunk, SymFrag};
@@ -15,5 +16,6 @@ pub use laws::{
     chunks_have_a_meaning, nothing_asked_gives_no_condition, serving_valuations_may_act,
     unions_change,
 };
-pub use memory::SymMemory;
+pub use memory::{ListedMemory, SymMemory};
 pub use path_conditions::PathCond;
+pub use uses::{CoreUse, CoreUses, Fix, Fixes, Sorts};
