@@ -41,7 +41,7 @@ use Rattle.sym_paths.specs.Origins.{Follows}
 use Rattle.sym_paths.specs.Pure.{PureFrame, PureEnd, PurePath}
 use Rattle.sym_paths.specs.Pure as path_end
 use Rattle.sym_paths.specs.Settling.{Candidate, AreCandidates}
-use Rattle.sym_paths.specs.Steps.{AreNext, drawn_from, IsNewSort, new_sorts, is_action, makes_choice, IsUnknown, IsChosen, MayChoose, MayAssume}
+use Rattle.sym_paths.specs.Steps.{AreNext, drawn_from, IsNewSort, new_sorts, makes_choice, IsUnknown, IsChosen, MayChoose, MayAssume}
 use Rattle.sym_paths.proofs.Assuming.{assumes_rightly}
 use Rattle.sym_paths.proofs.Binding.{agree_bound, each_bound}
 use Rattle.sym_evaluation.proofs.AskedAtoms.{NeedsNone, one_asked_closed}
@@ -51,7 +51,7 @@ use Rattle.sym_paths.proofs.Origins.{follows_ended, follows_going, follows_faili
 use Rattle.sym_paths.proofs.Recording.{records_by}
 use Rattle.sym_paths.proofs.Silent.{same_and_none}
 use Rattle.sym_paths.proofs.Valuations.{next_fresh, below_higher, below_next}
-use Rattle.sym_candidates.specs.Acting.{taken, fresh_where, branched, ActsTo, ActsAsEach, Acts, IsAskedByAction, ActionsKeepTheLaws}
+use Rattle.sym_candidates.specs.Acting.{taken, fresh_where, branched, ActsTo, ActsAsEach, Acts, IsAskedByMemory, IsAskedByAction, ActionsKeepTheLaws}
 use Rattle.sym_candidates.specs.Cases.{AreOfCases, AreEvaluated}
 use Rattle.sym_candidates.proofs.Following.{with_outcome, of_outcome, IsEvaluation, second_true, good_is_over, store_over, at_command, same_place, standing, MakesNext, Covered, covered_by, along_chosen, are_candidates}
 use Rattle.sym_candidates.proofs.Outcomes.{with_values-outcome}
@@ -103,7 +103,7 @@ each_over_is vars ts over = over
 
 -- ---- candidates
 
-module _ {S : Type 0} (memory : MemoryName) (stands : S → List PureValue → Heap → Type 0) (terms : S → StateTerms) (meaning : IsMeaning memory stands terms) (asked : List ℕ → List PureTerm → List PureTerm) (m : Actions) (p : PureParts) (path : PurePath S)
+module _ {S : Type 0} (memory : MemoryName) (stands : S → List PureValue → Heap → Type 0) (terms : S → StateTerms) (meaning : IsMeaning memory stands terms) (asked : List ℕ → List PureTerm → List PureTerm × List PureTerm) (m : Actions) (p : PureParts) (path : PurePath S)
     (c : PureNumberedCommand) (x action : List ℕ) (es : List PureExpr) (cases : PureCases (List PureTerm)) (over : IsOverTable terms path) (at : command_of_path p path ≡ Some c) (command : c.command ≡ act x action es)
     (evaluated : AreEvaluated (running_store path.stack) es cases) where
   abbrev takes : Bool
@@ -117,6 +117,9 @@ module _ {S : Type 0} (memory : MemoryName) (stands : S → List PureValue → H
 
   abbrev Own : PureAtom → Type 0
   Own = IsAskedByAction terms asked path action es
+
+  abbrev OfMemory : PureAtom → Type 0
+  OfMemory = IsAskedByMemory terms asked path action es
 
   abbrev go_on : Place → State → List PureValue → Step
   go_on place s args = do_action takes m x action args place s
@@ -160,7 +163,7 @@ module _ {S : Type 0} (memory : MemoryName) (stands : S → List PureValue → H
   choice s = ap (λ k. choice_of p m k s) command ∙ action_choice (evaluate_all es s.current.store) (λ args. action_result takes m action args s)
 
   abbrev Makes : PureGoodCase (List PureTerm) → List PureAtom → Candidate S → Type 0
-  Makes = MakesNext stands terms p m path c over at HaveValues AreEachOver (evaluate_all es) go_on chooses Own cases evaluation does choice (taken takes)
+  Makes = MakesNext stands terms p m path c over at HaveValues AreEachOver (evaluate_all es) go_on chooses Own OfMemory cases evaluation does choice (taken takes)
 
   -- what is missed where the arguments have these values
   missed_there : (v : List PureValue) (s : State) (args : List PureValue) (q : Key) → Stands stands path v s → evaluate_all es s.current.store ≡ Ok args → (action_result takes m action args s).outcome ≡ outcome.miss q → miss_at p m s ≡ Some q
@@ -198,7 +201,7 @@ module _ {S : Type 0} (memory : MemoryName) (stands : S → List PureValue → H
 
   module _ (g : PureGoodCase (List PureTerm)) (is_good : cases.good ≡ Some g) where
     good_over : Each (λ a. IsOver path.vars (term_of a)) g.conds
-    good_over = good_is_over stands terms p m path c over at HaveValues AreEachOver (evaluate_all es) go_on chooses Own cases evaluation does choice g is_good
+    good_over = good_is_over stands terms p m path c over at HaveValues AreEachOver (evaluate_all es) go_on chooses Own OfMemory cases evaluation does choice g is_good
 
     good_more : Each OverMore g.conds
     good_more = each_to (λ a. IsOver path.vars (term_of a)) OverMore g.conds (λ a. stay_when_tables_grow.over (term_of a) path.vars (taken takes)) good_over
@@ -244,8 +247,11 @@ module _ {S : Type 0} (memory : MemoryName) (stands : S → List PureValue → H
     })
 
     module _ (b : PureBranch S) (lawful : IsLawful b) where
+      of_memory : Each OfMemory b.conds
+      of_memory = each_to (IsOwnCondition (asked_of (asked action g.result) (terms path.memory))) OfMemory b.conds (λ a own. (g.result, (from, own))) lawful.own
+
       own_branch : Each Own b.conds
-      own_branch = each_to (IsOwnCondition (asked_of (asked action g.result) (terms path.memory))) Own b.conds (λ a own. inr (g.result, (from, own))) lawful.own
+      own_branch = each_to OfMemory Own b.conds (λ a asks. inr asks) of_memory
 
       -- a candidate for the branch: what its path stands for is what the action's result leads to
       module _ (k : ℕ) (small : k < 3) (fs : List PureFrame) (how : Option PureEnd) (stores : Each (λ f. OfEachName (IsOver vars') f.store) fs) (end_over : Each (IsOver vars') (end_terms how)) (known : ¬ IsUnknown how) (origin : Follows p m terms path (branched path x (place_at path.stack c) takes g b k fs how).path)
@@ -300,11 +306,11 @@ module _ {S : Type 0} (memory : MemoryName) (stands : S → List PureValue → H
           vars = refl;
           conds = refl;
           own_more = own_branch;
-          assumes = assumes_rightly p Own path c at d b.conds refl (subst (λ j. Each (MayAssume Own (running_store path.stack) j) b.conds) (sym command) own_branch) tt (inl (ap is_action command));
+          assumes = assumes_rightly p Own OfMemory path c at d b.conds refl (subst (λ j. Each (MayAssume Own (running_store path.stack) j) b.conds) (sym command) own_branch) tt (inl (subst (Each OfMemory) (sym (append-nil b.conds)) of_memory));
           origin = λ no_form. origin;
           exact = acts;
           along = λ inputs v ws s is in_turn given which goes.
-              along_chosen stands terms p m path c over at HaveValues AreEachOver (evaluate_all es) go_on chooses Own cases evaluation does choice (taken takes) g is_good b.conds v ws s d.path k refl is which
+              along_chosen stands terms p m path c over at HaveValues AreEachOver (evaluate_all es) go_on chooses Own OfMemory cases evaluation does choice (taken takes) g is_good b.conds v ws s d.path k refl is which
               (λ args ok val chose. second_true (v ++ ws) path.given b.conds given);
         }
 
@@ -401,7 +407,7 @@ module _ {S : Type 0} (memory : MemoryName) (stands : S → List PureValue → H
         missed_makes : Makes g b.conds (branched path x (place_at path.stack c) takes g b 2 path.stack (Some (path_end.missed key (place_at path.stack c))))
         missed_makes =
             branched_makes 2 (omega arith) path.stack (Some (path_end.missed key (place_at path.stack c))) more_over.stores (subst (λ r. Each (IsOver vars') (result_terms r)) is_missed lawful.names.1.1) (λ unknown. unknown)
-            (follows_ended p m terms path (branched path x (place_at path.stack c) takes g b 2 path.stack (Some (path_end.missed key (place_at path.stack c)))).path (path_end.missed key (place_at path.stack c)) refl refl)
+            (follows_ended p m terms path (branched path x (place_at path.stack c) takes g b 2 path.stack (Some (path_end.missed key (place_at path.stack c)))).path (path_end.missed key (place_at path.stack c)) refl refl refl)
             (λ w s s1 r is branch met place misses. missed_leads w s s1 r r.outcome is branch.state (subst (λ k. IsOutcome w k r.outcome) is_missed branch.result) met place misses)
 
       -- ---- whatever the branch's result is
@@ -427,16 +433,16 @@ module _ {S : Type 0} (memory : MemoryName) (stands : S → List PureValue → H
         subst (OneOf P) (sym is)
         (⊎_elim (λ here. inl (go b d (acted_makes b lawful.0 b.result refl d acts_to) here)) (λ other. inr (one_acts P Taken go bs lawful.1 rest later other)) one)
 
-  action_candidates : (cs : List (Candidate S)) → AreOfCases path (place_at path.stack c) (Acts stands terms m asked path x action (place_at path.stack c)) cases cs → AreCandidates p m stands terms Own path cs
+  action_candidates : (cs : List (Candidate S)) → AreOfCases path (place_at path.stack c) (Acts stands terms m asked path x action (place_at path.stack c)) cases cs → AreCandidates p m stands terms Own OfMemory path cs
   action_candidates =
-      are_candidates stands terms p m path c over at HaveValues AreEachOver (evaluate_all es) go_on chooses Own cases evaluation does choice (taken takes) (Acts stands terms m asked path x action (place_at path.stack c))
+      are_candidates stands terms p m path c over at HaveValues AreEachOver (evaluate_all es) go_on chooses Own OfMemory cases evaluation does choice (taken takes) (Acts stands terms m asked path x action (place_at path.stack c))
       (λ g ds is_good (bs, (law, acts)). each_acts g is_good bs (each_lawful g is_good bs law) ds acts)
       (λ g ds is_good (bs, (law, acts)) inputs v s args is ok val met.
       let (ws, (in_turn, proper)) = some_next inputs v path.vars s.counter s.draws is.proper is.symbols_below takes in
-      one_acts g is_good (Covered stands terms p m path c over at HaveValues AreEachOver (evaluate_all es) go_on chooses Own cases evaluation does choice inputs v s) (λ b. IsTrue (all_true (v ++ ws) b.conds) × (IsTrue (has_open b.conds) ⊎ IsBranchFor stands (v ++ ws) (m.act action (fresh_symbol (v ++ ws) fresh) args s.heap) b))
-      (λ b d makes branch. covered_by stands terms p m path c over at HaveValues AreEachOver (evaluate_all es) go_on chooses Own cases evaluation does choice (taken takes) g b.conds d is_good makes inputs v ws s is in_turn proper met branch.0)
+      one_acts g is_good (Covered stands terms p m path c over at HaveValues AreEachOver (evaluate_all es) go_on chooses Own OfMemory cases evaluation does choice inputs v s) (λ b. IsTrue (all_true (v ++ ws) b.conds) × (IsTrue (has_open b.conds) ⊎ IsBranchFor stands (v ++ ws) (m.act action (fresh_symbol (v ++ ws) fresh) args s.heap) b))
+      (λ b d makes branch. covered_by stands terms p m path c over at HaveValues AreEachOver (evaluate_all es) go_on chooses Own OfMemory cases evaluation does choice (taken takes) g b.conds d is_good makes inputs v ws s is in_turn proper met branch.0)
       bs (each_lawful g is_good bs law) ds acts (law.cover vars' (v ++ ws) args s.heap (serves g is_good inputs v ws s args is in_turn proper val)))
 
-pub actions_keep_the_laws : {S : Type 0} (memory : MemoryName) (stands : S → List PureValue → Heap → Type 0) (terms : S → StateTerms) → IsMeaning memory stands terms → (asked : List ℕ → List PureTerm → List PureTerm) (m : Actions)
+pub actions_keep_the_laws : {S : Type 0} (memory : MemoryName) (stands : S → List PureValue → Heap → Type 0) (terms : S → StateTerms) → IsMeaning memory stands terms → (asked : List ℕ → List PureTerm → List PureTerm × List PureTerm) (m : Actions)
     → ActionsKeepTheLaws stands terms asked m
 actions_keep_the_laws memory stands terms meaning asked m p path c x action es cases cs over no_end at command evaluated = action_candidates memory stands terms meaning asked m p path c x action es cases over at command evaluated cs

@@ -2,7 +2,7 @@
 use Rattle.std.proofs.Common.{◌≡◌, ◌⊎◌, ⊎_elim, inl, inr, List, [], ◌∷◌, false, Option, Some, None, IsTrue, ℕ, ℤ, sym, subst, ◌∙◌}
 use Rattle.gil_values.specs.declared.places.Place.{Place}
 use Rattle.gil_values.specs.Pure.{PureValue}
-use Rattle.gil_syntax.specs.Pure.{PureParts, PureCommand, vanish, usym, isym, assign, call, act, ifgoto, return, fail, fold_use, unfold_use, assert_that, loop_invariant}
+use Rattle.gil_syntax.specs.Pure.{PureParts, PureCommand, vanish, usym, isym, assign, call, act, ifgoto, return, fail, throw, fold_use, unfold_use, assert_that, loop_invariant}
 use Rattle.gil_machine.specs.State.{State, Step, goes_on, ends}
 use Rattle.gil_machine.specs.Step.{step}
 use Rattle.mem_model.specs.Actions.{Actions}
@@ -71,7 +71,7 @@ module _ {S : Type 0} (stands : S → List PureValue → Heap → Type 0) (terms
   extends_copy : (inputs : List PureValue) (s : State) (path next : PurePath S) (state : S) (v w : List PureValue) → Extends inputs s path next v w → Extends inputs s path (with_memory next state) v w
   extends_copy inputs s path next state v w ext = record { new_vars = ext.new_vars; new_values = ext.new_values; vars = ext.vars; values = ext.values; in_turn = ext.in_turn }
 
-  module _ (p : PureParts) (m : Actions) (own : PureAtom → Type 0) (path : PurePath S) where
+  module _ (p : PureParts) (m : Actions) (own by_memory : PureAtom → Type 0) (path : PurePath S) where
     abbrev Grown : Candidate S → Type 0
     Grown c = Grows terms path c.path × Each (λ a. IsAmong a c.path.conds) c.no_fault
 
@@ -131,7 +131,7 @@ module _ {S : Type 0} (stands : S → List PureValue → Heap → Type 0) (terms
     own_copied : (c : Candidate S) (state : S) → IsCopy stands terms depends plain c.path.memory state → AddsOwn own path c.path → AddsOwn own path (with_memory c.path state)
     own_copied c state copy adds = record { added = adds.added; conds = adds.conds; each = adds.each }
 
-    assumes_copied : (c : Candidate S) (state : S) → IsCopy stands terms depends plain c.path.memory state → AssumesRightly p own path c → AssumesRightly p own path (copied c state)
+    assumes_copied : (c : Candidate S) (state : S) → IsCopy stands terms depends plain c.path.memory state → AssumesRightly p own by_memory path c → AssumesRightly p own by_memory path (copied c state)
     assumes_copied c state copy (assumes, unknown) = (
       record { added = assumes.added; given = assumes.given; each = assumes.each; kept = assumes.kept },
       λ place reason. let besides = unknown place reason in record { added = besides.added; given = besides.given; each = besides.each; kept = besides.kept },
@@ -147,7 +147,7 @@ module _ {S : Type 0} (stands : S → List PureValue → Heap → Type 0) (terms
     going_copied c state same (unfold_use u) (keeps, has) = (same ∙ keeps, has)
     going_copied c state same (assert_that items) (keeps, has) = (same ∙ keeps, has)
     going_copied c state same (loop_invariant xs ps items) (keeps, has) = (same ∙ keeps, has)
-    going_copied c state same (call x e es) (keeps, has) = (
+    going_copied c state same (call x e es handler) (keeps, has) = (
       same ∙ keeps,
       record {
         callee = has.callee;
@@ -175,6 +175,10 @@ module _ {S : Type 0} (stands : S → List PureValue → Heap → Type 0) (terms
         next_stack = has.next_stack;
       },
     )
+    going_copied c state same (throw e) (keeps, has) = (
+      same ∙ keeps,
+      record { frame = has.frame; callers = has.callers; stack = has.stack; term = has.term; from = has.from; catches = has.catches },
+    )
     going_copied c state same (act x action es) is = record {
       args = is.args;
       from = is.from;
@@ -193,9 +197,10 @@ module _ {S : Type 0} (stands : S → List PureValue → Heap → Type 0) (terms
     origin_copied c state copy origin none = record {
       going = λ k at still. going_copied c state copy.same_terms k.command ((origin none).going k at still);
       failing = (origin none).failing;
+      throwing = (origin none).throwing;
     }
 
-    pub copies_keep_the_laws : (cs ds : List (Candidate S)) → AreCandidates p m stands terms own path cs → AreCopied stands terms depends plain cs ds → AreCandidates p m stands terms own path ds
+    pub copies_keep_the_laws : (cs ds : List (Candidate S)) → AreCandidates p m stands terms own by_memory path cs → AreCopied stands terms depends plain cs ds → AreCandidates p m stands terms own by_memory path ds
     copies_keep_the_laws cs ds laws copies = record {
       growth = each_copied Grown Grown grows_copied cs ds laws.growth copies;
       recorded = each_copied (λ c. IsRecorded p m path c.path) (λ c. IsRecorded p m path c.path) (λ c state copy recorded. record { variables = recorded.variables; choice = recorded.choice }) cs ds laws.recorded copies;
@@ -204,6 +209,6 @@ module _ {S : Type 0} (stands : S → List PureValue → Heap → Type 0) (terms
       exact = each_copied Exact Exact exact_copied cs ds laws.exact copies;
       along = each_copied Along Along along_copied cs ds laws.along copies;
       own_conditions = each_copied (λ c. AddsOwn own path c.path) (λ c. AddsOwn own path c.path) own_copied cs ds laws.own_conditions copies;
-      assumes = each_copied (AssumesRightly p own path) (AssumesRightly p own path) assumes_copied cs ds laws.assumes copies;
+      assumes = each_copied (AssumesRightly p own by_memory path) (AssumesRightly p own by_memory path) assumes_copied cs ds laws.assumes copies;
       origin = each_copied Origin Origin origin_copied cs ds laws.origin copies;
     }

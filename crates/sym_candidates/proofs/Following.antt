@@ -162,7 +162,7 @@ module _ {S : Type 0} (stands : S → List PureValue → Heap → Type 0) (terms
     stands = running_stands v path.stack s.current s.callers is.frames;
   }
 
-  module _ {X A : Type 0} (Is : List PureValue → X → A → Type 0) (Over : List Sort → X → Type 0) (outcome : Store → Result A Fault) (go_on : Place → State → A → Step) (chooses : State → A → Option ℕ) (own : PureAtom → Type 0) (cases : PureCases X)
+  module _ {X A : Type 0} (Is : List PureValue → X → A → Type 0) (Over : List Sort → X → Type 0) (outcome : Store → Result A Fault) (go_on : Place → State → A → Step) (chooses : State → A → Option ℕ) (own by_memory : PureAtom → Type 0) (cases : PureCases X)
       (evaluated : IsEvaluation (running_store path.stack) Is Over outcome own c.command cases)
       (does : (inputs : List PureValue) (place : Place) (s : State) → do_command p m inputs c.command place s ≡ with_outcome (outcome s.current.store) place s (go_on place s))
       (choice : (s : State) → choice_of p m c.command s ≡ of_outcome (chooses s) (outcome s.current.store)) where
@@ -192,7 +192,7 @@ module _ {S : Type 0} (stands : S → List PureValue → Heap → Type 0) (terms
       pub vars : d.path.vars ≡ path.vars ++ sorts
       pub conds : d.path.conds ≡ path.conds ++ (g.conds ++ more)
       pub own_more : Each own more
-      pub assumes : AssumesRightly p own path d
+      pub assumes : AssumesRightly p own by_memory path d
       pub origin : has_open more ≡ false → Follows p m terms path d.path
       pub exact : (inputs v ws : List PureValue) (s : State) (a : A) → Stands stands path v s → AreNext inputs s.counter s.draws sorts ws → IsProper (path.vars ++ sorts) (v ++ ws) → outcome s.current.store ≡ Ok a → Is v g.result a
           → IsTrue (all_true (v ++ ws) d.path.conds) → has_open more ≡ false → IsChosen path d.path (chooses s a) × StandsForStep p m stands d.path (v ++ ws) s d.path.ending (go_on (at_command s) s a)
@@ -361,8 +361,8 @@ module _ {S : Type 0} (stands : S → List PureValue → Heap → Type 0) (terms
       fault_closed : has_open path.conds ≡ false → has_open fp.conds ≡ false
       fault_closed = closed_both path.conds fc.conds (closed_each fc.conds (each_at (λ (d : PureFaultCase). Each NeedsNone d.conds) cases.faults i fc evaluated.closed.0 which))
 
-      fault_assumes : AssumesRightly p own path (faulted path here fc)
-      fault_assumes = assumes_rightly p own path c at (faulted path here fc) fc.conds refl (each_at (λ (d : PureFaultCase). Each May d.conds) cases.faults i fc evaluated.assumed.0 which) tt
+      fault_assumes : AssumesRightly p own by_memory path (faulted path here fc)
+      fault_assumes = assumes_rightly p own by_memory path c at (faulted path here fc) fc.conds refl (each_at (λ (d : PureFaultCase). Each May d.conds) cases.faults i fc evaluated.assumed.0 which) tt
           (inr (inl (refl, λ going. not_none (sym going))))
 
       fault_follows : Follows p m terms path fp
@@ -412,7 +412,7 @@ module _ {S : Type 0} (stands : S → List PureValue → Heap → Type 0) (terms
           one_left (Covered inputs v s) (map (faulted path here) cases.faults) last (one_map (Covered inputs v s) (faulted path here) cases.faults
           (one_of_each (IsTaken v) (λ fc. Covered inputs v s (faulted path here fc)) cases.faults (each_by_place (λ fc. IsTaken v fc → Covered inputs v s (faulted path here fc)) cases.faults (fault_covers inputs v s is)) said.1))
 
-      pub are_candidates : (cs : List (Candidate S)) → AreOfCases path here Make cases cs → AreCandidates p m stands terms own path cs
+      pub are_candidates : (cs : List (Candidate S)) → AreOfCases path here Make cases cs → AreCandidates p m stands terms own by_memory path cs
       are_candidates cs are = record {
         growth = each_candidate (λ d. Grows terms path d.path × Each (λ a. IsAmong a d.path.conds) d.no_fault) (λ i fc which. (fault_grows i fc which, tt)) (λ g more d is makes. makes.growth) cs are;
         recorded = each_candidate (λ d. IsRecorded p m path d.path) (λ i fc which. ended_records p m path (fp i fc which) refl refl (fault_closed i fc which) (failed (literal (Literal.Str (fault_text fc.fault))) here) refl) (λ g more d is makes. makes.recorded) cs are;
@@ -422,7 +422,7 @@ module _ {S : Type 0} (stands : S → List PureValue → Heap → Type 0) (terms
         along = each_candidate (λ d. HoldsAlong p m stands path d.path × ((place : Place) (reason : Reason) → HoldsAlong p m stands path (ended_unknown d place reason)))
             (λ i fc which. (fault_along i fc which, fault_along_unknown i fc which)) (λ g more d is makes. (good_along sorts g more d is makes, good_along_unknown sorts g more d is makes)) cs are;
         own_conditions = each_candidate (λ d. AddsOwn own path d.path) fault_own (λ g more d is makes. good_own sorts g more d is makes) cs are;
-        assumes = each_candidate (AssumesRightly p own path) fault_assumes (λ g more d is makes. makes.assumes) cs are;
+        assumes = each_candidate (AssumesRightly p own by_memory path) fault_assumes (λ g more d is makes. makes.assumes) cs are;
         origin = each_candidate (λ d. has_open d.path.conds ≡ false → Follows p m terms path d.path) (λ i fc which no_form. fault_follows i fc which) (λ g more d is makes no_form. makes.origin (closed_more sorts g more d is makes no_form)) cs are;
       }
 
@@ -466,7 +466,7 @@ module _ {S : Type 0} (stands : S → List PureValue → Heap → Type 0) (terms
       pub vars : d.path.vars ≡ path.vars
       pub conds : d.path.conds ≡ path.conds ++ (g.conds ++ more)
       pub own_more : Each own more
-      pub assumes : AssumesRightly p own path d
+      pub assumes : AssumesRightly p own by_memory path d
       pub origin : has_open more ≡ false → Follows p m terms path d.path
       pub exact : (inputs v : List PureValue) (s : State) (a : A) → Stands stands path v s → outcome s.current.store ≡ Ok a → Is v g.result a
           → IsTrue (all_true v d.path.conds) → has_open more ≡ false → IsChosen path d.path (chooses s a) × StandsForStep p m stands d.path v s d.path.ending (go_on (at_command s) s a)
@@ -555,7 +555,7 @@ module _ {S : Type 0} (stands : S → List PureValue → Heap → Type 0) (terms
         vars = refl;
         conds = refl;
         own_more = own_more;
-        assumes = assumes_rightly p own path c at (failing_with path here why g more) (g.conds ++ more) refl (each_append May g.conds more (good_may g is_good) may_more) tt (inr (inl (refl, λ going. not_none (sym going))));
+        assumes = assumes_rightly p own by_memory path c at (failing_with path here why g more) (g.conds ++ more) refl (each_append May g.conds more (good_may g is_good) may_more) tt (inr (inl (refl, λ going. not_none (sym going))));
         origin = λ no_form. follows_failing p m terms path wp c at c.command refl (literal (Literal.Str why)) here refl (inl (why, refl));
         exact = λ inputs v s a is ok val met closed. fails_there inputs v s a is val met;
         along = λ inputs v ws s is given which goes. second_true (v ++ ws) path.given (g.conds ++ more) given;

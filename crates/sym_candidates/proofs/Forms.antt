@@ -37,7 +37,7 @@ use Rattle.sym_candidates.proofs.Following.{first_true, second_true, good_leads,
 -- ---- candidates
 
 module _ {S : Type 0} (memory : MemoryName) (stands : S → List PureValue → Heap → Type 0) (terms : S → StateTerms) (meaning : IsMeaning memory stands terms) (depends : S → List ℕ → List PureTerm → List PureValue → Heap → PureTerm → Type 0)
-    (asked : List ℕ → List PureTerm → List PureTerm) (m : Actions) (p : PureParts) (path : PurePath S) (c : PureNumberedCommand) (x action : List ℕ) (es : List PureExpr) (cases : PureCases (List PureTerm)) (here : Place) (over : IsOverTable terms path)
+    (asked : List ℕ → List PureTerm → List PureTerm × List PureTerm) (m : Actions) (p : PureParts) (path : PurePath S) (c : PureNumberedCommand) (x action : List ℕ) (es : List PureExpr) (cases : PureCases (List PureTerm)) (here : Place) (over : IsOverTable terms path)
     (at : command_of_path p path ≡ Some c) (command : c.command ≡ act x action es) (evaluated : AreEvaluated (running_store path.stack) es cases) where
   abbrev takes : Bool
   takes = m.takes_symbol action

@@ -4,7 +4,9 @@ pub mod Calling
 pub mod Copying
 pub mod Following
 pub mod Forms
+pub mod Leaving
 pub mod Naming
 pub mod Outcomes
 pub mod Returning
+pub mod Throwing
 pub mod Turning

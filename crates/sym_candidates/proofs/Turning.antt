@@ -21,7 +21,7 @@ use Rattle.sym_model.proofs.ListLaws.{same_some, each_append, each_to, one_left,
 use Rattle.sym_paths.specs.Valued.{place_at}
 use Rattle.sym_paths.specs.Frames.{AreMoved}
 use Rattle.sym_paths.specs.Meaning.{AreFrames, Stands, StandsForStep, OfEachName, IsOverTable, command_of_path}
-use Rattle.sym_paths.specs.Moves.{running_store, advanced}
+use Rattle.sym_paths.specs.Moves.{running_store, advanced, NoOwn}
 use Rattle.sym_paths.specs.Pure.{PureFrame, PurePath}
 use Rattle.sym_paths.specs.Settling.{Candidate, AreCandidates}
 use Rattle.sym_paths.specs.Steps.{new_sorts, makes_choice, IsChosen, MayChoose, MayAssume}
@@ -141,6 +141,7 @@ label_frames v (f ∷ fs) g gs n are = (
     next = refl;
     store = are.0.store;
     waits = are.0.waits;
+    handler = are.0.handler;
   },
   are.1,
 )
@@ -188,7 +189,7 @@ module _ {S : Type 0} (stands : S → List PureValue → Heap → Type 0) (terms
   choice s = ap (λ k. choice_of p m k s) command ∙ of_value-outcome guard_choice (evaluate e s.current.store)
 
   abbrev Makes : PureGoodCase PureTerm → List PureAtom → Candidate S → Type 0
-  Makes = MakesSame stands terms p m path c over at HasValue IsOver (evaluate e) go_on chooses Own cases evaluation does choice
+  Makes = MakesSame stands terms p m path c over at HasValue IsOver (evaluate e) go_on chooses Own NoOwn cases evaluation does choice
 
   abbrev OverTable : PureAtom → Type 0
   OverTable a = IsOver path.vars (term_of a)
@@ -265,7 +266,7 @@ module _ {S : Type 0} (stands : S → List PureValue → Heap → Type 0) (terms
         vars = refl;
         conds = refl;
         own_more = more_own more from_guard;
-        assumes = assumes_rightly p Own path c at (turning path fs side g more) [] (same_and_none path.given path.given refl) tt tt (inr (inr refl));
+        assumes = assumes_rightly p Own NoOwn path c at (turning path fs side g more) [] (same_and_none path.given path.given refl) tt tt (inr (inr refl));
         origin = λ no_form. follows_going p m terms path tp c at (ifgoto e label) command no_end (refl, moved);
         exact = λ inputs v s a is ok val true_there closed.
             let (which, there) = takes v s a is val true_there in (
@@ -273,7 +274,7 @@ module _ {S : Type 0} (stands : S → List PureValue → Heap → Type 0) (terms
               subst (λ o. StandsForStep p m stands tp v s o (branch a label (at_command stands terms p m path c over at s) s)) (sym no_end) there,
             );
         along = λ inputs v ws s is given which goes.
-            along_chosen stands terms p m path c over at HasValue IsOver (evaluate e) go_on chooses Own cases evaluation does choice [] g is_good more v ws s tp side refl is which
+            along_chosen stands terms p m path c over at HasValue IsOver (evaluate e) go_on chooses Own NoOwn cases evaluation does choice [] g is_good more v ws s tp side refl is which
             (λ a ok val chose. all_true-more path.vars v ws is.proper.one_each more (more_over more from_guard) ∙ met v s a is val chose);
       }
 
@@ -340,7 +341,7 @@ module _ {S : Type 0} (stands : S → List PureValue → Heap → Type 0) (terms
     other_makes : (more : List PureAtom) → sides.when_no_boolean ≡ Some more → Makes g more (failing_with path (place_at path.stack c) (codes "type") g more)
     other_makes more is_side =
         let asks : Each (AsksBoolean g.result) more = side_each (AsksBoolean g.result) sides.when_no_boolean more is_side come.2 in
-        failing_makes stands terms p m path c over at HasValue IsOver (evaluate e) go_on chooses Own cases evaluation does choice g more (codes "type") is_good
+        failing_makes stands terms p m path c over at HasValue IsOver (evaluate e) go_on chooses Own NoOwn cases evaluation does choice g more (codes "type") is_good
         (more_own more (as_conditions more asks)) (may_more more asks) (more_over more (as_conditions more asks))
         (closed_each more (each_to (AsksBoolean g.result) NeedsNone more (boolean_closed g.result) asks))
         (λ v s a is val met. no_branch a label (at_command stands terms p m path c over at s) s (side_taken v (is_no_boolean a) sides.when_no_boolean more is_side (says v s a is val).2 met))
@@ -376,19 +377,19 @@ module _ {S : Type 0} (stands : S → List PureValue → Heap → Type 0) (terms
           (some_side a)
 
   abbrev Next : PureGoodCase PureTerm → Candidate S → Type 0
-  Next g d = (more : List PureAtom) × MakesNext stands terms p m path c over at HasValue IsOver (evaluate e) go_on chooses Own cases evaluation does choice [] g more d
+  Next g d = (more : List PureAtom) × MakesNext stands terms p m path c over at HasValue IsOver (evaluate e) go_on chooses Own NoOwn cases evaluation does choice [] g more d
 
-  guard_candidates : (cs : List (Candidate S)) → AreOfCases path (place_at path.stack c) (Turns path label (place_at path.stack c)) cases cs → AreCandidates p m stands terms Own path cs
+  guard_candidates : (cs : List (Candidate S)) → AreOfCases path (place_at path.stack c) (Turns path label (place_at path.stack c)) cases cs → AreCandidates p m stands terms Own NoOwn path cs
   guard_candidates =
-      are_candidates stands terms p m path c over at HasValue IsOver (evaluate e) go_on chooses Own cases evaluation does choice [] (Turns path label (place_at path.stack c))
+      are_candidates stands terms p m path c over at HasValue IsOver (evaluate e) go_on chooses Own NoOwn cases evaluation does choice [] (Turns path label (place_at path.stack c))
       (λ g ds is_good (sides, (are, come, made)).
       subst (Each (Next g)) (sym made)
       (each_turn g is_good sides are come (Next g)
-      (λ more d makes. (more, same_next stands terms p m path c over at HasValue IsOver (evaluate e) go_on chooses Own cases evaluation does choice g more d makes))))
+      (λ more d makes. (more, same_next stands terms p m path c over at HasValue IsOver (evaluate e) go_on chooses Own NoOwn cases evaluation does choice g more d makes))))
       (λ g ds is_good (sides, (are, come, made)) inputs v s a is ok val met.
-      subst (OneOf (Covered stands terms p m path c over at HasValue IsOver (evaluate e) go_on chooses Own cases evaluation does choice inputs v s)) (sym made)
-      (one_turn g is_good sides are come (Covered stands terms p m path c over at HasValue IsOver (evaluate e) go_on chooses Own cases evaluation does choice inputs v s) v
-      (λ more d makes there. covered_same stands terms p m path c over at HasValue IsOver (evaluate e) go_on chooses Own cases evaluation does choice g more d is_good makes inputs v s is met there)
+      subst (OneOf (Covered stands terms p m path c over at HasValue IsOver (evaluate e) go_on chooses Own NoOwn cases evaluation does choice inputs v s)) (sym made)
+      (one_turn g is_good sides are come (Covered stands terms p m path c over at HasValue IsOver (evaluate e) go_on chooses Own NoOwn cases evaluation does choice inputs v s) v
+      (λ more d makes there. covered_same stands terms p m path c over at HasValue IsOver (evaluate e) go_on chooses Own NoOwn cases evaluation does choice g more d is_good makes inputs v s is met there)
       s a is val))
 
 pub guards_keep_the_laws : {S : Type 0} (stands : S → List PureValue → Heap → Type 0) (terms : S → StateTerms) → GuardsKeepTheLaws stands terms

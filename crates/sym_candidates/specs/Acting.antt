@@ -54,7 +54,7 @@ module _ {S : Type 0} (path : PurePath S) (x : List ℕ) (here : Place) (takes :
 
 -- the branches are lawful ones of the memory's action on the terms of the arguments
 abbrev pub Acts : {S : Type 0} → (S → List PureValue → Heap → Type 0) → (S → StateTerms) → Actions
-    → (List ℕ → List PureTerm → List PureTerm) → PurePath S → List ℕ → List ℕ → Place → PureGoodCase (List PureTerm)
+    → (List ℕ → List PureTerm → List PureTerm × List PureTerm) → PurePath S → List ℕ → List ℕ → Place → PureGoodCase (List PureTerm)
     → List (Candidate S) → Type 0
 Acts {S} stands terms m asked path x action here g ds =
     (bs : List (PureBranch S)) × (ActLaw stands terms m action (fresh_where (m.takes_symbol action) path.vars) g.result
@@ -68,19 +68,24 @@ ActsByForms {S} stands terms depends m path x action here g ds =
     (bs : List (PureBranch S)) × (OpenWhatMatters stands terms depends action (fresh_where (m.takes_symbol action) path.vars) g.result
     path.memory bs × ActsAsEach path x here (m.takes_symbol action) g bs ds)
 
--- what an action may ask: what its arguments ask, and what the memory asks of their terms and of its own
-abbrev pub IsAskedByAction : {S : Type 0} → (S → StateTerms) → (List ℕ → List PureTerm → List PureTerm) → PurePath S → List ℕ
+-- what the memory may ask in an action: of the terms of its arguments, and of its own
+abbrev pub IsAskedByMemory : {S : Type 0} → (S → StateTerms) → (List ℕ → List PureTerm → List PureTerm × List PureTerm) → PurePath S → List ℕ
+    → List PureExpr → PureAtom → Type 0
+IsAskedByMemory terms asked path action es a =
+    (args : List PureTerm) × (AreTermsOf (running_store path.stack) es args
+    × IsOwnCondition (asked_of (asked action args) (terms path.memory)) a)
+
+-- what an action may ask: what its arguments ask, and what the memory does
+abbrev pub IsAskedByAction : {S : Type 0} → (S → StateTerms) → (List ℕ → List PureTerm → List PureTerm × List PureTerm) → PurePath S → List ℕ
     → List PureExpr → PureAtom → Type 0
 IsAskedByAction terms asked path action es a =
-    OneOf (λ e. IsAsked (running_store path.stack) e a) es
-    ⊎ ((args : List PureTerm) × (AreTermsOf (running_store path.stack) es args
-    × IsOwnCondition (asked_of (asked action args) (terms path.memory)) a))
+    OneOf (λ e. IsAsked (running_store path.stack) e a) es ⊎ IsAskedByMemory terms asked path action es a
 
 abbrev pub ActionsKeepTheLaws : {S : Type 0} → (S → List PureValue → Heap → Type 0) → (S → StateTerms)
-    → (List ℕ → List PureTerm → List PureTerm) → Actions → Type 0
+    → (List ℕ → List PureTerm → List PureTerm × List PureTerm) → Actions → Type 0
 ActionsKeepTheLaws {S} stands terms asked m =
     (p : PureParts) (path : PurePath S) (c : PureNumberedCommand) (x action : List ℕ) (es : List PureExpr)
     (cases : PureCases (List PureTerm)) (cs : List (Candidate S)) → IsOverTable terms path → path.ending ≡ None
     → command_of_path p path ≡ Some c → c.command ≡ act x action es → AreEvaluated (running_store path.stack) es cases
     → AreOfCases path (place_at path.stack c) (Acts stands terms m asked path x action (place_at path.stack c)) cases cs
-    → AreCandidates p m stands terms (IsAskedByAction terms asked path action es) path cs
+    → AreCandidates p m stands terms (IsAskedByAction terms asked path action es) (IsAskedByMemory terms asked path action es) path cs

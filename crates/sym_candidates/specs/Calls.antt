@@ -1,12 +1,13 @@
 -- The candidates of a call: the callee is evaluated, then the arguments, and then the callee must be a procedure of the program with
 -- as many parameters. Where it is no literal, its literal form is needed.
-use Rattle.std.specs.Prelude.{◌≡◌, ◌⊎◌, ℕ, ◌+◌, List, [], ◌∷◌, ◌++◌, length, map, false, ◌==◌, MatchBool, Option, Some, None, IsTrue, codes}
+use Rattle.std.specs.Prelude.{◌≡◌, ◌⊎◌, ℕ, ◌+◌, ℤ, List, [], ◌∷◌, ◌++◌, length, map, false, ◌==◌, MatchBool, Option, Some, None, IsTrue, codes}
 use Rattle.std.specs.Option.{option_map}
 use Rattle.gil_values.specs.declared.kinds.Kind.{Kind}
 use Rattle.gil_values.specs.declared.places.Place.{Place}
 use Rattle.gil_values.specs.Pure.{PureValue}
 use Rattle.gil_syntax.specs.Pure.{PureParts, PureProc, PureExpr, PureNumberedCommand, call}
 use Rattle.gil_syntax.specs.Programs.{find_proc}
+use Rattle.gil_machine.specs.Step.{handler_label}
 use Rattle.mem_model.specs.Actions.{Actions}
 use Rattle.mem_model.specs.Heaps.{Heap}
 use Rattle.pure_terms.specs.declared.literals.Literal.{Literal}
@@ -18,7 +19,7 @@ use Rattle.sym_model.specs.Lists.{OneOf}
 use Rattle.sym_model.specs.Terms.{StateTerms, is_literal}
 pub use Rattle.sym_paths.specs.Frames.{terms_bound, IsFirstStore, waiting, called_frame}
 use Rattle.sym_paths.specs.Meaning.{IsOverTable, command_of_path}
-use Rattle.sym_paths.specs.Moves.{running_store}
+use Rattle.sym_paths.specs.Moves.{running_store, NoOwn}
 use Rattle.sym_paths.specs.Pure.{PurePath}
 use Rattle.sym_paths.specs.Settling.{Candidate, AreCandidates}
 use Rattle.sym_paths.specs.Valued.{place_at, IsEvaluated}
@@ -49,11 +50,11 @@ call_cases callee args = call_cases_by callee.faults callee.good args
 
 -- ---- the candidates
 
-module _ {S : Type 0} (path : PurePath S) (x : List ℕ) (here : Place) where
+module _ {S : Type 0} (path : PurePath S) (x : List ℕ) (label : Option ℕ) (here : Place) where
   -- the path goes on in the procedure
   abbrev pub entering : PureProc → PureStore → PureGoodCase Called → Candidate S
   entering q bs g = record {
-    path = record path { conds = path.conds ++ g.conds; stack = called_frame q bs ∷ waiting x path.stack; steps = path.steps + 1 };
+    path = record path { conds = path.conds ++ g.conds; stack = called_frame q bs ∷ waiting x label path.stack; steps = path.steps + 1 };
     no_fault = g.conds;
   }
 
@@ -95,8 +96,8 @@ IsAskedByCall bs e es a =
 abbrev pub CallsKeepTheLaws : {S : Type 0} → (S → List PureValue → Heap → Type 0) → (S → StateTerms) → Type 0
 CallsKeepTheLaws {S} stands terms =
     (p : PureParts) (m : Actions) (path : PurePath S) (c : PureNumberedCommand) (x : List ℕ) (e : PureExpr) (es : List PureExpr)
-    (callee : PureCases PureTerm) (args : PureCases (List PureTerm)) (cs : List (Candidate S)) → IsOverTable terms path
-    → path.ending ≡ None → command_of_path p path ≡ Some c → c.command ≡ call x e es → IsEvaluated (running_store path.stack) e callee
+    (handler : Option ℤ) (callee : PureCases PureTerm) (args : PureCases (List PureTerm)) (cs : List (Candidate S)) → IsOverTable terms path
+    → path.ending ≡ None → command_of_path p path ≡ Some c → c.command ≡ call x e es handler → IsEvaluated (running_store path.stack) e callee
     → AreEvaluated (running_store path.stack) es args
-    → AreOfCases path (place_at path.stack c) (Calls path x (place_at path.stack c) p) (call_cases callee args) cs
-    → AreCandidates p m stands terms (IsAskedByCall (running_store path.stack) e es) path cs
+    → AreOfCases path (place_at path.stack c) (Calls path x (handler_label handler) (place_at path.stack c) p) (call_cases callee args) cs
+    → AreCandidates p m stands terms (IsAskedByCall (running_store path.stack) e es) NoOwn path cs

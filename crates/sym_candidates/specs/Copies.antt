@@ -26,6 +26,6 @@ module _ {S : Type 0} (stands : S → List PureValue → Heap → Type 0) (terms
   -- Copies of candidates are candidates.
   abbrev pub CopiesKeepTheLaws : Type 0
   CopiesKeepTheLaws =
-      (p : PureParts) (m : Actions) (asked : List PureAtom) (path : PurePath S) (cs ds : List (Candidate S))
-      → AreCandidates p m stands terms (λ a. IsAmong a asked) path cs → AreCopied cs ds
-      → AreCandidates p m stands terms (λ a. IsAmong a asked) path ds
+      (p : PureParts) (m : Actions) (asked of_memory : List PureAtom) (path : PurePath S) (cs ds : List (Candidate S))
+      → AreCandidates p m stands terms (λ a. IsAmong a asked) (λ a. IsAmong a of_memory) path cs → AreCopied cs ds
+      → AreCandidates p m stands terms (λ a. IsAmong a asked) (λ a. IsAmong a of_memory) path ds

@@ -11,7 +11,7 @@ use Rattle.sym_evaluation.specs.Pure.{PureStore, PureGoodCase, PureCases, PureSi
 use Rattle.sym_evaluation.specs.Questions.{IsAsked, IsGuardTerm, IsGuardCondition, SidesComeFrom}
 use Rattle.sym_model.specs.Terms.{StateTerms}
 use Rattle.sym_paths.specs.Meaning.{IsOverTable, command_of_path}
-use Rattle.sym_paths.specs.Moves.{running_store, advanced}
+use Rattle.sym_paths.specs.Moves.{running_store, advanced, NoOwn}
 use Rattle.sym_paths.specs.Pure.{PureFrame, PurePath}
 use Rattle.sym_paths.specs.Settling.{Candidate, AreCandidates}
 use Rattle.sym_paths.specs.Valued.{place_at, IsEvaluatedTo}
@@ -63,4 +63,4 @@ GuardsKeepTheLaws {S} stands terms =
     (cs : List (Candidate S)) → IsOverTable terms path → path.ending ≡ None → command_of_path p path ≡ Some c → c.command ≡ ifgoto e label
     → IsGuardEvaluated (running_store path.stack) e cases
     → AreOfCases path (place_at path.stack c) (Turns path label (place_at path.stack c)) cases cs
-    → AreCandidates p m stands terms (IsAskedByGuard (running_store path.stack) e) path cs
+    → AreCandidates p m stands terms (IsAskedByGuard (running_store path.stack) e) NoOwn path cs

@@ -4,3 +4,4 @@ pub mod Cases
 pub mod Copies
 pub mod Guards
 pub mod Returns
+pub mod Throws

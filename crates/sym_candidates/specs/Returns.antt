@@ -10,7 +10,7 @@ use Rattle.sym_evaluation.specs.Questions.{IsAsked}
 use Rattle.sym_model.specs.Terms.{StateTerms}
 pub use Rattle.sym_paths.specs.Frames.{ResumesAt, Resumes}
 use Rattle.sym_paths.specs.Meaning.{IsOverTable, command_of_path}
-use Rattle.sym_paths.specs.Moves.{running_store}
+use Rattle.sym_paths.specs.Moves.{running_store, NoOwn}
 use Rattle.sym_paths.specs.Pure.{PureFrame, returned, PurePath}
 use Rattle.sym_paths.specs.Settling.{Candidate, AreCandidates}
 use Rattle.sym_paths.specs.Valued.{place_at, IsEvaluated}
@@ -46,4 +46,4 @@ ReturnsKeepTheLaws {S} stands terms =
     (p : PureParts) (m : Actions) (path : PurePath S) (c : PureNumberedCommand) (e : PureExpr) (cases : PureCases PureTerm)
     (cs : List (Candidate S)) → IsOverTable terms path → path.ending ≡ None → command_of_path p path ≡ Some c → c.command ≡ return e
     → IsEvaluated (running_store path.stack) e cases → AreOfCases path (place_at path.stack c) (Returns path path.stack) cases cs
-    → AreCandidates p m stands terms (IsAsked (running_store path.stack) e) path cs
+    → AreCandidates p m stands terms (IsAsked (running_store path.stack) e) NoOwn path cs

@@ -4,12 +4,18 @@ ghost use Rattle.sym_candidates.specs.Calls.{CallsKeepTheLaws};
 ghost use Rattle.sym_candidates.specs.Copies.{CopiesKeepTheLaws};
 ghost use Rattle.sym_candidates.specs.Guards.{GuardsKeepTheLaws};
 ghost use Rattle.sym_candidates.specs.Returns.{ReturnsKeepTheLaws};
+ghost use Rattle.sym_candidates.specs.Throws.{ThrowsKeepTheLaws};
 
 use sym_model::SymMemory;
 
 /// The candidates of `return`, by which the entry ends or the frame that waits goes on, keep the laws.
 pub fn returns_keep_the_laws<M: SymMemory>()
     ensures { ReturnsKeepTheLaws M.stands M.terms }
+{}
+
+/// The candidates of `throw`, by which a caller's handler goes on or the path ends, keep the laws.
+pub fn throws_keep_the_laws<M: SymMemory>()
+    ensures { ThrowsKeepTheLaws M.stands M.terms }
 {}
 
 /// The candidates of `ifgoto`, one for each side of the guard, keep the laws.

@@ -5,7 +5,8 @@ use Rattle.std.proofs.lemmas.List.{append-nil}
 use Rattle.gil_values.specs.declared.places.Place.{Place}
 use Rattle.gil_values.specs.Pure.{PureValue}
 use Rattle.gil_syntax.specs.Pure.{PureParts, PureExpr, ifgoto, call, act}
-use Rattle.gil_syntax.specs.Valid.{ends_body}
+use Rattle.gil_syntax.specs.Valid.{ends_body, is_bad_jump}
+use Rattle.gil_machine.specs.Step.{handler_label}
 use Rattle.mem_model.specs.declared.keys.MemoryName.{MemoryName}
 use Rattle.mem_model.specs.Actions.{Actions}
 use Rattle.mem_model.specs.Heaps.{Heap}
@@ -18,11 +19,11 @@ use Rattle.sym_engine.proofs.Placing.{all_placed, turns_placed, calls_placed, ac
 use Rattle.sym_evaluation.specs.Pure.{PureCases}
 use Rattle.sym_model.specs.Laws.{IsMeaning, IsCopy}
 use Rattle.sym_model.specs.Terms.{StateTerms}
-use Rattle.sym_paths.specs.Moves.{running_store}
+use Rattle.sym_paths.specs.Moves.{running_store, NoOwn}
 use Rattle.sym_paths.specs.Pure.{PurePath}
 use Rattle.sym_paths.specs.Settling.{Candidate}
 use Rattle.sym_paths.specs.Valued.{faulted, IsEvaluated}
-use Rattle.sym_candidates.specs.Acting.{Acts, IsAskedByAction}
+use Rattle.sym_candidates.specs.Acting.{Acts, IsAskedByAction, IsAskedByMemory}
 use Rattle.sym_candidates.specs.Calls.{Calls, call_cases, IsAskedByCall}
 use Rattle.sym_candidates.specs.Cases.{AreResults, AreOfCases, AreEvaluated}
 use Rattle.sym_candidates.specs.Copies.{IsCopied, AreCopied}
@@ -86,12 +87,12 @@ module _ {S : Type 0} (stands : S → List PureValue → Heap → Type 0) (terms
 
   -- ---- the candidates of commands
 
-  module _ (asked : List ℕ → List PureTerm → List PureTerm) (m : Actions) (path : PurePath S) (here : Place) where
+  module _ (asked : List ℕ → List PureTerm → List PureTerm × List PureTerm) (m : Actions) (path : PurePath S) (here : Place) where
     pub guard_lawful : (cases : PureCases PureTerm) (faults all last : List (Candidate S)) → AreCopied stands terms depends plain (map (faulted path here) cases.faults) faults → Adds last faults all
         → (e : PureExpr) (label : ℤ) → IsGuardEvaluated (running_store path.stack) e cases → AreResults (Turns path label here) cases.good last → AreLawful stands terms asked m path here (ifgoto e label) all
     guard_lawful cases faults all last copies adds e label evaluated result p c over no_end at command place =
         let whole : AreCopied stands terms depends plain (map (faulted path here) cases.faults ++ last) all = adds (map (faulted path here) cases.faults) copies in (
-          copies_keep_the_laws stands terms depends plain p m (IsAskedByGuard (running_store path.stack) e) path (map (faulted path here) cases.faults ++ last) all
+          copies_keep_the_laws stands terms depends plain p m (IsAskedByGuard (running_store path.stack) e) NoOwn path (map (faulted path here) cases.faults ++ last) all
               (guards_keep_the_laws stands terms p m path c e label cases (map (faulted path here) cases.faults ++ last) over no_end at command evaluated
               (subst (λ h. AreOfCases path h (Turns path label h) cases (map (faulted path here) cases.faults ++ last)) (sym place) (last, (refl, result))))
               whole,
@@ -99,16 +100,16 @@ module _ {S : Type 0} (stands : S → List PureValue → Heap → Type 0) (terms
         )
 
     pub call_lawful : (p : PureParts) (callee : PureCases PureTerm) (args : PureCases (List PureTerm)) (faults last : List (Candidate S)) → AreCopied stands terms depends plain (map (faulted path here) (call_cases callee args).faults) faults
-        → (x : List ℕ) (e : PureExpr) (es : List PureExpr) → IsEvaluated (running_store path.stack) e callee → AreEvaluated (running_store path.stack) es args → AreResults (Calls path x here p) (call_cases callee args).good last
-        → AreLawfulIn stands terms asked m p path here (call x e es) (faults ++ last)
-    call_lawful p callee args faults last copies x e es evaluated all_evaluated result c over no_end at command place =
+        → (x : List ℕ) (e : PureExpr) (es : List PureExpr) (handler : Option ℤ) → IsEvaluated (running_store path.stack) e callee → AreEvaluated (running_store path.stack) es args → AreResults (Calls path x (handler_label handler) here p) (call_cases callee args).good last
+        → AreLawfulIn stands terms asked m p path here (call x e es handler) (faults ++ last)
+    call_lawful p callee args faults last copies x e es handler evaluated all_evaluated result c over no_end at command place =
         let whole : AreCopied stands terms depends plain (map (faulted path here) (call_cases callee args).faults ++ last) (faults ++ last) =
         joined stands terms depends plain (map (faulted path here) (call_cases callee args).faults) faults last last copies (each_itself stands terms depends plain last) in (
-          copies_keep_the_laws stands terms depends plain p m (IsAskedByCall (running_store path.stack) e es) path (map (faulted path here) (call_cases callee args).faults ++ last) (faults ++ last)
-              (calls_keep_the_laws stands terms p m path c x e es callee args (map (faulted path here) (call_cases callee args).faults ++ last) over no_end at command evaluated all_evaluated
-              (subst (λ h. AreOfCases path h (Calls path x h p) (call_cases callee args) (map (faulted path here) (call_cases callee args).faults ++ last)) (sym place) (last, (refl, result))))
+          copies_keep_the_laws stands terms depends plain p m (IsAskedByCall (running_store path.stack) e es) NoOwn path (map (faulted path here) (call_cases callee args).faults ++ last) (faults ++ last)
+              (calls_keep_the_laws stands terms p m path c x e es handler callee args (map (faulted path here) (call_cases callee args).faults ++ last) over no_end at command evaluated all_evaluated
+              (subst (λ h. AreOfCases path h (Calls path x (handler_label handler) h p) (call_cases callee args) (map (faulted path here) (call_cases callee args).faults ++ last)) (sym place) (last, (refl, result))))
               whole,
-          λ valid placed. all_placed p path here stands terms depends plain faults last (faults ++ last) (call_cases callee args).faults whole (calls_placed p valid path here c at placed x (call_cases callee args).good last (ap ends_body command) result),
+          λ valid placed. all_placed p path here stands terms depends plain faults last (faults ++ last) (call_cases callee args).faults whole (calls_placed p valid path here c at placed x handler (call_cases callee args).good last (ap ends_body command) (λ n. ap (is_bad_jump n) command) result),
         )
 
     pub act_lawful : (memory : MemoryName) → IsMeaning memory stands terms → (cases : PureCases (List PureTerm)) (faults last : List (Candidate S)) → AreCopied stands terms depends plain (map (faulted path here) cases.faults) faults
@@ -116,7 +117,7 @@ module _ {S : Type 0} (stands : S → List PureValue → Heap → Type 0) (terms
     act_lawful memory meaning cases faults last copies x action es evaluated result p c over no_end at command place =
         let whole : AreCopied stands terms depends plain (map (faulted path here) cases.faults ++ last) (faults ++ last) =
         joined stands terms depends plain (map (faulted path here) cases.faults) faults last last copies (each_itself stands terms depends plain last) in (
-          copies_keep_the_laws stands terms depends plain p m (IsAskedByAction terms asked path action es) path (map (faulted path here) cases.faults ++ last) (faults ++ last)
+          copies_keep_the_laws stands terms depends plain p m (IsAskedByAction terms asked path action es) (IsAskedByMemory terms asked path action es) path (map (faulted path here) cases.faults ++ last) (faults ++ last)
               (actions_keep_the_laws memory stands terms meaning asked m p path c x action es cases (map (faulted path here) cases.faults ++ last) over no_end at command evaluated
               (subst (λ h. AreOfCases path h (Acts stands terms m asked path x action h) cases (map (faulted path here) cases.faults ++ last)) (sym place) (last, (refl, result))))
               whole,

@@ -5,7 +5,7 @@ use Rattle.std.proofs.lemmas.List.{map-append}
 use Rattle.gil_values.specs.declared.places.Place.{Place}
 use Rattle.gil_values.specs.Operators.{fault_text}
 use Rattle.gil_values.specs.Pure.{PureValue}
-use Rattle.gil_syntax.specs.Pure.{PureExpr, assign, fail, return}
+use Rattle.gil_syntax.specs.Pure.{PureExpr, assign, fail, return, throw}
 use Rattle.gil_syntax.specs.Valid.{ends_body}
 use Rattle.mem_model.specs.Actions.{Actions}
 use Rattle.mem_model.specs.Heaps.{Heap}
@@ -19,18 +19,20 @@ use Rattle.sym_evaluation.specs.Pure.{PureFaultCase, PureGoodCase, PureCases}
 use Rattle.sym_evaluation.specs.Questions.{IsAsked}
 use Rattle.sym_model.specs.Laws.{IsCopy}
 use Rattle.sym_model.specs.Terms.{StateTerms}
-use Rattle.sym_paths.specs.Moves.{running_store}
+use Rattle.sym_paths.specs.Moves.{running_store, NoOwn}
 use Rattle.sym_paths.specs.Pure.{PurePath}
 use Rattle.sym_paths.specs.Settling.{Candidate}
 use Rattle.sym_paths.specs.Valued.{faulted, failing, Assigns, Fails, IsResult, AreForCases, IsEvaluated}
 use Rattle.sym_paths.proofs.Valued.{valued_candidates}
 use Rattle.sym_engine.specs.Lawful.{AreLawful}
-use Rattle.sym_engine.proofs.Placing.{all_placed, assigns_placed, fails_placed, returns_placed}
+use Rattle.sym_engine.proofs.Placing.{all_placed, assigns_placed, fails_placed, returns_placed, throws_placed}
 use Rattle.sym_candidates.specs.Cases.{AreResults, AreOfCases}
 use Rattle.sym_candidates.specs.Copies.{IsCopied, AreCopied}
 use Rattle.sym_candidates.specs.Returns.{Returns}
 use Rattle.sym_candidates.proofs.Copying.{copies_keep_the_laws}
 use Rattle.sym_candidates.proofs.Returning.{returns_keep_the_laws}
+use Rattle.sym_candidates.specs.Throws.{Throws}
+use Rattle.sym_candidates.proofs.Throwing.{throws_keep_the_laws}
 
 -- ---- results that there are, and that there are not
 
@@ -91,7 +93,7 @@ module _ {S : Type 0} (stands : S → List PureValue → Heap → Type 0) (terms
 
   -- ---- the candidates of commands, made of copies
 
-  module _ (asked : List ℕ → List PureTerm → List PureTerm) (m : Actions) (path : PurePath S) (here : Place) (cases : PureCases PureTerm) (faults last : List (Candidate S)) (copies : AllCopied (map (faulted path here) cases.faults) faults) where
+  module _ (asked : List ℕ → List PureTerm → List PureTerm × List PureTerm) (m : Actions) (path : PurePath S) (here : Place) (cases : PureCases PureTerm) (faults last : List (Candidate S)) (copies : AllCopied (map (faulted path here) cases.faults) faults) where
     abbrev ideal : List (Candidate S)
     ideal = map (faulted path here) cases.faults ++ last
 
@@ -100,7 +102,7 @@ module _ {S : Type 0} (stands : S → List PureValue → Heap → Type 0) (terms
 
     pub assign_lawful : (x : List ℕ) (e : PureExpr) → IsEvaluated (running_store path.stack) e cases → IsResult (Assigns path x) cases.good last → AreLawful stands terms asked m path here (assign x e) (faults ++ last)
     assign_lawful x e evaluated result p c over no_end at command place = (
-      copies_keep_the_laws stands terms depends plain p m (IsAsked (running_store path.stack) e) path ideal (faults ++ last)
+      copies_keep_the_laws stands terms depends plain p m (IsAsked (running_store path.stack) e) NoOwn path ideal (faults ++ last)
           ((valued_candidates stands terms).of_assignment p m path c x e cases ideal over no_end at command evaluated (subst (λ h. AreForCases path h (Assigns path x) cases ideal) (sym place) (last, (refl, result))))
           all_copied,
       λ valid placed. all_placed p path here stands terms depends plain faults last (faults ++ last) cases.faults all_copied (assigns_placed p valid path here c at placed x cases.good last (ap ends_body command) result),
@@ -108,15 +110,23 @@ module _ {S : Type 0} (stands : S → List PureValue → Heap → Type 0) (terms
 
     pub fail_lawful : (e : PureExpr) → IsEvaluated (running_store path.stack) e cases → IsResult (Fails path here) cases.good last → AreLawful stands terms asked m path here (fail e) (faults ++ last)
     fail_lawful e evaluated result p c over no_end at command place = (
-      copies_keep_the_laws stands terms depends plain p m (IsAsked (running_store path.stack) e) path ideal (faults ++ last)
+      copies_keep_the_laws stands terms depends plain p m (IsAsked (running_store path.stack) e) NoOwn path ideal (faults ++ last)
           ((valued_candidates stands terms).of_failure p m path c e cases ideal over no_end at command evaluated (subst (λ h. AreForCases path h (Fails path h) cases ideal) (sym place) (last, (refl, result))))
           all_copied,
       λ valid placed. all_placed p path here stands terms depends plain faults last (faults ++ last) cases.faults all_copied (fails_placed p valid path here c at placed cases.good last result),
     )
 
+    pub throw_lawful : (e : PureExpr) → IsEvaluated (running_store path.stack) e cases → AreResults (Throws path here path.stack) cases.good last → AreLawful stands terms asked m path here (throw e) (faults ++ last)
+    throw_lawful e evaluated result p c over no_end at command place = (
+      copies_keep_the_laws stands terms depends plain p m (IsAsked (running_store path.stack) e) NoOwn path ideal (faults ++ last)
+          (throws_keep_the_laws stands terms p m path c e cases ideal over no_end at command evaluated (subst (λ h. AreOfCases path h (Throws path h path.stack) cases ideal) (sym place) (last, (refl, result))))
+          all_copied,
+      λ valid placed. all_placed p path here stands terms depends plain faults last (faults ++ last) cases.faults all_copied (throws_placed p valid path here c at placed cases.good last result),
+    )
+
     pub return_lawful : (e : PureExpr) → IsEvaluated (running_store path.stack) e cases → AreResults (Returns path path.stack) cases.good last → AreLawful stands terms asked m path here (return e) (faults ++ last)
     return_lawful e evaluated result p c over no_end at command place = (
-      copies_keep_the_laws stands terms depends plain p m (IsAsked (running_store path.stack) e) path ideal (faults ++ last)
+      copies_keep_the_laws stands terms depends plain p m (IsAsked (running_store path.stack) e) NoOwn path ideal (faults ++ last)
           (returns_keep_the_laws stands terms p m path c e cases ideal over no_end at command evaluated (subst (λ h. AreOfCases path h (Returns path path.stack) cases ideal) (sym place) (last, (refl, result))))
           all_copied,
       λ valid placed. all_placed p path here stands terms depends plain faults last (faults ++ last) cases.faults all_copied (returns_placed p valid path here c at placed cases.good last result),

@@ -31,7 +31,7 @@ module _ {S : Type 0} (stands : S → List PureValue → Heap → Type 0) (terms
       subst (Each (λ e. NeedsWhatMatters p stands depends path e.path)) (sym is)
       (needs_alike p stands depends path c.path d.path (ap (λ (q : PurePath S). q.vars) copy.path) (ap (λ (q : PurePath S). q.conds) copy.path) needs.0, copies_need p cs rest needs.1 later)
 
-  pub act_needs : (memory : MemoryName) → IsMeaning memory stands terms → (asked : List ℕ → List PureTerm → List PureTerm) (m : Actions) (here : Place) (cases : PureCases (List PureTerm)) (before last : List (Candidate S))
+  pub act_needs : (memory : MemoryName) → IsMeaning memory stands terms → (asked : List ℕ → List PureTerm → List PureTerm × List PureTerm) (m : Actions) (here : Place) (cases : PureCases (List PureTerm)) (before last : List (Candidate S))
       → AreCopied stands terms depends plain (map (faulted path here) cases.faults) before → (x action : List ℕ) (es : List PureExpr) → AreEvaluated (running_store path.stack) es cases
       → AreResults (ActsByForms stands terms depends m path x action here) cases.good last → NeedWhatMatters stands terms depends path (act x action es) (before ++ last)
   act_needs memory meaning asked m here cases before last copies x action es evaluated result p c over at command =

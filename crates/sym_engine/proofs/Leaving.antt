@@ -1,5 +1,5 @@
 -- The frames of a path: the one that runs, what an assignment makes of it, and what `return` does.
-use Rattle.std.proofs.Common.{◌≡◌, ℕ, suc, ◌+◌, ◌<◌, ◌≤◌, List, [], ◌∷◌, length, map, Result, Ok, Err, IfOk, OnOk, sym, ap, subst, ◌∙◌, arith}
+use Rattle.std.proofs.Common.{◌≡◌, ℕ, suc, ◌+◌, ◌<◌, ◌≤◌, List, [], ◌∷◌, length, map, Result, Ok, Err, IfOk, OnOk, refl, sym, ap, subst, ◌∙◌, arith, Some, None}
 use Rattle.std.proofs.lemmas.List.{length-map, length-reverse}
 use Rattle.gil_syntax.specs.Pure.{PureExpr}
 use Rattle.pure_terms.specs.Meaning.{IsOver}
@@ -16,6 +16,9 @@ use Rattle.sym_paths.specs.Pure.{PureFrame, PurePath}
 use Rattle.sym_paths.specs.Settling.{Candidate}
 use Rattle.sym_paths.specs.View.{frame_view, frames_view}
 use Rattle.sym_candidates.specs.Returns.{Resumes, returning, resuming, Returns}
+use Rattle.sym_candidates.specs.Throws.{handling, throwing, ThrowsTo, Throws}
+use Rattle.sym_paths.specs.Frames.{from_handler}
+use Rattle.gil_values.specs.declared.places.Place.{Place}
 
 pub frames_count : (fs : List Frame) → length (frames_view fs) ≡ length fs
 frames_count fs = length-reverse (map frame_view fs) ∙ length-map fs frame_view
@@ -39,6 +42,26 @@ module _ {S : Type 0} (path : PurePath S) (g : PureGoodCase PureTerm) (d : Candi
   pub caller_resumes : (fs gs hs : List PureFrame) (f caller : PureFrame) → fs ≡ f ∷ gs → gs ≡ caller ∷ hs → (next : PureFrame) × (Resumes g.result caller next × (d ≡ resuming path (next ∷ hs) g)) → Returns path fs g (d ∷ [])
   caller_resumes fs gs hs f caller first second (next, (resumes, is)) =
       subst (λ xs. Returns path xs g (d ∷ [])) (sym (first ∙ ap (λ xs. f ∷ xs) second)) (next, (resumes, ap (λ c. c ∷ []) is))
+
+module _ {S : Type 0} (path : PurePath S) (here : Place) (g : PureGoodCase PureTerm) (d : Candidate S) where
+  pub nothing_catches : (fs callers : List PureFrame) (f : PureFrame) → fs ≡ f ∷ callers → handling callers ≡ [] → d ≡ throwing path here g → Throws path here fs g (d ∷ [])
+  nothing_catches fs callers f first none is = subst (λ xs. Throws path here xs g (d ∷ [])) (sym first) (subst (λ ks. ThrowsTo path here ks g (d ∷ [])) (sym none) (ap (λ c. c ∷ []) is))
+
+  pub frame_catches : (fs callers ks : List PureFrame) (f k : PureFrame) (label : ℕ) → fs ≡ f ∷ callers → handling callers ≡ k ∷ ks → k.handler ≡ Some label
+      → (r : PureFrame) × (Resumes g.result k r × (d ≡ resuming path (record r { next = label } ∷ ks) g)) → Throws path here fs g (d ∷ [])
+  frame_catches fs callers ks f k label first found has (r, (resumes, is)) =
+      subst (λ xs. Throws path here xs g (d ∷ [])) (sym first)
+      (subst (λ xs. ThrowsTo path here xs g (d ∷ [])) (sym found) (record r { next = label } ∷ ks, ((label, (has, (r, (resumes, refl)))), ap (λ c. c ∷ []) is)))
+
+-- where a throw finds its handler
+pub passes_on : (fs callers : List PureFrame) (f : PureFrame) → fs ≡ f ∷ callers → f.handler ≡ None → handling fs ≡ handling callers
+passes_on fs callers f first none = ap handling first ∙ ap (λ o. from_handler o (f ∷ callers) (handling callers)) none
+
+pub takes : (fs callers : List PureFrame) (f : PureFrame) (label : ℕ) → fs ≡ f ∷ callers → f.handler ≡ Some label → handling fs ≡ f ∷ callers
+takes fs callers f label first has = ap handling first ∙ ap (λ o. from_handler o (f ∷ callers) (handling callers)) has
+
+pub fewer_left : (fs callers : List PureFrame) (f : PureFrame) → fs ≡ f ∷ callers → length callers < length fs
+fewer_left fs callers f first = let counted : length fs ≡ suc (length callers) = ap length first in omega (arith, counted)
 
 -- more than one frame: one waits
 pub some_wait : (fs : List Frame) (f : PureFrame) (gs : List PureFrame) → 1 < length fs → frames_view fs ≡ f ∷ gs → gs ≡ [] → ⊥

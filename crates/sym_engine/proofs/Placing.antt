@@ -9,12 +9,12 @@ use Rattle.std.proofs.lemmas.Option.{slice_get-map}
 use Rattle.gil_values.specs.declared.kinds.Kind.{Kind}
 use Rattle.gil_values.specs.declared.places.Place.{Place}
 use Rattle.gil_values.specs.Pure.{PureValue}
-use Rattle.gil_machine.specs.Step.{command_of}
+use Rattle.gil_machine.specs.Step.{command_of, handler_label}
 use Rattle.gil_machine.proofs.Placed.{found_name}
 use Rattle.gil_syntax.specs.declared.validity.InvalidKind.{InvalidKind}
 use Rattle.gil_syntax.specs.Programs.{find_proc}
 use Rattle.gil_syntax.specs.Pure.{PureExpr, ifgoto, PureNumberedCommand, PureProc, PureParts}
-use Rattle.gil_syntax.specs.Valid.{ProgramItem, a_proc, a_spec, a_pred, items_of, is_bad_jump, ends_body, last_ends_body, has_fault, has_fault_if_there, IsValid}
+use Rattle.gil_syntax.specs.Valid.{ProgramItem, a_proc, a_spec, a_pred, items_of, is_bad_jump, is_bad_handler, ends_body, last_ends_body, has_fault, has_fault_if_there, IsValid}
 use Rattle.mem_model.specs.Actions.{Actions}
 use Rattle.mem_model.specs.Heaps.{Heap}
 use Rattle.pure_terms.specs.declared.literals.Literal.{Literal}
@@ -28,7 +28,7 @@ use Rattle.sym_model.specs.Terms.{StateTerms}
 use Rattle.sym_model.proofs.ListLaws.{same_some, not_none}
 use Rattle.sym_paths.specs.Meaning.{command_of_frames, command_of_path}
 use Rattle.sym_paths.specs.Moves.{advanced, running_store}
-use Rattle.sym_paths.specs.Pure.{PureFrame, PureEnd, returned, failed, PurePath}
+use Rattle.sym_paths.specs.Pure.{PureFrame, PureEnd, returned, failed, threw, PurePath}
 use Rattle.sym_paths.specs.Settling.{Candidate}
 use Rattle.sym_paths.specs.Valued.{faulted, failing, assigned, Assigns, Fails, IsResult}
 use Rattle.sym_candidates.specs.Acting.{ActsTo, ActsAsEach, Acts}
@@ -37,6 +37,8 @@ use Rattle.sym_candidates.specs.Cases.{AreResults, failing_with}
 use Rattle.sym_candidates.specs.Copies.{AreCopied}
 use Rattle.sym_candidates.specs.Guards.{at_label, for_side, turning, Turns}
 use Rattle.sym_candidates.specs.Returns.{ResumesAt, returning, resuming, Returns}
+use Rattle.sym_candidates.specs.Throws.{Catches, handling, throwing, ThrowsTo, Throws}
+use Rattle.sym_candidates.proofs.Throwing.{handling_each}
 
 -- ---- a procedure that is found has no fault
 
@@ -121,6 +123,20 @@ module _ (p : PureParts) (valid : IsValid p) where
       let fine : is_bad_jump (length q.body) c.command ≡ false = none_of (λ d. is_bad_jump (length q.body) d.command) q.body f.next c none is in
       subst (λ o. IsSome (command_of o i)) (sym found) (there_below q.body i (in_body (length q.body) i (ap (is_bad_jump (length q.body)) (sym jumps) ∙ fine)))
 
+  labelled_by : (handler : Option ℤ) (i : ℕ) → handler_label handler ≡ Some i → handler ≡ Some (pos i)
+  labelled_by (Some (pos j)) i is = ap (λ k. Some (pos k)) (same_some is)
+  labelled_by (Some (negsuc j)) i is = not_none is
+  labelled_by None i is = not_none is
+
+  handler_there : (f : PureFrame) (c : PureNumberedCommand) (handler : Option ℤ) (i : ℕ) → command_of (find_proc p.procs f.procedure) f.next ≡ Some c → ((n : ℕ) → is_bad_jump n c.command ≡ is_bad_handler n handler) → handler_label handler ≡ Some i
+      → IsSome (command_of (find_proc p.procs f.procedure) i)
+  handler_there f c handler i at same is =
+      let (q, (found, there)) = command_found (find_proc p.procs f.procedure) f.next c at in
+      let (before, none) = without_fault p f.procedure q valid found InvalidKind.BadLabel in
+      let fine : is_bad_jump (length q.body) c.command ≡ false = none_of (λ d. is_bad_jump (length q.body) d.command) q.body f.next c none there in
+      subst (λ o. IsSome (command_of o i)) (sym found)
+      (there_below q.body i (in_body (length q.body) i (ap (is_bad_handler (length q.body)) (sym (labelled_by handler i is)) ∙ sym (same (length q.body)) ∙ fine)))
+
   pub first_there : (f : List ℕ) (q : PureProc) → find_proc p.procs f ≡ Some q → IsSome (command_of (find_proc p.procs q.name) 0)
   first_there f q found =
       subst (λ g. IsSome (command_of (find_proc p.procs g) 0)) (sym (found_name p.procs f q found)) (subst (λ o. IsSome (command_of o 0)) (sym found) (one_first q.body (last_ends f q found)))
@@ -130,20 +146,37 @@ module _ (p : PureParts) (valid : IsValid p) where
   -- those of the next command, whatever the store
   pub advanced_there : (fs : List PureFrame) (bs : PureStore) (c : PureNumberedCommand) → command_of_frames p fs ≡ Some c → ends_body c.command ≡ false → AreAtCommands p fs → AreAtCommands p (advanced bs fs)
   advanced_there [] bs c at stays placed = absurd placed
-  advanced_there (f ∷ fs) bs c at stays placed = (next_there f c at stays, placed.1)
+  advanced_there (f ∷ fs) bs c at stays placed = (record { command = next_there f c at stays; handler = placed.0.handler }, placed.1)
 
-  pub waiting_there : (fs : List PureFrame) (x : List ℕ) (g : PureFrame) (c : PureNumberedCommand) → command_of_frames p fs ≡ Some c → ends_body c.command ≡ false → IsAtCommand p g → AreAtCommands p fs → AreAtCommands p (g ∷ waiting x fs)
-  waiting_there [] x g c at stays first placed = absurd placed
-  waiting_there (f ∷ fs) x g c at stays first placed = (first, (next_there f c at stays, placed.1))
+  -- a call whose handler, if it has one, has no bad label
+  pub waiting_there : (fs : List PureFrame) (x : List ℕ) (handler : Option ℤ) (g : PureFrame) (c : PureNumberedCommand) → command_of_frames p fs ≡ Some c → ends_body c.command ≡ false → ((n : ℕ) → is_bad_jump n c.command ≡ is_bad_handler n handler) → IsAtCommand p g
+      → AreAtCommands p fs → AreAtCommands p (g ∷ waiting x (handler_label handler) fs)
+  waiting_there [] x handler g c at stays same first placed = absurd placed
+  waiting_there (f ∷ fs) x handler g c at stays same first placed =
+      (first, (record { command = next_there f c at stays; handler = λ i is. handler_there f c handler i at same is }, placed.1))
 
   pub labelled_there : (fs : List PureFrame) (t : ℤ) (c : PureNumberedCommand) (e : PureExpr) → command_of_frames p fs ≡ Some c → c.command ≡ ifgoto e t → AreAtCommands p fs → AreAtCommands p (at_label t fs)
   labelled_there [] t c e at jumps placed = absurd placed
-  labelled_there (f ∷ fs) (pos i) c e at jumps placed = (label_there f c e i at jumps, placed.1)
+  labelled_there (f ∷ fs) (pos i) c e at jumps placed = (record { command = label_there f c e i at jumps; handler = placed.0.handler }, placed.1)
   labelled_there (f ∷ fs) (negsuc i) c e at jumps placed = placed
 
   pub resumed_there : (w : Option (List ℕ)) (t : PureTerm) (f next : PureFrame) → ResumesAt w t f next → IsAtCommand p f → IsAtCommand p next
   resumed_there None t f next is at = subst (IsAtCommand p) (sym is) at
-  resumed_there (Some x) t f next (bs, (bound, is)) at = subst (IsAtCommand p) (sym is) at
+  resumed_there (Some x) t f next (bs, (bound, is)) at = subst (IsAtCommand p) (sym is) (record { command = at.command; handler = λ i none. not_none none })
+
+  same_procedure : (w : Option (List ℕ)) (t : PureTerm) (f next : PureFrame) → ResumesAt w t f next → next.procedure ≡ f.procedure
+  same_procedure None t f next is = ap (λ (g : PureFrame). g.procedure) is
+  same_procedure (Some x) t f next (bs, (bound, is)) = ap (λ (g : PureFrame). g.procedure) is
+
+  pub caught_there : (fs : List PureFrame) (t : PureTerm) (nexts : List PureFrame) → Each (IsAtCommand p) fs → Catches t fs nexts → AreAtCommands p nexts
+  caught_there [] t nexts placed catches = absurd catches
+  caught_there (f ∷ fs) t nexts placed (label, (has, (r, (resumes, is)))) = subst (AreAtCommands p) (sym is) (
+    record {
+      command = subst (λ q. IsSome (command_of (find_proc p.procs q) label)) (sym (same_procedure f.waits t f r resumes)) (placed.0.handler label has);
+      handler = (resumed_there f.waits t f r resumes placed.0).handler;
+    },
+    placed.1,
+  )
 
 -- ---- candidates
 
@@ -200,6 +233,18 @@ module _ {S : Type 0} (p : PureParts) (valid : IsValid p) (path : PurePath S) (h
   returns_placed None last is = subst All (sym is) tt
   returns_placed (Some g) last is = returns_as path.stack placed g last is
 
+  throws_to : (fs : List PureFrame) → Each (IsAtCommand p) fs → (g : PureGoodCase PureTerm) (last : List (Candidate S)) → ThrowsTo path here fs g last → All last
+  throws_to [] there g last is = subst All (sym is) (one_ended p path here (throwing path here g) (throwing path here g) (threw g.result here) refl refl)
+  throws_to (f ∷ fs) there g last (nexts, (catches, is)) = subst All (sym is) (one_placed p path here (resuming path nexts g) (resuming path nexts g) refl (caught_there p valid (f ∷ fs) g.result nexts there catches))
+
+  throws_as : (fs : List PureFrame) → AreAtCommands p fs → (g : PureGoodCase PureTerm) (last : List (Candidate S)) → Throws path here fs g last → All last
+  throws_as [] there g last is = absurd is
+  throws_as (f ∷ callers) there g last is = throws_to (handling callers) (handling_each (IsAtCommand p) callers there.1) g last is
+
+  pub throws_placed : (o : Option (PureGoodCase PureTerm)) (last : List (Candidate S)) → AreResults (Throws path here path.stack) o last → All last
+  throws_placed None last is = subst All (sym is) tt
+  throws_placed (Some g) last is = throws_as path.stack placed g last is
+
   side_placed : (make : List PureAtom → Candidate S) → ((more : List PureAtom) → GoesOnAtCommands p (make more).path) → (o : Option (List PureAtom)) → All (for_side make o)
   side_placed make fine None = tt
   side_placed make fine (Some more) = (fine more, tt)
@@ -219,24 +264,24 @@ module _ {S : Type 0} (p : PureParts) (valid : IsValid p) (path : PurePath S) (h
 
   -- ---- calls
 
-  module _ (x : List ℕ) (g : PureGoodCase Called) (stays : ends_body c.command ≡ false) where
-    fails_to : (why : List ℕ) (d : Candidate S) → d ≡ fails_to_call path x here why g → All (d ∷ [])
-    fails_to why d is = one_ended p path here (fails_to_call path x here why g) d (failed (literal (Literal.Str why)) here) is refl
+  module _ (x : List ℕ) (handler : Option ℤ) (g : PureGoodCase Called) (stays : ends_body c.command ≡ false) (same : (n : ℕ) → is_bad_jump n c.command ≡ is_bad_handler n handler) where
+    fails_to : (why : List ℕ) (d : Candidate S) → d ≡ fails_to_call path x (handler_label handler) here why g → All (d ∷ [])
+    fails_to why d is = one_ended p path here (fails_to_call path x (handler_label handler) here why g) d (failed (literal (Literal.Str why)) here) is refl
 
     enters : (b : Bool) (q : PureProc) (f : List ℕ) (d : Candidate S) → find_proc p.procs f ≡ Some q
-        → MatchBool b ((bs : PureStore) × (IsFirstStore q.params g.result.args bs × (d ≡ entering path x here q bs g))) (d ≡ fails_to_call path x here (codes "arity") g) → All (d ∷ [])
-    enters true q f d found (bs, (first, is)) = one_placed p path here (entering path x here q bs g) d is (waiting_there p valid path.stack x (called_frame q bs) c at stays (first_there p valid f q found) placed)
+        → MatchBool b ((bs : PureStore) × (IsFirstStore q.params g.result.args bs × (d ≡ entering path x (handler_label handler) here q bs g))) (d ≡ fails_to_call path x (handler_label handler) here (codes "arity") g) → All (d ∷ [])
+    enters true q f d found (bs, (first, is)) = one_placed p path here (entering path x (handler_label handler) here q bs g) d is (waiting_there p valid path.stack x handler (called_frame q bs) c at stays same (record { command = first_there p valid f q found; handler = λ i none. not_none none }) placed)
     enters false q f d found is = fails_to (codes "arity") d is
 
-    enters_found : (o : Option PureProc) (f : List ℕ) (d : Candidate S) → find_proc p.procs f ≡ o → EntersFound path x here o g d → All (d ∷ [])
+    enters_found : (o : Option PureProc) (f : List ℕ) (d : Candidate S) → find_proc p.procs f ≡ o → EntersFound path x (handler_label handler) here o g d → All (d ∷ [])
     enters_found None f d found is = fails_to (codes "proc") d is
     enters_found (Some q) f d found is = enters (length g.result.args == length q.params) q f d found is
 
-    calls_open : (b : Bool) (d : Candidate S) → MatchBool b (d ≡ needs_callee path x here g) (d ≡ fails_to_call path x here (codes "proc") g) → All (d ∷ [])
-    calls_open true d is = one_placed p path here (needs_callee path x here g) d is placed
+    calls_open : (b : Bool) (d : Candidate S) → MatchBool b (d ≡ needs_callee path x (handler_label handler) here g) (d ≡ fails_to_call path x (handler_label handler) here (codes "proc") g) → All (d ∷ [])
+    calls_open true d is = one_placed p path here (needs_callee path x (handler_label handler) here g) d is placed
     calls_open false d is = fails_to (codes "proc") d is
 
-    calls_term : (t : PureTerm) (d : Candidate S) → CallsTerm path x here p t g d → All (d ∷ [])
+    calls_term : (t : PureTerm) (d : Candidate S) → CallsTerm path x (handler_label handler) here p t g d → All (d ∷ [])
     calls_term (literal (Literal.Proc f)) d is = enters_found (find_proc p.procs f) f d refl is
     calls_term (literal (Literal.Int n)) d is = fails_to (codes "proc") d is
     calls_term (literal (Literal.Bool b)) d is = fails_to (codes "proc") d is
@@ -247,9 +292,9 @@ module _ {S : Type 0} (p : PureParts) (valid : IsValid p) (path : PurePath S) (h
     calls_term (unary_of op t) d is = calls_open (allows (known_kind (unary_of op t)) Kind.Proc) d is
     calls_term (binary_of op s t) d is = calls_open (allows (known_kind (binary_of op s t)) Kind.Proc) d is
 
-  pub calls_placed : (x : List ℕ) (o : Option (PureGoodCase Called)) (last : List (Candidate S)) → ends_body c.command ≡ false → AreResults (Calls path x here p) o last → All last
-  calls_placed x None last stays is = subst All (sym is) tt
-  calls_placed x (Some g) last stays (d, (term, is)) = subst All (sym is) (calls_term x g stays g.result.callee d term)
+  pub calls_placed : (x : List ℕ) (handler : Option ℤ) (o : Option (PureGoodCase Called)) (last : List (Candidate S)) → ends_body c.command ≡ false → ((n : ℕ) → is_bad_jump n c.command ≡ is_bad_handler n handler) → AreResults (Calls path x (handler_label handler) here p) o last → All last
+  calls_placed x handler None last stays same is = subst All (sym is) tt
+  calls_placed x handler (Some g) last stays same (d, (term, is)) = subst All (sym is) (calls_term x handler g stays same g.result.callee d term)
 
   -- ---- actions
 
@@ -263,7 +308,7 @@ module _ {S : Type 0} (p : PureParts) (valid : IsValid p) (path : PurePath S) (h
     acts_each [] ds is = subst All (sym is) tt
     acts_each (b ∷ bs) ds (d, (rest, (is, to, later))) = subst All (sym is) (acts_to b b.result d to, acts_each bs rest later)
 
-  pub acts_placed : (stands : S → List PureValue → Heap → Type 0) (terms : S → StateTerms) (m : Actions) (asked : List ℕ → List PureTerm → List PureTerm) (x action : List ℕ) (o : Option (PureGoodCase (List PureTerm))) (last : List (Candidate S))
+  pub acts_placed : (stands : S → List PureValue → Heap → Type 0) (terms : S → StateTerms) (m : Actions) (asked : List ℕ → List PureTerm → List PureTerm × List PureTerm) (x action : List ℕ) (o : Option (PureGoodCase (List PureTerm))) (last : List (Candidate S))
       → ends_body c.command ≡ false → AreResults (Acts stands terms m asked path x action here) o last → All last
   acts_placed stands terms m asked x action None last stays is = subst All (sym is) tt
   acts_placed stands terms m asked x action (Some g) last stays (bs, (law, each)) = acts_each x (m.takes_symbol action) g stays bs last each

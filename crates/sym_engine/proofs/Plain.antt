@@ -36,6 +36,8 @@ use Rattle.sym_candidates.specs.Cases.{AreResults, failing_with}
 use Rattle.sym_candidates.specs.Copies.{AreCopied}
 use Rattle.sym_candidates.specs.Guards.{at_label, for_side, turning, turns}
 use Rattle.sym_candidates.specs.Returns.{ResumesAt, returning, resuming, Returns}
+use Rattle.sym_candidates.specs.Throws.{Catches, handling, throwing, ThrowsTo, Throws}
+use Rattle.sym_candidates.proofs.Throwing.{handling_each}
 
 pub within_held_numbers : (b : ℕ) → b + step_growth ≤ narrow_bound → b + text_bound < 2 ^ 127
 within_held_numbers b small = omega (arith, small)
@@ -207,6 +209,22 @@ module _ {S : Type 0} (plain : S → ℤ → ℤ → Type 0) (b : ℕ) (path : P
     pub returns_plain : (cases : PureCases PureTerm) (last : List (Candidate S)) → Sure cases → AreResults (Returns path path.stack) cases.good last → All (map (faulted path here) cases.faults ++ last)
     returns_plain cases last sure results = sure_plain (IsPlain (b + text_bound)) (Returns path path.stack) cases last sure results (λ t fine ds made. returns_as path.stack t ds stack (text_up t fine) made)
 
+    catching_plain : (fs : List PureFrame) (t : PureTerm) (nexts : List PureFrame) → Stack fs → Fine t → Catches t fs nexts → Stack nexts
+    catching_plain [] t nexts stores fine catches = absurd catches
+    catching_plain (f ∷ fs) t nexts stores fine (label, (has, (r, (resumes, is)))) = subst Stack (sym is) (resumed_plain f.waits t f r fine resumes stores.0, stores.1)
+
+    throws_to : (fs : List PureFrame) (t : PureTerm) (ds : List (Candidate S)) → Stack fs → Fine t → ThrowsTo path here fs (record { conds = []; result = t }) ds → All ds
+    throws_to [] t ds stores fine is = subst All (sym is) (kept (throwing path here (record { conds = []; result = t })).path [] refl refl refl refl tt tt (fine, tt), tt)
+    throws_to (f ∷ fs) t ds stores fine (nexts, (catches, is)) =
+        subst All (sym is) (kept (resuming path nexts (record { conds = []; result = t })).path [] refl refl refl refl tt (catching_plain (f ∷ fs) t nexts stores fine catches) old_ending, tt)
+
+    throws_as : (fs : List PureFrame) (t : PureTerm) (ds : List (Candidate S)) → Stack fs → Fine t → Throws path here fs (record { conds = []; result = t }) ds → All ds
+    throws_as [] t ds stores fine is = absurd is
+    throws_as (f ∷ callers) t ds stores fine throws = throws_to (handling callers) t ds (handling_each (λ j. OfEachName Fine j.store) callers stores.1) fine throws
+
+    pub throws_plain : (cases : PureCases PureTerm) (last : List (Candidate S)) → Sure cases → AreResults (Throws path here path.stack) cases.good last → All (map (faulted path here) cases.faults ++ last)
+    throws_plain cases last sure results = sure_plain (IsPlain (b + text_bound)) (Throws path here path.stack) cases last sure results (λ t fine ds made. throws_as path.stack t ds stack (text_up t fine) made)
+
     -- ---- guards
 
     side_plain : (make : List PureAtom → Candidate S) → ((more : List PureAtom) → Each Decided more → IsFine (make more)) → (o : Option (List PureAtom)) → OnSide (IsDecidedWithin (neg_ℤ (pos (b + text_bound))) (pos (b + text_bound))) o → All (for_side make o)
@@ -235,9 +253,9 @@ module _ {S : Type 0} (plain : S → ℤ → ℤ → Type 0) (b : ℕ) (path : P
 
     -- ---- calls
 
-    waiting_plain : (x : List ℕ) (fs : List PureFrame) → Stack fs → Stack (waiting x fs)
-    waiting_plain x [] stores = tt
-    waiting_plain x (f ∷ fs) stores = stores
+    waiting_plain : (x : List ℕ) (label : Option ℕ) (fs : List PureFrame) → Stack fs → Stack (waiting x label fs)
+    waiting_plain x label [] stores = tt
+    waiting_plain x label (f ∷ fs) stores = stores
 
     choice_plain : (P : PureTerm → Type 0) (c : Bool) (t u : PureTerm) (o : Option PureTerm) → P t → (o ≡ Some u → P u) → (if c then Some t else o) ≡ Some u → P u
     choice_plain P true t u o fine later is = subst P (same_some is) fine
@@ -248,26 +266,26 @@ module _ {S : Type 0} (plain : S → ℤ → ℤ → Type 0) (b : ℕ) (path : P
     bound_plain P (x ∷ xs) [] fine y u is = not_none is
     bound_plain P (x ∷ xs) (t ∷ ts) fine y u is = choice_plain P (bytes_eq x y) t u (term_at (terms_bound xs ts) y) fine.0 (bound_plain P xs ts fine.1 y u) is
 
-    module _ (p : PureParts) (x : List ℕ) (k : Called) (fine : Each (IsPlain (b + text_bound)) k.args) where
+    module _ (p : PureParts) (x : List ℕ) (label : Option ℕ) (k : Called) (fine : Each (IsPlain (b + text_bound)) k.args) where
       abbrev good : PureGoodCase Called
       good = record { conds = []; result = k }
 
-      fails_to : (why : List ℕ) (d : Candidate S) → d ≡ fails_to_call path x here why good → IsFine d
-      fails_to why d is = subst IsFine (sym is) (kept (fails_to_call path x here why good).path [] refl refl refl refl tt stack ((refl, refl), tt))
+      fails_to : (why : List ℕ) (d : Candidate S) → d ≡ fails_to_call path x label here why good → IsFine d
+      fails_to why d is = subst IsFine (sym is) (kept (fails_to_call path x label here why good).path [] refl refl refl refl tt stack ((refl, refl), tt))
 
       enters : (c : Bool) (q : PureProc) (d : Candidate S)
-          → MatchBool c ((bs : PureStore) × (IsFirstStore q.params k.args bs × (d ≡ entering path x here q bs good))) (d ≡ fails_to_call path x here (codes "arity") good) → IsFine d
+          → MatchBool c ((bs : PureStore) × (IsFirstStore q.params k.args bs × (d ≡ entering path x label here q bs good))) (d ≡ fails_to_call path x label here (codes "arity") good) → IsFine d
       enters true q d (bs, (first, is)) =
           subst IsFine (sym is)
-          (kept (entering path x here q bs good).path [] refl refl refl refl tt
-          (λ y u found. bound_plain Fine q.params k.args (terms_up (b + text_bound) wide text_below k.args fine) y u (sym (first y) ∙ found), waiting_plain x path.stack stack) old_ending)
+          (kept (entering path x label here q bs good).path [] refl refl refl refl tt
+          (λ y u found. bound_plain Fine q.params k.args (terms_up (b + text_bound) wide text_below k.args fine) y u (sym (first y) ∙ found), waiting_plain x label path.stack stack) old_ending)
       enters false q d is = fails_to (codes "arity") d is
 
-      enters_found : (o : Option PureProc) (d : Candidate S) → EntersFound path x here o good d → IsFine d
+      enters_found : (o : Option PureProc) (d : Candidate S) → EntersFound path x label here o good d → IsFine d
       enters_found None d is = fails_to (codes "proc") d is
       enters_found (Some q) d is = enters (length k.args == length q.params) q d is
 
-      calls_literal : (t : PureTerm) (d : Candidate S) → is_literal t ≡ true → CallsTerm path x here p t good d → IsFine d
+      calls_literal : (t : PureTerm) (d : Candidate S) → is_literal t ≡ true → CallsTerm path x label here p t good d → IsFine d
       calls_literal (literal (Literal.Proc f)) d lit is = enters_found (find_proc p.procs f) d is
       calls_literal (literal (Literal.Int n)) d lit is = fails_to (codes "proc") d is
       calls_literal (literal (Literal.Bool c)) d lit is = fails_to (codes "proc") d is
@@ -293,11 +311,11 @@ module _ {S : Type 0} (plain : S → ℤ → ℤ → Type 0) (b : ℕ) (path : P
     both_sure callee args (inr (t, (is, lit))) (inr (ts, (more, fine))) =
         inr (record { callee = t; args = ts }, (ap (λ k. call_cases k args) is ∙ ap (call_cases (record { faults = []; good = Some (record { conds = []; result = t }) })) more, (lit, fine)))
 
-    pub calls_plain : (p : PureParts) (x : List ℕ) (callee : PureCases PureTerm) (args : PureCases (List PureTerm)) (last : List (Candidate S)) → SureLiteral callee → AllSure args → AreResults (Calls path x here p) (call_cases callee args).good last
+    pub calls_plain : (p : PureParts) (x : List ℕ) (label : Option ℕ) (callee : PureCases PureTerm) (args : PureCases (List PureTerm)) (last : List (Candidate S)) → SureLiteral callee → AllSure args → AreResults (Calls path x label here p) (call_cases callee args).good last
         → All (map (faulted path here) (call_cases callee args).faults ++ last)
-    calls_plain p x callee args last literal_callee sure results =
-        sure_plain IsPlainCall (Calls path x here p) (call_cases callee args) last (both_sure callee args literal_callee sure) results
-        (λ k fine ds (d, (term, is)). subst All (sym is) (calls_literal p x k fine.1 k.callee d fine.0 term, tt))
+    calls_plain p x label callee args last literal_callee sure results =
+        sure_plain IsPlainCall (Calls path x label here p) (call_cases callee args) last (both_sure callee args literal_callee sure) results
+        (λ k fine ds (d, (term, is)). subst All (sym is) (calls_literal p x label k fine.1 k.callee d fine.0 term, tt))
 
     -- ---- actions
 

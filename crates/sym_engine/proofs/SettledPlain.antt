@@ -51,7 +51,7 @@ module _ {S : Type 0} (plain : S → ℤ → ℤ → Type 0) where
         few_variables = omega (arith, count, variables, few);
       }
 
-  module _ (p : PureParts) (m : Actions) (stands : S → List PureValue → Heap → Type 0) (terms : S → StateTerms) (own : PureAtom → Type 0) (path : PurePath S) (few : path.steps < 10000) where
+  module _ (p : PureParts) (m : Actions) (stands : S → List PureValue → Heap → Type 0) (terms : S → StateTerms) (own by_memory : PureAtom → Type 0) (path : PurePath S) (few : path.steps < 10000) where
     abbrev Grown : Candidate S → Type 0
     Grown c = Grows terms path c.path × Each (λ a. IsAmong a c.path.conds) c.no_fault
 
@@ -73,12 +73,12 @@ module _ {S : Type 0} (plain : S → ℤ → ℤ → Type 0) where
         (stays_plain b narrow c next grown.0 known.0 from.0 stays, all_stay b narrow cs rest grown.1 known.1 from.1 later)
 
     -- what becomes of candidates that are plain
-    pub settled_plain : (b : ℕ) → b ≤ narrow_bound → (cs : List (Candidate S)) (nexts : List (PurePath S)) → AreCandidates p m stands terms own path cs → AreAllPlain plain b cs → AreSettled p path cs nexts
+    pub settled_plain : (b : ℕ) → b ≤ narrow_bound → (cs : List (Candidate S)) (nexts : List (PurePath S)) → AreCandidates p m stands terms own by_memory path cs → AreAllPlain plain b cs → AreSettled p path cs nexts
         → Each (λ next. IsPlainPath plain b next × ¬ IsUnknown next.ending) nexts
     settled_plain b narrow cs nexts candidates from settled = all_stay b narrow cs nexts candidates.growth candidates.known from settled
 
     -- the paths of a step at a command whose candidates stay plain
-    pub settled_within : (command : PureCommand) (d : PureNumberedCommand) (cs : List (Candidate S)) (nexts : List (PurePath S)) → IsValid p → command_of_path p path ≡ Some d → d.command ≡ command → AreCandidates p m stands terms own path cs
+    pub settled_within : (command : PureCommand) (d : PureNumberedCommand) (cs : List (Candidate S)) (nexts : List (PurePath S)) → IsValid p → command_of_path p path ≡ Some d → d.command ≡ command → AreCandidates p m stands terms own by_memory path cs
         → StayPlainIn plain p path command cs → AreSettled p path cs nexts → StaysWithin p (λ c. IsTrue (is_simple_command c)) (IsPlainPath plain) path nexts
     settled_within command d cs nexts valid there is candidates stays settled c b at simple narrow from =
         let same : c.command ≡ command = ap (λ (k : PureNumberedCommand). k.command) (same_some (sym at ∙ there)) ∙ is in

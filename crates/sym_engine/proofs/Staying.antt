@@ -1,5 +1,5 @@
 -- The candidates of simple commands stay plain: each expression has a sure outcome there.
-use Rattle.std.proofs.Common.{◌≡◌, ◌⊎◌, inl, inr, ℕ, ◌+◌, ◌≤◌, ℤ, List, [], ◌∷◌, ◌++◌, map, Bool, true, not, ◌||◌, Some, None, refl, sym, ap, subst, ◌∙◌}
+use Rattle.std.proofs.Common.{◌≡◌, ◌⊎◌, inl, inr, ℕ, ◌+◌, ◌≤◌, ℤ, List, [], ◌∷◌, ◌++◌, map, Bool, true, not, ◌||◌, Option, Some, None, refl, sym, ap, subst, ◌∙◌}
 use Rattle.std.specs.Prelude.{codes}
 use Rattle.std.specs.List.{list_all}
 use Rattle.std.specs.Str.{bytes_eq}
@@ -7,17 +7,18 @@ use Rattle.std.proofs.lemmas.Bool.{and_parts}
 use Rattle.std.proofs.lemmas.List.{append-nil}
 use Rattle.gil_values.specs.declared.places.Place.{Place}
 use Rattle.gil_values.specs.Pure.{PureValue}
-use Rattle.gil_syntax.specs.Pure.{PureParts, PureExpr, PureNumberedCommand, assign, call, act, ifgoto, return, fail}
+use Rattle.gil_syntax.specs.Pure.{PureParts, PureExpr, PureNumberedCommand, assign, call, act, ifgoto, return, throw, fail}
 use Rattle.gil_syntax.specs.Simple.{is_literal as is_literal_expr, is_simple_value, is_simple_guard}
 use Rattle.gil_syntax.specs.Subexpressions.{exprs_of}
 use Rattle.gil_syntax.specs.Valid.{IsValid}
 use Rattle.mem_model.specs.Heaps.{Heap}
+use Rattle.gil_machine.specs.Step.{handler_label}
 use Rattle.pure_terms.specs.Pure.{PureTerm}
 use Rattle.sym_engine.specs.Lawful.{AddsCopies}
 use Rattle.sym_engine.specs.Plain.{AreAllPlain, StayPlainIn, StayPlain}
 use Rattle.sym_engine.proofs.Copied.{each_itself, joined}
 use Rattle.sym_engine.proofs.Literal.{literal_sizes, sure_with, literal_sure, literal_is_simple}
-use Rattle.sym_engine.proofs.Plain.{within_held_numbers, copies_plain, sure_plain, assigns_plain, fails_plain, returns_plain, turned, calls_plain, branches_plain, acts_each}
+use Rattle.sym_engine.proofs.Plain.{within_held_numbers, copies_plain, sure_plain, assigns_plain, fails_plain, returns_plain, throws_plain, turned, calls_plain, branches_plain, acts_each}
 use Rattle.sym_engine.proofs.Texts.{command_texts, first_text, later_texts}
 use Rattle.sym_evaluation.specs.Plainly.{IsPlain, IsPlainStore, text_bound, has_text_numbers, IsSureFault, IsSureResult, AnswersPlainly, AllAnswerPlainly, IsPlainGuard, GuardsPlainly, AreDecided}
 use Rattle.sym_evaluation.specs.Pure.{PureFaultCase, PureGoodCase, PureCases, PureSides}
@@ -40,6 +41,7 @@ use Rattle.sym_candidates.specs.Cases.{AreResults}
 use Rattle.sym_candidates.specs.Copies.{AreCopied}
 use Rattle.sym_candidates.specs.Guards.{turns}
 use Rattle.sym_candidates.specs.Returns.{Returns}
+use Rattle.sym_candidates.specs.Throws.{Throws}
 
 module _ {S : Type 0} (stands : S → List PureValue → Heap → Type 0) (terms : S → StateTerms) (depends : S → List ℕ → List PureTerm → List PureValue → Heap → PureTerm → Type 0) (plain : S → ℤ → ℤ → Type 0)
     (path : PurePath S) (here : Place) where
@@ -76,6 +78,11 @@ module _ {S : Type 0} (stands : S → List PureValue → Heap → Type 0) (terms
     return_plain answers result p c b valid at command simple small from =
         copies_plain stands terms depends plain (b + step_growth) (Faults cases.faults ++ last) (before ++ last)
         (returns_plain plain b path from here cases last (sure p c b answers valid at (ap exprs_of command) simple small from) result) (whole cases.faults before last copies)
+
+    pub throw_plain : AnswersPlainly (running_store path.stack) e cases → AreResults (Throws path here path.stack) cases.good last → StayPlain plain path (throw e) (before ++ last)
+    throw_plain answers result p c b valid at command simple small from =
+        copies_plain stands terms depends plain (b + step_growth) (Faults cases.faults ++ last) (before ++ last)
+        (throws_plain plain b path from here cases last (sure p c b answers valid at (ap exprs_of command) simple small from) result) (whole cases.faults before last copies)
 
   -- ---- guards
 
@@ -118,14 +125,14 @@ module _ {S : Type 0} (stands : S → List PureValue → Heap → Type 0) (terms
 
   -- ---- calls and actions
 
-  pub call_plain : (p : PureParts) (callee : PureCases PureTerm) (args : PureCases (List PureTerm)) (before last : List (Candidate S)) → Copies (Faults (call_cases callee args).faults) before → (x : List ℕ) (e : PureExpr) (es : List PureExpr)
-      → OnResult (IsTermOf (running_store path.stack) e) callee.good → AnswersPlainly (running_store path.stack) e callee → AllAnswerPlainly (running_store path.stack) es args → AreResults (Calls path x here p) (call_cases callee args).good last
-      → StayPlainIn plain p path (call x e es) (before ++ last)
-  call_plain p callee args before last copies x e es origin answers all_answer result c b valid at command simple small from =
+  pub call_plain : (p : PureParts) (callee : PureCases PureTerm) (args : PureCases (List PureTerm)) (before last : List (Candidate S)) → Copies (Faults (call_cases callee args).faults) before → (x : List ℕ) (e : PureExpr) (es : List PureExpr) (handler : Option ℤ)
+      → OnResult (IsTermOf (running_store path.stack) e) callee.good → AnswersPlainly (running_store path.stack) e callee → AllAnswerPlainly (running_store path.stack) es args → AreResults (Calls path x (handler_label handler) here p) (call_cases callee args).good last
+      → StayPlainIn plain p path (call x e es handler) (before ++ last)
+  call_plain p callee args before last copies x e es handler origin answers all_answer result c b valid at command simple small from =
       let texts : list_all has_text_numbers (exprs_of c.command) ≡ true = command_texts p path.stack c valid at in
       let (literal_callee, simple_args) = and_parts (is_literal_expr e) (list_all is_simple_value es) simple in
       copies_plain stands terms depends plain (b + step_growth) (Faults (call_cases callee args).faults ++ last) (before ++ last)
-      (calls_plain plain b path from here p x callee args last
+      (calls_plain plain b path from here p x (handler_label handler) callee args last
       (literal_sure (running_store path.stack) e callee literal_callee (IsPlain (b + text_bound)) origin
       (answers b (within_held_numbers b small) (store_of b from) (literal_is_simple e literal_callee) (first_text (exprs_of c.command) e es (ap exprs_of command) texts)))
       (all_answer b (within_held_numbers b small) (store_of b from) simple_args (later_texts (exprs_of c.command) e es (ap exprs_of command) texts)) result)

@@ -3,6 +3,7 @@ ghost use Rattle.std.specs.Prelude.{◌≡◌, ◌+◌, ◌<◌, ◌^◌, ◌++�
 ghost use Rattle.std.specs.List.{list_all};
 ghost use Rattle.gil_values.specs.Characters.{IsText};
 ghost use Rattle.gil_values.specs.declared.kinds.Kind.{Kind};
+ghost use Rattle.gil_machine.specs.Step.{handler_label};
 ghost use Rattle.gil_program.specs.Program.{prog_view};
 ghost use Rattle.gil_syntax.specs.Programs.{find_proc};
 ghost use Rattle.gil_syntax.specs.Pure.{call as pure_call};
@@ -143,6 +144,7 @@ fn first_frame(alloc: Global, proc: &Proc, args: &[Term]) -> Result<Frame, Alloc
         next: 0,
         store: first_store(alloc, proc.params.as_slice(), args)?,
         waits: None,
+        handler: None,
     })
 }
 
@@ -152,6 +154,7 @@ fn enter<M: Drop>(
     path: Path<M>,
     here: &Place,
     name: &Text,
+    handler: Option<usize>,
     proc: &Proc,
     good: GoodCase<Called>,
 ) -> Result<Candidate<M>, AllocError>
@@ -159,11 +162,11 @@ fn enter<M: Drop>(
     requires steps { path.steps + 1 < 2 ^ 32 }
     requires next { MayAdvance (frames_view path.stack) }
     ensures { IfOk result (λ c. (bs : PureStore) × (IsFirstStore (proc_view proc.now).params (terms_view good.result.args) bs
-        × (candidate_view c ≡ entering (path_view path) name.now here.now (proc_view proc.now) bs (good_view called_view good)))) }
+        × (candidate_view c ≡ entering (path_view path) name.now handler here.now (proc_view proc.now) bs (good_view called_view good)))) }
 {
     let GoodCase { conds, result } = good;
     let mut path = path;
-    wait(alloc, &mut path.stack, name)?;
+    wait(alloc, &mut path.stack, name, handler)?;
     run_in(
         &mut path.stack,
         first_frame(alloc, proc, result.args.as_slice())?,
@@ -231,18 +234,19 @@ fn call_named<M: Drop>(
     path: Path<M>,
     here: &Place,
     name: &Text,
+    handler: Option<usize>,
     proc: &Text,
     good: GoodCase<Called>,
 ) -> Result<Candidate<M>, AllocError>
     requires steps { path.steps + 1 < 2 ^ 32 }
     requires next { MayAdvance (frames_view path.stack) }
-    ensures { IfOk result (λ c. EntersFound (path_view path) name.now here.now (find_proc (prog_view prog.now).procs proc.now)
+    ensures { IfOk result (λ c. EntersFound (path_view path) name.now handler here.now (find_proc (prog_view prog.now).procs proc.now)
         (good_view called_view good) (candidate_view c)) }
 {
     match prog.proc(proc) {
         Some(proc) => {
             if good.result.args.len() == proc.params.len() {
-                return enter(alloc, path, here, name, proc, good);
+                return enter(alloc, path, here, name, handler, proc, good);
             }
             fail_to_call(alloc, path, here, "arity", &good)
         }
@@ -267,17 +271,18 @@ fn call_term<M: Drop>(
     path: Path<M>,
     here: &Place,
     name: &Text,
+    handler: Option<usize>,
     good: GoodCase<Called>,
 ) -> Result<Candidate<M>, AllocError>
     requires steps { path.steps + 1 < 2 ^ 32 }
     requires next { MayAdvance (frames_view path.stack) }
-    ensures { IfOk result (λ c. CallsTerm (path_view path) name.now here.now (prog_view prog.now) (term_view good.result.callee)
+    ensures { IfOk result (λ c. CallsTerm (path_view path) name.now handler here.now (prog_view prog.now) (term_view good.result.callee)
         (good_view called_view good) (candidate_view c)) }
 {
     match &good.result.callee {
         Term::Lit(Literal::Proc(proc)) => {
             let proc = proc.copy(alloc)?;
-            call_named(alloc, prog, path, here, name, &proc, good)
+            call_named(alloc, prog, path, here, name, handler, &proc, good)
         }
         Term::Lit(_) => fail_to_call(alloc, path, here, "proc", &good),
         callee => {
@@ -289,7 +294,17 @@ fn call_term<M: Drop>(
     }
 }
 
-/// The candidates of `x := e(e1, ..)`.
+/// The label of a handler; one below 0 is no command, and a call that has it has no handler.
+fn label_of(handler: Option<i64>) -> Option<usize>
+    ensures { result ≡ handler_label handler }
+{
+    match handler {
+        Some(label) => usize::try_from(label).ok(),
+        None => None,
+    }
+}
+
+/// The candidates of `x := e(e1, ..)`, which may have a handler.
 pub fn call_candidates<M: SymMemory>(
     alloc: Global,
     prog: &Prog,
@@ -298,15 +313,16 @@ pub fn call_candidates<M: SymMemory>(
     name: &Text,
     callee: &Expr,
     arguments: &Exprs,
+    handler: Option<i64>,
 ) -> Result<Candidates<M>, AllocError>
     requires callee { IsTrue (list_all is_spellable (literals_of (expr_view callee.now))) }
     requires arguments { IsTrue (list_all (λ e. list_all is_spellable (literals_of e)) (exprs_view arguments.now)) }
     requires steps { path.steps + 1 < 2 ^ 32 }
     requires next { MayAdvance (frames_view path.stack) }
     ensures lawful { IfOk result (λ cs. AreLawfulIn M.stands M.terms M.asked M.Local.actions (prog_view prog.now) (path_view path)
-        here.now (pure_call name.now (expr_view callee.now) (exprs_view arguments.now)) (candidates_view cs)) }
+        here.now (pure_call name.now (expr_view callee.now) (exprs_view arguments.now) handler) (candidates_view cs)) }
     ensures plain { M.keeps_plain → IfOk result (λ cs. StayPlainIn M.plain (prog_view prog.now) (path_view path)
-        (pure_call name.now (expr_view callee.now) (exprs_view arguments.now)) (candidates_view cs)) }
+        (pure_call name.now (expr_view callee.now) (exprs_view arguments.now) handler) (candidates_view cs)) }
 {
     let callee = evaluate_in(alloc, &path.stack, callee)?;
     let arguments = evaluate_all_in(alloc, &path.stack, arguments)?;
@@ -314,7 +330,8 @@ pub fn call_candidates<M: SymMemory>(
     let mut candidates = fail_each(alloc, &path, here, &faults)?;
     match good {
         Some(good) => {
-            candidates.push(call_term(alloc, prog, path, here, name, good)?)?;
+            let label = label_of(handler);
+            candidates.push(call_term(alloc, prog, path, here, name, label, good)?)?;
             Ok(candidates)
         }
         None => Ok(candidates),

@@ -97,15 +97,21 @@ pub(crate) fn go_to(frames: &mut Frames, label: &i64) -> Result<(), AllocError>
     }
 }
 
-/// The frame that runs goes to the next command, and a variable of it waits for a call.
-pub(crate) fn wait(alloc: Global, frames: &mut Frames, name: &Text) -> Result<(), AllocError>
+/// The frame that runs goes to the next command, and a variable of it waits for a call, which may have a handler.
+pub(crate) fn wait(
+    alloc: Global,
+    frames: &mut Frames,
+    name: &Text,
+    handler: Option<usize>,
+) -> Result<(), AllocError>
     requires { MayAdvance (frames_view frames.old) }
-    ensures { OnOk result (frames_view frames.new ≡ waiting name.now (frames_view frames.old)) }
+    ensures { OnOk result (frames_view frames.new ≡ waiting name.now handler (frames_view frames.old)) }
 {
     match take(frames) {
         Some(running) => {
             let mut running = running;
             running.waits = Some(name.copy(alloc)?);
+            running.handler = handler;
             running.next += 1;
             run_in(frames, running)
         }
@@ -122,6 +128,7 @@ pub(crate) fn resume(frame: Frame, term: Term) -> Result<Frame, AllocError>
         next,
         store,
         waits,
+        handler,
     } = frame;
     let mut store = store;
     match waits {
@@ -132,6 +139,7 @@ pub(crate) fn resume(frame: Frame, term: Term) -> Result<Frame, AllocError>
                 next,
                 store,
                 waits: None,
+                handler: None,
             })
         }
         None => Ok(Frame {
@@ -139,6 +147,7 @@ pub(crate) fn resume(frame: Frame, term: Term) -> Result<Frame, AllocError>
             next,
             store,
             waits: None,
+            handler,
         }),
     }
 }

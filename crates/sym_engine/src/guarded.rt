@@ -29,6 +29,7 @@ use pure_terms::{Atom, Atoms, Literal, Term};
 use rewrite_book::{RuleBook, simplify};
 use sequence::Sequence;
 use std::alloc::{AllocError, Global};
+use std::rc::Rc;
 use sym_evaluation::{Cases, GoodCase, Sides, guard_sides};
 use sym_model::SymMemory;
 use sym_paths::Path;
@@ -80,7 +81,7 @@ fn simpler(alloc: Global, rules: &RuleBook, term: &Term) -> Result<Term, AllocEr
                 return simpler_part(alloc, rules, term);
             }
             let operand = simpler(alloc, rules, operand)?;
-            Ok(Term::Op1(*op, Box::new(alloc, operand)?))
+            Ok(Term::Op1(*op, Rc::new(alloc, operand)?))
         }
         Term::Op2(op, left, right) => {
             if !is_connective(*op) {
@@ -88,7 +89,7 @@ fn simpler(alloc: Global, rules: &RuleBook, term: &Term) -> Result<Term, AllocEr
             }
             let left = simpler(alloc, rules, left)?;
             let right = simpler(alloc, rules, right)?;
-            Ok(Term::Op2(*op, Box::new(alloc, left)?, Box::new(alloc, right)?))
+            Ok(Term::Op2(*op, Rc::new(alloc, left)?, Rc::new(alloc, right)?))
         }
         Term::Var(_) | Term::List(_) => simpler_part(alloc, rules, term),
     }

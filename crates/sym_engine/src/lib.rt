@@ -8,6 +8,7 @@ mod frames;
 mod guarded;
 mod settling;
 mod silent;
+mod throwing;
 mod valued;
 
 pub use acting::act_candidates;
@@ -16,4 +17,5 @@ pub use candidates::{Candidate, Candidates};
 pub use guarded::guard_candidates;
 pub use settling::settle;
 pub use silent::{draw, pass, take_symbol, vanish};
+pub use throwing::throw_candidates;
 pub use valued::{assign_candidates, fail_candidates, return_candidates};

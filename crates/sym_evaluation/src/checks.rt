@@ -9,6 +9,7 @@ use gil_values::{BinOp, Kind, UnOp};
 use pure_terms::{Atom, Atoms, Literal, Term};
 use sequence::Sequence;
 use std::alloc::{AllocError, Global};
+use std::rc::Rc;
 use sym_conditions::{Alternatives, asked};
 
 /// A check passes, fails, or asks.
@@ -31,14 +32,14 @@ pub struct Question {
 fn unary_term(alloc: Global, op: UnOp, operand: &Term) -> Result<Term, AllocError>
     ensures { IfOk result (λ t. term_view t ≡ unary_of op (term_view operand.now)) }
 {
-    Ok(Term::Op1(op, Box::new(alloc, operand.copy(alloc)?)?))
+    Ok(Term::Op1(op, Rc::new(alloc, operand.copy(alloc)?)?))
 }
 
 fn binary_term(alloc: Global, op: BinOp, left: Term, right: Term) -> Result<Term, AllocError>
     ensures { IfOk result (λ t. term_view t ≡ binary_of op (term_view left) (term_view right)) }
 {
-    let left = Box::new(alloc, left)?;
-    let right = Box::new(alloc, right)?;
+    let left = Rc::new(alloc, left)?;
+    let right = Rc::new(alloc, right)?;
     Ok(Term::Op2(op, left, right))
 }
 

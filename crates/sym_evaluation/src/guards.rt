@@ -15,6 +15,7 @@ use gil_values::{BinOp, Kind, UnOp};
 use pure_terms::{Atom, Atoms, Literal, Sort, Term, Var};
 use sequence::Sequence;
 use std::alloc::{AllocError, Global};
+use std::rc::Rc;
 
 /// The sides of a guard, each with the conditions under which it is taken; a side that can't be taken is missing. Contracts see
 /// them as their pure data, by `sides_view`.
@@ -136,8 +137,8 @@ fn add_variable(alloc: Global, conds: Atoms, side: bool, variable: Var) -> Resul
     ensures { IfOk result (λ all. atoms_view all ≡ atoms_view conds ++ sides.variable_said side variable variable.sort) }
 {
     if variable.sort == Sort::Any {
-        let left = Box::new(alloc, Term::Var(variable))?;
-        let right = Box::new(alloc, Term::Lit(Literal::Bool(side)))?;
+        let left = Rc::new(alloc, Term::Var(variable))?;
+        let right = Rc::new(alloc, Term::Lit(Literal::Bool(side)))?;
         return add_said(conds, true, Term::Op2(BinOp::Equal, left, right));
     }
     add_said(conds, side, Term::Var(variable))

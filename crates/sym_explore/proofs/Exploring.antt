@@ -14,7 +14,7 @@ use Rattle.mem_model.specs.Actions.{Actions}
 use Rattle.mem_model.specs.Heaps.{Heap}
 use Rattle.pure_terms.specs.Meaning.{Satisfies}
 use Rattle.pure_terms.specs.Pure.{PureTerm, PureAtom}
-use Rattle.sym_engine.specs.Lawful.{IsOwnAt}
+use Rattle.sym_engine.specs.Lawful.{IsOwnAt, IsAskedByMemoryAt}
 use Rattle.sym_explore.specs.Exploring.{MayGoOn, cut_off, IsFrom, IsEndedFrom, KeepTrails, KeepAccounts, CoverRuns}
 use Rattle.sym_explore.specs.Plain.{StaysPlain}
 use Rattle.sym_explore.specs.Runs.{StandsAt, StandsAfter, AccountsFor}
@@ -38,6 +38,7 @@ fault_is_over (machine.no_input k) is = tt
 fault_is_over (machine.bad_input k) is = tt
 fault_is_over (machine.returned v) is = tt
 fault_is_over (machine.failed v place) is = tt
+fault_is_over (machine.threw v place) is = tt
 fault_is_over machine.vanished is = tt
 fault_is_over machine.cut is = absurd is
 
@@ -47,13 +48,13 @@ one_zip P Q R (x ∷ xs) f all (inl here) = inl (f x all.0 here)
 one_zip P Q R (x ∷ xs) f all (inr later) = inr (one_zip P Q R xs f all.1 later)
 
 module _ {S : Type 0} (p : PureParts) (m : Actions) (stands : S → List PureValue → Heap → Type 0) (terms : S → StateTerms)
-    (asked : List ℕ → List PureTerm → List PureTerm) where
+    (asked : List ℕ → List PureTerm → List PureTerm × List PureTerm) where
   abbrev pub IsNext : PurePath S → PurePath S → Type 0
   IsNext = IsNextPath p m stands terms asked
 
   -- the paths of a step are next paths
   pub are_next : (path : PurePath S) (nexts : List (PurePath S)) → path.ending ≡ None → (c : PureNumberedCommand) → command_of_path p path ≡ Some c
-      → AreNextPaths p m stands terms (IsOwnAt stands terms asked m p path) path nexts → Each (IsNext path) nexts
+      → AreNextPaths p m stands terms (IsOwnAt stands terms asked m p path) (IsAskedByMemoryAt stands terms asked m p path) path nexts → Each (IsNext path) nexts
   are_next path nexts still c at laws = each_by_place (IsNext path) nexts (λ i next place. record {
     going = still;
     at_command = (c, at);
@@ -63,7 +64,7 @@ module _ {S : Type 0} (p : PureParts) (m : Actions) (stands : S → List PureVal
     choices = each_at (ChoosesAlike p m stands path) nexts i next laws.choices place;
     along = each_at (HoldsAlong p m stands path) nexts i next laws.along place;
     own_conditions = each_at (AddsOwn (IsOwnAt stands terms asked m p path) path) nexts i next laws.own_conditions place;
-    assumes = each_at (Assumes p (IsOwnAt stands terms asked m p path) path) nexts i next laws.assumes place;
+    assumes = each_at (Assumes p (IsOwnAt stands terms asked m p path) (IsAskedByMemoryAt stands terms asked m p path) path) nexts i next laws.assumes place;
     origin = each_at (Follows p m terms path) nexts i next laws.origin place;
     no_form = each_at (NeedsNoForm path) nexts i next laws.no_form place;
     satisfiable = each_at (StaysSatisfiable path) nexts i next laws.satisfiable place;
@@ -105,9 +106,9 @@ module _ {S : Type 0} (p : PureParts) (m : Actions) (stands : S → List PureVal
         (w : List PureValue) × (Extends inputs s path next v w
         × (StandsForStep p m stands next w s next.ending (step p m inputs s) ⊎ (IsUnknown next.ending × Satisfies next.vars w next.conds)))
 
-    pub accounts_next : (path : PurePath S) (nexts : List (PurePath S)) (own : PureAtom → Type 0) → path.ending ≡ None → path.steps < bound → Each (IsNext path) nexts → AreNextPaths p m stands terms own path nexts
+    pub accounts_next : (path : PurePath S) (nexts : List (PurePath S)) (own by_memory : PureAtom → Type 0) → path.ending ≡ None → path.steps < bound → Each (IsNext path) nexts → AreNextPaths p m stands terms own by_memory path nexts
         → (start : PurePath S) (inputs v0 : List PureValue) (s0 : State) → ¬ IsInputFault (run p m inputs bound s0).ending → Accounts start inputs v0 s0 path → OneOf (Accounts start inputs v0 s0) nexts
-    accounts_next path nexts own still below each laws start inputs v0 s0 fine (v, (first, after)) =
+    accounts_next path nexts own by_memory still below each laws start inputs v0 s0 fine (v, (first, after)) =
         let (s, at) = at_open start path inputs v s0 still after in
         let covered = laws.cover inputs v s at.stands_for (has_input inputs s0 s path.steps (step p m inputs s) at.comes_to below fine refl) in
         one_zip (IsNext path) (Covered inputs v s path) (Accounts start inputs v0 s0) nexts
@@ -191,7 +192,7 @@ some_command None is = absurd (true≢false (sym is))
 -- a frame that runs stands at a command
 pub at_a_command : (p : PureParts) (fs : List PureFrame) → AreAtCommands p fs → (c : PureNumberedCommand) × (command_of_frames p fs ≡ Some c)
 at_a_command p [] placed = absurd placed
-at_a_command p (f ∷ fs) placed = some_command (command_of (find_proc p.procs f.procedure) f.next) placed.0
+at_a_command p (f ∷ fs) placed = some_command (command_of (find_proc p.procs f.procedure) f.next) placed.0.command
 
 -- ---- lists of paths that are left
 
@@ -214,7 +215,7 @@ pub each_replaced : {A : Type 0} (P : A → Type 0) (all rest more : List A) (x 
 each_replaced P all rest more x is f each = let (before, last) = rest_keeps P all rest x is each in each_append P rest more before (f last)
 
 module _ {S : Type 0} (p : PureParts) (m : Actions) (stands : S → List PureValue → Heap → Type 0) (terms : S → StateTerms)
-    (asked : List ℕ → List PureTerm → List PureTerm) (depends : S → List ℕ → List PureTerm → List PureValue → Heap → PureTerm → Type 0) (plain : S → ℤ → ℤ → Type 0) (keeps_plain : Type 0) (bound : ℕ) (old all rest : List (PurePath S)) (path : PurePath S) (is : all ≡ rest ++ path ∷ []) where
+    (asked : List ℕ → List PureTerm → List PureTerm × List PureTerm) (depends : S → List ℕ → List PureTerm → List PureValue → Heap → PureTerm → Type 0) (plain : S → ℤ → ℤ → Type 0) (keeps_plain : Type 0) (bound : ℕ) (old all rest : List (PurePath S)) (path : PurePath S) (is : all ≡ rest ++ path ∷ []) where
   abbrev Comes : PurePath S → PurePath S → Type 0
   Comes = IsFrom p m stands terms asked depends plain keeps_plain bound
 
@@ -251,7 +252,7 @@ module _ {S : Type 0} (p : PureParts) (m : Actions) (stands : S → List PureVal
 
   -- a step of the path
   pub stepped : (nexts left : List (PurePath S)) → left ≡ rest ++ nexts → path.ending ≡ None → path.steps < bound → path.steps < 10000
-      → AreNextPaths p m stands terms (IsOwnAt stands terms asked m p path) path nexts → Each (λ next. next.ending ≡ None → AreAtCommands p next.stack) nexts
+      → AreNextPaths p m stands terms (IsOwnAt stands terms asked m p path) (IsAskedByMemoryAt stands terms asked m p path) path nexts → Each (λ next. next.ending ≡ None → AreAtCommands p next.stack) nexts
       → (keeps_plain → StaysWithin p (λ c. IsTrue (is_simple_command c)) (IsPlainPath plain) path nexts) → Each (NeedsWhatMatters p stands depends path) nexts → Each (MayGoOn p terms) all
       → KeepTrails p m stands terms asked depends plain keeps_plain bound old [] all → KeepAccounts p m stands bound old all
       → Each (MayGoOn p terms) left × KeepTrails p m stands terms asked depends plain keeps_plain bound old [] left × KeepAccounts p m stands bound old left
@@ -260,7 +261,7 @@ module _ {S : Type 0} (p : PureParts) (m : Actions) (stands : S → List PureVal
       let each = are_next p m stands terms asked path nexts going command at laws in (
         subst (Each (MayGoOn p terms)) (sym same) (placed_more nexts (nexts_go_on p m stands terms asked path nexts each placed) may),
         subst (KeepTrails p m stands terms asked depends plain keeps_plain bound old []) (sym same) (trails_more nexts (nexts_from p m stands terms asked bound depends plain keeps_plain path nexts below each stays needs) trails),
-        subst (KeepAccounts p m stands bound old) (sym same) (cover_more nexts (accounts_next p m stands terms asked bound path nexts (IsOwnAt stands terms asked m p path) going below each laws) cover),
+        subst (KeepAccounts p m stands bound old) (sym same) (cover_more nexts (accounts_next p m stands terms asked bound path nexts (IsOwnAt stands terms asked m p path) (IsAskedByMemoryAt stands terms asked m p path) going below each laws) cover),
       )
 
 -- ---- ends as the code sees them

@@ -1,29 +1,28 @@
 -- What trails keep, and what they say in the words of the laws.
-use Rattle.std.proofs.Common.{◌≡◌, ⊎_elim, inl, inr, ℕ, ◌+◌, List, [], ◌∷◌, length, Bool, true, false, Some, None, refl, sym, subst, arith}
+use Rattle.std.proofs.Common.{◌≡◌, ◌⊎◌, ⊎_elim, inl, inr, ℕ, ◌+◌, List, [], ◌∷◌, length, None, sym, subst, arith}
 use Rattle.gil_values.specs.Pure.{PureValue}
-use Rattle.gil_syntax.specs.Pure.{PureParts, PureNumberedCommand}
+use Rattle.gil_syntax.specs.Pure.{PureParts}
 use Rattle.mem_model.specs.Actions.{Actions}
 use Rattle.mem_model.specs.Heaps.{Heap}
 use Rattle.pure_terms.specs.Meaning.{Satisfies}
 use Rattle.pure_terms.specs.Pure.{PureTerm, PureAtom}
-use Rattle.sym_engine.specs.Lawful.{IsOwnAt}
+use Rattle.sym_engine.specs.Lawful.{IsOwnAt, IsAskedByMemoryAt}
 use Rattle.sym_explore.specs.Laws.{EndsAreOfRuns, IsTraced, TrailsReplay, TrailsHoldAlong, TrailsMayEndBefore, TrailsKeep}
-use Rattle.sym_explore.specs.Trails.{IsNextPath, IsTrail, MayBeAssumedInAction, IsAssumedOn}
+use Rattle.sym_explore.specs.Trails.{IsNextPath, IsTrail, IsAssumedOn}
 use Rattle.sym_explore.proofs.RunSteps.{ends_are_of_runs, ends_stay}
 use Rattle.sym_explore.proofs.Trails.{trail_over, replay, replay_choices, never_cut, along, back}
 use Rattle.sym_model.specs.Lists.{Each, OneOf, IsAmong}
 use Rattle.sym_model.specs.Terms.{StateTerms}
 use Rattle.sym_model.proofs.ListLaws.{each_append, each_to, each_is_among, one_left}
 use Rattle.sym_paths.specs.Frames.{running_store}
-use Rattle.sym_paths.specs.Meaning.{command_of_path}
 use Rattle.sym_paths.specs.Pure.{PurePath}
-use Rattle.sym_paths.specs.Steps.{IsUnknown, MayAssume, is_action}
+use Rattle.sym_paths.specs.Steps.{IsUnknown, MayAssume}
 
 pub ends_of_runs : EndsAreOfRuns
 ends_of_runs p m inputs s0 s n e after = (ends_are_of_runs p m inputs s0 s n e after, ends_stay p m inputs s0 s n e after)
 
 module _ {S : Type 0} (p : PureParts) (m : Actions) (stands : S → List PureValue → Heap → Type 0) (terms : S → StateTerms)
-    (asked : List ℕ → List PureTerm → List PureTerm) where
+    (asked : List ℕ → List PureTerm → List PureTerm × List PureTerm) where
   abbrev IsTrailOf : PurePath S → List (PurePath S) → PurePath S → Type 0
   IsTrailOf = IsTrail p m stands terms asked
 
@@ -66,38 +65,36 @@ module _ {S : Type 0} (p : PureParts) (m : Actions) (stands : S → List PureVal
       (each_append (λ a. IsAmong a path.conds) before.given next.growth.new_given
       (each_to (λ a. IsAmong a before.conds) (λ a. IsAmong a path.conds) before.given (among_more before path next) (all_assumed start before earlier trail had)) next.growth.assumed)
 
-  -- before a path that goes on only actions assumed something
-  abbrev InActions : List (PurePath S) → PureAtom → Type 0
-  InActions earlier a = OneOf (λ before. MayBeAssumedInAction p m stands terms asked before a) earlier
+  -- what the start had, and before a path that goes on what memories ask in actions
+  abbrev InActions : PurePath S → List (PurePath S) → PureAtom → Type 0
+  InActions start earlier a = IsAmong a start.given ⊎ OneOf (λ before. IsAskedByMemoryAt stands terms asked m p before a) earlier
 
-  by_action : (before : PurePath S) (c : PureNumberedCommand) → command_of_path p before ≡ Some c → (added : List PureAtom) → Each (MayAssume (IsOwnAt stands terms asked m p before) (running_store before.stack) c.command) added
-      → (is_action c.command ≡ false → added ≡ []) → (b : Bool) → is_action c.command ≡ b → Each (λ a. MayBeAssumedInAction p m stands terms asked before a) added
-  by_action before c at added may kept true acts =
-      each_to (MayAssume (IsOwnAt stands terms asked m p before) (running_store before.stack) c.command) (λ a. MayBeAssumedInAction p m stands terms asked before a) added
-      (λ a allowed. ((c, (at, allowed)), (c, (at, acts)))) may
-  by_action before c at added may kept false other = subst (Each (λ a. MayBeAssumedInAction p m stands terms asked before a)) (sym (kept other)) tt
+  in_later_actions : (start before : PurePath S) (earlier : List (PurePath S)) (a : PureAtom) → InActions start earlier a → InActions start (before ∷ earlier) a
+  in_later_actions start before earlier a is = ⊎_elim inl (λ later. inr (inr later)) is
 
-  all_in_actions : (start path : PurePath S) (earlier : List (PurePath S)) → IsTrailOf start earlier path → start.given ≡ [] → path.ending ≡ None → Each (InActions earlier) path.given
-  all_in_actions start path [] trail none going = subst (λ (q : PurePath S). Each (InActions []) q.given) (sym trail) (subst (Each (InActions [])) (sym none) tt)
-  all_in_actions start path (before ∷ earlier) (next, trail) none going =
+  all_in_actions : (start path : PurePath S) (earlier : List (PurePath S)) → IsTrailOf start earlier path → path.ending ≡ None → Each (InActions start earlier) path.given
+  all_in_actions start path [] trail going =
+      subst (λ (q : PurePath S). Each (InActions start []) q.given) (sym trail) (each_to (λ a. IsAmong a start.given) (InActions start []) start.given (λ a is. inl is) (each_is_among start.given))
+  all_in_actions start path (before ∷ earlier) (next, trail) going =
+      let new = next.assumes in
+      subst (Each (InActions start (before ∷ earlier))) (sym new.given)
+      (each_append (InActions start (before ∷ earlier)) before.given new.added
+      (each_to (InActions start earlier) (InActions start (before ∷ earlier)) before.given (in_later_actions start before earlier) (all_in_actions start before earlier trail next.going))
+      (each_to (IsAskedByMemoryAt stands terms asked m p before) (InActions start (before ∷ earlier)) new.added (λ a here. inr (inl here)) (new.kept (inl going))))
+
+  abbrev On : PurePath S → List (PurePath S) → PureAtom → Type 0
+  On start earlier a = IsAmong a start.given ⊎ IsAssumedOn p m stands terms asked earlier a
+
+  all_assumed_on : (start path : PurePath S) (earlier : List (PurePath S)) → IsTrailOf start earlier path → Each (On start earlier) path.given
+  all_assumed_on start path [] trail =
+      subst (λ (q : PurePath S). Each (On start []) q.given) (sym trail) (each_to (λ a. IsAmong a start.given) (On start []) start.given (λ a is. inl is) (each_is_among start.given))
+  all_assumed_on start path (before ∷ earlier) (next, trail) =
       let (c, at) = next.at_command in
       let new = next.assumes in
-      subst (Each (InActions (before ∷ earlier))) (sym new.given)
-      (each_append (InActions (before ∷ earlier)) before.given new.added
-      (each_to (InActions earlier) (InActions (before ∷ earlier)) before.given (λ a later. inr later) (all_in_actions start before earlier trail none next.going))
-      (each_to (λ a. MayBeAssumedInAction p m stands terms asked before a) (InActions (before ∷ earlier)) new.added (λ a here. inl here)
-      (by_action before c at new.added (new.each c at) (λ other. new.kept c at other (inl going)) (is_action c.command) refl)))
-
-  all_assumed_on : (start path : PurePath S) (earlier : List (PurePath S)) → IsTrailOf start earlier path → start.given ≡ [] → Each (IsAssumedOn p m stands terms asked earlier) path.given
-  all_assumed_on start path [] trail none = subst (λ (q : PurePath S). Each (IsAssumedOn p m stands terms asked []) q.given) (sym trail) (subst (Each (IsAssumedOn p m stands terms asked [])) (sym none) tt)
-  all_assumed_on start path (before ∷ earlier) (next, trail) none =
-      let (c, at) = next.at_command in
-      let new = next.assumes in
-      let On = IsAssumedOn p m stands terms asked (before ∷ earlier) in
-      subst (Each On) (sym new.given)
-      (each_append On before.given new.added
-      (each_to (InActions earlier) On before.given (λ a later. inr later) (all_in_actions start before earlier trail none next.going))
-      (each_to (MayAssume (IsOwnAt stands terms asked m p before) (running_store before.stack) c.command) On new.added (λ a may. inl (c, (at, may))) (new.each c at)))
+      subst (Each (On start (before ∷ earlier))) (sym new.given)
+      (each_append (On start (before ∷ earlier)) before.given new.added
+      (each_to (InActions start earlier) (On start (before ∷ earlier)) before.given (λ a is. ⊎_elim inl (λ later. inr (inr later)) is) (all_in_actions start before earlier trail next.going))
+      (each_to (MayAssume (IsOwnAt stands terms asked m p before) (running_store before.stack) c.command) (On start (before ∷ earlier)) new.added (λ a may. inr (inl (c, (at, may)))) (new.each c at)))
 
   abbrev IsMet : PurePath S → Type 0
   IsMet path = (w : List PureValue) × Satisfies path.vars w path.conds

@@ -23,7 +23,7 @@ stays_narrow : (n : ℕ) → n ≤ 10000 → grown n 0 ≤ narrow_bound
 stays_narrow n few = omega (arith, few)
 
 module _ {S : Type 0} (p : PureParts) (m : Actions) (stands : S → List PureValue → Heap → Type 0) (terms : S → StateTerms)
-    (asked : List ℕ → List PureTerm → List PureTerm) (plain : S → ℤ → ℤ → Type 0) where
+    (asked : List ℕ → List PureTerm → List PureTerm × List PureTerm) (plain : S → ℤ → ℤ → Type 0) where
   stays_plain : (start path : PurePath S) (earlier : List (PurePath S)) (b : ℕ) → IsTrail p m stands terms asked start earlier path → EachStep (StaysPlain p plain) earlier path → Each (IsAtSimple p) earlier
       → grown (length earlier) b ≤ narrow_bound → IsPlainPath plain b start → IsPlainPath plain (grown (length earlier) b) path
   stays_plain start path [] b trail steps simple within is =

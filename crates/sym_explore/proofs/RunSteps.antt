@@ -8,11 +8,11 @@ use Rattle.gil_values.specs.Operators.{Outcome}
 use Rattle.gil_values.specs.Pure.{PureValue, integer, boolean, text, symbol, kind, procedure, list, kind_of}
 use Rattle.gil_syntax.specs.Evaluation.{Outcomes, evaluate, evaluate_all}
 use Rattle.gil_syntax.specs.Programs.{find_proc}
-use Rattle.gil_syntax.specs.Pure.{PureCommand, assign, call, act, usym, isym, ifgoto, return, fail, vanish, fold_use, unfold_use, assert_that, loop_invariant, PureNumberedCommand, PureProc, PureParts}
+use Rattle.gil_syntax.specs.Pure.{PureCommand, assign, call, act, usym, isym, ifgoto, return, fail, throw, vanish, fold_use, unfold_use, assert_that, loop_invariant, PureNumberedCommand, PureProc, PureParts}
 use Rattle.gil_machine.specs.Choices.{choices, choice_at, choice_of, with_choice, later_choices, of_value, of_values, guard_choice, outcome_choice}
 use Rattle.gil_machine.specs.Run.{run, after, reached, and_then}
 use Rattle.gil_machine.specs.State.{Frame, State, End, Step, goes_on, ends, end_at, cut, IsOver}
-use Rattle.gil_machine.specs.Step.{step, do_command, command_at, to_next, with_value, with_values, assigned, branch, draw, do_action, after_action, action_result, enter_found, enter_value, leave}
+use Rattle.gil_machine.specs.Step.{step, do_command, command_at, to_next, with_value, with_values, assigned, branch, draw, do_action, after_action, action_result, enter_found, enter_value, leave, handler_label, Handling, handling, throw_to}
 use Rattle.gil_machine.proofs.Runs.{stays_over}
 use Rattle.mem_model.specs.Actions.{Actions, ActionResult}
 use Rattle.mem_model.specs.Pure.{PureOutcome, done, failed as action_failed, miss}
@@ -155,22 +155,26 @@ of_entering : (b : Bool) (q : PureProc) (x : List ℕ) (args : List PureValue) (
 of_entering true q x args here s t e is = goes s.counter false None t is refl
 of_entering false q x args here s t e is = tt
 
-of_found : (o : Option PureProc) (x : List ℕ) (args : List PureValue) (here : Place) (s : State) → Does s.counter false None (enter_found o x args here s)
-of_found None x args here s = tt
-of_found (Some q) x args here s = of_entering (length args == length q.params) q x args here s _ _ refl
+of_found : (o : Option PureProc) (x : List ℕ) (handler : Option ℕ) (args : List PureValue) (here : Place) (s : State) → Does s.counter false None (enter_found o x handler args here s)
+of_found None x handler args here s = tt
+of_found (Some q) x handler args here s = of_entering (length args == length q.params) q x args here s _ _ refl
 
-of_callee : (p : PureParts) (v : PureValue) (x : List ℕ) (args : List PureValue) (here : Place) (s : State) → Does s.counter false None (enter_value p v x args here s)
-of_callee p (procedure f) x args here s = of_found (find_proc p.procs f) x args here s
-of_callee p (integer n) x args here s = tt
-of_callee p (boolean b) x args here s = tt
-of_callee p (text cs) x args here s = tt
-of_callee p (symbol n) x args here s = tt
-of_callee p (kind k) x args here s = tt
-of_callee p (list vs) x args here s = tt
+of_callee : (p : PureParts) (v : PureValue) (x : List ℕ) (handler : Option ℕ) (args : List PureValue) (here : Place) (s : State) → Does s.counter false None (enter_value p v x handler args here s)
+of_callee p (procedure f) x handler args here s = of_found (find_proc p.procs f) x handler args here s
+of_callee p (integer n) x handler args here s = tt
+of_callee p (boolean b) x handler args here s = tt
+of_callee p (text cs) x handler args here s = tt
+of_callee p (symbol n) x handler args here s = tt
+of_callee p (kind k) x handler args here s = tt
+of_callee p (list vs) x handler args here s = tt
 
 of_leave : (callers : List Frame) (v : PureValue) (s : State) → Does s.counter false None (leave callers v s)
 of_leave [] v s = tt
 of_leave (caller ∷ callers) v s = goes s.counter false None _ refl refl
+
+of_throw : (o : Option Handling) (v : PureValue) (here : Place) (s : State) → Does s.counter false None (throw_to o v here s)
+of_throw (Some h) v here s = goes s.counter false None _ refl refl
+of_throw None v here s = tt
 
 of_outcome : (n : ℕ) (o : PureOutcome) (x : List ℕ) (here : Place) (s : State) → s.counter ≡ n → Does n true (Some (outcome_choice o)) (after_action o x here s)
 of_outcome n (done v) x here s is = goes n true (Some 0) _ is refl
@@ -197,15 +201,16 @@ next_state s = record s { current = record s.current { next = s.current.next + 1
 module _ (p : PureParts) (m : Actions) (inputs : List PureValue) where
   does_command : (k : PureCommand) (here : Place) (s : State) → Does (s.counter + symbols_taken m k) (makes_choice k) (choice_of p m k s) (do_command p m inputs k here s)
   does_command (assign x e) here s = none_taken s.counter false None _ (of_with_value s.counter false None (evaluate e s.current.store) here s _ (λ v. of_assigned s.counter x v s refl))
-  does_command (call x e es) here s =
+  does_command (call x e es handler) here s =
       none_taken s.counter false None _
-      (of_with_value s.counter false None (evaluate e s.current.store) here s _ (λ f. of_with_values s.counter false None (evaluate_all es s.current.store) here s _ (λ args. of_callee p f x args here s)))
+      (of_with_value s.counter false None (evaluate e s.current.store) here s _ (λ f. of_with_values s.counter false None (evaluate_all es s.current.store) here s _ (λ args. of_callee p f x (handler_label handler) args here s)))
   does_command (act x a es) here s = of_actions (evaluate_all es s.current.store) m x a here s
   does_command (usym x) here s = of_assigned (s.counter + 1) x (symbol s.counter) (record s { counter = s.counter + 1 }) refl
   does_command (isym x k) here s = none_taken s.counter false None _ (of_draw (slice_get inputs s.draws) x k (record s { draws = s.draws + 1 }))
   does_command (ifgoto e i) here s = none_taken s.counter true _ _ (of_guard (evaluate e s.current.store) i here s)
   does_command (return e) here s = none_taken s.counter false None _ (of_with_value s.counter false None (evaluate e s.current.store) here s _ (λ v. of_leave s.callers v s))
   does_command (fail e) here s = none_taken s.counter false None _ (of_with_value s.counter false None (evaluate e s.current.store) here s _ (λ v. tt))
+  does_command (throw e) here s = none_taken s.counter false None _ (of_with_value s.counter false None (evaluate e s.current.store) here s _ (λ v. of_throw (handling s.callers) v here s))
   does_command vanish here s = tt
   does_command (fold_use u) here s = none_taken s.counter false None (to_next s) (goes s.counter false None (next_state s) refl refl)
   does_command (unfold_use u) here s = none_taken s.counter false None (to_next s) (goes s.counter false None (next_state s) refl refl)

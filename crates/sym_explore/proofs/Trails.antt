@@ -28,7 +28,7 @@ use Rattle.sym_paths.proofs.Recording.{symbols_recorded, symbols_taken}
 use Rattle.sym_paths.proofs.Silent.{stands_at}
 
 module _ {S : Type 0} (p : PureParts) (m : Actions) (stands : S → List PureValue → Heap → Type 0) (terms : S → StateTerms)
-    (asked : List ℕ → List PureTerm → List PureTerm) where
+    (asked : List ℕ → List PureTerm → List PureTerm × List PureTerm) where
   pub trail_over : (start : PurePath S) (earlier : List (PurePath S)) (path : PurePath S) → IsTrail p m stands terms asked start earlier path → IsOverTable terms start → IsOverTable terms path
   trail_over start [] path trail over = subst (IsOverTable terms) (sym trail) over
   trail_over start (before ∷ earlier) path trail over = trail.0.growth.over

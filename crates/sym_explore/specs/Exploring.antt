@@ -31,7 +31,7 @@ or_none None = []
 or_none (Some x) = x ∷ []
 
 module _ {S : Type 0} (p : PureParts) (m : Actions) (stands : S → List PureValue → Heap → Type 0) (terms : S → StateTerms)
-    (asked : List ℕ → List PureTerm → List PureTerm) (depends : S → List ℕ → List PureTerm → List PureValue → Heap → PureTerm → Type 0)
+    (asked : List ℕ → List PureTerm → List PureTerm × List PureTerm) (depends : S → List ℕ → List PureTerm → List PureValue → Heap → PureTerm → Type 0)
     (plain : S → ℤ → ℤ → Type 0) (keeps_plain : Type 0) (bound : ℕ) where
   -- the path has a trail from the start, and did no more steps than the bound; at commands of simple form it stays plain, where the
   -- memory does, and at actions it needs only literal forms that matter

@@ -25,7 +25,7 @@ EndsAreOfRuns =
     → (run p m inputs n s0 ≡ e) × ((bound : ℕ) → n ≤ bound → IsOver e.ending → run p m inputs bound s0 ≡ e)
 
 module _ {S : Type 0} (p : PureParts) (m : Actions) (stands : S → List PureValue → Heap → Type 0) (terms : S → StateTerms)
-    (asked : List ℕ → List PureTerm → List PureTerm) where
+    (asked : List ℕ → List PureTerm → List PureTerm × List PureTerm) where
   -- A run beside a trail: the start has no end and stands for s0, where the run begins; the valuation has the symbols and the inputs of
   -- the run for the variables that the path has more.
   pub record IsBeside (inputs v0 v : List PureValue) (s0 : State) (start : PurePath S) (earlier : List (PurePath S)) (path : PurePath S)
@@ -81,7 +81,7 @@ module _ {S : Type 0} (p : PureParts) (m : Actions) (stands : S → List PureVal
     pub assumed : (start path : PurePath S) (earlier : List (PurePath S)) → IsTrail p m stands terms asked start earlier path
         → Each (λ a. IsAmong a start.conds) start.given → Each (λ a. IsAmong a path.conds) path.given
     pub assumed_on : (start path : PurePath S) (earlier : List (PurePath S)) → IsTrail p m stands terms asked start earlier path
-        → start.given ≡ [] → Each (IsAssumedOn p m stands terms asked earlier) path.given
+        → Each (λ a. IsAmong a start.given ⊎ IsAssumedOn p m stands terms asked earlier a) path.given
     pub satisfiable : (start path : PurePath S) (earlier : List (PurePath S)) (v : List PureValue)
         → IsTrail p m stands terms asked start earlier path → Satisfies start.vars v start.conds → ¬ IsUnknown path.ending
         → (w : List PureValue) × Satisfies path.vars w path.conds

@@ -36,7 +36,7 @@ grown n b = b + n * step_growth
 -- Simple: along a trail whose commands have simple forms, a path that began plain is plain with numbers that grow with each step, and
 -- isn't unknown, as long as they are numbers of the fragment. For 10,000 steps from a start without numbers they are.
 pub record TrailsStayPlain {S : Type 0} (p : PureParts) (m : Actions) (stands : S → List PureValue → Heap → Type 0)
-    (terms : S → StateTerms) (asked : List ℕ → List PureTerm → List PureTerm) (plain : S → ℤ → ℤ → Type 0) : Type 0 where
+    (terms : S → StateTerms) (asked : List ℕ → List PureTerm → List PureTerm × List PureTerm) (plain : S → ℤ → ℤ → Type 0) : Type 0 where
   pub plain_path : (start path : PurePath S) (earlier : List (PurePath S)) (b : ℕ)
       → IsTrail p m stands terms asked start earlier path → EachStep (StaysPlain p plain) earlier path → Each (IsAtSimple p) earlier
       → grown (length earlier) b ≤ narrow_bound → IsPlainPath plain b start → IsPlainPath plain (grown (length earlier) b) path

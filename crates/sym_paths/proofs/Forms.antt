@@ -1,7 +1,7 @@
 -- Paths with the same variables and conditions need the same literal forms.
 use Rattle.std.proofs.Common.{◌≡◌, ℕ, inl, inr, List, Some, IsTrue, sym, subst, ◌∙◌}
 use Rattle.gil_values.specs.Pure.{PureValue}
-use Rattle.gil_syntax.specs.Pure.{PureParts, PureExpr, PureCommand, PureNumberedCommand, vanish, usym, isym, assign, call, act, ifgoto, return, fail, fold_use, unfold_use, assert_that, loop_invariant}
+use Rattle.gil_syntax.specs.Pure.{PureParts, PureExpr, PureCommand, PureNumberedCommand, vanish, usym, isym, assign, call, act, ifgoto, return, fail, throw, fold_use, unfold_use, assert_that, loop_invariant}
 use Rattle.mem_model.specs.Heaps.{Heap}
 use Rattle.pure_terms.specs.declared.variables.Sort.{Sort}
 use Rattle.pure_terms.specs.Meaning.{all_true, IsProper}
@@ -46,10 +46,11 @@ module _ {S : Type 0} (p : PureParts) (stands : S → List PureValue → Heap �
     still_at (usym x) needs = tt
     still_at (isym x k) needs = tt
     still_at (assign x e) needs = tt
-    still_at (call x e es) needs = tt
+    still_at (call x e es handler) needs = tt
     still_at (ifgoto e i) needs = tt
     still_at (return e) needs = tt
     still_at (fail e) needs = tt
+    still_at (throw e) needs = tt
     still_at (fold_use u) needs = tt
     still_at (unfold_use u) needs = tt
     still_at (assert_that items) needs = tt

@@ -45,6 +45,7 @@ module _ (vars : List Sort) (v more : List PureValue) (one_each : length v ≡ l
       next = are.0.next;
       store = store-more f.store g.store over.0 are.0.store;
       waits = are.0.waits;
+      handler = are.0.handler;
     },
     frames-more fs gs over.1 are.1,
   )

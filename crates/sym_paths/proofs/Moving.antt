@@ -9,7 +9,7 @@ use Rattle.gil_values.specs.Pure.{PureValue, symbol, kind_of}
 use Rattle.gil_values.specs.Symbols.{symbols, symbols_of_all, AreBelow}
 use Rattle.gil_values.proofs.OperatorSymbols.{none_contained}
 use Rattle.gil_syntax.specs.Evaluation.{Store, bind}
-use Rattle.gil_syntax.specs.Pure.{PureParts, PureCommand, assign, call, act, usym, isym, ifgoto, return, fail, vanish, fold_use, unfold_use, assert_that, loop_invariant, PureNumberedCommand}
+use Rattle.gil_syntax.specs.Pure.{PureParts, PureCommand, assign, call, act, usym, isym, ifgoto, return, fail, throw, vanish, fold_use, unfold_use, assert_that, loop_invariant, PureNumberedCommand}
 use Rattle.gil_machine.specs.Choices.{choice_of}
 use Rattle.gil_machine.specs.State.{Frame, State, end_at}
 use Rattle.gil_machine.specs.State as machine
@@ -89,6 +89,7 @@ advanced_frames v (f ∷ fs) g gs bs s are same = (
     next = ap (λ n. n + 1) are.0.next;
     store = same;
     waits = are.0.waits;
+    handler = are.0.handler;
   },
   are.1,
 )
@@ -113,13 +114,14 @@ logic_goes_on p m inputs (unfold_use u) here s logic = refl
 logic_goes_on p m inputs (assert_that items) here s logic = refl
 logic_goes_on p m inputs (loop_invariant xs ps items) here s logic = refl
 logic_goes_on p m inputs (assign x e) here s logic = absurd logic
-logic_goes_on p m inputs (call x e es) here s logic = absurd logic
+logic_goes_on p m inputs (call x e es handler) here s logic = absurd logic
 logic_goes_on p m inputs (act x a es) here s logic = absurd logic
 logic_goes_on p m inputs (usym x) here s logic = absurd logic
 logic_goes_on p m inputs (isym x k) here s logic = absurd logic
 logic_goes_on p m inputs (ifgoto e i) here s logic = absurd logic
 logic_goes_on p m inputs (return e) here s logic = absurd logic
 logic_goes_on p m inputs (fail e) here s logic = absurd logic
+logic_goes_on p m inputs (throw e) here s logic = absurd logic
 logic_goes_on p m inputs vanish here s logic = absurd logic
 
 logic_chooses_nothing : (p : PureParts) (m : Actions) (k : PureCommand) (s : State) → IsLogic k → choice_of p m k s ≡ None
@@ -128,13 +130,14 @@ logic_chooses_nothing p m (unfold_use u) s logic = refl
 logic_chooses_nothing p m (assert_that items) s logic = refl
 logic_chooses_nothing p m (loop_invariant xs ps items) s logic = refl
 logic_chooses_nothing p m (assign x e) s logic = absurd logic
-logic_chooses_nothing p m (call x e es) s logic = absurd logic
+logic_chooses_nothing p m (call x e es handler) s logic = absurd logic
 logic_chooses_nothing p m (act x a es) s logic = absurd logic
 logic_chooses_nothing p m (usym x) s logic = absurd logic
 logic_chooses_nothing p m (isym x k) s logic = absurd logic
 logic_chooses_nothing p m (ifgoto e i) s logic = absurd logic
 logic_chooses_nothing p m (return e) s logic = absurd logic
 logic_chooses_nothing p m (fail e) s logic = absurd logic
+logic_chooses_nothing p m (throw e) s logic = absurd logic
 logic_chooses_nothing p m vanish s logic = absurd logic
 
 -- they make no choice and add no variable
@@ -144,13 +147,14 @@ logic_is_quiet m (unfold_use u) logic = (refl, refl)
 logic_is_quiet m (assert_that items) logic = (refl, refl)
 logic_is_quiet m (loop_invariant xs ps items) logic = (refl, refl)
 logic_is_quiet m (assign x e) logic = absurd logic
-logic_is_quiet m (call x e es) logic = absurd logic
+logic_is_quiet m (call x e es handler) logic = absurd logic
 logic_is_quiet m (act x a es) logic = absurd logic
 logic_is_quiet m (usym x) logic = absurd logic
 logic_is_quiet m (isym x k) logic = absurd logic
 logic_is_quiet m (ifgoto e i) logic = absurd logic
 logic_is_quiet m (return e) logic = absurd logic
 logic_is_quiet m (fail e) logic = absurd logic
+logic_is_quiet m (throw e) logic = absurd logic
 logic_is_quiet m vanish logic = absurd logic
 
 -- ---- paths
@@ -179,7 +183,7 @@ module _ {S : Type 0} (memory : MemoryName) (stands : S → List PureValue → H
           draws = is.draws;
         }))
 
-    vanish_is : c.command ≡ vanish → AreNextPaths p m stands terms NoOwn path (vanishing path ∷ [])
+    vanish_is : c.command ≡ vanish → AreNextPaths p m stands terms NoOwn NoOwn path (vanishing path ∷ [])
     vanish_is command = silent_step p m stands terms path (vanishing path) [] over
         (record {
           vars = same_and_none path.vars path.vars refl;
@@ -199,7 +203,7 @@ module _ {S : Type 0} (memory : MemoryName) (stands : S → List PureValue → H
           chooses_nothing = λ v s is. choice-is p m [] s c vanish (standing v s is) command;
           may_follow = λ v proper. ([], proper_as_it_is path.vars v proper);
         })
-        (follows_ended p m terms path (vanishing path) vanished refl refl)
+        (follows_ended p m terms path (vanishing path) vanished refl refl refl)
 
     -- ---- logic commands
 
@@ -220,7 +224,7 @@ module _ {S : Type 0} (memory : MemoryName) (stands : S → List PureValue → H
         (subst (StandsForStep p m stands (passing path) (v ++ ws) s None) (sym (step-is p m inputs s c c.command (standing v s is) refl ∙ logic_goes_on p m inputs c.command (record { proc = s.current.procedure; at = c.at }) s logic))
         (subst (λ u. Stands stands (passing path) u (record s { current = record s.current { next = s.current.next + 1 } })) (nothing_more v ws none) (passed_stands v s is)))
 
-    logic_is : IsLogic c.command → AreNextPaths p m stands terms NoOwn path (passing path ∷ [])
+    logic_is : IsLogic c.command → AreNextPaths p m stands terms NoOwn NoOwn path (passing path ∷ [])
     logic_is logic = silent_step p m stands terms path (passing path) [] over
         (record {
           vars = same_and_none path.vars path.vars refl;
@@ -299,7 +303,7 @@ module _ {S : Type 0} (memory : MemoryName) (stands : S → List PureValue → H
             ending = more.ending;
           }
 
-      usym_is : c.command ≡ usym x → AreNextPaths p m stands terms NoOwn path (with_fresh path bs ∷ [])
+      usym_is : c.command ≡ usym x → AreNextPaths p m stands terms NoOwn NoOwn path (with_fresh path bs ∷ [])
       usym_is command = silent_step p m stands terms path (with_fresh path bs) (Sort.Fresh ∷ []) over
           (record {
             vars = refl;
@@ -383,7 +387,7 @@ module _ {S : Type 0} (memory : MemoryName) (stands : S → List PureValue → H
             ending = more.ending;
           }
 
-      isym_is : c.command ≡ isym x k → AreNextPaths p m stands terms NoOwn path (with_draw path sort bs ∷ [])
+      isym_is : c.command ≡ isym x k → AreNextPaths p m stands terms NoOwn NoOwn path (with_draw path sort bs ∷ [])
       isym_is command = silent_step p m stands terms path (with_draw path sort bs) (sort ∷ []) over
           (record {
             vars = refl;

@@ -1,7 +1,7 @@
 -- What a step records of its command, and how many symbols it takes.
 use Rattle.std.proofs.Common.{◌≡◌, ⊎_elim, inl, inr, ℕ, ◌+◌, List, [], ◌∷◌, ◌++◌, Bool, true, false, if◌then◌else◌, Option, Some, None, is_some, refl, sym, ap, subst, ◌∙◌, arith, true≢false}
 use Rattle.gil_values.specs.declared.kinds.Kind.{Kind}
-use Rattle.gil_syntax.specs.Pure.{PureParts, PureCommand, assign, call, act, usym, isym, ifgoto, return, fail, vanish, fold_use, unfold_use, assert_that, loop_invariant, PureNumberedCommand}
+use Rattle.gil_syntax.specs.Pure.{PureParts, PureCommand, assign, call, act, usym, isym, ifgoto, return, fail, throw, vanish, fold_use, unfold_use, assert_that, loop_invariant, PureNumberedCommand}
 use Rattle.mem_model.specs.Actions.{Actions}
 use Rattle.pure_terms.specs.declared.variables.Sort.{Sort}
 use Rattle.sym_model.specs.Meaning.{has_open}
@@ -52,10 +52,11 @@ new_symbols m (usym x) = refl
 new_symbols m (isym x k) = no_draw_fresh k
 new_symbols m (act x a es) = as_many_taken (m.takes_symbol a)
 new_symbols m (assign x e) = refl
-new_symbols m (call x e es) = refl
+new_symbols m (call x e es handler) = refl
 new_symbols m (ifgoto e i) = refl
 new_symbols m (return e) = refl
 new_symbols m (fail e) = refl
+new_symbols m (throw e) = refl
 new_symbols m vanish = refl
 new_symbols m (fold_use u) = refl
 new_symbols m (unfold_use u) = refl

@@ -48,7 +48,7 @@ module _ {S : Type 0} (p : PureParts) (path : PurePath S) where
   one_settled P Q drop go (c ∷ cs) nexts (inr later) (inr (next, (rest, (is, stays, settled)))) =
       subst (OneOf Q) (sym is) (inr (one_settled P Q drop go cs rest later settled))
 
-module _ {S : Type 0} (p : PureParts) (m : Actions) (stands : S → List PureValue → Heap → Type 0) (terms : S → StateTerms) (own : PureAtom → Type 0) (path : PurePath S) where
+module _ {S : Type 0} (p : PureParts) (m : Actions) (stands : S → List PureValue → Heap → Type 0) (terms : S → StateTerms) (own by_memory : PureAtom → Type 0) (path : PurePath S) where
   unknown_ends : (c : Candidate S) (next : PurePath S) (left : IsLeftUnknown p path c next) → IsUnknown next.ending
   unknown_ends c next left = subst (λ (n : PurePath S). IsUnknown n.ending) (sym left.is) tt
 
@@ -131,14 +131,14 @@ module _ {S : Type 0} (p : PureParts) (m : Actions) (stands : S → List PureVal
   own_on c next adds (inl kept) = subst (AddsOwn own path) (sym kept.is) adds
   own_on c next adds (inr left) = subst (AddsOwn own path) (sym left.is) (record { added = adds.added; conds = adds.conds; each = adds.each })
 
-  assumes_on : (c : Candidate S) (next : PurePath S) → AssumesRightly p own path c → Stays p path c next → Assumes p own path next
-  assumes_on c next (assumes, besides) (inl kept) = subst (Assumes p own path) (sym kept.is) assumes
-  assumes_on c next (assumes, besides) (inr left) = subst (Assumes p own path) (sym left.is) (besides left.place left.reason)
+  assumes_on : (c : Candidate S) (next : PurePath S) → AssumesRightly p own by_memory path c → Stays p path c next → Assumes p own by_memory path next
+  assumes_on c next (assumes, besides) (inl kept) = subst (Assumes p own by_memory path) (sym kept.is) assumes
+  assumes_on c next (assumes, besides) (inr left) = subst (Assumes p own by_memory path) (sym left.is) (besides left.place left.reason)
 
   origin_on : (c : Candidate S) (next : PurePath S) → (has_open c.path.conds ≡ false → Follows p m terms path c.path) → Stays p path c next → Follows p m terms path next
   origin_on c next follows (inl kept) = subst (Follows p m terms path) (sym kept.is) (follows kept.no_form)
   origin_on c next follows (inr left) =
-      subst (Follows p m terms path) (sym left.is) (follows_ended p m terms path (ended_unknown c left.place left.reason) (unknown left.place left.reason) refl refl)
+      subst (Follows p m terms path) (sym left.is) (follows_ended p m terms path (ended_unknown c left.place left.reason) (unknown left.place left.reason) refl refl refl)
 
   no_form_on : (c : Candidate S) (next : PurePath S) → ¬ IsUnknown c.path.ending → Stays p path c next → NeedsNoForm path next
   no_form_on c next known (inl kept) = λ none still. subst (λ (n : PurePath S). has_open n.conds ≡ false) (sym kept.is) kept.no_form
@@ -152,7 +152,7 @@ module _ {S : Type 0} (p : PureParts) (m : Actions) (stands : S → List PureVal
   rightly_on c next known (inl kept) = rightly p path next next.ending (subst (λ (n : PurePath S). ¬ IsUnknown n.ending) (sym kept.is) known)
   rightly_on c next known (inr left) = subst (λ (n : PurePath S). IsRightlyUnknown p path n n.ending) (sym left.is) (left.outside, left.first, left.at, left.asks)
 
-  pub settled_are_next : (cs : List (Candidate S)) (nexts : List (PurePath S)) → AreCandidates p m stands terms own path cs → AreSettled p path cs nexts → AreNextPaths p m stands terms own path nexts
+  pub settled_are_next : (cs : List (Candidate S)) (nexts : List (PurePath S)) → AreCandidates p m stands terms own by_memory path cs → AreSettled p path cs nexts → AreNextPaths p m stands terms own by_memory path nexts
   settled_are_next cs nexts laws settled = record {
     growth = each_settled p path (λ c. Grows terms path c.path × Each (λ a. IsAmong a c.path.conds) c.no_fault) (Grows terms path) grows_on cs nexts laws.growth settled;
     recorded = each_settled p path (λ c. IsRecorded p m path c.path) (IsRecorded p m path) recorded_on cs nexts laws.recorded settled;
@@ -162,7 +162,7 @@ module _ {S : Type 0} (p : PureParts) (m : Actions) (stands : S → List PureVal
         (each_both (λ c. has_open c.path.conds ≡ false → IsExact p m stands path c.path) (λ c. ¬ IsUnknown c.path.ending) cs laws.exact laws.known) settled;
     along = each_settled p path (λ c. HoldsAlong p m stands path c.path × ((place : Place) (reason : Reason) → HoldsAlong p m stands path (ended_unknown c place reason))) (HoldsAlong p m stands path) along_on cs nexts laws.along settled;
     own_conditions = each_settled p path (λ c. AddsOwn own path c.path) (AddsOwn own path) own_on cs nexts laws.own_conditions settled;
-    assumes = each_settled p path (AssumesRightly p own path) (Assumes p own path) assumes_on cs nexts laws.assumes settled;
+    assumes = each_settled p path (AssumesRightly p own by_memory path) (Assumes p own by_memory path) assumes_on cs nexts laws.assumes settled;
     origin = each_settled p path (λ c. has_open c.path.conds ≡ false → Follows p m terms path c.path) (Follows p m terms path) origin_on cs nexts laws.origin settled;
     no_form = each_settled p path (λ c. ¬ IsUnknown c.path.ending) (NeedsNoForm path) no_form_on cs nexts laws.known settled;
     satisfiable = each_settled p path (λ c. ¬ IsUnknown c.path.ending) (StaysSatisfiable path) satisfiable_on cs nexts laws.known settled;

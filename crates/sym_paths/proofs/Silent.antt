@@ -18,7 +18,7 @@ use Rattle.sym_model.specs.Terms.{StateTerms}
 use Rattle.sym_paths.specs.Meaning.{AreFrames, frames_of, Stands, StandsForStep, IsOverTable, command_of_frames}
 use Rattle.sym_paths.specs.Moves.{NoOwn}
 use Rattle.sym_paths.specs.Origins.{Follows}
-use Rattle.sym_paths.specs.Pure.{PureFrame, PureEnd, returned, failed, missed, vanished, cut, unknown, PurePath}
+use Rattle.sym_paths.specs.Pure.{PureFrame, PureEnd, returned, failed, threw, missed, vanished, cut, unknown, PurePath}
 use Rattle.sym_paths.specs.Steps.{AreNext, drawn_from, Extends, HasInput, IsUnknown, IsChosen, IsNewSort, IsRightlyUnknown, Grows, IsRecorded, Covers, IsExact, ChoosesAlike, HoldsAlong, StaysSatisfiable, AreNextPaths}
 use Rattle.sym_paths.proofs.Assuming.{assumes_nothing}
 use Rattle.sym_paths.proofs.Growing.{all_true-more}
@@ -72,6 +72,7 @@ pub rightly : {S : Type 0} (p : PureParts) (path next : PurePath S) (o : Option 
 rightly p path next None known = tt
 rightly p path next (Some (returned t)) known = tt
 rightly p path next (Some (failed t place)) known = tt
+rightly p path next (Some (threw t place)) known = tt
 rightly p path next (Some (missed k place)) known = tt
 rightly p path next (Some vanished) known = tt
 rightly p path next (Some cut) known = tt
@@ -130,7 +131,7 @@ module _ {S : Type 0} (p : PureParts) (m : Actions) (stands : S → List PureVal
       let (ws, proper) = silent.may_follow v meets.proper in
       (v ++ ws, record { proper = subst (λ vars. IsProper vars (v ++ ws)) (sym unasked.vars) proper; true_there = met v ws meets.proper meets.true_there })
 
-  pub silent_step : AreNextPaths p m stands terms NoOwn path (next ∷ [])
+  pub silent_step : AreNextPaths p m stands terms NoOwn NoOwn path (next ∷ [])
   silent_step = record {
     growth = (grows, tt);
     recorded = (silent.records, tt);
@@ -139,7 +140,7 @@ module _ {S : Type 0} (p : PureParts) (m : Actions) (stands : S → List PureVal
     choices = (chooses_alike, tt);
     along = (along, tt);
     own_conditions = (record { added = []; conds = same_and_none next.conds path.conds unasked.conds; each = tt }, tt);
-    assumes = (assumes_nothing p NoOwn path next unasked.given, tt);
+    assumes = (assumes_nothing p NoOwn NoOwn path next unasked.given, tt);
     origin = (origin, tt);
     no_form = (λ none known. ap has_open unasked.conds ∙ none, tt);
     satisfiable = (satisfiable, tt);

@@ -37,6 +37,7 @@ first_frames p f = (
     next = refl;
     store = subst (StandsFor [] []) (sym (no_arguments (params_of (find_proc p.procs f)))) nothing_stands;
     waits = refl;
+    handler = refl;
   },
   tt,
 )

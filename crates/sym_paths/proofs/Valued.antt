@@ -30,7 +30,7 @@ use Rattle.sym_model.proofs.ListLaws.{not_none, each_append, each_at, each_map, 
 use Rattle.sym_paths.specs.Valued.{place_at, faulted, assigned, failing, Assigns, Fails, IsResult, AreForCases, IsEvaluated, ValuedCandidates}
 use Rattle.sym_paths.specs.Laws.{IsBound}
 use Rattle.sym_paths.specs.Meaning.{AreFrames, Stands, StandsForStep, IsOverTable, command_of_path}
-use Rattle.sym_paths.specs.Moves.{running_store}
+use Rattle.sym_paths.specs.Moves.{running_store, NoOwn}
 use Rattle.sym_paths.specs.Origins.{Follows}
 use Rattle.sym_paths.specs.Pure.{PureFrame, failed, PurePath}
 use Rattle.sym_paths.specs.Settling.{Candidate, ended_unknown, AssumesRightly, AreCandidates}
@@ -98,7 +98,7 @@ record GoodLaws {S : Type 0} (stands : S → List PureValue → Heap → Type 0)
   exact : IsExact p m stands path d.path
   along : HoldsAlong p m stands path d.path × ((place : Place) (reason : Reason) → HoldsAlong p m stands path (ended_unknown d place reason))
   own_conditions : AddsOwn own path d.path
-  assumes : AssumesRightly p own path d
+  assumes : AssumesRightly p own NoOwn path d
   origin : Follows p m terms path d.path
 
 module _ {S : Type 0} (stands : S → List PureValue → Heap → Type 0) (terms : S → StateTerms) (p : PureParts) (m : Actions) (path : PurePath S) (c : PureNumberedCommand) (e : PureExpr) (cases : PureCases PureTerm)
@@ -229,9 +229,9 @@ module _ {S : Type 0} (stands : S → List PureValue → Heap → Type 0) (terms
       each = each_at (λ (d : PureFaultCase). Each (IsAsked (running_store path.stack) e) d.conds) cases.faults i fc evaluated.origin.0.0 which;
     }
 
-  fault_assumes : (i : ℕ) (fc : PureFaultCase) → slice_get cases.faults i ≡ Some fc → AssumesRightly p Own path (faulted path here fc)
+  fault_assumes : (i : ℕ) (fc : PureFaultCase) → slice_get cases.faults i ≡ Some fc → AssumesRightly p Own NoOwn path (faulted path here fc)
   fault_assumes i fc which =
-      assumes_rightly p Own path c at (faulted path here fc) fc.conds refl (may_each fc.conds (each_at (λ (d : PureFaultCase). Each Own d.conds) cases.faults i fc evaluated.origin.0.0 which)) tt
+      assumes_rightly p Own NoOwn path c at (faulted path here fc) fc.conds refl (may_each fc.conds (each_at (λ (d : PureFaultCase). Each Own d.conds) cases.faults i fc evaluated.origin.0.0 which)) tt
       (inr (inl (refl, λ going. not_none (sym going))))
 
   good_asked : (g : PureGoodCase PureTerm) → cases.good ≡ Some g → Each Own g.conds
@@ -333,7 +333,7 @@ module _ {S : Type 0} (stands : S → List PureValue → Heap → Type 0) (terms
       exact = good_exact;
       along = (good_along, good_along_unknown);
       own_conditions = good_own;
-      assumes = assumes_rightly p Own path c at (assigned path bs g) [] (same_and_none path.given path.given refl) tt (may_each g.conds (good_asked g is_good)) (inr (inl (refl, λ going. refl)));
+      assumes = assumes_rightly p Own NoOwn path c at (assigned path bs g) [] (same_and_none path.given path.given refl) tt (may_each g.conds (good_asked g is_good)) (inr (inl (refl, λ going. refl)));
       origin = follows_going p m terms path gp c at (assign x e) (command ∙ kind) no_end (refl, (g.result, (result_from g is_good, (bs, (bound, refl)))));
     }
 
@@ -416,7 +416,7 @@ module _ {S : Type 0} (stands : S → List PureValue → Heap → Type 0) (terms
         conds = refl;
         each = subst (OnConditions (IsAsked (running_store path.stack) e)) is_good evaluated.origin.0.1;
       };
-      assumes = assumes_rightly p Own path c at (failing path here g) g.conds refl (may_each g.conds (good_asked g is_good)) tt (inr (inl (refl, λ going. not_none (sym going))));
+      assumes = assumes_rightly p Own NoOwn path c at (failing path here g) g.conds refl (may_each g.conds (good_asked g is_good)) tt (inr (inl (refl, λ going. not_none (sym going))));
       origin = follows_failing p m terms path tp c at (fail e) (command ∙ kind) g.result here refl (inr (result_from g is_good));
     }
 
@@ -472,7 +472,7 @@ module _ {S : Type 0} (stands : S → List PureValue → Heap → Type 0) (terms
           one_left Covered (map (faulted path here) cases.faults) last (one_map Covered (faulted path here) cases.faults
           (one_of_each (IsTaken v) (λ fc. Covered (faulted path here fc)) cases.faults (each_by_place (λ fc. IsTaken v fc → Covered (faulted path here fc)) cases.faults fault_covers) said.1))
 
-    are_candidates : (cs : List (Candidate S)) → AreForCases path here Makes cases cs → AreCandidates p m stands terms Own path cs
+    are_candidates : (cs : List (Candidate S)) → AreForCases path here Makes cases cs → AreCandidates p m stands terms Own NoOwn path cs
     are_candidates cs are = record {
       growth = each_candidate (λ d. Grows terms path d.path × Each (λ a. IsAmong a d.path.conds) d.no_fault) (λ i fc which. (fault_grows i fc which, tt)) (λ g d laws. laws.growth) cs are;
       recorded = each_candidate (λ d. IsRecorded p m path d.path) (λ i fc which. ended_records p m path (fp i fc which) refl refl (closed_both path.conds fc.conds (all_closed fc.conds (each_at (λ (d : PureFaultCase). Each Own d.conds) cases.faults i fc evaluated.origin.0.0 which))) (failed (literal (Literal.Str (fault_text fc.fault))) here) refl) (λ g d laws. laws.recorded) cs are;
@@ -482,7 +482,7 @@ module _ {S : Type 0} (stands : S → List PureValue → Heap → Type 0) (terms
       along = each_candidate (λ d. HoldsAlong p m stands path d.path × ((place : Place) (reason : Reason) → HoldsAlong p m stands path (ended_unknown d place reason)))
           (λ i fc which. (fault_along i fc which, fault_along_unknown i fc which)) (λ g d laws. laws.along) cs are;
       own_conditions = each_candidate (λ d. AddsOwn Own path d.path) fault_own (λ g d laws. laws.own_conditions) cs are;
-      assumes = each_candidate (AssumesRightly p Own path) fault_assumes (λ g d laws. laws.assumes) cs are;
+      assumes = each_candidate (AssumesRightly p Own NoOwn path) fault_assumes (λ g d laws. laws.assumes) cs are;
       origin = each_candidate (λ d. has_open d.path.conds ≡ false → Follows p m terms path d.path) (λ i fc which no_form. fault_follows i fc which) (λ g d laws no_form. laws.origin) cs are;
     }
 

@@ -1,7 +1,7 @@
 -- The law on literal forms along a path: an action needs the literal form of a term only where what it comes to depends on it.
 use Rattle.std.specs.Prelude.{◌≡◌, ℕ, List, ◌++◌, Some, ⊤}
 use Rattle.gil_values.specs.Pure.{PureValue}
-use Rattle.gil_syntax.specs.Pure.{PureParts, PureExpr, PureCommand, act, PureNumberedCommand}
+use Rattle.gil_syntax.specs.Pure.{PureParts, PureExpr, PureCommand, assign, call, act, usym, isym, ifgoto, return, fail, throw, vanish, fold_use, unfold_use, assert_that, loop_invariant, PureNumberedCommand}
 use Rattle.gil_machine.specs.State.{State}
 use Rattle.mem_model.specs.Heaps.{Heap}
 use Rattle.pure_terms.specs.Meaning.{Satisfies}
@@ -32,7 +32,19 @@ module _ {S : Type 0} (p : PureParts) (stands : S → List PureValue → Heap �
 
   abbrev pub NeedsAt : PureCommand → Type 0
   NeedsAt (act x action es) = NeedsOnly action es
-  NeedsAt _ = ⊤
+  NeedsAt (assign x e) = ⊤
+  NeedsAt (call x e es handler) = ⊤
+  NeedsAt (usym x) = ⊤
+  NeedsAt (isym x k) = ⊤
+  NeedsAt (ifgoto e i) = ⊤
+  NeedsAt (return e) = ⊤
+  NeedsAt (fail e) = ⊤
+  NeedsAt (throw e) = ⊤
+  NeedsAt vanish = ⊤
+  NeedsAt (fold_use u) = ⊤
+  NeedsAt (unfold_use u) = ⊤
+  NeedsAt (assert_that items) = ⊤
+  NeedsAt (loop_invariant xs ps items) = ⊤
 
   -- Forms: at an action the next path needs only literal forms that matter to it.
   abbrev pub NeedsWhatMatters : Type 0

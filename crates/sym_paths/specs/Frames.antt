@@ -42,20 +42,38 @@ terms_bound _ _ = []
 abbrev pub IsFirstStore : List (List ℕ) → List PureTerm → PureStore → Type 0
 IsFirstStore params args bs = (x : List ℕ) → term_at bs x ≡ term_at (terms_bound params args) x
 
-abbrev pub waiting : List ℕ → List PureFrame → List PureFrame
-waiting x [] = []
-waiting x (f ∷ fs) = record f { next = f.next + 1; waits = Some x } ∷ fs
+-- the frame that runs goes to the next command, and a variable of it waits for a call, which may have a handler
+abbrev pub waiting : List ℕ → Option ℕ → List PureFrame → List PureFrame
+waiting x handler [] = []
+waiting x handler (f ∷ fs) = record f { next = f.next + 1; waits = Some x; handler = handler } ∷ fs
 
 abbrev pub called_frame : PureProc → PureStore → PureFrame
-called_frame q bs = record { procedure = q.name; next = 0; store = bs; waits = None }
+called_frame q bs = record { procedure = q.name; next = 0; store = bs; waits = None; handler = None }
 
 -- the frame goes on, and the variable that waits, if any, gets the term
 abbrev pub ResumesAt : Option (List ℕ) → PureTerm → PureFrame → PureFrame → Type 0
-ResumesAt (Some x) t f next = (bs : PureStore) × (IsBound f.store x t bs × (next ≡ record f { store = bs; waits = None }))
+ResumesAt (Some x) t f next = (bs : PureStore) × (IsBound f.store x t bs × (next ≡ record f { store = bs; waits = None; handler = None }))
 ResumesAt None t f next = next ≡ f
 
 abbrev pub Resumes : PureTerm → PureFrame → PureFrame → Type 0
 Resumes t f next = ResumesAt f.waits t f next
+
+-- ---- throws
+
+abbrev pub from_handler : Option ℕ → List PureFrame → List PureFrame → List PureFrame
+from_handler (Some label) here later = here
+from_handler None here later = later
+
+-- the frames from the first one on whose call has a handler
+abbrev pub handling : List PureFrame → List PureFrame
+handling [] = []
+handling (f ∷ fs) = from_handler f.handler (f ∷ fs) (handling fs)
+
+-- the first frame goes on at the label of its handler, and its variable that waits gets the term
+abbrev pub Catches : PureTerm → List PureFrame → List PureFrame → Type 0
+Catches t [] nexts = ⊥
+Catches t (f ∷ fs) nexts =
+    (label : ℕ) × ((f.handler ≡ Some label) × ((r : PureFrame) × (Resumes t f r × (nexts ≡ record r { next = label } ∷ fs))))
 
 -- ---- new variables
 

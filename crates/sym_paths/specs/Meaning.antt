@@ -22,7 +22,7 @@ use Rattle.sym_model.specs.Lists.{Each}
 use Rattle.sym_model.specs.Meaning.{key_value}
 use Rattle.sym_model.specs.Pure.{sub_terms}
 use Rattle.sym_model.specs.Terms.{StateTerms, no_state_terms, all_of, AreEachOver}
-use Rattle.sym_paths.specs.Pure.{PureFrame, entry_frame, PureEnd, returned, failed, missed, vanished, cut, unknown, PurePath}
+use Rattle.sym_paths.specs.Pure.{PureFrame, entry_frame, PureEnd, returned, failed, threw, missed, vanished, cut, unknown, PurePath}
 
 -- ---- states
 
@@ -32,6 +32,7 @@ pub record IsFrame (v : List PureValue) (f : PureFrame) (g : Frame) : Type 0 whe
   pub next : f.next ≡ g.next
   pub store : StandsFor v f.store g.store
   pub waits : f.waits ≡ g.waits
+  pub handler : f.handler ≡ g.handler
 
 abbrev pub AreFrames : List PureValue → List PureFrame → List Frame → Type 0
 AreFrames v [] [] = ⊤
@@ -63,18 +64,22 @@ command_of_path p path = command_of_frames p path.stack
 
 -- ---- ends
 
--- the path fails at this place, or is unknown there
+-- the path fails or throws at this place, or is unknown there
 abbrev pub EndsAt : Place → PureEnd → Type 0
 EndsAt place (failed t here) = here ≡ place
+EndsAt place (threw t here) = here ≡ place
 EndsAt place (missed k here) = here ≡ place
 EndsAt place (unknown here reason) = here ≡ place
-EndsAt place _ = ⊥
+EndsAt place (returned t) = ⊥
+EndsAt place vanished = ⊥
+EndsAt place cut = ⊥
 
 -- Under the valuation the end of a path is that of the run whose last step was done from the state s. The key of a miss is the one
 -- that is missed there.
 abbrev pub IsEnding : PureParts → Actions → List PureValue → State → PureEnd → Ending → Type 0
 IsEnding p m v s (returned t) e = (w : PureValue) × ((value v t ≡ Some w) × (e ≡ machine.returned w))
 IsEnding p m v s (failed t place) e = (w : PureValue) × ((value v t ≡ Some w) × (e ≡ machine.failed w place))
+IsEnding p m v s (threw t place) e = (w : PureValue) × ((value v t ≡ Some w) × (e ≡ machine.threw w place))
 IsEnding p m v s (missed k place) e =
     (q : Key) × ((key_value v k.loc k.sub ≡ Some q) × (miss_at p m s ≡ Some q) × (e ≡ machine.failed (text (codes "missing")) place))
 IsEnding p m v s vanished e = e ≡ machine.vanished
@@ -106,8 +111,12 @@ OfEachName P bs = (x : List ℕ) (t : PureTerm) → term_at bs x ≡ Some t → 
 abbrev pub end_terms : Option PureEnd → List PureTerm
 end_terms (Some (returned t)) = t ∷ []
 end_terms (Some (failed t place)) = t ∷ []
+end_terms (Some (threw t place)) = t ∷ []
 end_terms (Some (missed k place)) = k.loc ∷ sub_terms k.sub
-end_terms _ = []
+end_terms (Some vanished) = []
+end_terms (Some cut) = []
+end_terms (Some (unknown place reason)) = []
+end_terms None = []
 
 -- Conditions, stores, memory, draws and end of the path name only variables of its table.
 pub record IsOverTable {S : Type 0} (terms : S → StateTerms) (path : PurePath S) : Type 0 where

@@ -1,7 +1,7 @@
 -- The commands that ask nothing, and what they make of a path: new symbols, draws, the end of a path without an answer, and the
 -- commands that do nothing in a run.
 use Rattle.std.specs.Prelude.{◌≡◌, ℕ, ◌+◌, List, [], ◌∷◌, ◌++◌, Some, None, ⊤}
-use Rattle.gil_syntax.specs.Pure.{PureParts, PureCommand, PureNumberedCommand, usym, isym, vanish, fold_use, unfold_use, assert_that, loop_invariant}
+use Rattle.gil_syntax.specs.Pure.{PureParts, PureCommand, assign, call, act, usym, isym, ifgoto, return, fail, throw, vanish, fold_use, unfold_use, assert_that, loop_invariant, PureNumberedCommand}
 use Rattle.gil_values.specs.declared.kinds.Kind.{Kind}
 use Rattle.gil_values.specs.Pure.{PureValue}
 use Rattle.mem_model.specs.Actions.{Actions}
@@ -21,7 +21,16 @@ IsLogic (fold_use u) = ⊤
 IsLogic (unfold_use u) = ⊤
 IsLogic (assert_that items) = ⊤
 IsLogic (loop_invariant xs ps items) = ⊤
-IsLogic _ = ⊥
+IsLogic (assign x e) = ⊥
+IsLogic (call x e es handler) = ⊥
+IsLogic (act x action es) = ⊥
+IsLogic (usym x) = ⊥
+IsLogic (isym x k) = ⊥
+IsLogic (ifgoto e i) = ⊥
+IsLogic (return e) = ⊥
+IsLogic (fail e) = ⊥
+IsLogic (throw e) = ⊥
+IsLogic vanish = ⊥
 
 module _ {S : Type 0} (path : PurePath S) where
   abbrev pub vanishing : PurePath S
@@ -49,15 +58,15 @@ NoOwn a = ⊥
 -- A path without an end at such a command has one next path, without a new condition.
 pub record AskNothing {S : Type 0} (stands : S → List PureValue → Heap → Type 0) (terms : S → StateTerms) : Type 0 where
   pub vanish_ends : (p : PureParts) (m : Actions) (path : PurePath S) (c : PureNumberedCommand) → IsOverTable terms path → path.ending ≡ None
-      → command_of_path p path ≡ Some c → c.command ≡ vanish → AreNextPaths p m stands terms NoOwn path (vanishing path ∷ [])
+      → command_of_path p path ≡ Some c → c.command ≡ vanish → AreNextPaths p m stands terms NoOwn NoOwn path (vanishing path ∷ [])
   pub logic_passes : (p : PureParts) (m : Actions) (path : PurePath S) (c : PureNumberedCommand) → IsOverTable terms path
       → path.ending ≡ None → command_of_path p path ≡ Some c → IsLogic c.command
-      → AreNextPaths p m stands terms NoOwn path (passing path ∷ [])
+      → AreNextPaths p m stands terms NoOwn NoOwn path (passing path ∷ [])
   pub usym_adds_a_symbol : (p : PureParts) (m : Actions) (path : PurePath S) (c : PureNumberedCommand) (x : List ℕ) (bs : PureStore)
       → IsOverTable terms path → path.ending ≡ None → command_of_path p path ≡ Some c → c.command ≡ usym x
       → IsBound (running_store path.stack) x (next_variable path Sort.Fresh) bs
-      → AreNextPaths p m stands terms NoOwn path (with_fresh path bs ∷ [])
+      → AreNextPaths p m stands terms NoOwn NoOwn path (with_fresh path bs ∷ [])
   pub isym_adds_a_draw : (p : PureParts) (m : Actions) (path : PurePath S) (c : PureNumberedCommand) (x : List ℕ) (k : Kind) (sort : Sort)
       (bs : PureStore) → IsOverTable terms path → path.ending ≡ None → command_of_path p path ≡ Some c → c.command ≡ isym x k
       → draw_sort k ≡ Some sort → IsBound (running_store path.stack) x (next_variable path sort) bs
-      → AreNextPaths p m stands terms NoOwn path (with_draw path sort bs ∷ [])
+      → AreNextPaths p m stands terms NoOwn NoOwn path (with_draw path sort bs ∷ [])

@@ -7,20 +7,22 @@ use Rattle.pure_terms.specs.Pure.{PureTerm, PureAtom}
 use Rattle.sym_evaluation.specs.Pure.{PureStore}
 use Rattle.sym_model.specs.Pure.{PureKey}
 
--- a call in progress, with terms where a state has values
+-- a call in progress, with terms where a state has values; the handler is the label of that of the call that it made
 pub record PureFrame : Type 0 where
   pub procedure : List ℕ
   pub next : ℕ
   pub store : PureStore
   pub waits : Option (List ℕ)
+  pub handler : Option ℕ
 
 -- the frame of a procedure without parameters that begins
 abbrev pub entry_frame : List ℕ → PureFrame
-entry_frame f = record { procedure = f; next = 0; store = []; waits = None }
+entry_frame f = record { procedure = f; next = 0; store = []; waits = None; handler = None }
 
 pub data PureEnd : Type 0 where
   returned : PureTerm → PureEnd
   failed : PureTerm → Place → PureEnd
+  threw : PureTerm → Place → PureEnd
   missed : PureKey → Place → PureEnd
   vanished : PureEnd
   cut : PureEnd

@@ -68,13 +68,13 @@ module _ {S : Type 0} (p : PureParts) (m : Actions) (stands : S → List PureVal
       × (StandsForStep p m stands c.path w s c.path.ending (step p m inputs s) ⊎ IsTrue (has_open c.path.conds)))) cs
 
 -- What a candidate assumes may be assumed at its command, and so may what it assumes besides where it ends as unknown.
-abbrev pub AssumesRightly : {S : Type 0} → PureParts → (PureAtom → Type 0) → PurePath S → Candidate S → Type 0
-AssumesRightly p own path c =
-    Assumes p own path c.path × ((place : Place) (reason : Reason) → Assumes p own path (ended_unknown c place reason))
+abbrev pub AssumesRightly : {S : Type 0} → PureParts → (PureAtom → Type 0) → (PureAtom → Type 0) → PurePath S → Candidate S → Type 0
+AssumesRightly p own by_memory path c =
+    Assumes p own by_memory path c.path × ((place : Place) (reason : Reason) → Assumes p own by_memory path (ended_unknown c place reason))
 
 -- The laws of the paths of a step, before a decider is asked.
 pub record AreCandidates {S : Type 0} (p : PureParts) (m : Actions) (stands : S → List PureValue → Heap → Type 0) (terms : S → StateTerms)
-    (own : PureAtom → Type 0) (path : PurePath S) (cs : List (Candidate S)) : Type 0 where
+    (own by_memory : PureAtom → Type 0) (path : PurePath S) (cs : List (Candidate S)) : Type 0 where
   pub growth : Each (λ c. Grows terms path c.path × Each (λ a. IsAmong a c.path.conds) c.no_fault) cs
   pub recorded : Each (λ c. IsRecorded p m path c.path) cs
   pub known : Each (λ c. ¬ IsUnknown c.path.ending) cs
@@ -83,12 +83,13 @@ pub record AreCandidates {S : Type 0} (p : PureParts) (m : Actions) (stands : S 
   pub along : Each (λ c. HoldsAlong p m stands path c.path
       × ((place : Place) (reason : Reason) → HoldsAlong p m stands path (ended_unknown c place reason))) cs
   pub own_conditions : Each (λ c. AddsOwn own path c.path) cs
-  pub assumes : Each (AssumesRightly p own path) cs
+  pub assumes : Each (AssumesRightly p own by_memory path) cs
   pub origin : Each (λ c. has_open c.path.conds ≡ false → Follows p m terms path c.path) cs
 
--- What becomes of candidates are the paths of the step. `asked` are any conditions that the command may ask.
+-- What becomes of candidates are the paths of the step. `asked` are any conditions that the command may ask, and `of_memory` any that
+-- its memory asks.
 abbrev pub CandidatesSettle : {S : Type 0} → (S → List PureValue → Heap → Type 0) → (S → StateTerms) → Type 0
 CandidatesSettle {S} stands terms =
-    (p : PureParts) (m : Actions) (asked : List PureAtom) (path : PurePath S) (cs : List (Candidate S)) (nexts : List (PurePath S))
-    → AreCandidates p m stands terms (λ a. IsAmong a asked) path cs → AreSettled p path cs nexts
-    → AreNextPaths p m stands terms (λ a. IsAmong a asked) path nexts
+    (p : PureParts) (m : Actions) (asked of_memory : List PureAtom) (path : PurePath S) (cs : List (Candidate S)) (nexts : List (PurePath S))
+    → AreCandidates p m stands terms (λ a. IsAmong a asked) (λ a. IsAmong a of_memory) path cs → AreSettled p path cs nexts
+    → AreNextPaths p m stands terms (λ a. IsAmong a asked) (λ a. IsAmong a of_memory) path nexts

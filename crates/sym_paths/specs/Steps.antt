@@ -3,9 +3,10 @@ use Rattle.std.specs.Prelude.{◌≡◌, ◌⊎◌, ℕ, suc, ◌+◌, ◌<◌, 
 use Rattle.std.specs.Option.{is_some}
 use Rattle.gil_values.specs.declared.places.Place.{Place}
 use Rattle.gil_values.specs.Pure.{PureValue, symbol}
-use Rattle.gil_syntax.specs.Pure.{PureParts, PureCommand, call, act, usym, isym, ifgoto, PureNumberedCommand}
+use Rattle.gil_syntax.specs.Pure.{PureParts, PureCommand, assign, call, act, usym, isym, ifgoto, return, fail, throw, vanish, fold_use, unfold_use, assert_that, loop_invariant, PureNumberedCommand}
 use Rattle.gil_machine.specs.Choices.{choice_at, with_choice}
 use Rattle.gil_machine.specs.State.{State, Ending, no_input, bad_input, Step, goes_on, ends}
+use Rattle.gil_machine.specs.State as machine
 use Rattle.gil_machine.specs.Step.{step}
 use Rattle.mem_model.specs.Actions.{Actions}
 use Rattle.mem_model.specs.Heaps.{Heap}
@@ -24,7 +25,7 @@ use Rattle.sym_model.specs.Terms.{StateTerms}
 use Rattle.sym_paths.specs.Meaning.{StandsForStep, Stands, OfEachName, IsOverTable, end_terms, command_of_frames, command_of_path}
 use Rattle.sym_paths.specs.Frames.{running_store, draw_sort, taken, drawn_by}
 use Rattle.sym_paths.specs.Origins.{Follows}
-use Rattle.sym_paths.specs.Pure.{PureFrame, PureEnd, unknown, PurePath}
+use Rattle.sym_paths.specs.Pure.{PureFrame, PureEnd, returned, failed, threw, missed, vanished, cut, unknown, PurePath}
 
 -- ---- new variables
 
@@ -88,7 +89,11 @@ IsNewSort sort = ⊥
 abbrev pub IsInputFault : Ending → Type 0
 IsInputFault (no_input k) = ⊤
 IsInputFault (bad_input k) = ⊤
-IsInputFault _ = ⊥
+IsInputFault (machine.returned v) = ⊥
+IsInputFault (machine.failed v place) = ⊥
+IsInputFault (machine.threw v place) = ⊥
+IsInputFault machine.vanished = ⊥
+IsInputFault machine.cut = ⊥
 
 -- the step doesn't end for want of a fitting input
 abbrev pub HasInput : Step → Type 0
@@ -97,7 +102,13 @@ HasInput (ends e) = ¬ IsInputFault e.ending
 
 abbrev pub IsUnknown : Option PureEnd → Type 0
 IsUnknown (Some (unknown place reason)) = ⊤
-IsUnknown _ = ⊥
+IsUnknown (Some (returned t)) = ⊥
+IsUnknown (Some (failed t place)) = ⊥
+IsUnknown (Some (threw t place)) = ⊥
+IsUnknown (Some (missed k place)) = ⊥
+IsUnknown (Some vanished) = ⊥
+IsUnknown (Some cut) = ⊥
+IsUnknown None = ⊥
 
 -- where the path has no end, the step goes on
 abbrev pub GoesOnAs : Option PureEnd → Step → Type 0
@@ -117,20 +128,52 @@ fresh_count vars = counter_past vars 0
 abbrev pub new_sorts : Actions → PureCommand → List Sort
 new_sorts m (usym x) = Sort.Fresh ∷ []
 new_sorts m (isym x k) = drawn_by (draw_sort k)
-new_sorts m (act x a es) = taken (m.takes_symbol a)
-new_sorts m _ = []
+new_sorts m (act x action es) = taken (m.takes_symbol action)
+new_sorts m (assign x e) = []
+new_sorts m (call x e es handler) = []
+new_sorts m (ifgoto e i) = []
+new_sorts m (return e) = []
+new_sorts m (fail e) = []
+new_sorts m (throw e) = []
+new_sorts m vanish = []
+new_sorts m (fold_use u) = []
+new_sorts m (unfold_use u) = []
+new_sorts m (assert_that items) = []
+new_sorts m (loop_invariant xs ps items) = []
 
 -- choices are made at guards and at actions
 abbrev pub makes_choice : PureCommand → Bool
 makes_choice (ifgoto e i) = true
-makes_choice (act x a es) = true
-makes_choice _ = false
+makes_choice (act x action es) = true
+makes_choice (assign x e) = false
+makes_choice (call x e es handler) = false
+makes_choice (usym x) = false
+makes_choice (isym x k) = false
+makes_choice (return e) = false
+makes_choice (fail e) = false
+makes_choice (throw e) = false
+makes_choice vanish = false
+makes_choice (fold_use u) = false
+makes_choice (unfold_use u) = false
+makes_choice (assert_that items) = false
+makes_choice (loop_invariant xs ps items) = false
 
 -- how many choices a command has: a guard is false or true, and an action is done, fails, or misses a key
 abbrev pub choice_count : PureCommand → ℕ
 choice_count (ifgoto e i) = 2
-choice_count (act x a es) = 3
-choice_count _ = 0
+choice_count (act x action es) = 3
+choice_count (assign x e) = 0
+choice_count (call x e es handler) = 0
+choice_count (usym x) = 0
+choice_count (isym x k) = 0
+choice_count (return e) = 0
+choice_count (fail e) = 0
+choice_count (throw e) = 0
+choice_count vanish = 0
+choice_count (fold_use u) = 0
+choice_count (unfold_use u) = 0
+choice_count (assert_that items) = 0
+choice_count (loop_invariant xs ps items) = 0
 
 -- no choice, or one of the command's
 abbrev pub MayChoose : PureCommand → Option ℕ → Type 0
@@ -159,7 +202,13 @@ AsksMore path next = has_open path.conds ≡ false → length path.conds < lengt
 abbrev pub IsRightlyUnknown : {S : Type 0} → PureParts → PurePath S → PurePath S → Option PureEnd → Type 0
 IsRightlyUnknown p path next (Some (unknown place reason)) =
     (¬ InFragment next.conds) × IsFirstOutside next.conds reason × IsPlaceOf p path.stack place × AsksMore path next
-IsRightlyUnknown p path next _ = ⊤
+IsRightlyUnknown p path next (Some (returned t)) = ⊤
+IsRightlyUnknown p path next (Some (failed t place)) = ⊤
+IsRightlyUnknown p path next (Some (threw t place)) = ⊤
+IsRightlyUnknown p path next (Some (missed k place)) = ⊤
+IsRightlyUnknown p path next (Some vanished) = ⊤
+IsRightlyUnknown p path next (Some cut) = ⊤
+IsRightlyUnknown p path next None = ⊤
 
 -- by how much the numbers of a path may grow in one step
 abbrev pub step_growth : ℕ
@@ -208,23 +257,28 @@ pub record AddsOwn {S : Type 0} (own : PureAtom → Type 0) (path next : PurePat
 -- boolean, but never which way it goes; at a call what its expressions ask, but not that its callee has a literal form.
 abbrev pub MayAssume : (PureAtom → Type 0) → PureStore → PureCommand → PureAtom → Type 0
 MayAssume own bs (ifgoto e i) a = IsAsked bs e a ⊎ ((t : PureTerm) × (IsGuardTerm bs e t × AsksBoolean t a))
-MayAssume own bs (call x e es) a = IsAsked bs e a ⊎ OneOf (λ d. IsAsked bs d a) es
-MayAssume own bs _ a = own a
+MayAssume own bs (call x e es handler) a = IsAsked bs e a ⊎ OneOf (λ d. IsAsked bs d a) es
+MayAssume own bs (assign x e) a = own a
+MayAssume own bs (act x action es) a = own a
+MayAssume own bs (usym x) a = own a
+MayAssume own bs (isym x k) a = own a
+MayAssume own bs (return e) a = own a
+MayAssume own bs (fail e) a = own a
+MayAssume own bs (throw e) a = own a
+MayAssume own bs vanish a = own a
+MayAssume own bs (fold_use u) a = own a
+MayAssume own bs (unfold_use u) a = own a
+MayAssume own bs (assert_that items) a = own a
+MayAssume own bs (loop_invariant xs ps items) a = own a
 
--- actions
-abbrev pub is_action : PureCommand → Bool
-is_action (act x a es) = true
-is_action _ = false
-
--- Assumed: what is newly assumed is what may be assumed at the command. At a command that is no action nothing is, where the path goes
--- on or has a choice more.
-pub record Assumes {S : Type 0} (p : PureParts) (own : PureAtom → Type 0) (path next : PurePath S) : Type 0 where
+-- Assumed: what is newly assumed is what may be assumed at the command. Where the path goes on or has a choice more, it is what a memory
+-- asks in an action: so nothing is at any other command.
+pub record Assumes {S : Type 0} (p : PureParts) (own by_memory : PureAtom → Type 0) (path next : PurePath S) : Type 0 where
   pub added : List PureAtom
   pub given : next.given ≡ path.given ++ added
   pub each : (c : PureNumberedCommand) → command_of_path p path ≡ Some c
       → Each (MayAssume own (running_store path.stack) c.command) added
-  pub kept : (c : PureNumberedCommand) → command_of_path p path ≡ Some c → is_action c.command ≡ false
-      → (next.ending ≡ None) ⊎ ¬ (next.choices ≡ path.choices) → added ≡ []
+  pub kept : (next.ending ≡ None) ⊎ ¬ (next.choices ≡ path.choices) → Each by_memory added
 
 module _ {S : Type 0} (p : PureParts) (m : Actions) (stands : S → List PureValue → Heap → Type 0) where
   -- Cover: what a state comes to that the path stands for, but for want of input, some answered path stands for, or is unknown with
@@ -271,9 +325,10 @@ StaysSatisfiable path next =
     (v : List PureValue) → Satisfies path.vars v path.conds → ¬ IsUnknown next.ending
     → (w : List PureValue) × Satisfies next.vars w next.conds
 
--- The paths are those of one step, where `own` says which conditions are the command's own.
+-- The paths are those of one step, where `own` says which conditions are the command's own, and `by_memory` which ones a memory asks in
+-- it, if it is an action.
 pub record AreNextPaths {S : Type 0} (p : PureParts) (m : Actions) (stands : S → List PureValue → Heap → Type 0) (terms : S → StateTerms)
-    (own : PureAtom → Type 0) (path : PurePath S) (nexts : List (PurePath S)) : Type 0 where
+    (own by_memory : PureAtom → Type 0) (path : PurePath S) (nexts : List (PurePath S)) : Type 0 where
   pub growth : Each (Grows terms path) nexts
   pub recorded : Each (IsRecorded p m path) nexts
   pub cover : Covers p m stands path nexts
@@ -281,7 +336,7 @@ pub record AreNextPaths {S : Type 0} (p : PureParts) (m : Actions) (stands : S �
   pub choices : Each (ChoosesAlike p m stands path) nexts
   pub along : Each (HoldsAlong p m stands path) nexts
   pub own_conditions : Each (AddsOwn own path) nexts
-  pub assumes : Each (Assumes p own path) nexts
+  pub assumes : Each (Assumes p own by_memory path) nexts
   pub origin : Each (Follows p m terms path) nexts
   pub no_form : Each (NeedsNoForm path) nexts
   pub satisfiable : Each (StaysSatisfiable path) nexts

@@ -16,7 +16,7 @@ use Rattle.sym_evaluation.specs.Questions.{IsAsked, IsTermOf, OnResult, EachCond
 use Rattle.sym_model.specs.Terms.{StateTerms}
 use Rattle.sym_paths.specs.Laws.{IsBound}
 use Rattle.sym_paths.specs.Meaning.{IsOverTable, command_of_path}
-use Rattle.sym_paths.specs.Moves.{running_store, advanced}
+use Rattle.sym_paths.specs.Moves.{running_store, advanced, NoOwn}
 use Rattle.sym_paths.specs.Pure.{PureFrame, failed, PurePath}
 use Rattle.sym_paths.specs.Settling.{Candidate, AreCandidates}
 
@@ -90,9 +90,9 @@ pub record ValuedCandidates {S : Type 0} (stands : S → List PureValue → Heap
       (cases : PureCases PureTerm) (cs : List (Candidate S)) → IsOverTable terms path → path.ending ≡ None
       → command_of_path p path ≡ Some c → c.command ≡ assign x e → IsEvaluated (running_store path.stack) e cases
       → AreForCases path (place_at path.stack c) (Assigns path x) cases cs
-      → AreCandidates p m stands terms (IsAsked (running_store path.stack) e) path cs
+      → AreCandidates p m stands terms (IsAsked (running_store path.stack) e) NoOwn path cs
   pub of_failure : (p : PureParts) (m : Actions) (path : PurePath S) (c : PureNumberedCommand) (e : PureExpr)
       (cases : PureCases PureTerm) (cs : List (Candidate S)) → IsOverTable terms path → path.ending ≡ None
       → command_of_path p path ≡ Some c → c.command ≡ fail e → IsEvaluated (running_store path.stack) e cases
       → AreForCases path (place_at path.stack c) (Fails path (place_at path.stack c)) cases cs
-      → AreCandidates p m stands terms (IsAsked (running_store path.stack) e) path cs
+      → AreCandidates p m stands terms (IsAsked (running_store path.stack) e) NoOwn path cs

@@ -7,10 +7,10 @@ use Rattle.sym_model.specs.View.{key_view, path_view as conditions_view}
 use Rattle.sym_paths.specs.declared.ends.PathEnd.{PathEnd}
 use Rattle.sym_paths.specs.declared.frames.Frame.{Frame}
 use Rattle.sym_paths.specs.declared.path.Path.{Path}
-use Rattle.sym_paths.specs.Pure.{PureFrame, PureEnd, returned, failed, missed, vanished, cut, unknown, PurePath}
+use Rattle.sym_paths.specs.Pure.{PureFrame, PureEnd, returned, failed, threw, missed, vanished, cut, unknown, PurePath}
 
 abbrev pub frame_view : Frame → PureFrame
-frame_view f = record { procedure = f.proc; next = f.next; store = store_view f.store; waits = f.waits }
+frame_view f = record { procedure = f.proc; next = f.next; store = store_view f.store; waits = f.waits; handler = f.handler }
 
 -- the latest first
 abbrev pub frames_view : List Frame → List PureFrame
@@ -19,6 +19,7 @@ frames_view fs = reverse (map frame_view fs)
 abbrev pub end_view : PathEnd → PureEnd
 end_view (PathEnd.Returned t) = returned (term_view t)
 end_view (PathEnd.Failed t place) = failed (term_view t) place
+end_view (PathEnd.Threw t place) = threw (term_view t) place
 end_view (PathEnd.Missed k place) = missed (key_view k) place
 end_view PathEnd.Vanished = vanished
 end_view PathEnd.Cut = cut

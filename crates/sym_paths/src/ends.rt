@@ -15,6 +15,8 @@ pub enum PathEnd {
     Returned(Term),
     /// The command at the place failed with this.
     Failed(Term, Place),
+    /// The command at the place threw this, and no handler caught it.
+    Threw(Term, Place),
     /// The action at the place missed a key.
     Missed(SymKey, Place),
     Vanished,
@@ -41,6 +43,10 @@ impl PathEnd {
             PathEnd::Failed(term, place) => {
                 let term = term.copy(alloc)?;
                 Ok(PathEnd::Failed(term, copy_place(alloc, place)?))
+            }
+            PathEnd::Threw(term, place) => {
+                let term = term.copy(alloc)?;
+                Ok(PathEnd::Threw(term, copy_place(alloc, place)?))
             }
             PathEnd::Missed(key, place) => {
                 let key = key.copy(alloc)?;

@@ -17,6 +17,8 @@ pub struct Frame {
     pub store: SymStore,
     /// The variable that waits for the result of the call that this one made.
     pub waits: Option<Text>,
+    /// The label at which this one goes on where that call throws.
+    pub handler: Option<usize>,
 }
 
 /// The call that runs, which is the last one, and those that wait for it. Contracts see them by `frames_view`, which begins with
@@ -36,6 +38,7 @@ impl Frame {
             next: self.next,
             store,
             waits,
+            handler: self.handler,
         })
     }
 }
@@ -70,6 +73,7 @@ pub(crate) fn first_frames(alloc: Global, proc: &Text) -> Result<Frames, AllocEr
         next: 0,
         store: SymStore::new(alloc),
         waits: None,
+        handler: None,
     })?;
     Ok(frames)
 }

@@ -10,7 +10,7 @@ use Rattle.mem_model.specs.Heaps.{Heap}
 use Rattle.pure_terms.specs.Meaning.{AreOver}
 use Rattle.pure_terms.specs.Pure.{PureTerm, PureAtom}
 use Rattle.sym_engine.specs.Forms.{NeedWhatMattersIn}
-use Rattle.sym_engine.specs.Lawful.{IsOwnOf, IsOwnAt, AreLawfulIn}
+use Rattle.sym_engine.specs.Lawful.{IsOwnOf, IsOwnAt, AreLawfulIn, IsAskedByMemoryOf, IsAskedByMemoryAt}
 use Rattle.sym_engine.specs.Placed.{AreAtCommands, GoesOnAtCommands}
 use Rattle.sym_engine.specs.Plain.{StayPlainIn}
 use Rattle.sym_engine.specs.Settles.{StandsThere, IsAfter, AreAllOver}
@@ -44,8 +44,9 @@ module _ {S : Type 0} (p : PureParts) (m : Actions) (stands : S → List PureVal
     each = each_to own more adds.added wider adds.each;
   }
 
-  next_of_more : (own more : PureAtom → Type 0) → ((a : PureAtom) → own a → more a) → (path : PurePath S) (nexts : List (PurePath S)) → AreNextPaths p m stands terms own path nexts → AreNextPaths p m stands terms more path nexts
-  next_of_more own more wider path nexts laws = record {
+  next_of_more : (own more by_memory more_by_memory : PureAtom → Type 0) → ((a : PureAtom) → own a → more a) → ((a : PureAtom) → by_memory a → more_by_memory a) → (path : PurePath S) (nexts : List (PurePath S)) → AreNextPaths p m stands terms own by_memory path nexts
+      → AreNextPaths p m stands terms more more_by_memory path nexts
+  next_of_more own more by_memory more_by_memory wider memory_wider path nexts laws = record {
     growth = laws.growth;
     recorded = laws.recorded;
     cover = laws.cover;
@@ -53,7 +54,7 @@ module _ {S : Type 0} (p : PureParts) (m : Actions) (stands : S → List PureVal
     choices = laws.choices;
     along = laws.along;
     own_conditions = each_to (AddsOwn own path) (AddsOwn more path) nexts (own_more own more wider path) laws.own_conditions;
-    assumes = each_to (Assumes p own path) (Assumes p more path) nexts (assumes_wider p own more wider path) laws.assumes;
+    assumes = each_to (Assumes p own by_memory path) (Assumes p more more_by_memory path) nexts (assumes_wider p own more by_memory more_by_memory wider memory_wider path) laws.assumes;
     origin = laws.origin;
     no_form = laws.no_form;
     satisfiable = laws.satisfiable;
@@ -62,12 +63,12 @@ module _ {S : Type 0} (p : PureParts) (m : Actions) (stands : S → List PureVal
 
   -- ---- one path, and no question
 
-  module _ (asked : List ℕ → List PureTerm → List PureTerm) (path next q : PurePath S) (nexts : List (PurePath S)) (is : next ≡ q) (alone : nexts ≡ next ∷ []) where
+  module _ (asked : List ℕ → List PureTerm → List PureTerm × List PureTerm) (path next q : PurePath S) (nexts : List (PurePath S)) (is : next ≡ q) (alone : nexts ≡ next ∷ []) where
     only : nexts ≡ q ∷ []
     only = alone ∙ ap (λ r. r ∷ []) is
 
-    pub one_next : AreNextPaths p m stands terms NoOwn path (q ∷ []) → AreNextPaths p m stands terms (IsOwnAt stands terms asked m p path) path nexts
-    one_next laws = subst (AreNextPaths p m stands terms (IsOwnAt stands terms asked m p path) path) (sym only) (next_of_more NoOwn (IsOwnAt stands terms asked m p path) (λ a none. absurd none) path (q ∷ []) laws)
+    pub one_next : AreNextPaths p m stands terms NoOwn NoOwn path (q ∷ []) → AreNextPaths p m stands terms (IsOwnAt stands terms asked m p path) (IsAskedByMemoryAt stands terms asked m p path) path nexts
+    one_next laws = subst (AreNextPaths p m stands terms (IsOwnAt stands terms asked m p path) (IsAskedByMemoryAt stands terms asked m p path) path) (sym only) (next_of_more NoOwn (IsOwnAt stands terms asked m p path) NoOwn (IsAskedByMemoryAt stands terms asked m p path) (λ a none. absurd none) (λ a none. absurd none) path (q ∷ []) laws)
 
     pub one_ended : ¬ (q.ending ≡ None) → Each (GoesOnAtCommands p) nexts
     one_ended ends = subst (Each (GoesOnAtCommands p)) (sym only) (λ goes. absurd (ends goes), tt)
@@ -111,9 +112,9 @@ module _ {S : Type 0} (p : PureParts) (path : PurePath S) where
   all_left_placed (c ∷ cs) nexts (inr (next, (rest, (is, stays, later)))) placed =
       subst (Each (GoesOnAtCommands p)) (sym is) (left_placed c next stays placed.0, all_left_placed cs rest later placed.1)
 
-  module _ (m : Actions) (stands : S → List PureValue → Heap → Type 0) (terms : S → StateTerms) (asked : List ℕ → List PureTerm → List PureTerm) (c : PureNumberedCommand) (here : Place) (cs : List (Candidate S)) (over : IsOverTable terms path) (no_end : path.ending ≡ None)
+  module _ (m : Actions) (stands : S → List PureValue → Heap → Type 0) (terms : S → StateTerms) (asked : List ℕ → List PureTerm → List PureTerm × List PureTerm) (c : PureNumberedCommand) (here : Place) (cs : List (Candidate S)) (over : IsOverTable terms path) (no_end : path.ending ≡ None)
       (at : command_of_path p path ≡ Some c) (is : here ≡ place_at path.stack c) (lawful : AreLawfulIn stands terms asked m p path here c.command cs) where
-    laws : AreCandidates p m stands terms (IsOwnOf stands terms asked m path c.command) path cs
+    laws : AreCandidates p m stands terms (IsOwnOf stands terms asked m path c.command) (IsAskedByMemoryOf stands terms asked m path c.command) path cs
     laws = (lawful c over no_end at refl (sym is)).0
 
     pub asked_over : AreAllOver cs
@@ -123,16 +124,16 @@ module _ {S : Type 0} (p : PureParts) (path : PurePath S) where
       are_settled : AreSettled p path cs nexts
       are_settled = settled p path (stands_there p terms path c here count over at is counted) (all_after terms path cs laws.growth)
 
-      pub asked_next : AreNextPaths p m stands terms (IsOwnAt stands terms asked m p path) path nexts
+      pub asked_next : AreNextPaths p m stands terms (IsOwnAt stands terms asked m p path) (IsAskedByMemoryAt stands terms asked m p path) path nexts
       asked_next =
-          next_of_more p m stands terms (IsOwnOf stands terms asked m path c.command) (IsOwnAt stands terms asked m p path) (λ a own. (c, (at, own))) path nexts
-          (settled_are_next p m stands terms (IsOwnOf stands terms asked m path c.command) path cs nexts laws are_settled)
+          next_of_more p m stands terms (IsOwnOf stands terms asked m path c.command) (IsOwnAt stands terms asked m p path) (IsAskedByMemoryOf stands terms asked m path c.command) (IsAskedByMemoryAt stands terms asked m p path) (λ a own. (c, (at, own))) (λ a own. (c, (at, own))) path nexts
+          (settled_are_next p m stands terms (IsOwnOf stands terms asked m path c.command) (IsAskedByMemoryOf stands terms asked m path c.command) path cs nexts laws are_settled)
 
       pub asked_placed : IsValid p → AreAtCommands p path.stack → Each (GoesOnAtCommands p) nexts
       asked_placed valid placed = all_left_placed cs nexts are_settled ((lawful c over no_end at refl (sym is)).1 valid placed)
 
       pub asked_within : (plain : S → ℤ → ℤ → Type 0) → path.steps < 10000 → IsValid p → StayPlainIn plain p path c.command cs → StaysWithin p (λ d. IsTrue (is_simple_command d)) (IsPlainPath plain) path nexts
-      asked_within plain few valid stays = settled_within plain p m stands terms (IsOwnOf stands terms asked m path c.command) path few c.command c cs nexts valid at refl laws stays are_settled
+      asked_within plain few valid stays = settled_within plain p m stands terms (IsOwnOf stands terms asked m path c.command) (IsAskedByMemoryOf stands terms asked m path c.command) path few c.command c cs nexts valid at refl laws stays are_settled
 
 -- ---- literal forms
 
@@ -147,7 +148,7 @@ no_action p stands terms depends path k none cs c over at is = every (λ d. Need
 
 -- ---- the paths of a step at a command that asks something
 
-module _ {S : Type 0} (p : PureParts) (m : Actions) (stands : S → List PureValue → Heap → Type 0) (terms : S → StateTerms) (asked : List ℕ → List PureTerm → List PureTerm) (depends : S → List ℕ → List PureTerm → List PureValue → Heap → PureTerm → Type 0)
+module _ {S : Type 0} (p : PureParts) (m : Actions) (stands : S → List PureValue → Heap → Type 0) (terms : S → StateTerms) (asked : List ℕ → List PureTerm → List PureTerm × List PureTerm) (depends : S → List ℕ → List PureTerm → List PureValue → Heap → PureTerm → Type 0)
     (plain : S → ℤ → ℤ → Type 0) (keeps_plain : Type 0) (path : PurePath S) (c : PureNumberedCommand) (here : Place) where
   pub asked_steps : (cs : List (Candidate S)) (count : ℕ) (nexts : List (PurePath S)) → MayStep p terms path → command_of_path p path ≡ Some c → here ≡ place_at path.stack c → IsValid p
       → AreLawfulIn stands terms asked m p path here c.command cs × (keeps_plain → StayPlainIn plain p path c.command cs) × NeedWhatMattersIn stands terms depends p path c.command cs → length path.conds ≡ count → SettledSoFar count here cs nexts

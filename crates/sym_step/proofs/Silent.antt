@@ -2,7 +2,7 @@
 use Rattle.std.proofs.Common.{◌≡◌, ℕ, ℤ, List, [], ◌∷◌, false, Some, None, refl, sym, ap}
 use Rattle.gil_values.specs.declared.kinds.Kind.{Kind}
 use Rattle.gil_values.specs.Pure.{PureValue}
-use Rattle.gil_syntax.specs.Pure.{PureParts, PureCommand, PureNumberedCommand, vanish, usym, isym, assign, call, act, ifgoto, return, fail, fold_use, unfold_use, assert_that, loop_invariant}
+use Rattle.gil_syntax.specs.Pure.{PureParts, PureCommand, PureNumberedCommand, vanish, usym, isym, assign, call, act, ifgoto, return, fail, throw, fold_use, unfold_use, assert_that, loop_invariant}
 use Rattle.gil_syntax.specs.Valid.{ends_body, IsValid}
 use Rattle.mem_model.specs.declared.keys.MemoryName.{MemoryName}
 use Rattle.mem_model.specs.Actions.{Actions}
@@ -35,13 +35,14 @@ logic_stays vanish logic = absurd logic
 logic_stays (usym x) logic = absurd logic
 logic_stays (isym x k) logic = absurd logic
 logic_stays (assign x e) logic = absurd logic
-logic_stays (call x e es) logic = absurd logic
+logic_stays (call x e es handler) logic = absurd logic
 logic_stays (act x a es) logic = absurd logic
 logic_stays (ifgoto e i) logic = absurd logic
 logic_stays (return e) logic = absurd logic
 logic_stays (fail e) logic = absurd logic
+logic_stays (throw e) logic = absurd logic
 
-module _ {S : Type 0} (memory : MemoryName) (stands : S → List PureValue → Heap → Type 0) (terms : S → StateTerms) (meaning : IsMeaning memory stands terms) (p : PureParts) (m : Actions) (asked : List ℕ → List PureTerm → List PureTerm)
+module _ {S : Type 0} (memory : MemoryName) (stands : S → List PureValue → Heap → Type 0) (terms : S → StateTerms) (meaning : IsMeaning memory stands terms) (p : PureParts) (m : Actions) (asked : List ℕ → List PureTerm → List PureTerm × List PureTerm)
     (depends : S → List ℕ → List PureTerm → List PureValue → Heap → PureTerm → Type 0) (plain : S → ℤ → ℤ → Type 0) (keeps_plain : Type 0) (path : PurePath S) (c : PureNumberedCommand) (over : IsOverTable terms path) (no_end : path.ending ≡ None) (at : command_of_path p path ≡ Some c) (valid : IsValid p) (placed : AreAtCommands p path.stack) where
   abbrev Stepped : List (PurePath S) → Type 0
   Stepped nexts = AreStepped p m stands terms asked depends plain keeps_plain path nexts
@@ -58,11 +59,12 @@ module _ {S : Type 0} (memory : MemoryName) (stands : S → List PureValue → H
   logic_needs next (usym x) logic = tt
   logic_needs next (isym x k) logic = tt
   logic_needs next (assign x e) logic = tt
-  logic_needs next (call x e es) logic = tt
+  logic_needs next (call x e es handler) logic = tt
   logic_needs next (act x a es) logic = absurd logic
   logic_needs next (ifgoto e i) logic = tt
   logic_needs next (return e) logic = tt
   logic_needs next (fail e) logic = tt
+  logic_needs next (throw e) logic = tt
 
   pub vanish_steps : (next : PurePath S) → next ≡ vanishing path → c.command ≡ vanish → Stepped (next ∷ [])
   vanish_steps next is command = record {

@@ -18,7 +18,7 @@ use rewrite_book::RuleBook;
 use std::alloc::{AllocError, Global};
 use sym_engine::{
     Candidates, act_candidates, assign_candidates, call_candidates, draw, fail_candidates,
-    guard_candidates, pass, return_candidates, take_symbol, vanish,
+    guard_candidates, pass, return_candidates, take_symbol, throw_candidates, vanish,
 };
 use sym_model::SymMemory;
 use sym_paths::Path;
@@ -73,8 +73,8 @@ pub(crate) fn next_of<M: SymMemory>(
         Command::Assign(name, value) => {
             Ok(Next::Asked(assign_candidates(alloc, path, here, name, value)?))
         }
-        Command::Call(name, callee, arguments) => Ok(Next::Asked(call_candidates(
-            alloc, prog, path, here, name, callee, arguments,
+        Command::Call(name, callee, arguments, handler) => Ok(Next::Asked(call_candidates(
+            alloc, prog, path, here, name, callee, arguments, *handler,
         )?)),
         Command::Act(name, action, arguments) => {
             Ok(Next::Asked(act_candidates(alloc, path, here, name, action, arguments)?))
@@ -84,5 +84,6 @@ pub(crate) fn next_of<M: SymMemory>(
         }
         Command::Return(value) => Ok(Next::Asked(return_candidates(alloc, path, here, value)?)),
         Command::Fail(value) => Ok(Next::Asked(fail_candidates(alloc, path, here, value)?)),
+        Command::Throw(value) => Ok(Next::Asked(throw_candidates(alloc, path, here, value)?)),
     }
 }

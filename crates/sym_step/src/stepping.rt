@@ -3,7 +3,7 @@ ghost use Rattle.std.specs.Prelude.{◌≡◌, ◌∷◌, [], Some, None, IfOk, 
 ghost use Rattle.gil_program.specs.Program.{prog_view};
 ghost use Rattle.gil_syntax.specs.Simple.{is_simple_command};
 ghost use Rattle.gil_syntax.specs.View.{numbered_command_view};
-ghost use Rattle.sym_engine.specs.Lawful.{IsOwnAt, MayAdvance};
+ghost use Rattle.sym_engine.specs.Lawful.{IsOwnAt, IsAskedByMemoryAt, MayAdvance};
 ghost use Rattle.sym_model.specs.Lists.{Each};
 ghost use Rattle.sym_paths.specs.Forms.{NeedsWhatMatters};
 ghost use Rattle.sym_paths.specs.Meaning.{command_of_path};
@@ -67,7 +67,8 @@ pub fn step<M: SymMemory, D: Decider>(
 ) -> Result<Paths<M>, AllocError>
     requires { MayStep (prog_view prog.now) M.terms (path_view path) }
     ensures next { IfOk result (λ ps. AreNextPaths (prog_view prog.now) M.Local.actions M.stands M.terms
-        (IsOwnAt M.stands M.terms M.asked M.Local.actions (prog_view prog.now) (path_view path)) (path_view path) (paths_view ps)) }
+        (IsOwnAt M.stands M.terms M.asked M.Local.actions (prog_view prog.now) (path_view path))
+        (IsAskedByMemoryAt M.stands M.terms M.asked M.Local.actions (prog_view prog.now) (path_view path)) (path_view path) (paths_view ps)) }
     ensures placed { IfOk result (λ ps. Each (λ next. next.ending ≡ None → AreAtCommands (prog_view prog.now) next.stack)
         (paths_view ps)) }
     ensures simple { M.keeps_plain → IfOk result (λ ps. StaysWithin (prog_view prog.now) (λ c. IsTrue (is_simple_command c))

@@ -11,7 +11,7 @@ use Rattle.sym_explore.proofs.Kept.{trails_keep, trails_replay, trails_hold_alon
 use Rattle.sym_model.specs.Terms.{StateTerms}
 use Rattle.sym_test.proofs.Trailing.{TrailLaws}
 
-pub trail_laws : {S : Type 0} (p : PureParts) (m : Actions) (stands : S → List PureValue → Heap → Type 0) (terms : S → StateTerms) (asked : List ℕ → List PureTerm → List PureTerm) → TrailLaws p m stands terms asked
+pub trail_laws : {S : Type 0} (p : PureParts) (m : Actions) (stands : S → List PureValue → Heap → Type 0) (terms : S → StateTerms) (asked : List ℕ → List PureTerm → List PureTerm × List PureTerm) → TrailLaws p m stands terms asked
 trail_laws p m stands terms asked = record {
   keep = trails_keep p m stands terms asked;
   replay = trails_replay p m stands terms asked;
@@ -20,5 +20,5 @@ trail_laws p m stands terms asked = record {
   ends = ends_of_runs;
 }
 
-pub plain_laws : {S : Type 0} (p : PureParts) (m : Actions) (stands : S → List PureValue → Heap → Type 0) (terms : S → StateTerms) (asked : List ℕ → List PureTerm → List PureTerm) (plain : S → ℤ → ℤ → Type 0) → TrailsStayPlain p m stands terms asked plain
+pub plain_laws : {S : Type 0} (p : PureParts) (m : Actions) (stands : S → List PureValue → Heap → Type 0) (terms : S → StateTerms) (asked : List ℕ → List PureTerm → List PureTerm × List PureTerm) (plain : S → ℤ → ℤ → Type 0) → TrailsStayPlain p m stands terms asked plain
 plain_laws p m stands terms asked plain = trails_stay_plain p m stands terms asked plain

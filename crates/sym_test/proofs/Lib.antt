@@ -1,5 +1,6 @@
 pub mod Canonicals
 pub mod Failing
+pub mod Failures
 pub mod Holding
 pub mod Laws
 pub mod Outsides

@@ -49,7 +49,7 @@ term_is_narrow b t le (plain, literals) =
 
 -- ---- commands of other forms
 
-module _ {S : Type 0} (p : PureParts) (m : Actions) (stands : S → List PureValue → Heap → Type 0) (terms : S → StateTerms) (asked : List ℕ → List PureTerm → List PureTerm)
+module _ {S : Type 0} (p : PureParts) (m : Actions) (stands : S → List PureValue → Heap → Type 0) (terms : S → StateTerms) (asked : List ℕ → List PureTerm → List PureTerm × List PureTerm)
     (laws : TrailLaws p m stands terms asked) (f : List ℕ) (start : PurePath S) where
   abbrev IsTrailOf : List (PurePath S) → PurePath S → Type 0
   IsTrailOf = IsTrail p m stands terms asked start

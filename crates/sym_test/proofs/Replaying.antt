@@ -5,7 +5,7 @@ use Rattle.gil_values.specs.declared.places.Place.{Place}
 use Rattle.gil_values.specs.Pure.{PureValue, text}
 use Rattle.gil_syntax.specs.Pure.{PureParts, PureNumberedCommand}
 use Rattle.gil_machine.specs.Run.{reached, run, IsEntry, IsBug}
-use Rattle.gil_machine.specs.State.{State, End, IsOver, cut, failed}
+use Rattle.gil_machine.specs.State.{State, End, IsOver, cut, failed, told}
 use Rattle.gil_machine.specs.Step.{command_at, step}
 use Rattle.mem_model.specs.Actions.{Actions}
 use Rattle.mem_model.specs.Heaps.{Heap}
@@ -15,7 +15,7 @@ use Rattle.sym_engine.specs.Lawful.{IsOwnAt}
 use Rattle.sym_explore.specs.Laws.{IsTraced}
 use Rattle.sym_explore.specs.Plain.{EachStep, IsAtSimple}
 use Rattle.sym_explore.specs.Runs.{EndsAfter, StandsAfter}
-use Rattle.sym_explore.specs.Trails.{IsNextPath, IsTrail}
+use Rattle.sym_explore.specs.Trails.{IsNextPath, IsTrail, IsAssumedOn}
 use Rattle.sym_model.specs.Lists.{Each, OneOf, IsAmong}
 use Rattle.sym_model.specs.Meaning.{is_open, has_open}
 use Rattle.sym_model.specs.Pure.{PureKey}
@@ -35,6 +35,8 @@ use Rattle.sym_test.specs.View.{PureQuery}
 use Rattle.sym_test.proofs.Failing.{fails_here}
 use Rattle.sym_test.proofs.Plainly.{simple_or_other}
 use Rattle.sym_test.proofs.Trailing.{TrailLaws, inputs_counted, steps_counted, has_canonical, beside, replayed, come_by, given_meets, leads_along}
+use Rattle.sym_test.specs.Bugs.{failure}
+use Rattle.sym_test.proofs.Failures.{failure_known, failure_ends, over_where_failed}
 
 first_false : (a b : Bool) → (a || b) ≡ false → a ≡ false
 first_false true b none = none
@@ -50,16 +52,16 @@ place_there p v (f ∷ fs) s c place are at (d, (at_d, is)) =
 
 -- the last step of a run that fails does so at its command
 last_fails : (p : PureParts) (m : Actions) (inputs : List PureValue) (s0 : State) (k : ℕ) (s t : State) (c : PureNumberedCommand) (e : End) (w : PureValue) (place : Place) → reached p m inputs k s0 ≡ Some s → command_at p s.current ≡ Some c
-    → EndsAfter p m inputs s0 (suc k) t e → e.ending ≡ failed w place → place ≡ record { proc = s.current.procedure; at = c.at }
+    → EndsAfter p m inputs s0 (suc k) t e → told e.ending ≡ failed w place → place ≡ record { proc = s.current.procedure; at = c.at }
 last_fails p m inputs s0 k s t c e w place reach at (inl (j, (same, comes, leads))) is =
     let at_k : k ≡ j = omega (arith, same) in
     let there : t ≡ s = same_some (sym comes ∙ ap (λ i. reached p m inputs i s0) (sym at_k) ∙ reach) in
     fails_here p m inputs s c e w place at (ap (step p m inputs) (sym there) ∙ leads) is
-last_fails p m inputs s0 k s t c e w place reach at (inr (comes, ends_cut)) is = not_cut w place (sym (ap (λ (r : End). r.ending) ends_cut) ∙ is) where
+last_fails p m inputs s0 k s t c e w place reach at (inr (comes, ends_cut)) is = not_cut w place (sym (ap (λ (r : End). told r.ending) ends_cut) ∙ is) where
   not_cut : (w : PureValue) (place : Place) → cut ≡ failed w place → place ≡ record { proc = s.current.procedure; at = c.at }
   not_cut w place unlike = cc
 
-module _ {S : Type 0} (p : PureParts) (m : Actions) (stands : S → List PureValue → Heap → Type 0) (terms : S → StateTerms) (asked : List ℕ → List PureTerm → List PureTerm)
+module _ {S : Type 0} (p : PureParts) (m : Actions) (stands : S → List PureValue → Heap → Type 0) (terms : S → StateTerms) (asked : List ℕ → List PureTerm → List PureTerm × List PureTerm)
     (plain : S → ℤ → ℤ → Type 0) (laws : TrailLaws p m stands terms asked) (f : List ℕ) (start : PurePath S) (begins : Begins p stands terms plain f start) where
   abbrev IsTrailOf : List (PurePath S) → PurePath S → Type 0
   IsTrailOf = IsTrail p m stands terms asked start
@@ -84,27 +86,28 @@ module _ {S : Type 0} (p : PureParts) (m : Actions) (stands : S → List PureVal
         let counted : path.steps ≡ length earlier = steps_counted p m stands terms asked plain laws f start begins earlier path trail in
         (laws.ends p m inputs s0 s (length earlier) e after).1 n (omega (arith, counted, within)) over
 
-    is_bug : (s : State) (e : End) (w : PureValue) (place : Place) → EndsAfter p m inputs s0 (length earlier) s e → StandsForEnd p m stands path v s how e → e.ending ≡ failed w place → IsBug p m f n inputs w place
+    is_bug : (s : State) (e : End) (w : PureValue) (place : Place) → EndsAfter p m inputs s0 (length earlier) s e → StandsForEnd p m stands path v s how e → told e.ending ≡ failed w place → IsBug p m f n inputs w place
     is_bug s e w place after stood is =
-        let same : run p m inputs n s0 ≡ e = is_the_run s e after (subst IsOver (sym is) tt) in
+        let same : run p m inputs n s0 ≡ e = is_the_run s e after (over_where_failed e.ending w place is) in
         record {
           entry = entry;
-          fails = ap (λ (r : End). r.ending) same ∙ is;
+          fails = ap (λ (r : End). told r.ending) same ∙ is;
           draws_each = ap (λ (r : End). r.draws) same ∙ stood.draws ∙ inputs_counted p m stands terms asked plain laws f start begins earlier path v trail canonical.own.proper.one_each;
         }
 
   pub failure_is_bug : (n : ℕ) → IsEntry p f → (earlier : List (PurePath S)) (path : PurePath S) → IsTrailOf earlier path → path.steps ≤ n → (v : List PureValue) → IsCanonical path.vars path.conds v
-      → (t : PureTerm) (place : Place) (w : PureValue) → path.ending ≡ Some (path_end.failed t place) → value v t ≡ Some w → IsBug p m f n (draws_among path.vars v) w place
-  failure_is_bug n entry earlier path trail within v canonical t place w ending has =
-      let (s, (e, (after, stood))) = ended n entry earlier path trail within v canonical (path_end.failed t place) ending (λ no. no) in
-      let (u, (val, is)) = stood.ending in
-      is_bug n entry earlier path trail within v canonical (path_end.failed t place) ending (λ no. no) s e w place after stood (is ∙ ap (λ x. failed x place) (same_some (sym val ∙ has)))
+      → (thrown : Bool) (t : PureTerm) (place : Place) (w : PureValue) → path.ending ≡ Some (failure thrown t place) → value v t ≡ Some w → IsBug p m f n (draws_among path.vars v) w place
+  failure_is_bug n entry earlier path trail within v canonical thrown t place w ending has =
+      let known = failure_known thrown t place in
+      let (s, (e, (after, stood))) = ended n entry earlier path trail within v canonical (failure thrown t place) ending known in
+      let (u, (val, is)) = failure_ends thrown p m v s t place e.ending stood.ending in
+      is_bug n entry earlier path trail within v canonical (failure thrown t place) ending known s e w place after stood (is ∙ ap (λ x. failed x place) (same_some (sym val ∙ has)))
 
   pub failure_has_value : (n : ℕ) → IsEntry p f → (earlier : List (PurePath S)) (path : PurePath S) → IsTrailOf earlier path → path.steps ≤ n → (v : List PureValue) → IsCanonical path.vars path.conds v
-      → (t : PureTerm) (place : Place) → path.ending ≡ Some (path_end.failed t place) → (w : PureValue) × (value v t ≡ Some w)
-  failure_has_value n entry earlier path trail within v canonical t place ending =
-      let (s, (e, (after, stood))) = ended n entry earlier path trail within v canonical (path_end.failed t place) ending (λ no. no) in
-      let (u, (val, is)) = stood.ending in
+      → (thrown : Bool) (t : PureTerm) (place : Place) → path.ending ≡ Some (failure thrown t place) → (w : PureValue) × (value v t ≡ Some w)
+  failure_has_value n entry earlier path trail within v canonical thrown t place ending =
+      let (s, (e, (after, stood))) = ended n entry earlier path trail within v canonical (failure thrown t place) ending (failure_known thrown t place) in
+      let (u, (val, is)) = failure_ends thrown p m v s t place e.ending stood.ending in
       (u, val)
 
   pub miss_is_bug : (n : ℕ) → IsEntry p f → (earlier : List (PurePath S)) (path : PurePath S) → IsTrailOf earlier path → path.steps ≤ n → (v : List PureValue) → IsCanonical path.vars path.conds v
@@ -112,7 +115,7 @@ module _ {S : Type 0} (p : PureParts) (m : Actions) (stands : S → List PureVal
   miss_is_bug n entry earlier path trail within v canonical key place ending =
       let (s, (e, (after, stood))) = ended n entry earlier path trail within v canonical (path_end.missed key place) ending (λ no. no) in
       let (q, (is_key, misses, is)) = stood.ending in
-      is_bug n entry earlier path trail within v canonical (path_end.missed key place) ending (λ no. no) s e (text (codes "missing")) place after stood is
+      is_bug n entry earlier path trail within v canonical (path_end.missed key place) ending (λ no. no) s e (text (codes "missing")) place after stood (ap told is)
 
   -- ---- undecided
 
@@ -147,6 +150,11 @@ module _ {S : Type 0} (p : PureParts) (m : Actions) (stands : S → List PureVal
       forms = forms;
     }
 
+    -- nothing is assumed at the start
+    assumed_there : (a : PureAtom) → IsAmong a start.given ⊎ IsAssumedOn p m stands terms asked (before ∷ rest) a → IsAssumedOn p m stands terms asked (before ∷ rest) a
+    assumed_there a (inl first) = absurd (subst (IsAmong a) begins.first.given first)
+    assumed_there a (inr on) = on
+
     -- the start has no condition, so each one is own to a command
     traced_there : (a : PureAtom) → IsTraced p m stands terms asked start (before ∷ rest) a → OneOf (λ part. IsOwnAt stands terms asked m p part a) (before ∷ rest)
     traced_there a (inl first) = absurd (subst (IsAmong a) begins.first.conds first)
@@ -175,7 +183,8 @@ module _ {S : Type 0} (p : PureParts) (m : Actions) (stands : S → List PureVal
         asks = asks;
         conds_traced = each_to (IsTraced p m stands terms asked start (before ∷ rest)) (λ a. OneOf (λ part. IsOwnAt stands terms asked m p part a) (before ∷ rest)) path.conds traced_there
             (laws.keep.traced start path (before ∷ rest) (next, trail));
-        given_allowed = laws.keep.assumed_on start path (before ∷ rest) (next, trail) begins.first.given;
+        given_allowed = each_to (λ a. IsAmong a start.given ⊎ IsAssumedOn p m stands terms asked (before ∷ rest) a) (IsAssumedOn p m stands terms asked (before ∷ rest)) path.given assumed_there
+            (laws.keep.assumed_on start path (before ∷ rest) (next, trail));
         outside = outside;
       }
 
@@ -199,7 +208,7 @@ module _ {S : Type 0} (p : PureParts) (m : Actions) (stands : S → List PureVal
         )
 
     module _ (v : List PureValue) (canonical : IsCanonical path.vars path.conds v) (known : ¬ IsUnknown (Some how)) (place : Place)
-        (fails_there : (e : End) (s : State) → StandsForEnd p m stands path v s how e → (w : PureValue) × (e.ending ≡ failed w place)) where
+        (fails_there : (e : End) (s : State) → StandsForEnd p m stands path v s how e → (w : PureValue) × (told e.ending ≡ failed w place)) where
       abbrev us : List PureValue
       us = draws_among path.vars v
 

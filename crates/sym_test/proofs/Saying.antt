@@ -8,7 +8,7 @@ use Rattle.gil_values.specs.declared.places.Place.{Place}
 use Rattle.gil_values.specs.Pure.{PureValue, text}
 use Rattle.gil_syntax.specs.Pure.{PureParts}
 use Rattle.gil_machine.specs.Run.{reached, run, test_run, IsEntry, IsBug}
-use Rattle.gil_machine.specs.State.{State, Ending, End, IsOver, IsFailed, ends}
+use Rattle.gil_machine.specs.State.{State, Ending, End, IsOver, IsFailed, ends, told}
 use Rattle.gil_machine.specs.State as machine
 use Rattle.gil_machine.specs.Step.{step}
 use Rattle.mem_model.specs.Actions.{Actions}
@@ -31,28 +31,25 @@ use Rattle.sym_model.proofs.ListLaws.{same_some, not_none, each_at}
 use Rattle.sym_paths.specs.Forms.{NeedsWhatMatters}
 use Rattle.sym_paths.specs.Meaning.{EndsAt, StandsForEnd, end_terms}
 use Rattle.sym_paths.specs.Origins.{IsText}
-use Rattle.sym_paths.specs.Pure.{PureEnd, returned, failed, missed, vanished, cut, unknown, PurePath}
+use Rattle.sym_paths.specs.Pure.{PureEnd, returned, failed, threw, missed, vanished, cut, unknown, PurePath}
 use Rattle.sym_paths.specs.Steps.{Extends, IsUnknown, IsRightlyUnknown, place_of, IsPlainPath}
-use Rattle.sym_test.specs.Bugs.{IsFound}
+use Rattle.sym_test.specs.Bugs.{IsFound, failure}
 use Rattle.sym_test.specs.Canonical.{HaveValuation, draws_among}
 use Rattle.sym_test.specs.Judged.{Begins, PureJudgement, harmless, fails, undecided, IsAbout, IsListOutside, IsWide, IsFoundBug, lists_of, IsFailureJudged, IsUnknownJudged, IsJudgedEnd, AccountsForNoFailure, IsRightlyJudged}
-use Rattle.sym_test.specs.Undecided.{first_state, ComesAlong, MeetsOther, FailsSimply, is_narrow_term, IsOutsideAt, IsUndecided}
+use Rattle.sym_test.specs.Undecided.{first_state, ComesAlong, MeetsOther, FailsSimply, is_narrow_term, IsOutsideAt, IsUndecided, IsFailingBy}
 use Rattle.sym_test.specs.View.{PureQuery}
 use Rattle.sym_test.proofs.Canonicals.{at_length}
 use Rattle.sym_test.proofs.Holding.{narrow_is_held}
 use Rattle.sym_test.proofs.Plainly.{atom_passes, term_is_narrow, simple_or_other}
 use Rattle.sym_test.proofs.Replaying.{failure_is_bug, miss_is_bug, is_undecided, come_unknown, come_failing}
 use Rattle.sym_test.proofs.Trailing.{TrailLaws, steps_counted, is_over, has_canonical, replayed}
+use Rattle.sym_test.proofs.Failures.{is_cut, failure_no_cut, failure_known, failure_there, failure_terms, failure_value, failure_ends}
 
 not_cut : {X : Type 0} (how : PureEnd) → Some how ≡ Some cut → (how ≡ cut → ⊥) → X
 not_cut how is other = absurd (other (same_some is))
 
 not_harmless : (q : PureQuery) → undecided q ≡ harmless → ⊥
 not_harmless q unlike = cc
-
-abbrev is_cut : PureEnd → Bool
-is_cut cut = true
-is_cut _ = false
 
 element_before : {X : Type 0} (xs ys : List X) (i : ℕ) (x : X) → i < length xs → slice_get (xs ++ ys) i ≡ Some x → slice_get xs i ≡ Some x
 element_before [] ys i x within at = absurd (omega (arith, within))
@@ -77,7 +74,7 @@ open_is_outside atoms t inside = (
   ),
 )
 
-module _ {S : Type 0} (p : PureParts) (m : Actions) (stands : S → List PureValue → Heap → Type 0) (terms : S → StateTerms) (asked : List ℕ → List PureTerm → List PureTerm)
+module _ {S : Type 0} (p : PureParts) (m : Actions) (stands : S → List PureValue → Heap → Type 0) (terms : S → StateTerms) (asked : List ℕ → List PureTerm → List PureTerm × List PureTerm)
     (plain : S → ℤ → ℤ → Type 0) (laws : TrailLaws p m stands terms asked) (f : List ℕ) (start : PurePath S) (begins : Begins p stands terms plain f start) (n : ℕ) (entry : IsEntry p f) (few : n ≤ 10000) (keeps_plain : Type 0) (stays : TrailsStayPlain p m stands terms asked plain)
     (depends : S → List ℕ → List PureTerm → List PureValue → Heap → PureTerm → Type 0) where
   abbrev s0 : State
@@ -102,10 +99,10 @@ module _ {S : Type 0} (p : PureParts) (m : Actions) (stands : S → List PureVal
 
   -- ---- no failure
 
-  over_is_no_failure : (inputs : List PureValue) (k : ℕ) (s : State) (e : End) (r : Ending) → EndsAfter p m inputs s0 k s e → k ≤ n → e.ending ≡ r → IsOver r → (IsFailed r → ⊥) → IsFailed (test_run p m f inputs n).ending → ⊥
+  over_is_no_failure : (inputs : List PureValue) (k : ℕ) (s : State) (e : End) (r : Ending) → EndsAfter p m inputs s0 k s e → k ≤ n → e.ending ≡ r → IsOver r → (IsFailed (told r) → ⊥) → IsFailed (test_run p m f inputs n).ending → ⊥
   over_is_no_failure inputs k s e r after within is over no_failure fails_there =
       let same : run p m inputs n s0 ≡ e = (laws.ends p m inputs s0 s k e after).1 n within (subst IsOver (sym is) over) in
-      no_failure (subst IsFailed (ap (λ (x : End). x.ending) same ∙ is) fails_there)
+      no_failure (subst (λ q. IsFailed (told q)) (ap (λ (x : End). x.ending) same ∙ is) fails_there)
 
   cut_is_no_failure : (path : PurePath S) → Ended path → path.ending ≡ Some cut → (inputs v : List PureValue) (s : State) (e : End) → AccountsFor p m stands inputs s0 start [] path → EndsAfter p m inputs s0 path.steps s e → e.ending ≡ machine.cut
       → StandsForEnd p m stands path v s cut e → IsFailed (test_run p m f inputs n).ending → ⊥
@@ -121,7 +118,7 @@ module _ {S : Type 0} (p : PureParts) (m : Actions) (stands : S → List PureVal
   cut_is_no_failure path (inr (last, (from, going, steps, same))) ending inputs v s e accounts after is stood fails_there =
       let at_bound : path.steps ≡ n = ap (λ (q : PurePath S). q.steps) same ∙ steps in
       let whole : run p m inputs n s0 ≡ e = subst (λ k. run p m inputs k s0 ≡ e) at_bound (laws.ends p m inputs s0 s path.steps e after).0 in
-      subst IsFailed (ap (λ (x : End). x.ending) whole ∙ is) fails_there
+      subst (λ q. IsFailed (told q)) (ap (λ (x : End). x.ending) whole ∙ is) fails_there
 
   abbrev NoFailure : PurePath S → Type 0
   NoFailure path = AccountsForNoFailure p m stands f n start path
@@ -153,12 +150,12 @@ module _ {S : Type 0} (p : PureParts) (m : Actions) (stands : S → List PureVal
 
   -- ---- bugs
 
-  found_failure : (path : PurePath S) (t : PureTerm) (place here : Place) (w : PureValue) (inputs : List PureValue) → Ended path → path.ending ≡ Some (failed t place) → here ≡ place → IsFoundBug (lists_of path) (failed t place) w inputs
+  found_failure : (path : PurePath S) (thrown : Bool) (t : PureTerm) (place here : Place) (w : PureValue) (inputs : List PureValue) → Ended path → path.ending ≡ Some (failure thrown t place) → here ≡ place → IsFoundBug (lists_of path) (failure thrown t place) w inputs
       → IsBug p m f n inputs w here
-  found_failure path t place here w inputs ended ending same bug =
-      let from = from_of path (failed t place) ended ending refl in
+  found_failure path thrown t place here w inputs ended ending same bug =
+      let from = from_of path (failure thrown t place) ended ending (failure_no_cut thrown t place) in
       subst (λ us. IsBug p m f n us w here) (sym bug.draws) (subst (IsBug p m f n (draws_among path.vars bug.valuation) w) (sym same)
-      (failure_is_bug p m stands terms asked plain laws f start begins n entry from.earlier path from.trail from.within bug.valuation bug.canonical t place w ending bug.value_is))
+      (failure_is_bug p m stands terms asked plain laws f start begins n entry from.earlier path from.trail from.within bug.valuation bug.canonical thrown t place w ending (failure_value thrown bug.valuation t place w bug.value_is)))
 
   found_miss : (path : PurePath S) (key : _) (place here : Place) (w : PureValue) (inputs : List PureValue) → Ended path → path.ending ≡ Some (missed key place) → here ≡ place → IsFoundBug (lists_of path) (missed key place) w inputs → IsBug p m f n inputs w here
   found_miss path key place here w inputs ended ending same bug =
@@ -237,10 +234,10 @@ module _ {S : Type 0} (p : PureParts) (m : Actions) (stands : S → List PureVal
       let b : ℕ = grown (length from.earlier) 0 in
       true≢false (sym out ∙ atom_passes b a (narrow_there path from) (each_at (IsDecidedWithin (neg_ℤ (pos b)) (pos b)) path.conds q.outside a (plain_there path from keeps simple).conds at))
 
-  refutes_term : (path : PurePath S) (from : From path) → keeps_plain → Each (IsAtSimple p) from.earlier → (t : PureTerm) (place : Place) → path.ending ≡ Some (failed t place) → is_narrow_term t ≡ true
-  refutes_term path from keeps simple t place ending =
+  refutes_term : (path : PurePath S) (from : From path) → keeps_plain → Each (IsAtSimple p) from.earlier → (thrown : Bool) (t : PureTerm) (place : Place) → path.ending ≡ Some (failure thrown t place) → is_narrow_term t ≡ true
+  refutes_term path from keeps simple thrown t place ending =
       let b : ℕ = grown (length from.earlier) 0 in
-      term_is_narrow b t (narrow_there path from) (subst (λ o. Each (IsPlainWithin (neg_ℤ (pos b)) (pos b)) (end_terms o)) ending (plain_there path from keeps simple).ending).0
+      term_is_narrow b t (narrow_there path from) (subst (Each (IsPlainWithin (neg_ℤ (pos b)) (pos b))) (ap end_terms ending ∙ failure_terms thrown t place) (plain_there path from keeps simple).ending).0
 
   -- the actions on the way need only literal forms that matter to them
   forms_of : (path : PurePath S) (from : From path) (last : LastStep path from.earlier) → EachStep (NeedsWhatMatters p stands depends) (last.before ∷ last.rest) path
@@ -275,7 +272,7 @@ module _ {S : Type 0} (p : PureParts) (m : Actions) (stands : S → List PureVal
 
   -- how a run comes to the last command of a failing path
   module _ (path : PurePath S) (how : PureEnd) (from : From path) (ending : path.ending ≡ Some how) (known : IsUnknown (Some how) → ⊥) (last : LastStep path from.earlier) (place : Place)
-      (fails_there : (v : List PureValue) (e : End) (s : State) → StandsForEnd p m stands path v s how e → (w : PureValue) × (e.ending ≡ machine.failed w place)) where
+      (fails_there : (v : List PureValue) (e : End) (s : State) → StandsForEnd p m stands path v s how e → (w : PureValue) × (told e.ending ≡ machine.failed w place)) where
     comes_failing : (us : List PureValue) × (ComesAlong p m f us (length last.rest) place path.choices × (Each (IsAtSimple p) (last.before ∷ last.rest) ⊎ MeetsOther p m f us (length last.rest)))
     comes_failing =
         let (v, canonical) = has_canonical p m stands terms asked plain laws f start begins (last.before ∷ last.rest) path (last.next, last.trail) (λ holds. known (subst IsUnknown ending holds)) in
@@ -287,27 +284,27 @@ module _ {S : Type 0} (p : PureParts) (m : Actions) (stands : S → List PureVal
         is_about path place q path.conds q.outside is list.query refl
         (own_list path how from ending last place there q.outside us come (others_of path from last us either (λ keeps simple. refutes_list path from keeps simple q list)) list.outside)
 
-  failing_end : (path : PurePath S) (t : PureTerm) (place : Place) (v : List PureValue) (e : End) (s : State) → StandsForEnd p m stands path v s (failed t place) e → (w : PureValue) × (e.ending ≡ machine.failed w place)
-  failing_end path t place v e s stood = let (w, (val, is)) = stood.ending in (w, is)
+  failing_end : (path : PurePath S) (thrown : Bool) (t : PureTerm) (place : Place) (v : List PureValue) (e : End) (s : State) → StandsForEnd p m stands path v s (failure thrown t place) e → (w : PureValue) × (told e.ending ≡ machine.failed w place)
+  failing_end path thrown t place v e s stood = let (w, (val, is)) = failure_ends thrown p m v s t place e.ending stood.ending in (w, is)
 
-  missing_end : (path : PurePath S) (key : _) (place : Place) (v : List PureValue) (e : End) (s : State) → StandsForEnd p m stands path v s (missed key place) e → (w : PureValue) × (e.ending ≡ machine.failed w place)
-  missing_end path key place v e s stood = let (k, (val, miss, is)) = stood.ending in (text (codes "missing"), is)
+  missing_end : (path : PurePath S) (key : _) (place : Place) (v : List PureValue) (e : End) (s : State) → StandsForEnd p m stands path v s (missed key place) e → (w : PureValue) × (told e.ending ≡ machine.failed w place)
+  missing_end path key place v e s stood = let (k, (val, miss, is)) = stood.ending in (text (codes "missing"), ap told is)
 
   -- ---- a failing value that leaves 128 bits
 
-  module _ (path : PurePath S) (t : PureTerm) (place : Place) (from : From path) (ending : path.ending ≡ Some (failed t place)) (last : LastStep path from.earlier) where
+  module _ (path : PurePath S) (thrown : Bool) (t : PureTerm) (place : Place) (from : From path) (ending : path.ending ≡ Some (failure thrown t place)) (last : LastStep path from.earlier) where
     known : IsUnknown path.ending → ⊥
-    known holds = subst IsUnknown ending holds
+    known holds = failure_known thrown t place (subst IsUnknown ending holds)
 
     trail : IsTrail p m stands terms asked start (last.before ∷ last.rest) path
     trail = (last.next, last.trail)
 
     -- the end of a run whose valuation meets the conditions
     fails_with : (us v : List PureValue) → HaveValuation path.vars us v → IsTrue (all_true v path.conds)
-        → (s : State) × ((e : End) × ((w : PureValue) × (EndsAfter p m us s0 (suc (length last.rest)) s e × (value v t ≡ Some w) × (e.ending ≡ machine.failed w place))))
+        → (s : State) × ((e : End) × ((w : PureValue) × (EndsAfter p m us s0 (suc (length last.rest)) s e × (value v t ≡ Some w) × (told e.ending ≡ machine.failed w place))))
     fails_with us v has meets =
         let (s, (e, (after, stood))) = subst (StandsAfter p m stands us s0 start path v (suc (length last.rest))) ending (replayed p m stands terms asked plain laws f start begins us (last.before ∷ last.rest) path v trail has meets known) in
-        let (w, (val, is)) = stood.ending in
+        let (w, (val, is)) = failure_ends thrown p m v s t place e.ending stood.ending in
         (s, (e, (w, (after, val, is))))
 
     -- a text is narrow
@@ -320,25 +317,30 @@ module _ {S : Type 0} (p : PureParts) (m : Actions) (stands : S → List PureVal
         let (s, (e, (w, (after, val, is)))) = fails_with us v has meets in
         ap (λ o. is_some o && true) val
 
-    at_last : (us : List PureValue) (s r : State) (e : End) (w : PureValue) → reached p m us (length last.rest) s0 ≡ Some s → EndsAfter p m us s0 (suc (length last.rest)) r e → e.ending ≡ machine.failed w place → step p m us s ≡ ends e
+    at_last : (us : List PureValue) (s r : State) (e : End) (w : PureValue) → reached p m us (length last.rest) s0 ≡ Some s → EndsAfter p m us s0 (suc (length last.rest)) r e → told e.ending ≡ machine.failed w place → step p m us s ≡ ends e
     at_last us s r e w reach (inl (j, (same, comes, leads))) is =
         let at_k : length last.rest ≡ j = omega (arith, same) in
         let there : r ≡ s = same_some (sym comes ∙ ap (λ i. reached p m us i s0) (sym at_k) ∙ reach) in
         ap (step p m us) (sym there) ∙ leads
-    at_last us s r e w reach (inr (comes, ends_cut)) is = absurd (cut_fails w place (sym (ap (λ (x : End). x.ending) ends_cut) ∙ is)) where
+    at_last us s r e w reach (inr (comes, ends_cut)) is = absurd (cut_fails w place (sym (ap (λ (x : End). told x.ending) ends_cut) ∙ is)) where
       cut_fails : (w : PureValue) (place : Place) → machine.cut ≡ machine.failed w place → ⊥
       cut_fails w place unlike = cc
 
     term_over : IsOverVars path.vars t
-    term_over = (subst (λ o. AreEachOver path.vars (end_terms o)) ending (is_over p m stands terms asked plain laws f start begins (last.before ∷ last.rest) path trail).ending).0
+    term_over = (subst (AreEachOver path.vars) (ap end_terms ending ∙ failure_terms thrown t place) (is_over p m stands terms asked plain laws f start begins (last.before ∷ last.rest) path trail).ending).0
+
+    -- the term is from the last command
+    left_by : (b : Bool) → path.ending ≡ Some (failure b t place) → is_narrow_term t ≡ false → IsFailingBy b m terms last.before last.next.at_command.0.command t
+    left_by false is wide_one = not_text wide_one (last.next.origin.failing last.next.at_command.0 t place last.next.at_command.1 is)
+    left_by true is wide_one = last.next.origin.throwing last.next.at_command.0 t place last.next.at_command.1 is
 
     wide_is_undecided : (q : PureQuery) → IsAbout (lists_of path) place q → IsWide (lists_of path) t q → Undecided q
     wide_is_undecided q is wide =
         let atoms : List PureAtom = path.conds ++ opening t ∷ [] in
-        let (us, (come, either)) = comes_failing path (failed t place) from ending (λ holds. holds) last place (failing_end path t place) in
+        let (us, (come, either)) = comes_failing path (failure thrown t place) from ending (failure_known thrown t place) last place (failing_end path thrown t place) in
         let not_narrow : is_narrow_term t ≡ false = not_narrow_by (is_narrow_term t) refl wide.leaves.wide in
         is_about path place q atoms (length path.conds) is wide.query wide.outside
-        (is_undecided p m stands terms asked plain laws f start begins n entry last.before last.rest path last.next last.trail (failed t place) ending from.within depends (forms_of path from last) place refl (opening t ∷ []) (length path.conds) us come
+        (is_undecided p m stands terms asked plain laws f start begins n entry last.before last.rest path last.next last.trail (failure thrown t place) ending from.within depends (forms_of path from last) place (failure_there thrown t place) (opening t ∷ []) (length path.conds) us come
         has_value
         (inr (
           opening t,
@@ -347,10 +349,11 @@ module _ {S : Type 0} (p : PureParts) (m : Actions) (stands : S → List PureVal
             record {
               term = t;
               asks = refl;
+              thrown = thrown;
               ending = ending;
               command = last.next.at_command.0;
               at = last.next.at_command.1;
-              from = not_text not_narrow (last.next.origin.failing last.next.at_command.0 t place last.next.at_command.1 ending);
+              from = left_by thrown ending not_narrow;
               fails = λ us v s has whole reach.
                   let meets : IsTrue (all_true v path.conds) = (and_parts (all_true v path.conds) (all_true v (opening t ∷ [])) (sym (list_all-append (truth v) path.conds (opening t ∷ [])) ∙ whole)).0 in
                   let (r, (e, (w, (after, val, fails_so)))) = fails_with us v has meets in
@@ -365,7 +368,7 @@ module _ {S : Type 0} (p : PureParts) (m : Actions) (stands : S → List PureVal
           ),
         ))
         (open_is_outside path.conds t wide.inside) keeps_plain
-        (others_of path from last us either (λ keeps simple. true≢false (sym (refutes_term path from keeps simple t place ending) ∙ not_narrow)))) where
+        (others_of path from last us either (λ keeps simple. true≢false (sym (refutes_term path from keeps simple thrown t place ending) ∙ not_narrow)))) where
           not_narrow_by : (b : Bool) → is_narrow_term t ≡ b → IsTrue (has_wide_part wide.leaves.valuation t) → is_narrow_term t ≡ false
           not_narrow_by false holds there = holds
           not_narrow_by true narrow there =
@@ -373,17 +376,19 @@ module _ {S : Type 0} (p : PureParts) (m : Actions) (stands : S → List PureVal
 
   -- ---- all of it
 
-  failure_right : (path : PurePath S) (t : PureTerm) (place : Place) (j : PureJudgement) → Ended path → path.ending ≡ Some (failed t place) → IsFailureJudged (lists_of path) (failed t place) place (IsWide (lists_of path) t) j
+  failure_right : (path : PurePath S) (thrown : Bool) (t : PureTerm) (place : Place) (j : PureJudgement) → Ended path → path.ending ≡ Some (failure thrown t place) → IsFailureJudged (lists_of path) (failure thrown t place) place (IsWide (lists_of path) t) j
       → IsRightlyJudged p m stands terms asked depends keeps_plain f n start path j
-  failure_right path t place harmless ended ending judged = absurd judged
-  failure_right path t place (fails here w inputs) ended ending judged =
-      (found_failure path t place here w inputs ended ending judged.0 judged.1, found_along path (failed t place) place here w inputs ended ending refl refl judged.0 judged.1)
-  failure_right path t place (undecided q) ended ending (is, either) =
-      let from = from_of path (failed t place) ended ending refl in
-      let last = last_step path (failed t place) from.earlier from.trail ending in
+  failure_right path thrown t place harmless ended ending judged = absurd judged
+  failure_right path thrown t place (fails here w inputs) ended ending judged = (
+    found_failure path thrown t place here w inputs ended ending judged.0 judged.1,
+    found_along path (failure thrown t place) place here w inputs ended ending (failure_no_cut thrown t place) (failure_there thrown t place) judged.0 judged.1,
+  )
+  failure_right path thrown t place (undecided q) ended ending (is, either) =
+      let from = from_of path (failure thrown t place) ended ending (failure_no_cut thrown t place) in
+      let last = last_step path (failure thrown t place) from.earlier from.trail ending in
       ⊎_elim
-      (λ list. outside_is_undecided path (failed t place) from ending (λ holds. holds) last place (failing_end path t place) refl q is list)
-      (λ wide. wide_is_undecided path t place from ending last q is wide)
+      (λ list. outside_is_undecided path (failure thrown t place) from ending (failure_known thrown t place) last place (failing_end path thrown t place) (failure_there thrown t place) q is list)
+      (λ wide. wide_is_undecided path thrown t place from ending last q is wide)
       either
 
   miss_right : (path : PurePath S) (key : _) (place : Place) (j : PureJudgement) → Ended path → path.ending ≡ Some (missed key place) → IsFailureJudged (lists_of path) (missed key place) place (λ q. ⊥) j
@@ -411,7 +416,8 @@ module _ {S : Type 0} (p : PureParts) (m : Actions) (stands : S → List PureVal
   right_at : (path : PurePath S) (o : Option PureEnd) (j : PureJudgement) → Ended path → path.ending ≡ o → IsJudgedEnd path o j → IsRightlyJudged p m stands terms asked depends keeps_plain f n start path j
   right_at path None j ended ending judged = absurd (not_open path ended ending)
   right_at path (Some (returned t)) j ended ending judged = harmless_right path j judged (returned_is_harmless path t ended ending)
-  right_at path (Some (failed t place)) j ended ending judged = failure_right path t place j ended ending judged
+  right_at path (Some (failed t place)) j ended ending judged = failure_right path false t place j ended ending judged
+  right_at path (Some (threw t place)) j ended ending judged = failure_right path true t place j ended ending judged
   right_at path (Some (missed key place)) j ended ending judged = miss_right path key place j ended ending judged
   right_at path (Some vanished) j ended ending judged = harmless_right path j judged (vanished_is_harmless path ended ending)
   right_at path (Some cut) j ended ending judged = harmless_right path j judged (cut_is_harmless path ended ending)
@@ -443,22 +449,27 @@ module _ {S : Type 0} (p : PureParts) (m : Actions) (stands : S → List PureVal
       (λ other. absurd (true≢false (sym (fails_so.simple other.steps other.state other.command other.stands) ∙ other.other)))
       (simple_or_other p m stands terms asked laws f start inputs last.rest last.before w last.trail last.next.going last.next.at_command along_before sat_before)
 
+  refutes_failure : (path : PurePath S) (thrown : Bool) (t : PureTerm) (place : Place) (q : PureQuery) → Ended path → path.ending ≡ Some (failure thrown t place) → IsAbout (lists_of path) place q × (IsListOutside (lists_of path) q ⊎ IsWide (lists_of path) t q) → keeps_plain
+      → (inputs : List PureValue) → FailsSimply p m f inputs n → AccountsFor p m stands inputs s0 start [] path → ⊥
+  refutes_failure path thrown t place q ended ending (is, either) keeps inputs fails_so accounts =
+      let from = from_of path (failure thrown t place) ended ending (failure_no_cut thrown t place) in
+      let simple = simple_on_the_way path (failure thrown t place) from ending inputs fails_so accounts in
+      ⊎_elim
+      (λ list. refutes_list path from keeps simple q list)
+      (λ wide. true≢false (sym wide.leaves.wide
+      ∙ narrow_is_held path.vars wide.leaves.valuation t wide.leaves.canonical.own.proper
+      (subst (AreEachOver path.vars) (ap end_terms ending ∙ failure_terms thrown t place) (is_over p m stands terms asked plain laws f start begins from.earlier path from.trail).ending).0
+      (wide.leaves.moderate wide.inside) (refutes_term path from keeps simple thrown t place ending)))
+      either
+
   refutes_at : (path : PurePath S) (o : Option PureEnd) (q : PureQuery) → Ended path → path.ending ≡ o → IsJudgedEnd path o (undecided q) → keeps_plain → (inputs : List PureValue) → FailsSimply p m f inputs n
       → AccountsFor p m stands inputs s0 start [] path → ⊥
   refutes_at path None q ended ending judged keeps inputs fails_so accounts = not_open path ended ending
   refutes_at path (Some (returned t)) q ended ending judged keeps inputs fails_so accounts = not_harmless q judged
   refutes_at path (Some vanished) q ended ending judged keeps inputs fails_so accounts = not_harmless q judged
   refutes_at path (Some cut) q ended ending judged keeps inputs fails_so accounts = not_harmless q judged
-  refutes_at path (Some (failed t place)) q ended ending (is, either) keeps inputs fails_so accounts =
-      let from = from_of path (failed t place) ended ending refl in
-      let simple = simple_on_the_way path (failed t place) from ending inputs fails_so accounts in
-      ⊎_elim
-      (λ list. refutes_list path from keeps simple q list)
-      (λ wide. true≢false (sym wide.leaves.wide
-      ∙ narrow_is_held path.vars wide.leaves.valuation t wide.leaves.canonical.own.proper
-      (subst (λ o. AreEachOver path.vars (end_terms o)) ending (is_over p m stands terms asked plain laws f start begins from.earlier path from.trail).ending).0
-      (wide.leaves.moderate wide.inside) (refutes_term path from keeps simple t place ending)))
-      either
+  refutes_at path (Some (failed t place)) q ended ending judged keeps inputs fails_so accounts = refutes_failure path false t place q ended ending judged keeps inputs fails_so accounts
+  refutes_at path (Some (threw t place)) q ended ending judged keeps inputs fails_so accounts = refutes_failure path true t place q ended ending judged keeps inputs fails_so accounts
   refutes_at path (Some (missed key place)) q ended ending (is, either) keeps inputs fails_so accounts =
       let from = from_of path (missed key place) ended ending refl in
       let simple = simple_on_the_way path (missed key place) from ending inputs fails_so accounts in

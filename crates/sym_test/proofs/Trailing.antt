@@ -44,7 +44,7 @@ all_over vars [] over x has = absurd (none_contained x has)
 all_over vars (a ∷ atoms) over x has = ⊎_elim (over.0 x) (all_over vars atoms over.1 x) (Contains-append_cases (variables (term_of a)) (variables_of_atoms atoms) x has)
 
 -- what is known of trails
-pub record TrailLaws {S : Type 0} (p : PureParts) (m : Actions) (stands : S → List PureValue → Heap → Type 0) (terms : S → StateTerms) (asked : List ℕ → List PureTerm → List PureTerm) : Type 0 where
+pub record TrailLaws {S : Type 0} (p : PureParts) (m : Actions) (stands : S → List PureValue → Heap → Type 0) (terms : S → StateTerms) (asked : List ℕ → List PureTerm → List PureTerm × List PureTerm) : Type 0 where
   pub keep : TrailsKeep p m stands terms asked
   pub replay : TrailsReplay p m stands terms asked
   pub hold_along : TrailsHoldAlong p m stands terms asked
@@ -94,7 +94,7 @@ drawn_length k (sort ∷ xs) =
     let later : draws_after sort (length (drawn_from (suc k) xs)) ≡ draws_after sort 0 + length (drawn_from (suc k) xs) = later_draws sort (length (drawn_from (suc k) xs)) in
     omega (arith, one, rest, past, later)
 
-module _ {S : Type 0} (p : PureParts) (m : Actions) (stands : S → List PureValue → Heap → Type 0) (terms : S → StateTerms) (asked : List ℕ → List PureTerm → List PureTerm)
+module _ {S : Type 0} (p : PureParts) (m : Actions) (stands : S → List PureValue → Heap → Type 0) (terms : S → StateTerms) (asked : List ℕ → List PureTerm → List PureTerm × List PureTerm)
     (plain : S → ℤ → ℤ → Type 0) (laws : TrailLaws p m stands terms asked) (f : List ℕ) (start : PurePath S) (begins : Begins p stands terms plain f start) where
   abbrev IsTrailOf : List (PurePath S) → PurePath S → Type 0
   IsTrailOf = IsTrail p m stands terms asked start

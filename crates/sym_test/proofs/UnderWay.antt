@@ -5,8 +5,8 @@ use Rattle.gil_values.specs.declared.places.Place.{Place}
 use Rattle.gil_values.specs.Pure.{PureValue}
 use Rattle.gil_syntax.specs.Pure.{PureParts}
 use Rattle.gil_syntax.specs.Simple.{is_simple}
-use Rattle.gil_machine.specs.Run.{test_run, IsEntry, IsBug}
-use Rattle.gil_machine.specs.State.{State, Ending, IsFailed}
+use Rattle.gil_machine.specs.Run.{test_run, IsEntry, IsBug, run}
+use Rattle.gil_machine.specs.State.{State, Ending, IsFailed, told}
 use Rattle.gil_machine.specs.State as machine
 use Rattle.mem_model.specs.Actions.{Actions}
 use Rattle.mem_model.specs.Heaps.{Heap}
@@ -28,21 +28,23 @@ use Rattle.sym_test.proofs.Plainly.{simple_at}
 use Rattle.sym_test.proofs.Replaying.{failure_has_value}
 use Rattle.sym_test.proofs.Saying.{judged_right, simple_is_decided}
 use Rattle.sym_test.proofs.Trailing.{TrailLaws, new_sorts, is_over, is_met}
+use Rattle.sym_test.proofs.Failures.{cut_is_no_failure_end}
 
 abbrev pub OnSome : {X : Type 0} → (X → Type 0) → Option X → Type 0
 OnSome P (Some x) = P x
 OnSome P None = Unit {0}
 
 -- a failing run doesn't end for want of a fitting input
-failed_has_input : (e : Ending) → IsFailed e → ¬ IsInputFault e
+failed_has_input : (e : Ending) → IsFailed (told e) → ¬ IsInputFault e
 failed_has_input (machine.failed w place) is fault = fault
+failed_has_input (machine.threw w place) is fault = fault
 failed_has_input (machine.returned w) is fault = is
 failed_has_input machine.vanished is fault = is
 failed_has_input (machine.no_input k) is fault = is
 failed_has_input (machine.bad_input k) is fault = is
 failed_has_input machine.cut is fault = is
 
-pub record IsUnderWay {S : Type 0} (p : PureParts) (m : Actions) (stands : S → List PureValue → Heap → Type 0) (terms : S → StateTerms) (asked : List ℕ → List PureTerm → List PureTerm)
+pub record IsUnderWay {S : Type 0} (p : PureParts) (m : Actions) (stands : S → List PureValue → Heap → Type 0) (terms : S → StateTerms) (asked : List ℕ → List PureTerm → List PureTerm × List PureTerm)
     (depends : S → List ℕ → List PureTerm → List PureValue → Heap → PureTerm → Type 0) (plain : S → ℤ → ℤ → Type 0) (keeps_plain : Type 0) (f : List ℕ) (n : ℕ)
     (left : List (PurePath S)) (kept : Option PureQuery) : Type 0 where
   pub start : PurePath S
@@ -53,7 +55,7 @@ pub record IsUnderWay {S : Type 0} (p : PureParts) (m : Actions) (stands : S →
   pub simple_cover : keeps_plain → (inputs : List PureValue) → FailsSimply p m f inputs n → OneOf (AccountsFor p m stands inputs (first_state p f) start []) left
   pub asks : OnSome (IsUndecided p m stands terms asked depends keeps_plain f n) kept
 
-module _ {S : Type 0} (p : PureParts) (m : Actions) (stands : S → List PureValue → Heap → Type 0) (terms : S → StateTerms) (asked : List ℕ → List PureTerm → List PureTerm)
+module _ {S : Type 0} (p : PureParts) (m : Actions) (stands : S → List PureValue → Heap → Type 0) (terms : S → StateTerms) (asked : List ℕ → List PureTerm → List PureTerm × List PureTerm)
     (depends : S → List ℕ → List PureTerm → List PureValue → Heap → PureTerm → Type 0) (plain : S → ℤ → ℤ → Type 0) (laws : TrailLaws p m stands terms asked) (keeps_plain : Type 0) (stays : TrailsStayPlain p m stands terms asked plain) (f : List ℕ) (n : ℕ) (entry : IsEntry p f) (few : n ≤ 10000) where
   abbrev UnderWay : List (PurePath S) → Option PureQuery → Type 0
   UnderWay = IsUnderWay p m stands terms asked depends plain keeps_plain f n
@@ -94,7 +96,7 @@ module _ {S : Type 0} (p : PureParts) (m : Actions) (stands : S → List PureVal
     over = is_over p m stands terms asked plain laws f start begins from.earlier path from.trail;
     sorts = new_sorts p m stands terms asked plain laws f start begins from.earlier path from.trail;
     met = is_met p m stands terms asked plain laws f start begins from.earlier path from.trail;
-    defined = λ t place v ending canonical. failure_has_value p m stands terms asked plain laws f start begins n entry from.earlier path from.trail from.within v canonical t place ending;
+    defined = λ thrown t place v ending canonical. failure_has_value p m stands terms asked plain laws f start begins n entry from.earlier path from.trail from.within v canonical thrown t place ending;
   }
   may_be_judged start begins path (inr (last, (from, going, steps, is))) =
       let over : IsOverTable terms last = is_over p m stands terms asked plain laws f start begins from.earlier last from.trail in
@@ -102,10 +104,8 @@ module _ {S : Type 0} (p : PureParts) (m : Actions) (stands : S → List PureVal
         over = record { conds = over.conds; given = over.given; stores = over.stores; memory = over.memory; drawn = over.drawn; ending = tt };
         sorts = new_sorts p m stands terms asked plain laws f start begins from.earlier last from.trail;
         met = λ known. is_met p m stands terms asked plain laws f start begins from.earlier last from.trail (λ holds. subst IsUnknown going holds);
-        defined = λ t place v ending canonical. no_cut_fails t place ending;
-      }) where
-        no_cut_fails : (t : PureTerm) (place : Place) → Some cut ≡ Some (failed t place) → {X : Type 0} → X
-        no_cut_fails t place unlike = cc
+        defined = λ thrown t place v ending canonical. cut_is_no_failure_end thrown t place ending;
+      })
 
   -- what is left, after a path was handed out of which this is said
   abbrev pub AfterJudgement : List (PurePath S) → Option PureQuery → PureJudgement → Type 0
@@ -133,10 +133,10 @@ module _ {S : Type 0} (p : PureParts) (m : Actions) (stands : S → List PureVal
     from = from;
     cover = λ none inputs fails_there.
         ⊎_elim (λ here. absurd (right inputs fails_there here)) (λ later. later)
-        (accounts so.start inputs [] s0 (failed_has_input (test_run p m f inputs n).ending fails_there) (so.cover none inputs fails_there));
+        (accounts so.start inputs [] s0 (failed_has_input (run p m inputs n s0).ending fails_there) (so.cover none inputs fails_there));
     simple_cover = λ keeps inputs fails_so.
         ⊎_elim (λ here. absurd (right inputs fails_so.fails here)) (λ later. later)
-        (accounts so.start inputs [] s0 (failed_has_input (test_run p m f inputs n).ending fails_so.fails) (so.simple_cover keeps inputs fails_so));
+        (accounts so.start inputs [] s0 (failed_has_input (run p m inputs n s0).ending fails_so.fails) (so.simple_cover keeps inputs fails_so));
     asks = so.asks;
   }
   after left rest path kept so from accounts may (fails place w inputs) right decided = right
@@ -148,7 +148,7 @@ module _ {S : Type 0} (p : PureParts) (m : Actions) (stands : S → List PureVal
     cover = λ none. not_none (sym none);
     simple_cover = λ keeps inputs fails_so.
         ⊎_elim (λ here. absurd (decided keeps inputs fails_so here)) (λ later. later)
-        (accounts so.start inputs [] s0 (failed_has_input (test_run p m f inputs n).ending fails_so.fails) (so.simple_cover keeps inputs fails_so));
+        (accounts so.start inputs [] s0 (failed_has_input (run p m inputs n s0).ending fails_so.fails) (so.simple_cover keeps inputs fails_so));
     asks = right;
   }
   after left rest path (Some q0) so from accounts may (undecided q) right decided = record {
@@ -159,7 +159,7 @@ module _ {S : Type 0} (p : PureParts) (m : Actions) (stands : S → List PureVal
     cover = λ none. not_none (sym none);
     simple_cover = λ keeps inputs fails_so.
         ⊎_elim (λ here. absurd (decided keeps inputs fails_so here)) (λ later. later)
-        (accounts so.start inputs [] s0 (failed_has_input (test_run p m f inputs n).ending fails_so.fails) (so.simple_cover keeps inputs fails_so));
+        (accounts so.start inputs [] s0 (failed_has_input (run p m inputs n s0).ending fails_so.fails) (so.simple_cover keeps inputs fails_so));
     asks = so.asks;
   }
 
@@ -180,17 +180,17 @@ module _ {S : Type 0} (p : PureParts) (m : Actions) (stands : S → List PureVal
   concludes left rest None so accounts none = record {
     entry = entry;
     never_fails = λ inputs fails_there.
-        subst (OneOf (Accounts so.start inputs)) none (accounts so.start inputs [] s0 (failed_has_input (test_run p m f inputs n).ending fails_there) (so.cover refl inputs fails_there));
+        subst (OneOf (Accounts so.start inputs)) none (accounts so.start inputs [] s0 (failed_has_input (run p m inputs n s0).ending fails_there) (so.cover refl inputs fails_there));
   }
 
   -- so no run fails by simple commands alone
   pub no_simple_failure : (left rest : List (PurePath S)) (kept : Option PureQuery) → UnderWay left kept → KeepAccounts p m stands n left rest → rest ≡ [] → keeps_plain → (inputs : List PureValue) → FailsSimply p m f inputs n → ⊥
   no_simple_failure left rest kept so accounts none keeps inputs fails_so =
       subst (OneOf (Accounts so.start inputs)) none
-      (accounts so.start inputs [] s0 (failed_has_input (test_run p m f inputs n).ending fails_so.fails) (so.simple_cover keeps inputs fails_so))
+      (accounts so.start inputs [] s0 (failed_has_input (run p m inputs n s0).ending fails_so.fails) (so.simple_cover keeps inputs fails_so))
 
 -- In a simple program nothing is left unknown.
-pub simple_decides : {S : Type 0} (p : PureParts) (m : Actions) (stands : S → List PureValue → Heap → Type 0) (terms : S → StateTerms) (asked : List ℕ → List PureTerm → List PureTerm) (depends : S → List ℕ → List PureTerm → List PureValue → Heap → PureTerm → Type 0) (keeps_plain : Type 0) (f : List ℕ) (n : ℕ) (verdict : PureVerdict)
+pub simple_decides : {S : Type 0} (p : PureParts) (m : Actions) (stands : S → List PureValue → Heap → Type 0) (terms : S → StateTerms) (asked : List ℕ → List PureTerm → List PureTerm × List PureTerm) (depends : S → List ℕ → List PureTerm → List PureValue → Heap → PureTerm → Type 0) (keeps_plain : Type 0) (f : List ℕ) (n : ℕ) (verdict : PureVerdict)
     → IsRightVerdict p m stands terms asked depends keeps_plain f n verdict → keeps_plain → IsTrue (is_simple p) → ¬ IsUnknownVerdict verdict
 simple_decides p m stands terms asked depends keeps_plain f n (bug place w inputs) right keeps simple holds = holds
 simple_decides p m stands terms asked depends keeps_plain f n clean right keeps simple holds = holds

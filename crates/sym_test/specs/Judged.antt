@@ -1,5 +1,5 @@
 -- The start of a test, and what is said of one path that has ended.
-use Rattle.std.specs.Prelude.{◌≡◌, ◌⊎◌, ℕ, ℤ, List, [], ◌∷◌, ◌++◌, length, slice_get, Option, Some, None, IsTrue}
+use Rattle.std.specs.Prelude.{◌≡◌, ◌⊎◌, ℕ, ℤ, List, [], ◌∷◌, ◌++◌, length, slice_get, Bool, Option, Some, None, IsTrue}
 use Rattle.std.specs.List.{list_all}
 use Rattle.gil_values.specs.declared.places.Place.{Place}
 use Rattle.gil_values.specs.Pure.{PureValue}
@@ -19,12 +19,12 @@ use Rattle.sym_explore.specs.Runs.{AccountsFor}
 use Rattle.sym_model.specs.Lists.{Each}
 use Rattle.sym_model.specs.Terms.{StateTerms}
 use Rattle.sym_paths.specs.Meaning.{Stands, IsOverTable, IsFirstPath}
-use Rattle.sym_paths.specs.Pure.{PureEnd, failed, missed, unknown, PurePath}
+use Rattle.sym_paths.specs.Pure.{PureEnd, returned, failed, threw, missed, vanished, cut, unknown, PurePath}
 use Rattle.sym_paths.specs.Steps.{IsNewSort, IsUnknown, place_of, IsPlainPath}
 use Rattle.pure_terms.specs.View.{atoms_view}
 use Rattle.sym_test.specs.declared.judging.Judgement.{Judgement}
 use Rattle.sym_test.specs.declared.judging.Lists.{Lists}
-use Rattle.sym_test.specs.Bugs.{FailsWith, IsFound}
+use Rattle.sym_test.specs.Bugs.{failure, FailsWith, IsFound}
 use Rattle.sym_test.specs.Canonical.{draws_among, IsCanonical}
 use Rattle.sym_test.specs.Undecided.{first_state, keeps_out, IsOutsideAt, IsUndecided}
 use Rattle.sym_test.specs.View.{PureQuery, query_view, PureVerdict, clean}
@@ -56,7 +56,8 @@ pub record MayBeJudged {S : Type 0} (terms : S → StateTerms) (path : PurePath 
   pub over : IsOverTable terms path
   pub sorts : Each IsNewSort path.vars
   pub met : ¬ IsUnknown path.ending → (v : List PureValue) × Satisfies path.vars v path.conds
-  pub defined : (t : PureTerm) (place : Place) (v : List PureValue) → path.ending ≡ Some (failed t place) → IsCanonical path.vars path.conds v
+  pub defined : (thrown : Bool) (t : PureTerm) (place : Place) (v : List PureValue) → path.ending ≡ Some (failure thrown t place)
+      → IsCanonical path.vars path.conds v
       → (w : PureValue) × (value v t ≡ Some w)
 
 -- what a query is made of: the variables of a path, its choices, what is assumed, and its conditions
@@ -115,7 +116,8 @@ pub record IsFoundBug (l : PureLists) (how : PureEnd) (w : PureValue) (inputs : 
 -- a question about a path
 abbrev pub IsQuestion : PureLists → Place → (PureQuery → Type 0) → PureJudgement → Type 0
 IsQuestion l place Is (undecided q) = IsAbout l place q × Is q
-IsQuestion l place Is _ = ⊥
+IsQuestion l place Is harmless = ⊥
+IsQuestion l place Is (fails here w inputs) = ⊥
 
 -- what may be said of a failing path
 abbrev pub IsFailureJudged : PureLists → PureEnd → Place → (PureQuery → Type 0) → PureJudgement → Type 0
@@ -126,13 +128,18 @@ IsFailureJudged l how place May (undecided q) = IsAbout l place q × (IsListOuts
 -- what may be said of an unknown path
 abbrev pub IsUnknownJudged : PureLists → Place → ℕ → PureJudgement → Type 0
 IsUnknownJudged l place i (undecided q) = IsAbout l place q × (q.query ≡ l.conds) × (q.outside ≡ i)
-IsUnknownJudged l place i _ = ⊥
+IsUnknownJudged l place i harmless = ⊥
+IsUnknownJudged l place i (fails here w inputs) = ⊥
 
 abbrev pub IsJudgedEnd : {S : Type 0} → PurePath S → Option PureEnd → PureJudgement → Type 0
 IsJudgedEnd path (Some (failed t place)) j = IsFailureJudged (lists_of path) (failed t place) place (IsWide (lists_of path) t) j
+IsJudgedEnd path (Some (threw t place)) j = IsFailureJudged (lists_of path) (threw t place) place (IsWide (lists_of path) t) j
 IsJudgedEnd path (Some (missed k place)) j = IsFailureJudged (lists_of path) (missed k place) place (λ q. ⊥) j
 IsJudgedEnd path (Some (unknown place reason)) j = IsUnknownJudged (lists_of path) place (place_of reason) j
-IsJudgedEnd path _ j = j ≡ harmless
+IsJudgedEnd path (Some (returned t)) j = j ≡ harmless
+IsJudgedEnd path (Some vanished) j = j ≡ harmless
+IsJudgedEnd path (Some cut) j = j ≡ harmless
+IsJudgedEnd path None j = j ≡ harmless
 
 -- ---- when it is right
 
@@ -143,7 +150,7 @@ AccountsForNoFailure p m stands f n start path =
     (inputs : List PureValue) → IsFailed (test_run p m f inputs n).ending → ¬ AccountsFor p m stands inputs (first_state p f) start [] path
 
 abbrev pub IsRightlyJudged : {S : Type 0} → PureParts → Actions → (S → List PureValue → Heap → Type 0) → (S → StateTerms)
-    → (List ℕ → List PureTerm → List PureTerm) → (S → List ℕ → List PureTerm → List PureValue → Heap → PureTerm → Type 0) → Type 0
+    → (List ℕ → List PureTerm → List PureTerm × List PureTerm) → (S → List ℕ → List PureTerm → List PureValue → Heap → PureTerm → Type 0) → Type 0
     → List ℕ → ℕ → PurePath S → PurePath S → PureJudgement → Type 0
 IsRightlyJudged p m stands terms asked depends keeps_plain f n start path harmless = AccountsForNoFailure p m stands f n start path
 IsRightlyJudged p m stands terms asked depends keeps_plain f n start path (fails place w inputs) =

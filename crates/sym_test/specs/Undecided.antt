@@ -1,14 +1,14 @@
 -- What a verdict promises: a bug, clean, or undecided. Bugs and clean are those of Gillian, Part I (PLDI 2020).
-use Rattle.std.specs.Prelude.{◌≡◌, ◌⊎◌, ℕ, suc, ◌<◌, ◌≤◌, ◌^◌, pos, neg_ℤ, List, [], ◌∷◌, ◌++◌, length, Bool, false, not, ◌&&◌, ◌||◌, Option, Some, IsTrue, ⊤}
+use Rattle.std.specs.Prelude.{◌≡◌, ◌⊎◌, ℕ, suc, ◌<◌, ◌≤◌, ◌^◌, pos, neg_ℤ, List, [], ◌∷◌, ◌++◌, length, Bool, true, false, not, ◌&&◌, ◌||◌, Option, Some, IsTrue, ⊤}
 use Rattle.std.specs.FinMap.{empty}
 use Rattle.std.specs.List.{list_all}
 use Rattle.gil_values.specs.declared.places.Place.{Place}
 use Rattle.gil_values.specs.Pure.{PureValue}
-use Rattle.gil_syntax.specs.Pure.{PureParts, PureNumberedCommand}
+use Rattle.gil_syntax.specs.Pure.{PureParts, PureCommand, PureNumberedCommand}
 use Rattle.gil_syntax.specs.Simple.{is_simple_command}
 use Rattle.gil_machine.specs.Choices.{choices, with_choice}
 use Rattle.gil_machine.specs.Run.{reached, start, test_run, IsEntry, IsBug, IsClean}
-use Rattle.gil_machine.specs.State.{State, End, failed, IsFailed, ends}
+use Rattle.gil_machine.specs.State.{State, End, failed, told, IsFailed, ends}
 use Rattle.gil_machine.specs.Step.{command_at, step}
 use Rattle.mem_model.specs.Actions.{Actions}
 use Rattle.mem_model.specs.Heaps.{Heap}
@@ -26,11 +26,10 @@ use Rattle.sym_model.specs.Meaning.{has_open}
 use Rattle.sym_model.specs.Terms.{StateTerms}
 use Rattle.sym_paths.specs.Forms.{NeedsWhatMatters}
 use Rattle.sym_paths.specs.Meaning.{command_of_path, EndsAt, IsFirstPath}
-use Rattle.sym_paths.specs.Origins.{IsFailing}
+use Rattle.sym_paths.specs.Origins.{IsFailing, IsThrown}
 use Rattle.sym_paths.specs.Pure.{PureEnd, PurePath}
-use Rattle.sym_paths.specs.Pure as path_end
 use Rattle.sym_paths.specs.Steps.{place_of, IsFirstOutside, MayChoose}
-use Rattle.sym_test.specs.Bugs.{IsFound}
+use Rattle.sym_test.specs.Bugs.{failure, IsFound}
 use Rattle.sym_test.specs.Canonical.{HaveValuation, IsCanonical}
 use Rattle.sym_test.specs.View.{PureQuery, PureVerdict, bug, clean, unknown}
 
@@ -83,8 +82,13 @@ module _ (p : PureParts) (m : Actions) (f : List ℕ) where
 abbrev pub is_narrow_term : PureTerm → Bool
 is_narrow_term t = is_simple t && has_literals_between (neg_ℤ (pos (2 ^ 80))) (pos (2 ^ 80)) t
 
+-- the term with which a path fails at this command, or which it throws
+abbrev pub IsFailingBy : {S : Type 0} → Bool → Actions → (S → StateTerms) → PurePath S → PureCommand → PureTerm → Type 0
+IsFailingBy false m terms path c t = IsFailing m terms path c t
+IsFailingBy true m terms path c t = IsThrown m terms path c t
+
 module _ {S : Type 0} (p : PureParts) (m : Actions) (stands : S → List PureValue → Heap → Type 0) (terms : S → StateTerms)
-    (asked : List ℕ → List PureTerm → List PureTerm) (depends : S → List ℕ → List PureTerm → List PureValue → Heap → PureTerm → Type 0)
+    (asked : List ℕ → List PureTerm → List PureTerm × List PureTerm) (depends : S → List ℕ → List PureTerm → List PureValue → Heap → PureTerm → Type 0)
     (f : List ℕ) where
   -- The way of a query: k steps from the first path of the test lead to a path, and one more to the next path, which ends at the query's
   -- place, and whose variables and choices are the query's, as is what it assumes. At the actions on the way only literal forms are
@@ -111,24 +115,25 @@ module _ {S : Type 0} (p : PureParts) (m : Actions) (stands : S → List PureVal
     abbrev pub IsTraced : PureAtom → Type 0
     IsTraced a = OneOf (λ path. IsOwnAt stands terms asked m p path a) (way.last ∷ way.earlier)
 
-    -- the last command of the way may assume the atom, or an action before it
+    -- the last command of the way may assume the atom, or the memory in an action before it
     abbrev pub IsAssumed : PureAtom → Type 0
     IsAssumed a = IsAssumedOn p m stands terms asked (way.last ∷ way.earlier) a
 
     -- The atom is that a failing value has its literal form. The next path fails at the place with the term of the expression of
-    -- `fail`, or an action's answer; runs along the path fail there with its value; it isn't simple with narrow literals, and has a part
+    -- `fail`, or an action's answer, or throws that of `throw`; runs along the path fail there with its value; it isn't simple with narrow literals, and has a part
     -- which leaves 128 bits under a canonical valuation that meets the other conditions; these are in the fragment, and the valuation has
     -- numbers as a decider gives them there.
     pub record IsWideFailure (a : PureAtom) : Type 0 where
       pub term : PureTerm
       pub asks : a ≡ opening term
-      pub ending : way.next.ending ≡ Some (path_end.failed term q.place)
+      pub thrown : Bool
+      pub ending : way.next.ending ≡ Some (failure thrown term q.place)
       pub command : PureNumberedCommand
       pub at : command_of_path p way.last ≡ Some command
-      pub from : IsFailing m terms way.last command.command term
+      pub from : IsFailingBy thrown m terms way.last command.command term
       pub fails : (inputs v : List PureValue) (s : State) → HaveValuation q.vars inputs v → IsTrue (all_true v q.query)
           → (reached p m inputs k (first_state p f) ≡ Some s)
-          → (w : PureValue) × ((e : End) × ((value v term ≡ Some w) × (step p m inputs s ≡ ends e) × (e.ending ≡ failed w q.place)))
+          → (w : PureValue) × ((e : End) × ((value v term ≡ Some w) × (step p m inputs s ≡ ends e) × (told e.ending ≡ failed w q.place)))
       pub not_narrow : is_narrow_term term ≡ false
       pub inside : InFragment way.next.conds
       pub met : List PureValue
@@ -161,10 +166,10 @@ IsOutsideAt atoms i = (¬ InFragment atoms) × ((reason : Reason) × (IsFirstOut
 --     the fragment and may be booleans; and no action needs a literal form on which what it comes to doesn't depend, wherever the
 --     conditions are met;
 --   asks and conds_traced: so no atom is asked that no command asks;
---   given_allowed: so nothing is assumed but what the last command may assume, or an action before it;
+--   given_allowed: so nothing is assumed but what the last command may assume, or the memory in an action before it;
 --   outside: so no list is handed out that every decider decides.
 pub record IsUndecided {S : Type 0} (p : PureParts) (m : Actions) (stands : S → List PureValue → Heap → Type 0) (terms : S → StateTerms)
-    (asked : List ℕ → List PureTerm → List PureTerm) (depends : S → List ℕ → List PureTerm → List PureValue → Heap → PureTerm → Type 0)
+    (asked : List ℕ → List PureTerm → List PureTerm × List PureTerm) (depends : S → List ℕ → List PureTerm → List PureValue → Heap → PureTerm → Type 0)
     (keeps_plain : Type 0) (f : List ℕ) (n : ℕ) (q : PureQuery) : Type 0 where
   pub entry : IsEntry p f
   pub k : ℕ
@@ -186,7 +191,7 @@ pub record IsUndecided {S : Type 0} (p : PureParts) (m : Actions) (stands : S �
 
 -- A bug is one, and comes from a path of the test; clean is clean for all inputs; and what is unknown is undecided.
 abbrev pub IsRightVerdict : {S : Type 0} → PureParts → Actions → (S → List PureValue → Heap → Type 0) → (S → StateTerms)
-    → (List ℕ → List PureTerm → List PureTerm) → (S → List ℕ → List PureTerm → List PureValue → Heap → PureTerm → Type 0) → Type 0
+    → (List ℕ → List PureTerm → List PureTerm × List PureTerm) → (S → List ℕ → List PureTerm → List PureValue → Heap → PureTerm → Type 0) → Type 0
     → List ℕ → ℕ → PureVerdict → Type 0
 IsRightVerdict p m stands terms asked depends keeps_plain f n (bug place w inputs) =
     IsBug p m f n inputs w place × IsFound p m stands terms asked depends f n place w inputs

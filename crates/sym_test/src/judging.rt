@@ -11,7 +11,7 @@ ghost use Rattle.pure_terms.specs.Pure.{PureAtom};
 ghost use Rattle.pure_terms.specs.View.{term_view, atom_view, atoms_view};
 ghost use Rattle.sym_model.specs.Lists.{Each};
 ghost use Rattle.sym_model.specs.Pure.{PureKey};
-ghost use Rattle.sym_paths.specs.Pure.{failed, missed};
+ghost use Rattle.sym_paths.specs.Pure.{failed, threw, missed};
 ghost use Rattle.sym_paths.specs.Steps.{IsNewSort, place_of};
 ghost use Rattle.sym_paths.specs.View.{end_view, path_view};
 ghost use Rattle.sym_test.specs.Canonical.{IsCanonical};
@@ -19,11 +19,10 @@ ghost use Rattle.sym_test.specs.Judged.{MayBeJudged, AreMet, LeavesHeld, IsListO
 ghost use Rattle.sym_test.specs.Undecided.{keeps_out, IsOutsideAt};
 
 use crate::canonical::{canonical_valuation, draws_among};
-use crate::evaluating::evaluate;
 use gil_values::{Place, Text, Value, Values};
 use pure_terms::{
     Atom, Atoms, Choices, Decider, Decision, HoldsFault, Query, Reason, Term, Valuation, VarTable,
-    in_fragment,
+    in_fragment, value_of,
 };
 use std::alloc::{AllocError, Global};
 use sym_model::SymMemory;
@@ -146,7 +145,7 @@ fn ask_form(lists: Lists, term: Term, place: Place) -> Result<Judgement, AllocEr
     Ok(ask(lists, place, outside))
 }
 
-/// What is said of a path that fails with a term.
+/// What is said of a path that fails with a term, or throws it and nothing catches it.
 fn judge_failure<D: Decider>(
     alloc: Global,
     decider: &mut D,
@@ -156,13 +155,15 @@ fn judge_failure<D: Decider>(
 ) -> Result<Judgement, AllocError>
     requires met { AreMet (lists_view lists) }
     requires defined { (v : List PureValue) → IsCanonical lists.vars (atoms_view lists.conds) v → (w : PureValue) × (value v (term_view term) ≡ Some w) }
-    ensures { IfOk result (λ j. IsFailureJudged (lists_view lists) (failed (term_view term) place) place
+    ensures failed { IfOk result (λ j. IsFailureJudged (lists_view lists) (failed (term_view term) place) place
+        (IsWide (lists_view lists) (term_view term)) (judgement_view j)) }
+    ensures threw { IfOk result (λ j. IsFailureJudged (lists_view lists) (threw (term_view term) place) place
         (IsWide (lists_view lists) (term_view term)) (judgement_view j)) }
 {
     let Some(valuation) = find_valuation(alloc, decider, &lists.vars, &lists.conds)? else {
         return ask_list(lists, place);
     };
-    match evaluate(alloc, &term, &valuation) {
+    match value_of(alloc, &term, &valuation) {
         Ok(Some(value)) => {
             let inputs = draws_among(alloc, &lists.vars, &valuation)?;
             Ok(Judgement::Bug {
@@ -237,6 +238,7 @@ pub(crate) fn judge<M: SymMemory, D: Decider>(
             Judgement::Harmless,
         ),
         Some(PathEnd::Failed(term, place)) => judge_failure(alloc, decider, lists, term, place),
+        Some(PathEnd::Threw(term, place)) => judge_failure(alloc, decider, lists, term, place),
         Some(PathEnd::Missed(_, place)) => judge_miss(alloc, decider, lists, place),
         Some(PathEnd::Unknown(place, reason)) => Ok(ask(lists, place, number_of(reason))),
     }

@@ -2,7 +2,6 @@
 #![tactic(auto)]
 
 mod canonical;
-mod evaluating;
 mod judging;
 mod testing;
 mod verdicts;

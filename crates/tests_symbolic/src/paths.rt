@@ -16,7 +16,7 @@ fn a_path_begins_at_the_first_command(rt: HostRuntime) -> Result<(), Fail> {
         };
         assert_eq!(rt; frame.proc.as_str(), "main");
         assert_eq!(rt; frame.next, 0);
-        assert!(rt; frame.waits.is_none() && path.end.is_none());
+        assert!(rt; frame.waits.is_none() && frame.handler.is_none() && path.end.is_none());
         assert_eq!(rt; path.steps, 0);
     }
     Ok(())

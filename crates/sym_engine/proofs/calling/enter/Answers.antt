@@ -17,8 +17,8 @@ returns g c =
     let args = terms_view c.args.good.result.args in
     let conds = atoms_view c.args.good.conds in
     let (store, (first, frame)) = c.in_ok-first_frame.ensures in
-    let stack : frames_view c.run_in.new.frames ≡ called_frame proc store ∷ waiting c.args.name.now path.stack = c.in_ok-run_in.ensures ∙ ap (λ f. f ∷ frames_view c.wait.new.frames) frame ∙ ap (λ fs. called_frame proc store ∷ fs) c.in_ok-wait.ensures in
+    let stack : frames_view c.run_in.new.frames ≡ called_frame proc store ∷ waiting c.args.name.now c.args.handler path.stack = c.in_ok-run_in.ensures ∙ ap (λ f. f ∷ frames_view c.wait.new.frames) frame ∙ ap (λ fs. called_frame proc store ∷ fs) c.in_ok-wait.ensures in
     if_ok_map (λ k. candidate_view k ≡ proceeding path (frames_view c.run_in.new.frames) conds)
-    (λ k. (bs : PureStore) × (IsFirstStore proc.params args bs × (candidate_view k ≡ entering path c.args.name.now c.args.here.now proc bs (good_view called_view c.args.good)))) c.proceed.result
+    (λ k. (bs : PureStore) × (IsFirstStore proc.params args bs × (candidate_view k ≡ entering path c.args.name.now c.args.handler c.args.here.now proc bs (good_view called_view c.args.good)))) c.proceed.result
     (λ k is. (store, (subst (λ ts. IsFirstStore proc.params ts store) c.as_slice.ensures first, is ∙ ap (λ fs. proceeding path fs conds) stack)))
     c.proceed.ensures

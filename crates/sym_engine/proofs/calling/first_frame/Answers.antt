@@ -10,6 +10,6 @@ returns c =
       store,
       (
         subst (λ params. IsFirstStore params (map term_view c.args.args.now) store) c.as_slice.ensures c.in_ok-first_store.ensures,
-        ap (λ name. record { procedure = name; next = 0; store = store; waits = None }) c.in_ok-copy.ensures,
+        ap (λ name. record { procedure = name; next = 0; store = store; waits = None; handler = None }) c.in_ok-copy.ensures,
       ),
     )

@@ -1,6 +1,6 @@
 use Rattle.std.proofs.Common.{[], inl, inr, sym, ap, subst, ◌∙◌}
 use Rattle.gil_program.specs.Program.{prog_view}
-use Rattle.gil_syntax.specs.Pure.{assign, call, act, ifgoto, return, fail}
+use Rattle.gil_syntax.specs.Pure.{assign, call, act, ifgoto, return, fail, throw}
 use Rattle.gil_syntax.specs.Subexpressions.{exprs_of}
 use Rattle.gil_syntax.specs.View.{command_view, expr_view, exprs_view, numbered_command_view}
 use Rattle.sym_engine.specs.View.{candidates_view}
@@ -51,6 +51,11 @@ fail_candidates-requires-clause-spellable g c =
     spelled_first (prog_view c.args.prog.now) (frames_view c.args.path.stack) (numbered_command_view c.args.numbered.now) c.args.prog.now.well_made c.requires.at
     (expr_view c.in-Fail.value) [] (ap exprs_of (ap command_view c.in-Fail.is))
 
+pub throw_candidates-requires-clause-spellable : goal.throw_candidates-requires-clause-spellable
+throw_candidates-requires-clause-spellable g c =
+    spelled_first (prog_view c.args.prog.now) (frames_view c.args.path.stack) (numbered_command_view c.args.numbered.now) c.args.prog.now.well_made c.requires.at
+    (expr_view c.in-Throw.value) [] (ap exprs_of (ap command_view c.in-Throw.is))
+
 pub returns-in-Vanish : goal.returns-in-Vanish
 returns-in-Vanish g c =
     vanish_steps _ g.M.SymMemory.stands g.M.SymMemory.terms g.met.M.SymMemory.meaning (prog_view c.args.prog.now) g.M.Local.LocalMemory.actions g.M.SymMemory.asked g.M.SymMemory.depends g.M.SymMemory.plain g.M.SymMemory.keeps_plain (path_view c.args.path) (numbered_command_view c.args.numbered.now)
@@ -76,9 +81,9 @@ returns-in_ok-assign_candidates-in-Assign g c =
 pub returns-in_ok-call_candidates-in-Call : goal.returns-in_ok-call_candidates-in-Call
 returns-in_ok-call_candidates-in-Call g c =
     asked_at (prog_view c.args.prog.now) g.M.Local.LocalMemory.actions g.M.SymMemory.stands g.M.SymMemory.terms g.M.SymMemory.asked g.M.SymMemory.depends g.M.SymMemory.plain g.M.SymMemory.keeps_plain (path_view c.args.path) (numbered_command_view c.args.numbered.now) c.args.here.now
-    (command_view c.args.numbered.now.command) (call c.in-Call.name (expr_view c.in-Call.callee) (exprs_view c.in-Call.arguments)) (candidates_view c.in_ok-call_candidates-in-Call.field-0) (ap command_view c.in-Call.is)
+    (command_view c.args.numbered.now.command) (call c.in-Call.name (expr_view c.in-Call.callee) (exprs_view c.in-Call.arguments) c.in-Call.handler) (candidates_view c.in_ok-call_candidates-in-Call.field-0) (ap command_view c.in-Call.is)
     c.in_ok-call_candidates-in-Call.ensures.lawful c.in_ok-call_candidates-in-Call.ensures.plain
-    (no_action (prog_view c.args.prog.now) g.M.SymMemory.stands g.M.SymMemory.terms g.M.SymMemory.depends (path_view c.args.path) (call c.in-Call.name (expr_view c.in-Call.callee) (exprs_view c.in-Call.arguments)) (λ next. tt) (candidates_view c.in_ok-call_candidates-in-Call.field-0))
+    (no_action (prog_view c.args.prog.now) g.M.SymMemory.stands g.M.SymMemory.terms g.M.SymMemory.depends (path_view c.args.path) (call c.in-Call.name (expr_view c.in-Call.callee) (exprs_view c.in-Call.arguments) c.in-Call.handler) (λ next. tt) (candidates_view c.in_ok-call_candidates-in-Call.field-0))
 
 pub returns-in_ok-act_candidates-in-Act : goal.returns-in_ok-act_candidates-in-Act
 returns-in_ok-act_candidates-in-Act g c =
@@ -107,6 +112,13 @@ returns-in_ok-fail_candidates-in-Fail g c =
     (command_view c.args.numbered.now.command) (fail (expr_view c.in-Fail.value)) (candidates_view c.in_ok-fail_candidates-in-Fail.field-0) (ap command_view c.in-Fail.is)
     (c.in_ok-fail_candidates-in-Fail.ensures.lawful (prog_view c.args.prog.now)) (λ keeps. c.in_ok-fail_candidates-in-Fail.ensures.plain keeps (prog_view c.args.prog.now))
     (no_action (prog_view c.args.prog.now) g.M.SymMemory.stands g.M.SymMemory.terms g.M.SymMemory.depends (path_view c.args.path) (fail (expr_view c.in-Fail.value)) (λ next. tt) (candidates_view c.in_ok-fail_candidates-in-Fail.field-0))
+
+pub returns-in_ok-throw_candidates-in-Throw : goal.returns-in_ok-throw_candidates-in-Throw
+returns-in_ok-throw_candidates-in-Throw g c =
+    asked_at (prog_view c.args.prog.now) g.M.Local.LocalMemory.actions g.M.SymMemory.stands g.M.SymMemory.terms g.M.SymMemory.asked g.M.SymMemory.depends g.M.SymMemory.plain g.M.SymMemory.keeps_plain (path_view c.args.path) (numbered_command_view c.args.numbered.now) c.args.here.now
+    (command_view c.args.numbered.now.command) (throw (expr_view c.in-Throw.value)) (candidates_view c.in_ok-throw_candidates-in-Throw.field-0) (ap command_view c.in-Throw.is)
+    (c.in_ok-throw_candidates-in-Throw.ensures.lawful (prog_view c.args.prog.now)) (λ keeps. c.in_ok-throw_candidates-in-Throw.ensures.plain keeps (prog_view c.args.prog.now))
+    (no_action (prog_view c.args.prog.now) g.M.SymMemory.stands g.M.SymMemory.terms g.M.SymMemory.depends (path_view c.args.path) (throw (expr_view c.in-Throw.value)) (λ next. tt) (candidates_view c.in_ok-throw_candidates-in-Throw.field-0))
 
 pub returns-in_ok-pass-in-Fold : goal.returns-in_ok-pass-in-Fold
 returns-in_ok-pass-in-Fold g c =

@@ -1,4 +1,4 @@
-use Rattle.std.proofs.Common.{◌≡◌, Some, Result, IfOk, refl, sym, ap, subst, ◌∙◌}
+use Rattle.std.proofs.Common.{◌≡◌, true, false, Some, Result, IfOk, refl, sym, ap, subst, ◌∙◌}
 use Rattle.std.specs.Option.{option_map}
 use Rattle.std.specs.declared.alloc.AllocError.{AllocError}
 use Rattle.gil_values.specs.declared.places.Place.{Place}
@@ -6,7 +6,7 @@ use Rattle.pure_terms.specs.View.{term_view, atoms_view}
 use Rattle.sym_model.specs.Pure.{PureKey}
 use Rattle.sym_model.specs.Terms.{StateTerms}
 use Rattle.sym_model.specs.View.{key_view}
-use Rattle.sym_paths.specs.Pure.{PureEnd, PurePath, failed, missed}
+use Rattle.sym_paths.specs.Pure.{PureEnd, PurePath, failed, threw, missed}
 use Rattle.sym_paths.specs.Steps.{IsUnknown}
 use Rattle.sym_paths.specs.View.{end_view, path_view}
 use Rattle.sym_test.specs.declared.judging.Judgement.{Judgement}
@@ -36,7 +36,24 @@ judge_failure-requires-clause-met g c =
 pub judge_failure-requires-clause-defined : goal.judge_failure-requires-clause-defined
 judge_failure-requires-clause-defined g c v canonical =
     let ended = c.into_ended-vars.ensures in
-    c.requires.defined (term_view c.in-Some-Failed.term) c.in-Some-Failed.place v (sym ended.end ∙ ap (option_map end_view) (c.in-Some-Failed.is ∙ ap Some c.in-Some-Failed.field-0-is))
+    c.requires.defined false (term_view c.in-Some-Failed.term) c.in-Some-Failed.place v (sym ended.end ∙ ap (option_map end_view) (c.in-Some-Failed.is ∙ ap Some c.in-Some-Failed.field-0-is))
+    (subst (λ (l : PureLists). IsCanonical l.vars l.conds v)
+    (λ i. record { vars = ended.vars i; choices = ended.choices i; given = ended.given i; conds = ended.conds i })
+    canonical)
+
+pub judge_failure-requires-in-Some-Threw-clause-met : goal.judge_failure-requires-in-Some-Threw-clause-met
+judge_failure-requires-in-Some-Threw-clause-met g c =
+    let ended = c.into_ended-vars.ensures in
+    let term = term_view c.in-Some-Threw.term in
+    let place : Place = c.in-Some-Threw.place in
+    met_lists (path_view c.args.path) (record { vars = c.into_ended-vars.result.vars; choices = c.into_ended-vars.result.choices; given = atoms_view c.into_ended-vars.result.given; conds = atoms_view c.into_ended-vars.result.conds })
+    (λ i. record { vars = ended.vars i; choices = ended.choices i; given = ended.given i; conds = ended.conds i }) (threw term place) (sym ended.end ∙ ap (option_map end_view) (c.in-Some-Threw.is ∙ ap Some c.in-Some-Threw.field-0-is))
+    g.M.SymMemory.terms c.requires (λ is. is)
+
+pub judge_failure-requires-in-Some-Threw-clause-defined : goal.judge_failure-requires-in-Some-Threw-clause-defined
+judge_failure-requires-in-Some-Threw-clause-defined g c v canonical =
+    let ended = c.into_ended-vars.ensures in
+    c.requires.defined true (term_view c.in-Some-Threw.term) c.in-Some-Threw.place v (sym ended.end ∙ ap (option_map end_view) (c.in-Some-Threw.is ∙ ap Some c.in-Some-Threw.field-0-is))
     (subst (λ (l : PureLists). IsCanonical l.vars l.conds v)
     (λ i. record { vars = ended.vars i; choices = ended.choices i; given = ended.given i; conds = ended.conds i })
     canonical)
