@@ -1,0 +1,10 @@
+pub mod UnionLaws
+pub mod MeetLaws
+pub mod AddingLaws
+pub mod NameLemmas
+pub mod LoopLemmas
+pub mod Evaluations
+pub mod Givings
+pub mod SplitLaws
+pub mod CaseLaws
+pub mod InventionLaws

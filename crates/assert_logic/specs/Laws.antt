@@ -1,0 +1,92 @@
+-- What holds of the meaning of assertions.
+use Rattle.std.specs.Prelude.{◌≡◌, ◌↔◌, ◌⊎◌, ℕ, ◌≤◌, List, ◌++◌, Some, None, IsTrue}
+use Rattle.gil_values.specs.Pure.{PureValue}
+use Rattle.gil_values.specs.Symbols.{OccursIn, OccursAmong}
+use Rattle.gil_syntax.specs.Evaluation.{Store, value_of}
+use Rattle.gil_syntax.specs.Pure.{PureItem, PurePredDef, PureParts}
+use Rattle.gil_syntax.specs.WellMade.{is_well_made_assertion, is_well_made}
+use Rattle.mem_model.specs.declared.keys.MemoryName.{MemoryName}
+use Rattle.mem_model.specs.Heaps.{Heap, OccursInHeap}
+use Rattle.assert_logic.specs.Names.{named_by_items}
+use Rattle.assert_logic.specs.Modes.{Scope, known_at_first, assertion_fault, HasModes}
+use Rattle.assert_logic.specs.Unions.{IsUnion}
+use Rattle.assert_logic.specs.Meets.{Meets, HoldsAt, HoldsSomewhere}
+use Rattle.assert_logic.specs.LogicStates.{LogicState, Realizes}
+use Rattle.assert_logic.specs.Adding.{added}
+use Rattle.assert_logic.specs.Matching.{Match, matched, CaseMatch, match_assertion, match_fold}
+use Rattle.assert_logic.specs.Sorts.{HasSorts, Extends}
+use Rattle.gil_syntax.specs.declared.assertions.Param.{Param}
+
+-- what holds at a rank holds at each larger one
+abbrev pub LargerRanksKeep : Type 0
+LargerRanksKeep =
+    (preds : List PurePredDef) (j k : ℕ) (name : List ℕ) (ins outs : List PureValue) (h : Heap)
+    → j ≤ k → HoldsAt preds j name ins outs h → HoldsAt preds k name ins outs h
+
+-- disjoint parts that meet some items and some others
+abbrev pub SplitsInto : List PurePredDef → Store → List PureItem → List PureItem → Heap → Type 0
+SplitsInto preds store xs ys h =
+    (a : Heap) × ((b : Heap) × (IsUnion h a b × (Meets (HoldsSomewhere preds) store xs a × Meets (HoldsSomewhere preds) store ys b)))
+
+-- A heap meets several items exactly where it is split among them, and their order doesn't matter.
+pub record ItemsSplit (preds : List PurePredDef) (store : Store) (h : Heap) : Type 0 where
+  pub split : (xs ys : List PureItem) → Meets (HoldsSomewhere preds) store (xs ++ ys) h ↔ SplitsInto preds store xs ys h
+  pub any_order : (ws xs ys : List PureItem)
+      → Meets (HoldsSomewhere preds) store (ws ++ (xs ++ ys)) h → Meets (HoldsSomewhere preds) store (ws ++ (ys ++ xs)) h
+
+abbrev pub HeapsSplitAmongItems : Type 0
+HeapsSplitAmongItems = (preds : List PurePredDef) (store : Store) (h : Heap) → ItemsSplit preds store h
+
+-- Adding is complete: where a heap realizes a state, and a part beside it meets the items, they can be added, and the union
+-- realizes the state with them.
+abbrev pub AddingIsComplete : Type 0
+AddingIsComplete =
+    (preds : List PurePredDef) (store : Store) (items : List PureItem) (s : LogicState) (h part whole : Heap)
+    → Realizes preds s h → IsUnion whole h part → Meets (HoldsSomewhere preds) store items part
+    → (t : LogicState) × ((added store items s ≡ Some t) × Realizes preds t whole)
+
+-- What was matched splits the heap: a part of it meets the items, under the store with the values that names got, and the rest
+-- realizes what is left.
+pub record SplitsHeap (preds : List PurePredDef) (items : List PureItem) (t : Store) (found : Match) (h : Heap) : Type 0 where
+  pub part : Heap
+  pub rest : Heap
+  pub union : IsUnion h part rest
+  pub meets : Meets (HoldsSomewhere preds) found.store items part
+  pub realized : Realizes preds found.state rest
+  pub extends : Extends t found.store
+
+abbrev pub MatchingSplits : Type 0
+MatchingSplits =
+    (preds : List PurePredDef) (scope : List Param) (items : List PureItem) (t : Store) (s : LogicState) (found : Match) (h : Heap)
+    → match_assertion preds scope items t s ≡ matched found → Realizes preds s h
+    → SplitsHeap preds items t found h × (HasSorts scope t → HasSorts scope found.store)
+
+-- A case that `fold` matched is one of the predicate's, so the predicate holds of the part that was taken.
+pub record FoldsHeap (preds : List PurePredDef) (name : List ℕ) (ins : List PureValue) (found : CaseMatch) (h : Heap) : Type 0 where
+  pub part : Heap
+  pub rest : Heap
+  pub union : IsUnion h part rest
+  pub holds_there : HoldsSomewhere preds name ins found.outs part
+  pub realized : Realizes preds found.state rest
+
+abbrev pub FoldingSplits : Type 0
+FoldingSplits =
+    (preds : List PurePredDef) (name : List ℕ) (ins outs : List PureValue) (s : LogicState) (found : CaseMatch) (h : Heap)
+    → match_fold preds name ins outs s ≡ Some found → Realizes preds s h → FoldsHeap preds name ins found h
+
+-- a name that is known at first has a value in which the symbol occurs
+abbrev pub IsKnownSymbol : Scope → Store → ℕ → Type 0
+IsKnownSymbol scope t n =
+    (y : List ℕ) × ((w : PureValue) × (IsTrue (known_at_first scope y) × ((value_of t y ≡ Some w) × OccursIn n w)))
+
+-- Meeting invents nothing: where the items can be read, each symbol in the value of a name that they name occurs in the value of a
+-- name that was known at first, or in the heap. And each symbol in the outs of a predicate occurs in its ins, or in its heap.
+pub record InventsNothing (p : PureParts) (memory : MemoryName) : Type 0 where
+  pub by_items : (scope : Scope) (items : List PureItem) (t : Store) (h : Heap) (x : List ℕ) (v : PureValue) (n : ℕ)
+      → IsTrue (is_well_made_assertion items) → assertion_fault memory scope items ≡ None → Meets (HoldsSomewhere p.preds) t items h
+      → IsTrue (named_by_items items x) → value_of t x ≡ Some v → OccursIn n v → IsKnownSymbol scope t n ⊎ OccursInHeap n h
+  pub by_predicates : (name : List ℕ) (ins outs : List PureValue) (h : Heap) (n : ℕ)
+      → HoldsSomewhere p.preds name ins outs h → OccursAmong n outs → OccursAmong n ins ⊎ OccursInHeap n h
+
+abbrev pub MeetingInventsNothing : Type 0
+MeetingInventsNothing = (p : PureParts) (memory : MemoryName) → IsTrue (is_well_made p) → HasModes p memory → InventsNothing p memory

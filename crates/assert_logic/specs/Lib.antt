@@ -1,0 +1,12 @@
+pub mod Names
+pub mod First
+pub mod Modes
+pub mod ModesView
+pub mod Sorts
+pub mod Unions
+pub mod Meets
+pub mod LogicStates
+pub mod Adding
+pub mod Matching
+pub mod Laws
+pub mod Rows

@@ -1,0 +1,32 @@
+//! What holds of the meaning of assertions: laws of the definitions, which no code is needed for.
+ghost use Rattle.assert_logic.specs.Laws.{AddingIsComplete, FoldingSplits, HeapsSplitAmongItems, LargerRanksKeep, MatchingSplits, MeetingInventsNothing};
+
+/// What holds at a rank holds at each larger one.
+pub fn larger_ranks_keep()
+    ensures { LargerRanksKeep }
+{}
+
+/// A heap that meets several items is split among them, in any order.
+pub fn heaps_split_among_items()
+    ensures { HeapsSplitAmongItems }
+{}
+
+/// What meets items beside a state can be added to it.
+pub fn adding_is_complete()
+    ensures { AddingIsComplete }
+{}
+
+/// What was matched splits the heap that realizes the state.
+pub fn matching_splits()
+    ensures { MatchingSplits }
+{}
+
+/// So does a case that was folded, and its predicate holds of what was taken.
+pub fn folding_splits()
+    ensures { FoldingSplits }
+{}
+
+/// Meeting an assertion that can be read invents no symbol.
+pub fn meeting_invents_nothing()
+    ensures { MeetingInventsNothing }
+{}

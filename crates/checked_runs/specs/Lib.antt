@@ -1,0 +1,3 @@
+pub mod Specifications
+pub mod Checked
+pub mod Rows
