@@ -1,12 +1,12 @@
 //! What bytes are written to.
 ghost use Rattle.std.specs.Prelude.{◌≡◌, ◌<◌, ◌≤◌, List, Option, ℕ, length, take, IfOk, OnOk, OnErr};
-ghost use Rattle.std.specs.Io.KnownBytes.{append_known};
+ghost use Rattle.std.specs.Io.KnownBytes.{Appends, Keeps};
 ghost use Rattle.gil_io.specs.Faults.{FaultRose};
 ghost use Rattle.gil_io.specs.Writing.{IsUsedUp};
 
 use crate::Failed;
 
-/// A writer of bytes that counts its faults. Whether it tells its bytes never changes.
+/// A writer of bytes that counts its faults. One that tells its bytes goes on telling them.
 pub trait Sink {
     /// The bytes that writes have given it so far, where the sink tells them.
     ghost taken: { Self → Option (List ℕ) };
@@ -20,11 +20,11 @@ pub trait Sink {
     /// Takes some of the piece, from its front, and answers how many bytes.
     fn write(&mut self, piece: &[u8]) -> Result<usize, Failed>
         ensures bound { IfOk result (λ count. count ≤ length piece.now) }
-        ensures bytes { IfOk result (λ count. taken self.new ≡ append_known (taken self.old) (take count piece.now)) }
+        ensures bytes { IfOk result (λ count. Appends (taken self.old) (taken self.new) (take count piece.now)) }
         ensures progress { IfOk result (λ count. 0 < length piece.now → 0 < count) }
 
         // A failed write took nothing.
-        ensures nothing_taken { OnErr result (taken self.new ≡ taken self.old) }
+        ensures nothing_taken { OnErr result (Keeps (taken self.old) (taken self.new)) }
 
         ensures room_stays { room self.new ≡ room self.old }
         ensures used_up { OnErr result (IsUsedUp (room self.new) (taken self.new)) }

@@ -7,8 +7,9 @@ use crate::{Failed, Sink};
 use std::io;
 use std::io::Write;
 
-/// A sink over a writer. It doesn't tell its bytes, and counts as a fault each `Err` of the writer, an interrupted call
-/// too, and each write that took nothing of a piece that isn't empty. It flushes nothing.
+/// A sink over a writer. It tells its bytes where the writer does, as the writers in memory do and the standard streams don't.
+/// It counts as a fault each `Err` of the writer, an interrupted call too, and each write that took nothing of a piece that
+/// isn't empty. It flushes nothing.
 #[derive(Drop)]
 pub struct StdSink<W: Write> {
     writer: W,
@@ -30,7 +31,7 @@ impl<W: Write> StdSink<W> {
 impl<W: Write> Sink for StdSink<W> {
     ghost use Rattle.gil_io.specs.StdSink.{wrapped, fault_count};
 
-    ghost taken = { λ _. None };
+    ghost taken = { λ sink. W.contents (wrapped sink) };
 
     ghost faults = { fault_count };
 

@@ -1,5 +1,5 @@
 //! A source over a reader of std: the edge at which bytes come in.
-ghost use Rattle.std.specs.Prelude.{◌≡◌, ◌↔◌, ◌≤◌, length, drop, None, IfOk, OnOk, OnErr, IsErr};
+ghost use Rattle.std.specs.Prelude.{◌≡◌, ◌↔◌, ◌≤◌, length, drop, IfOk, OnOk, OnErr, IsErr};
 ghost use Rattle.std.specs.Io.KnownBytes.{ReadConsumes};
 ghost use Rattle.gil_io.specs.Faults.{next_count};
 
@@ -10,8 +10,8 @@ use std::io::Read;
 // The bytes of one read at most.
 const CHUNK: usize = 4096;
 
-/// A source over a reader. It doesn't tell its bytes, and counts each `Err` of the reader as a fault, an interrupted call
-/// too: nothing is tried again.
+/// A source over a reader. It tells its bytes where the reader does, as the readers in memory do and the standard streams don't.
+/// It counts each `Err` of the reader as a fault, an interrupted call too: nothing is tried again.
 #[derive(Drop)]
 pub struct StdSource<R: Read> {
     reader: R,
@@ -33,7 +33,7 @@ impl<R: Read> StdSource<R> {
 impl<R: Read> Source for StdSource<R> {
     ghost use Rattle.gil_io.specs.StdSource.{wrapped, fault_count};
 
-    ghost left = { λ _. None };
+    ghost left = { λ source. R.remaining (wrapped source) };
 
     ghost faults = { fault_count };
 

@@ -1,6 +1,6 @@
 //! Writing all of some bytes to a sink.
 ghost use Rattle.std.specs.Prelude.{◌≡◌, ◌<◌, ◌≤◌, ℕ, length, take, OnOk, OnErr};
-ghost use Rattle.std.specs.Io.KnownBytes.{append_known};
+ghost use Rattle.std.specs.Io.KnownBytes.{Appends};
 ghost use Rattle.gil_io.specs.Faults.{FaultRose};
 ghost use Rattle.gil_io.specs.Writing.{IsUsedUp, TakesPart};
 
@@ -20,7 +20,7 @@ impl From<Failed> for WriteFault {
 
 /// Writes all of the bytes. It offers the whole rest at each call of `write`, and takes no memory.
 pub fn write_all<K: Sink>(sink: &mut K, bytes: &[u8]) -> Result<(), WriteFault>
-    ensures ok { OnOk result (K.taken sink.new ≡ append_known (K.taken sink.old) bytes.now) }
+    ensures ok { OnOk result (Appends (K.taken sink.old) (K.taken sink.new) bytes.now) }
     ensures no_fault { OnOk result (K.faults sink.new ≡ K.faults sink.old) }
     ensures fault { OnErr result (FaultRose (K.faults sink.old) (K.faults sink.new)) }
 

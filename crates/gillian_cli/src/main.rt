@@ -2,17 +2,10 @@
 //! ends with the exit code of the answer's status.
 #![tactic(auto)]
 
-ghost use Rattle.gil_values.specs.Characters.{IsText};
-ghost use Rattle.rewrite_book.specs.Answers.{AnswersWell};
-
 use gil_io::{StdSink, StdSource};
-use gil_values::{BinOp, Text, UnOp};
 use gillian_core::{Status, gillian};
 use pure_terms::Term;
-use rewrite_book::{
-    Head, Rule, RuleBook, Simplifier, len_list, minus_zero, neg_neg, not_not, nth_list, plus_zero,
-    same_equal, times_one, times_zero,
-};
+use rewrite_book::{Rule, RuleBook, ShippedRule};
 use std::alloc::{AllocError, Global};
 use std::process::ExitCode;
 use std::{env, io};
@@ -36,57 +29,16 @@ fn answer(rt: &HostRuntime) -> Status {
 fn answer_by_rules(rt: &HostRuntime, words: &Vec<String>) -> Result<Status, AllocError> {
     let alloc = rt.alloc();
     let mut book = RuleBook::new(alloc);
-    let f = Box::new(alloc, |alloc: Global, t: &Term| plus_zero(alloc, t))?;
-    add(alloc, &mut book, "plus_zero", Head::Op2(BinOp::Add), f)?;
-    let f = Box::new(alloc, |alloc: Global, t: &Term| minus_zero(alloc, t))?;
-    add(
-        alloc,
-        &mut book,
-        "minus_zero",
-        Head::Op2(BinOp::Subtract),
-        f,
-    )?;
-    let f = Box::new(alloc, |alloc: Global, t: &Term| times_zero(alloc, t))?;
-    add(
-        alloc,
-        &mut book,
-        "times_zero",
-        Head::Op2(BinOp::Multiply),
-        f,
-    )?;
-    let f = Box::new(alloc, |alloc: Global, t: &Term| times_one(alloc, t))?;
-    add(alloc, &mut book, "times_one", Head::Op2(BinOp::Multiply), f)?;
-    let f = Box::new(alloc, |alloc: Global, t: &Term| not_not(alloc, t))?;
-    add(alloc, &mut book, "not_not", Head::Op1(UnOp::Not), f)?;
-    let f = Box::new(alloc, |alloc: Global, t: &Term| neg_neg(alloc, t))?;
-    add(alloc, &mut book, "neg_neg", Head::Op1(UnOp::Neg), f)?;
-    let f = Box::new(alloc, |alloc: Global, t: &Term| same_equal(alloc, t))?;
-    add(alloc, &mut book, "same_equal", Head::Op2(BinOp::Equal), f)?;
-    let f = Box::new(alloc, |alloc: Global, t: &Term| len_list(alloc, t))?;
-    add(alloc, &mut book, "len_list", Head::Op1(UnOp::Len), f)?;
-    let f = Box::new(alloc, |alloc: Global, t: &Term| nth_list(alloc, t))?;
-    add(alloc, &mut book, "nth_list", Head::Op2(BinOp::Nth), f)?;
+    for shipped in ShippedRule::ALL {
+        let answer = Box::new(
+            alloc,
+            move |alloc: Global, t: &Term| shipped.answer(alloc, t),
+        )?;
+        book.add(Rule::new(shipped.name(alloc)?, shipped.head(), answer))?;
+    }
     let mut source = StdSource::new(rt.reader());
     let mut sink = StdSink::new(io::writer(rt));
     Ok(gillian(alloc, words, &book, &mut source, &mut sink))
-}
-
-/// Adds a rule at the end of a book.
-fn add(
-    alloc: Global,
-    book: &mut RuleBook,
-    name: &str,
-    head: Head,
-    simplifier: Simplifier,
-) -> Result<(), AllocError>
-    requires name { IsText name.now }
-    requires callable { Simplifier.IsAlwaysCallable simplifier }
-    requires answers { (a : _) (t : _) (r : _) → Simplifier.post simplifier a t r → AnswersWell t.now r }
-{
-    match Text::from_str(alloc, name)? {
-        Some(name) => book.add(Rule::new(name, head, simplifier)),
-        None => unreachable!(),
-    }
 }
 
 /// The words of the command line. A word that isn't UTF-8 leaves no words, and no words never fit.

@@ -1,19 +1,33 @@
 -- How a call ends, from what its stages leave.
-use Rattle.std.proofs.Common.{◌≡◌, ◌⊎◌, inl, inr, ◌≤◌, ◌++◌, ℕ, List, length, Option, Some, None, IfSome, refl, sym, ◌∙◌, ap, subst}
-use Rattle.std.specs.Io.KnownBytes.{append_known, IsAtEnd}
-use Rattle.gillian_words.specs.Asked.{Asked, AskFor}
-use Rattle.gillian_core.specs.declared.refusals.Refusal.{Refusal}
+use Rattle.std.proofs.Common.{◌≡◌, ◌⊎◌, inl, inr, ◌≤◌, ◌<◌, ◌++◌, ℕ, List, length, length-append, Option, Some, None, IfSome, refl, sym}
+use Rattle.std.proofs.Common.{◌∙◌, ap, subst, arith}
+use Rattle.std.proofs.lemmas.Option.{same_Some}
+use Rattle.std.specs.Io.KnownBytes.{Appends, Consumes, IsAtEnd}
+use Rattle.gil_io.specs.Faults.{FaultRose}
+use Rattle.gil_io.specs.Reading.{Takes}
+use Rattle.gil_io.specs.Writing.{IsUsedUp}
+use Rattle.gil_text.specs.declared.refused.Refused.{Refused}
+use Rattle.gillian_words.specs.Asked.{AskFor}
+use Rattle.gillian_words.specs.Tasks.{PureTask}
 use Rattle.gillian_core.specs.declared.status.Status.{Status}
 use Rattle.gillian_core.specs.declared.status.Status.TheVariants.{Good, Found, Words, Text, ReadFault, WriteFault, Memory, TooLarge}
-use Rattle.gillian_core.specs.Outcomes.{Call, IsReported, Ends, written, write_failed, read_failed, out_of_memory, MayWrite, IsRead, IsRefused, IsRight, OfBytes, Output, a_report, a_program, Refuses, Reports, answer_status, output_status, output_text}
-use Rattle.gillian_core.specs.Finishing.{Finishes, Answers, IsResponseOrRefusal}
-use Rattle.gillian_core.specs.Refusals.{refusal_line}
-use Rattle.gillian_core.specs.Reports.{PureAnswer, clean, bug, undecided, returned, failed, vanished, cut, no_input, bad_input, number, sat, unsat, unknown}
+use Rattle.gillian_core.specs.Accepted.{IsAccepted}
+use Rattle.gillian_core.specs.Outcomes.{Call, IsReported, Ends, written, write_failed, read_failed, out_of_memory, MayWrite, IsRead}
+use Rattle.gillian_core.specs.Outcomes.{WordsFit, IsRefused, IsRight, OfBytes, Refuses, Reports, most_bytes}
+use Rattle.gillian_core.specs.Outputs.{PureOutput, a_report, a_program, answer_status, output_status, output_text}
+use Rattle.gillian_core.specs.Finishing.{Finishes, Answers, IsResponse, Told}
+use Rattle.gillian_core.specs.Refusals.{IsRefusal, refusal_line}
+use Rattle.gillian_core.specs.Reports.{PureAnswer, clean, bug, undecided, returned, failed, vanished, cut, no_input, bad_input, number}
+use Rattle.gillian_core.specs.Reports.{sat, unsat, unknown}
+
+-- what the sink of a call tells
+abbrev told_of : Call → Told
+told_of c = record { taken = c.taken; taken_after = c.taken_after; faults = c.write_faults; faults_after = c.write_faults_after; room = c.room }
 
 pub ends_of_finish : (c : Call) (status result : Status) (text : List ℕ) → MayWrite c status text
-    → Finishes c.taken c.taken_after c.write_faults c.write_faults_after text status result → Ends c result
+    → Finishes (told_of c) text status result → Ends c result
 ends_of_finish c status result text may (inl w) = subst (Ends c) (sym w.0) (written status text may w.1)
-ends_of_finish c status result text may (inr w) = subst (Ends c) (sym w.0) (write_failed status text may w.1 w.2)
+ends_of_finish c status result text may (inr w) = subst (Ends c) (sym w.0) (write_failed status text may w.1 w.2 w.3)
 
 -- an output is written with a status of its own
 by_answer : (c : Call) (answer : PureAnswer) (text : List ℕ) → IsRead c → Reports c (answer_status answer) text → MayWrite c (answer_status answer) text
@@ -31,7 +45,7 @@ by_answer c (sat bindings) text read reports = (read, reports)
 by_answer c (unsat names proof) text read reports = (read, reports)
 by_answer c (unknown place) text read reports = (read, reports)
 
-may_report : (c : Call) (output : Output) (text : List ℕ) → IsRead c → Reports c (output_status output) text → MayWrite c (output_status output) text
+may_report : (c : Call) (output : PureOutput) (text : List ℕ) → IsRead c → Reports c (output_status output) text → MayWrite c (output_status output) text
 may_report c (a_report r) text read reports = by_answer c r.answer text read reports
 may_report c (a_program p) text read reports = (read, reports)
 
@@ -39,21 +53,21 @@ if_some_weaker : {X : Type 0} (o : Option X) (P Q : X → Type 0) → ((x : X) �
 if_some_weaker None P Q f h = tt
 if_some_weaker (Some x) P Q f h = f x h
 
-module _ (c : Call) (a : Asked) (asked : AskFor c.words a) (read : IsRead c) (bytes : List ℕ) (whole : IfSome c.left (λ left. bytes ≡ left)) where
-  may_write_response : (status : Status) (text : List ℕ) → IsResponseOrRefusal a bytes status text → MayWrite c status text
+module _ (c : Call) (t : PureTask) (asked : AskFor c.words t) (read : IsRead c) (bytes : List ℕ) (whole : IfSome c.left (λ left. bytes ≡ left)) where
+  may_write_response : (status : Status) (text : List ℕ) → IsResponse t bytes status text → MayWrite c status text
   may_write_response status text (inl (r, refusal, is, says)) =
-      let refuses : Refuses c text = record { refusal = r; written = says; right = (bytes, whole, (a, asked, refusal)) } in
+      let refuses : Refuses c text = record { refusal = r; written = says; right = (bytes, whole, (t, asked, refusal)) } in
       rw is (read, refuses)
   may_write_response status text (inr (output, right, is, says)) =
       let reports : Reports c (output_status output) text = record {
         output = output;
         written = says;
         ends = refl;
-        right = (bytes, whole, (a, asked, right));
+        right = (bytes, whole, (t, asked, right));
       } in
       subst (λ s. MayWrite c s text) (sym is) (may_report c output text read reports)
 
-  pub ends_of_answer : (result : Status) → Answers a bytes c.taken c.taken_after c.write_faults c.write_faults_after result → Ends c result
+  pub ends_of_answer : (result : Status) → Answers t bytes (told_of c) result → Ends c result
   ends_of_answer result (inl w) = subst (Ends c) (sym w.0) (out_of_memory w.1)
   ends_of_answer result (inr (status, text, response, finishes)) = ends_of_finish c status result text (may_write_response status text response) finishes
 
@@ -76,38 +90,44 @@ no_answer_too_large (sat bindings) e = cc
 no_answer_too_large (unsat names proof) e = cc
 no_answer_too_large (unknown place) e = cc
 
-no_output_too_large : (output : Output) → output_status output ≡ TooLarge → ⊥
+no_output_too_large : (output : PureOutput) → output_status output ≡ TooLarge → ⊥
 no_output_too_large (a_report r) e = no_answer_too_large r.answer e
 no_output_too_large (a_program p) e = cc
 
 -- an answer to a text is no refusal of its size
-pub answer_not_too_large : (a : Asked) (bytes : List ℕ) (taken taken_after : Option (List ℕ)) (faults faults_after : ℕ) (result : Status)
-    → Answers a bytes taken taken_after faults faults_after result → result ≡ TooLarge → ⊥
-answer_not_too_large a bytes taken taken_after faults faults_after result (inl w) e = let h = w.0 in cc
-answer_not_too_large a bytes taken taken_after faults faults_after result (inr (status, text, response, inr w)) e = let h = w.0 in cc
-answer_not_too_large a bytes taken taken_after faults faults_after result (inr (status, text, inl response, inl w)) e = let h = w.0 in let g = response.2 in cc
-answer_not_too_large a bytes taken taken_after faults faults_after result (inr (status, text, inr response, inl w)) e =
+pub answer_not_too_large : (t : PureTask) (bytes : List ℕ) (k : Told) (result : Status) → Answers t bytes k result → result ≡ TooLarge → ⊥
+answer_not_too_large t bytes k result (inl w) e = let h = w.0 in cc
+answer_not_too_large t bytes k result (inr (status, text, response, inr w)) e = let h = w.0 in cc
+answer_not_too_large t bytes k result (inr (status, text, inl response, inl w)) e = let h = w.0 in let g = response.2 in cc
+answer_not_too_large t bytes k result (inr (status, text, inr response, inl w)) e =
     no_output_too_large response.0 (sym response.2 ∙ sym w.0 ∙ e)
 
 -- what is said of some bytes is said of those that the source tells
 pub of_left : (c : Call) (P : List ℕ → Type 0) → OfBytes c P → IfSome c.left P
 of_left c P (bytes, known, holds) = if_some_weaker c.left _ _ (λ left e. subst P e holds) known
 
-reported : (left taken taken_after : Option (List ℕ)) (words : List (List ℕ)) (status : Status) (text : List ℕ) (o : Output)
-    → text ≡ output_text o → status ≡ output_status o → IfSome left (λ bytes. IsRight words bytes o) → taken_after ≡ append_known taken text
-    → IfSome left (λ bytes. IfSome taken (λ before. (q : Output) × (taken_after ≡ Some (before ++ output_text q)) × IsRight words bytes q × (status ≡ output_status q)))
+-- what a sink that tells its bytes took more
+appended : (taken taken_after : Option (List ℕ)) (before text : List ℕ) → taken ≡ Some before → Appends taken taken_after text → taken_after ≡ Some (before ++ text)
+appended None taken_after before text is more = cc
+appended (Some xs) None before text is more = absurd more
+appended (Some xs) (Some ys) before text is more = ap Some (more ∙ ap (λ zs. zs ++ text) (same_Some xs before is))
+
+reported : (left taken taken_after : Option (List ℕ)) (words : List (List ℕ)) (status : Status) (text : List ℕ) (o : PureOutput)
+    → text ≡ output_text o → status ≡ output_status o → IfSome left (λ bytes. IsRight words bytes o) → Appends taken taken_after text
+    → IfSome left (λ bytes. IfSome taken (λ before. (q : PureOutput) × (taken_after ≡ Some (before ++ output_text q)) × IsRight words bytes q × (status ≡ output_status q)))
 reported None taken taken_after words status text o says ends right e = tt
 reported (Some bytes) None taken_after words status text o says ends right e = tt
-reported (Some bytes) (Some before) taken_after words status text o says ends right e = (o, e ∙ ap (λ t. Some (before ++ t)) says, right, ends)
+reported (Some bytes) (Some before) taken_after words status text o says ends right e =
+    (o, appended (Some before) taken_after before text refl e ∙ ap (λ t. Some (before ++ t)) says, right, ends)
 
-by_reports : (c : Call) (status : Status) (text : List ℕ) (reports : Reports c status text) → c.taken_after ≡ append_known c.taken text
-    → IfSome c.left (λ bytes. IfSome c.taken (λ before. (q : Output) × (c.taken_after ≡ Some (before ++ output_text q)) × IsRight c.words bytes q × (status ≡ output_status q)))
+by_reports : (c : Call) (status : Status) (text : List ℕ) (reports : Reports c status text) → Appends c.taken c.taken_after text
+    → IfSome c.left (λ bytes. IfSome c.taken (λ before. (q : PureOutput) × (c.taken_after ≡ Some (before ++ output_text q)) × IsRight c.words bytes q × (status ≡ output_status q)))
 by_reports c status text reports e =
     reported c.left c.taken c.taken_after c.words status text reports.output reports.written reports.ends (of_left c (λ bytes. IsRight c.words bytes reports.output) reports.right) e
 
 -- what is reported is right
 pub right_if_reported : (c : Call) (result : Status) → Ends c result → IsReported result
-    → IfSome c.left (λ bytes. IfSome c.taken (λ before. (q : Output) × (c.taken_after ≡ Some (before ++ output_text q)) × IsRight c.words bytes q × (result ≡ output_status q)))
+    → IfSome c.left (λ bytes. IfSome c.taken (λ before. (q : PureOutput) × (c.taken_after ≡ Some (before ++ output_text q)) × IsRight c.words bytes q × (result ≡ output_status q)))
 right_if_reported c result (written Good text may e) h = by_reports c Good text may.1 e
 right_if_reported c result (written Found text may e) h = by_reports c Found text may.1 e
 right_if_reported c result (written Words text may e) (inl h) = cc
@@ -119,23 +139,24 @@ right_if_reported c result (written TooLarge text may e) (inr h) = cc
 right_if_reported c result (written ReadFault text may e) h = absurd may
 right_if_reported c result (written WriteFault text may e) h = absurd may
 right_if_reported c result (written Memory text may e) h = absurd may
-right_if_reported c result (write_failed status text may rose part) (inl h) = cc
-right_if_reported c result (write_failed status text may rose part) (inr h) = cc
+right_if_reported c result (write_failed status text may rose part used) (inl h) = cc
+right_if_reported c result (write_failed status text may rose part used) (inr h) = cc
 right_if_reported c result (read_failed rose nothing) (inl h) = cc
 right_if_reported c result (read_failed rose nothing) (inr h) = cc
 right_if_reported c result (out_of_memory nothing) (inl h) = cc
 right_if_reported c result (out_of_memory nothing) (inr h) = cc
 
-refused : (left taken taken_after : Option (List ℕ)) (words : List (List ℕ)) (text : List ℕ) (r : Refusal)
-    → text ≡ refusal_line r → IfSome left (λ bytes. IsRefused words bytes r) → taken_after ≡ append_known taken text
-    → IfSome left (λ bytes. IfSome taken (λ before. (q : Refusal) × (taken_after ≡ Some (before ++ refusal_line q)) × IsRefused words bytes q))
+refused : (left taken taken_after : Option (List ℕ)) (words : List (List ℕ)) (text : List ℕ) (r : Refused)
+    → text ≡ refusal_line r → IfSome left (λ bytes. IsRefused words bytes r) → Appends taken taken_after text
+    → IfSome left (λ bytes. IfSome taken (λ before. (q : Refused) × (taken_after ≡ Some (before ++ refusal_line q)) × IsRefused words bytes q))
 refused None taken taken_after words text r says right e = tt
 refused (Some bytes) None taken_after words text r says right e = tt
-refused (Some bytes) (Some before) taken_after words text r says right e = (r, e ∙ ap (λ t. Some (before ++ t)) says, right)
+refused (Some bytes) (Some before) taken_after words text r says right e =
+    (r, appended (Some before) taken_after before text refl e ∙ ap (λ t. Some (before ++ t)) says, right)
 
 -- what is refused is no accepted text, and the refusal is right
 pub refused_if_text : (c : Call) (result : Status) → Ends c result → result ≡ Text
-    → IfSome c.left (λ bytes. IfSome c.taken (λ before. (q : Refusal) × (c.taken_after ≡ Some (before ++ refusal_line q)) × IsRefused c.words bytes q))
+    → IfSome c.left (λ bytes. IfSome c.taken (λ before. (q : Refused) × (c.taken_after ≡ Some (before ++ refusal_line q)) × IsRefused c.words bytes q))
 refused_if_text c result (written Text text may e) h =
     refused c.left c.taken c.taken_after c.words text may.1.refusal may.1.written (of_left c (λ bytes. IsRefused c.words bytes may.1.refusal) may.1.right) e
 refused_if_text c result (written Good text may e) h = cc
@@ -145,7 +166,7 @@ refused_if_text c result (written TooLarge text may e) h = cc
 refused_if_text c result (written ReadFault text may e) h = absurd may
 refused_if_text c result (written WriteFault text may e) h = absurd may
 refused_if_text c result (written Memory text may e) h = absurd may
-refused_if_text c result (write_failed status text may rose part) h = cc
+refused_if_text c result (write_failed status text may rose part used) h = cc
 refused_if_text c result (read_failed rose nothing) h = cc
 refused_if_text c result (out_of_memory nothing) h = cc
 
@@ -163,9 +184,9 @@ read_if_answered c result (written TooLarge text may e) (inr h) = cc
 read_if_answered c result (written ReadFault text may e) h = absurd may
 read_if_answered c result (written WriteFault text may e) h = absurd may
 read_if_answered c result (written Memory text may e) h = absurd may
-read_if_answered c result (write_failed status text may rose part) (inl (inl h)) = cc
-read_if_answered c result (write_failed status text may rose part) (inl (inr h)) = cc
-read_if_answered c result (write_failed status text may rose part) (inr h) = cc
+read_if_answered c result (write_failed status text may rose part used) (inl (inl h)) = cc
+read_if_answered c result (write_failed status text may rose part used) (inl (inr h)) = cc
+read_if_answered c result (write_failed status text may rose part used) (inr h) = cc
 read_if_answered c result (read_failed rose nothing) (inl (inl h)) = cc
 read_if_answered c result (read_failed rose nothing) (inl (inr h)) = cc
 read_if_answered c result (read_failed rose nothing) (inr h) = cc
@@ -177,8 +198,8 @@ read_if_answered c result (out_of_memory nothing) (inr h) = cc
 pub nothing_written : (c : Call) (result : Status) → Ends c result → (result ≡ ReadFault) ⊎ (result ≡ Memory) → c.taken_after ≡ c.taken
 nothing_written c result (read_failed rose nothing) h = nothing
 nothing_written c result (out_of_memory nothing) h = nothing
-nothing_written c result (write_failed status text may rose part) (inl h) = cc
-nothing_written c result (write_failed status text may rose part) (inr h) = cc
+nothing_written c result (write_failed status text may rose part used) (inl h) = cc
+nothing_written c result (write_failed status text may rose part used) (inr h) = cc
 nothing_written c result (written Good text may e) (inl h) = cc
 nothing_written c result (written Good text may e) (inr h) = cc
 nothing_written c result (written Found text may e) (inl h) = cc
@@ -192,3 +213,74 @@ nothing_written c result (written TooLarge text may e) (inr h) = cc
 nothing_written c result (written ReadFault text may e) h = absurd may
 nothing_written c result (written WriteFault text may e) h = absurd may
 nothing_written c result (written Memory text may e) h = absurd may
+
+-- the usage line is written only where the words don't fit
+pub unfit_if_words : (c : Call) (result : Status) → Ends c result → result ≡ Words → WordsFit c.words → ⊥
+unfit_if_words c result (written Words text may e) h fit = may.0 fit
+unfit_if_words c result (written Good text may e) h fit = cc
+unfit_if_words c result (written Found text may e) h fit = cc
+unfit_if_words c result (written Text text may e) h fit = cc
+unfit_if_words c result (written TooLarge text may e) h fit = cc
+unfit_if_words c result (written ReadFault text may e) h fit = absurd may
+unfit_if_words c result (written WriteFault text may e) h fit = absurd may
+unfit_if_words c result (written Memory text may e) h fit = absurd may
+unfit_if_words c result (write_failed status text may rose part used) h fit = cc
+unfit_if_words c result (read_failed rose nothing) h fit = cc
+unfit_if_words c result (out_of_memory nothing) h fit = cc
+
+-- a fault of the sink says that its room is used up, where it tells that
+pub used_up_if_failed : (c : Call) (result : Status) → Ends c result → result ≡ WriteFault → IsUsedUp c.room c.taken_after
+used_up_if_failed c result (write_failed status text may rose part used) h = used
+used_up_if_failed c result (read_failed rose nothing) h = cc
+used_up_if_failed c result (out_of_memory nothing) h = cc
+used_up_if_failed c result (written Good text may e) h = cc
+used_up_if_failed c result (written Found text may e) h = cc
+used_up_if_failed c result (written Words text may e) h = cc
+used_up_if_failed c result (written Text text may e) h = cc
+used_up_if_failed c result (written TooLarge text may e) h = cc
+used_up_if_failed c result (written ReadFault text may e) h = absurd may
+used_up_if_failed c result (written WriteFault text may e) h = absurd may
+used_up_if_failed c result (written Memory text may e) h = absurd may
+
+-- what was given is no longer than what there was
+not_longer : (left after : Option (List ℕ)) (bytes gave : List ℕ) → left ≡ Some bytes → Consumes left after gave → length gave ≤ length bytes
+not_longer None after bytes gave is given = cc
+not_longer (Some xs) None bytes gave is given = absurd given
+not_longer (Some xs) (Some ys) bytes gave is given =
+    let counted = ap length (sym (same_Some xs bytes is) ∙ given) ∙ length-append gave ys in omega (arith, counted)
+
+module _ (c : Call) (once : (a b : PureTask) → AskFor c.words a → AskFor c.words b → a ≡ b) (t : PureTask) (asked : AskFor c.words t) (bytes : List ℕ)
+    (left : c.left ≡ Some bytes) (accepted : IsAccepted t bytes) (short : length bytes ≤ most_bytes) (no_fault : FaultRose c.read_faults c.read_faults_after → ⊥) where
+  not_refused : (r : Refused) → IfSome c.left (λ bs. IsRefused c.words bs r) → ⊥
+  not_refused r known =
+      let refused = subst (λ o. IfSome o (λ bs. IsRefused c.words bs r)) left known in
+      (subst (λ u. IsRefusal u bytes r) (once refused.0 t refused.1 asked) refused.2).not_accepted accepted
+
+  not_too_large : Takes c.left c.left_after (λ gave. most_bytes < length gave) → ⊥
+  not_too_large takes = let few = not_longer c.left c.left_after bytes takes.0 left takes.1 in omega (arith, few, short, takes.2)
+
+  -- an accepted text is answered, faults of the sink and want of memory aside
+  pub answered_if_accepted : (result : Status) → Ends c result → IsReported result ⊎ (result ≡ WriteFault) ⊎ (result ≡ Memory)
+  answered_if_accepted result (written Good text may e) = inl (inl refl)
+  answered_if_accepted result (written Found text may e) = inl (inr refl)
+  answered_if_accepted result (written Words text may e) = absurd (may.0 (t, asked))
+  answered_if_accepted result (written Text text may e) =
+      absurd (not_refused may.1.refusal (of_left c (λ bs. IsRefused c.words bs may.1.refusal) may.1.right))
+  answered_if_accepted result (written TooLarge text may e) = absurd (not_too_large may.1)
+  answered_if_accepted result (written ReadFault text may e) = absurd may
+  answered_if_accepted result (written WriteFault text may e) = absurd may
+  answered_if_accepted result (written Memory text may e) = absurd may
+  answered_if_accepted result (write_failed status text may rose part used) = inr (inl refl)
+  answered_if_accepted result (read_failed rose nothing) = absurd (no_fault rose)
+  answered_if_accepted result (out_of_memory nothing) = inr (inr refl)
+
+-- the same of the bytes that the source tells
+pub answered_where_told : (c : Call) → ((a b : PureTask) → AskFor c.words a → AskFor c.words b → a ≡ b) → (result : Status) → Ends c result
+    → (t : PureTask) → AskFor c.words t → IfSome c.left (λ bytes. IsAccepted t bytes → length bytes ≤ most_bytes
+    → (FaultRose c.read_faults c.read_faults_after → ⊥) → IsReported result ⊎ (result ≡ WriteFault) ⊎ (result ≡ Memory))
+answered_where_told c once result ends t asked = by c.left refl
+  where
+    by : (left : Option (List ℕ)) → c.left ≡ left → IfSome left (λ bytes. IsAccepted t bytes → length bytes ≤ most_bytes
+        → (FaultRose c.read_faults c.read_faults_after → ⊥) → IsReported result ⊎ (result ≡ WriteFault) ⊎ (result ≡ Memory))
+    by None is = tt
+    by (Some bytes) is = λ accepted short no_fault. answered_if_accepted c once t asked bytes is accepted short no_fault result ends

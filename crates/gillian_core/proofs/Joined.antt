@@ -35,3 +35,9 @@ conditions_added start before mid all atoms e f g =
     let joined : List ℕ = join_by (λ (a : Atom). printed_condition (atom_view a)) (codes ", ") atoms in
     rw (g, f, e, join_by-seen printed_condition atom_view (codes ", ") atoms)
     (append_assoc (start ++ codes "[") joined (codes "]") ∙ append_assoc start (codes "[") (joined ++ codes "]"))
+
+-- a head line, piece by piece
+pub head_added : (start word rest before mid all : List ℕ) → before ≡ start ++ word → mid ≡ before ++ rest → all ≡ mid ++ 10 ∷ []
+    → all ≡ start ++ ((word ++ rest) ++ 10 ∷ [])
+head_added start word rest before mid all e f g =
+    rw (g, f, e) (ap (λ text. text ++ 10 ∷ []) (append_assoc start word rest) ∙ append_assoc start (word ++ rest) (10 ∷ []))

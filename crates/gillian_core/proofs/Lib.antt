@@ -1,7 +1,9 @@
 pub mod Cases
 pub mod Ending
 pub mod Joined
-pub mod ProgramTexts
+pub mod MeantTexts
+pub mod Meant
 pub mod Refusing
+pub mod Responding
 pub mod Solutions
 pub mod Verdicts

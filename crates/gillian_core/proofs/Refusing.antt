@@ -1,103 +1,96 @@
 -- Why texts aren't accepted.
-use Rattle.std.proofs.Common.{◌≡◌, ◌≢◌, ℕ, List, length, refl, sym, subst, IsTrue}
+use Rattle.std.proofs.Common.{◌≡◌, ◌≢◌, inl, inr, ℕ, List, length, Option, Some, None, Result, Ok, Err, IfOk, IfErr, MatchResult, refl}
+use Rattle.std.proofs.Common.{sym, ◌∙◌, ap, subst}
 use Rattle.gil_syntax.specs.Pure.{PureParts}
-use Rattle.gil_text.specs.declared.refused.RefusedKind.{RefusedKind}
-use Rattle.gil_text.specs.declared.refused.RefusedKind.TheVariants as reader
-use Rattle.atom_text.specs.Accepted.{PureAtomText, SpellAtoms}
+use Rattle.gil_syntax.specs.Valid.{IsValid}
+use Rattle.gil_grammar.specs.Texts.{SpellProgram}
 use Rattle.gil_machine.specs.Run.{IsEntry}
-use Rattle.gillian_words.specs.declared.options.Language.{Language}
-use Rattle.gillian_words.specs.declared.options.Language.TheVariants.{GilRecord, Atoms, While}
-use Rattle.gillian_words.specs.declared.options.Mode.{Mode}
-use Rattle.gillian_words.specs.declared.options.Mode.TheVariants.{Run, Test, Compile, Solve}
-use Rattle.gillian_words.specs.Asked.{Asked, takes_language}
-use Rattle.gillian_core.specs.declared.refusals.RefusalKind.{RefusalKind}
-use Rattle.gillian_core.specs.declared.refusals.RefusalKind.TheVariants as kinds
-use Rattle.gillian_core.specs.Accepted.{IsAccepted, IsAcceptedBy, IsTextIn}
-use Rattle.gillian_core.specs.Refusals.{IsUnreadBy, IsFirstKind, IsRefusal}
+use Rattle.gil_text.specs.Refusals.{IsRefused}
+use Rattle.gil_text.specs.declared.refused.Refused.{Refused}
+use Rattle.gil_text.specs.declared.refused.RefusedKind.{RefusedKind}
+use Rattle.gil_text.specs.declared.refused.RefusedKind.TheVariants as kinds
+use Rattle.source_language.specs.declared.limits.TooMany.{TooMany}
+use Rattle.source_language.specs.Limits.{IsLimitOf}
+use Rattle.gillian_words.specs.Tasks.{PureTask}
+use Rattle.gillian_core.specs.Accepted.{IsAccepted}
+use Rattle.gillian_core.specs.Compiled.{IsSourceOf, SourceLanguage, definition_by_source, limit_refusal}
+use Rattle.gillian_core.specs.Definitions.{Definition}
+use Rattle.gillian_core.specs.Finishing.{IsCause, IsNoEntry, IsNoOutput, IsNoProgram}
+use Rattle.gillian_core.specs.GilRecord.{IsTextOf, gil_record}
+use Rattle.gillian_core.specs.Refusals.{IsFirstKind}
+use Rattle.gillian_core.specs.Right.{IsProgramOf}
 
--- a text that a mode doesn't accept isn't accepted where that mode is asked
-pub not_accepted_by : (a : Asked) (mode : Mode) (bytes : List ℕ) → a.mode ≡ mode → (IsAcceptedBy mode a bytes → ⊥) → IsAccepted a bytes → ⊥
-not_accepted_by a mode bytes is never accepted = never (subst (λ m. IsAcceptedBy m a bytes) is accepted)
+-- want of memory needs no cause
+pub no_cause : (X : Type 0) (F : ℕ → RefusedKind → Type 0) (r : Refused) → r.kind ≡ kinds.Memory → IsCause X F r
+no_cause X F r is = record { never = λ refused x. refused is; fault = λ refused. absurd (refused is) }
 
-pub refused_by : (a : Asked) (mode : Mode) (bytes : List ℕ) (kind : RefusalKind) (at : ℕ) → a.mode ≡ mode → (IsAcceptedBy mode a bytes → ⊥)
-    → IsFirstKind a bytes at kind → IsRefusal a bytes (record { kind = kind; at = at })
-refused_by a mode bytes kind at is never first = record { not_accepted = not_accepted_by a mode bytes is never; kind = first }
+pub no_output_for_memory : (t : PureTask) (bytes : List ℕ) (r : Refused) → r.kind ≡ kinds.Memory → IsNoOutput t bytes r
+no_output_for_memory t bytes r is = λ refused. absurd (refused is)
 
--- ---- languages of modes
+-- what is the cause for all that is asked refuses the text
+pub refused_for : (t : PureTask) (bytes : List ℕ) (r : Refused) → IsCause (IsAccepted t bytes) (IsFirstKind t bytes) r → IsNoOutput t bytes r
+refused_for t bytes r cause = λ refused. record { not_accepted = cause.never refused; kind = cause.fault refused }
 
-of_solve : (l : Language) → IsTrue (takes_language Solve l) → l ≡ Atoms
-of_solve GilRecord taken = cc
-of_solve Atoms taken = refl
-of_solve While taken = cc
+-- ---- GIL
 
-pub solved : (m : Mode) (l : Language) → m ≡ Solve → IsTrue (takes_language m l) → l ≡ Atoms
-solved m l is taken = of_solve l (subst (λ n. IsTrue (takes_language n l)) is taken)
+module _ {T : Type 0} (view : T → PureParts) (bytes : List ℕ) where
+  pub gil_program : (r : Result T Refused) → IfOk r (λ prog. SpellProgram bytes (view prog)) → IfOk r (λ prog. IsValid (view prog))
+      → IfOk r (λ prog. IsProgramOf gil_record bytes (view prog))
+  gil_program (Ok prog) spelled valid = (record { spelled = spelled; valid = valid }, tt)
+  gil_program (Err refused) spelled valid = tt
 
-run_atoms : (l : Language) → IsTrue (takes_language Run l) → l ≢ Atoms
-run_atoms GilRecord taken e = cc
-run_atoms Atoms taken e = cc
-run_atoms While taken e = cc
+  pub gil_only : (r : Result T Refused)
+      → ((p : PureParts) → SpellProgram bytes p → IsValid p → MatchResult r (λ prog. view prog ≡ p) (λ refused. refused.kind ≡ kinds.Memory))
+      → IfOk r (λ prog. (p : PureParts) → IsTextOf bytes p → view prog ≡ p)
+  gil_only (Ok prog) only = λ p text. only p text.spelled text.valid
+  gil_only (Err refused) only = tt
 
-tested_atoms : (l : Language) → IsTrue (takes_language Test l) → l ≢ Atoms
-tested_atoms GilRecord taken e = cc
-tested_atoms Atoms taken e = cc
-tested_atoms While taken e = cc
+  pub gil_unread : (r : Result T Refused)
+      → ((p : PureParts) → SpellProgram bytes p → IsValid p → MatchResult r (λ prog. view prog ≡ p) (λ refused. refused.kind ≡ kinds.Memory))
+      → IfErr r (IsRefused bytes) → IfErr r (IsNoProgram gil_record bytes)
+  gil_unread (Ok prog) only refused = tt
+  gil_unread (Err r) only refused = record {
+    never = λ k has. k (only has.0 has.1.spelled has.1.valid);
+    fault = λ k. (k, refused);
+  }
 
-compiled_atoms : (l : Language) → IsTrue (takes_language Compile l) → l ≢ Atoms
-compiled_atoms GilRecord taken e = cc
-compiled_atoms Atoms taken e = cc
-compiled_atoms While taken e = cc
+-- ---- sources
 
-pub no_atoms_run : (m : Mode) (l : Language) → m ≡ Run → IsTrue (takes_language m l) → l ≢ Atoms
-no_atoms_run m l is taken = run_atoms l (subst (λ n. IsTrue (takes_language n l)) is taken)
+none_and_some : (o : Option ℕ) (n : ℕ) → o ≡ None → o ≡ Some n → ⊥
+none_and_some o n none some = cc
 
-pub no_atoms_tested : (m : Mode) (l : Language) → m ≡ Test → IsTrue (takes_language m l) → l ≢ Atoms
-no_atoms_tested m l is taken = tested_atoms l (subst (λ n. IsTrue (takes_language n l)) is taken)
+module _ (l : SourceLanguage) (bytes : List ℕ) where
+  -- a source that is compiled is that of the text, and so is its program
+  pub one_compiled : (s : l.Source) (p : PureParts) → p ≡ l.compiled s → ((r : l.Source) → l.Spells bytes r → l.IsValid r → s ≡ r)
+      → (q : PureParts) → IsSourceOf l bytes q → p ≡ q
+  one_compiled s p is only q text = is ∙ ap l.compiled (only text.source text.spelled text.valid) ∙ text.program
 
-pub no_atoms_compiled : (m : Mode) (l : Language) → m ≡ Compile → IsTrue (takes_language m l) → l ≢ Atoms
-no_atoms_compiled m l is taken = compiled_atoms l (subst (λ n. IsTrue (takes_language n l)) is taken)
+  pub source_unread : (r : Refused) → ((s : l.Source) → l.Spells bytes s → l.IsValid s → r.kind ≡ kinds.Memory)
+      → l.IsRefusedFor bytes r.at r.kind → IsNoProgram (definition_by_source l) bytes r
+  source_unread r only refused = record {
+    never = λ k has. k (only has.1.source has.1.spelled has.1.valid);
+    fault = λ k. inl (k, refused);
+  }
 
--- ---- what is refused
+  pub source_too_long : (s : l.Source) (e : TooMany) → l.Spells bytes s → l.IsValid s → ((r : l.Source) → l.Spells bytes r → l.IsValid r → s ≡ r)
+      → IsLimitOf (l.first_too_long s) e → IsNoProgram (definition_by_source l) bytes (limit_refusal e)
+  source_too_long s TooMany.Memory spelled valid only long = no_cause _ _ _ refl
+  source_too_long s (TooMany.Limit at) spelled valid only long = record {
+    never = λ k has. none_and_some (l.first_too_long s) at
+        (subst (λ r. l.first_too_long r ≡ None) (sym (only has.1.source has.1.spelled has.1.valid)) has.1.short) long;
+    fault = λ k. inr (refl, (s, spelled, valid, long));
+  }
 
--- what the reader of a language refuses is refused where texts of that language are asked for
-pub unread_where : (a : Asked) (language : Language) (bytes : List ℕ) (at : ℕ) (kind : RefusedKind) → a.second ≡ language
-    → IsUnreadBy language bytes at kind → IsUnreadBy a.second bytes at kind
-unread_where a language bytes at kind is unread = subst (λ l. IsUnreadBy l bytes at kind) (sym is) unread
+-- ---- entries
 
--- kinds that no reader names
-pub never_limit : (language : Language) (bytes : List ℕ) (at : ℕ) → IsUnreadBy language bytes at reader.Limit → ⊥
-never_limit GilRecord bytes at h = h
-never_limit Atoms bytes at h = h
-never_limit While bytes at h = h
+module _ (d : Definition) (entry bytes : List ℕ) where
+  -- without a program there is none with the entry
+  pub no_entry_of : (r : Refused) → IsNoProgram d bytes r → IsNoEntry d entry bytes r
+  no_entry_of r unread = record { never = λ k has. unread.never k (has.0, has.1); fault = λ k. inl (unread.fault k) }
 
-pub never_entry : (language : Language) (bytes : List ℕ) (at : ℕ) → IsUnreadBy language bytes at reader.Entry → ⊥
-never_entry GilRecord bytes at h = h
-never_entry Atoms bytes at h = h
-never_entry While bytes at h = h
-
-pub never_modes : (language : Language) (bytes : List ℕ) (at : ℕ) → IsUnreadBy language bytes at reader.Modes → ⊥
-never_modes GilRecord bytes at h = h
-never_modes Atoms bytes at h = h
-never_modes While bytes at h = h
-
--- a text of no variables and atoms isn't accepted to be solved
-pub nothing_to_solve : (a : Asked) (bytes : List ℕ) → a.mode ≡ Solve → ((t : PureAtomText) → SpellAtoms bytes t → ⊥) → IsAccepted a bytes → ⊥
-nothing_to_solve a bytes is never = not_accepted_by a Solve bytes is (λ accepted. never accepted.0 accepted.1)
-
--- the text of a program that lacks the entry isn't run
-pub run_refused_at_entry : (a : Asked) (bytes : List ℕ) (p : PureParts) → a.mode ≡ Run → IsTextIn a.second bytes p
-    → ((q : PureParts) → IsTextIn a.second bytes q → p ≡ q)
-    → (IsEntry p a.entry → ⊥) → IsRefusal a bytes (record { kind = kinds.Entry; at = length bytes })
-run_refused_at_entry a bytes p is text only never =
-    refused_by a Run bytes kinds.Entry (length bytes) is
-    (λ accepted. never (subst (λ q. IsEntry q a.entry) (sym (only accepted.0 accepted.1)) accepted.2))
-    (p, text, never, refl)
-
--- nor is it tested
-pub test_refused_at_entry : (a : Asked) (bytes : List ℕ) (p : PureParts) → a.mode ≡ Test → IsTextIn a.second bytes p
-    → ((q : PureParts) → IsTextIn a.second bytes q → p ≡ q)
-    → (IsEntry p a.entry → ⊥) → IsRefusal a bytes (record { kind = kinds.Entry; at = length bytes })
-test_refused_at_entry a bytes p is text only never =
-    refused_by a Test bytes kinds.Entry (length bytes) is
-    (λ accepted. never (subst (λ q. IsEntry q a.entry) (sym (only accepted.0 accepted.1)) accepted.2))
-    (p, text, never, refl)
+  pub lacks_entry : (p : PureParts) → d.IsText bytes p → ((q : PureParts) → d.IsText bytes q → p ≡ q) → (IsEntry p entry → ⊥)
+      → IsNoEntry d entry bytes (record { at = length bytes; kind = kinds.Entry })
+  lacks_entry p text only never = record {
+    never = λ k has. never (subst (λ q. IsEntry q entry) (sym (only has.0 has.1)) has.2);
+    fault = λ k. inr (refl, (p, text, never), refl);
+  }

@@ -1,12 +1,20 @@
 -- The values of variables with their names, and what is known of a text that is solved.
-use Rattle.std.proofs.Common.{◌≡◌, ◌+◌, ℕ, List, [], ◌∷◌, ◌++◌, length, map, take, Some, slice_get, refl, sym, ap, ◌∙◌, add-one}
+use Rattle.std.proofs.Common.{◌≡◌, ◌+◌, ℕ, List, [], ◌∷◌, ◌++◌, length, map, take, Some, Result, Ok, Err, IfOk, IfErr, slice_get, refl}
+use Rattle.std.proofs.Common.{subst, sym, ap, ◌∙◌, add-one}
 use Rattle.std.proofs.lemmas.List.{length-map, map_push}
 use Rattle.gil_values.specs.View.{value_view}
 use Rattle.pure_terms.proofs.Evaluated.{take-push}
 use Rattle.atom_text.specs.declared.sources.Declaration.{Declaration}
 use Rattle.atom_text.specs.Accepted.{PureAtomText, SpellAtoms}
+use Rattle.atom_text.specs.Refusals.{IsRefused}
+use Rattle.gil_text.specs.declared.refused.Refused.{Refused}
+use Rattle.gil_text.specs.declared.refused.RefusedKind.TheVariants as kinds
+use Rattle.gillian_words.specs.Tasks.{solve}
+use Rattle.gillian_core.specs.declared.answers.Answer.{Answer}
 use Rattle.gillian_core.specs.declared.answers.Binding.{Binding}
-use Rattle.gillian_core.specs.Answers.{binding_view}
+use Rattle.gillian_core.specs.Answers.{answer_view, binding_view}
+use Rattle.gillian_core.specs.Finishing.{IsNoOutput}
+use Rattle.gillian_core.specs.Right.{IsRightSolution, IsSolved}
 use Rattle.gillian_core.specs.Reports.{PureBinding}
 
 -- each variable of a text has a name
@@ -29,3 +37,23 @@ pub one_more : {X : Type 0} (f : Binding → X) (bs : List Binding) (b : Binding
 one_more f bs b all xs i x pushed seen here before =
     ap (map f) pushed ∙ map_push f bs b ∙ ap (λ ys. ys ++ f b ∷ []) before ∙ ap (λ y. take i xs ++ y ∷ []) seen
     ∙ sym (take-push xs i x here) ∙ ap (λ k. take k xs) (sym (add-one i))
+
+-- a text of no variables and atoms is refused
+pub atoms_unread : (bytes : List ℕ) (r : Refused) → ((t : PureAtomText) → SpellAtoms bytes t → r.kind ≡ kinds.Memory) → IsRefused bytes r
+    → IsNoOutput solve bytes r
+atoms_unread bytes r only refused = λ k. record { not_accepted = λ has. k (only has.0 has.1); kind = (k, refused) }
+
+-- the solution of the text is that of the bytes
+pub solution_known : {E F : Type 0} (bytes : List ℕ) (t : PureAtomText) → SpellAtoms bytes t → (found : Result Answer E) (r : Result Answer F)
+    → IfOk r (λ x. found ≡ Ok x) → IfOk found (λ answer. IsRightSolution t (answer_view answer)) → IfOk r (λ answer. IsSolved bytes (answer_view answer))
+solution_known bytes t spelled found (Ok x) is right = record {
+  solved = t;
+  text = spelled;
+  solution = subst (λ q. IfOk q (λ answer. IsRightSolution t (answer_view answer))) is right;
+}
+solution_known bytes t spelled found (Err e) is right = tt
+
+-- want of memory says nothing
+pub memory_alone : (bytes : List ℕ) (r : Result Answer Refused) → IfErr r (λ refused. refused.kind ≡ kinds.Memory) → IfErr r (IsNoOutput solve bytes)
+memory_alone bytes (Ok x) is = tt
+memory_alone bytes (Err e) is = λ refused. absurd (refused is)

@@ -1,49 +1,50 @@
--- Verdicts of tests are right for the text, too.
+-- Verdicts of tests are right, for the text too.
 use Rattle.std.proofs.Common.{ℕ, List}
-use Rattle.std.specs.Prelude.{⊤}
-use Rattle.gil_values.specs.declared.places.Place.{Place}
 use Rattle.gil_values.specs.Pure.{PureValue}
 use Rattle.gil_syntax.specs.Pure.{PureParts}
-use Rattle.record_heap.specs.Table.{record_actions}
-use Rattle.record_sym.specs.Plain.{record_stands, record_terms, record_asked, record_depends}
-use Rattle.gil_machine.specs.Run.{IsBug}
+use Rattle.mem_model.specs.Actions.{Actions}
+use Rattle.mem_model.specs.Heaps.{Heap}
+use Rattle.pure_terms.specs.Pure.{PureTerm}
+use Rattle.sym_model.specs.Terms.{StateTerms}
 use Rattle.sym_test.specs.Undecided.{FailsSimply, IsBugVerdict, IsRightVerdict as IsRight}
 use Rattle.sym_test.specs.View.{PureVerdict}
 use Rattle.sym_test.specs.View as verdict
-use Rattle.gillian_words.specs.Asked.{Asked}
-use Rattle.gillian_core.proofs.ProgramTexts.{fails_by}
+use Rattle.gillian_words.specs.declared.tasks.Language.{Language}
 use Rattle.gillian_core.specs.Answers.{verdict_answer}
-use Rattle.gillian_core.specs.Reports.{PureAnswer, clean, bug, undecided, returned, failed, vanished, cut, no_input, bad_input, number, sat, unsat, unknown}
-use Rattle.gillian_core.specs.Right.{KeepsEnds, IsMeant, IsRightVerdict, IsMeantVerdict}
+use Rattle.gillian_core.specs.Definitions.{memory_of}
+use Rattle.gillian_core.specs.Languages.{definition_of}
+use Rattle.gillian_core.specs.Reports.{PureAnswer, clean, bug, undecided, returned, failed, vanished, cut, no_input, bad_input, number}
+use Rattle.gillian_core.specs.Reports.{sat, unsat, unknown}
+use Rattle.gillian_core.specs.Right.{IsMeantVerdict, IsRightVerdict}
+use Rattle.gillian_core.proofs.MeantTexts.{failure_is_meant}
 
--- what a test answers over symbolic records is right
-pub verdict_is_right : (p : PureParts) (entry : List ℕ) (bound : ℕ) (v : PureVerdict)
-    → IsRight p record_actions record_stands record_terms record_asked record_depends ⊤ entry bound v
-    → ((inputs : List PureValue) → FailsSimply p record_actions entry inputs bound → IsBugVerdict v)
-    → IsRightVerdict p entry bound (verdict_answer v)
-verdict_is_right p entry bound (verdict.bug place w inputs) right found = right
-verdict_is_right p entry bound verdict.clean right found = right
-verdict_is_right p entry bound (verdict.unknown q) right found = (right, found)
-
--- a bug of the program is one of the text, where the program keeps the text's ends
-pub bug_is_meant : (a : Asked) (bytes : List ℕ) (p : PureParts) (place : Place) (v : PureValue) (inputs : List PureValue)
-    → KeepsEnds a.second bytes p → IsBug p record_actions a.entry a.bound inputs v place
-    → IsMeant a.second a.entry inputs bytes (failed v place)
-bug_is_meant a bytes p place v inputs keeps found = fails_by a.entry inputs bytes p found.entry a.second a.bound v place keeps found.fails
+-- what a test answers over the symbolic states of a memory is right
+module _ {S : Type 0} (actions : Actions) (stands : S → List PureValue → Heap → Type 0) (terms : S → StateTerms)
+    (asked : List ℕ → List PureTerm → List PureTerm × List PureTerm) (depends : S → List ℕ → List PureTerm → List PureValue → Heap → PureTerm → Type 0)
+    (keeps_plain : Type 0) where
+  pub verdict_is_right : (p : PureParts) (entry : List ℕ) (bound : ℕ) (v : PureVerdict)
+      → IsRight p actions stands terms asked depends keeps_plain entry bound v
+      → (keeps_plain → (inputs : List PureValue) → FailsSimply p actions entry inputs bound → IsBugVerdict v)
+      → IsRightVerdict (memory_of actions stands terms asked depends keeps_plain) p entry bound (verdict_answer v)
+  verdict_is_right p entry bound (verdict.bug place w inputs) right found = right
+  verdict_is_right p entry bound verdict.clean right found = right
+  verdict_is_right p entry bound (verdict.unknown q) right found = (right, found)
 
 -- a verdict is meant where it is right
-pub verdict_is_meant : (a : Asked) (bytes : List ℕ) (p : PureParts) (answer : PureAnswer) → KeepsEnds a.second bytes p
-    → IsRightVerdict p a.entry a.bound answer → IsMeantVerdict a bytes answer
-verdict_is_meant a bytes p (bug place v inputs) keeps right = bug_is_meant a bytes p place v inputs keeps right.0
-verdict_is_meant a bytes p clean keeps right = tt
-verdict_is_meant a bytes p (undecided q) keeps right = tt
-verdict_is_meant a bytes p (returned v) keeps right = tt
-verdict_is_meant a bytes p (failed v place) keeps right = tt
-verdict_is_meant a bytes p vanished keeps right = tt
-verdict_is_meant a bytes p cut keeps right = tt
-verdict_is_meant a bytes p (no_input k) keeps right = tt
-verdict_is_meant a bytes p (bad_input k) keeps right = tt
-verdict_is_meant a bytes p (number place) keeps right = tt
-verdict_is_meant a bytes p (sat bindings) keeps right = tt
-verdict_is_meant a bytes p (unsat names proof) keeps right = tt
-verdict_is_meant a bytes p (unknown place) keeps right = tt
+pub verdict_is_meant : (l : Language) (bytes : List ℕ) (p : PureParts) (entry : List ℕ) (bound : ℕ) (answer : PureAnswer)
+    → (definition_of l).KeepsEnds bytes p → IsRightVerdict (definition_of l).memory p entry bound answer
+    → IsMeantVerdict (definition_of l) bytes entry answer
+verdict_is_meant l bytes p entry bound (bug place v inputs) keeps right =
+    failure_is_meant l bytes p entry inputs bound v place keeps right.0.entry right.0.fails
+verdict_is_meant l bytes p entry bound clean keeps right = tt
+verdict_is_meant l bytes p entry bound (undecided q) keeps right = tt
+verdict_is_meant l bytes p entry bound (returned v) keeps right = tt
+verdict_is_meant l bytes p entry bound (failed v place) keeps right = tt
+verdict_is_meant l bytes p entry bound vanished keeps right = tt
+verdict_is_meant l bytes p entry bound cut keeps right = tt
+verdict_is_meant l bytes p entry bound (no_input k) keeps right = tt
+verdict_is_meant l bytes p entry bound (bad_input k) keeps right = tt
+verdict_is_meant l bytes p entry bound (number place) keeps right = tt
+verdict_is_meant l bytes p entry bound (sat bindings) keeps right = tt
+verdict_is_meant l bytes p entry bound (unsat names proof) keeps right = tt
+verdict_is_meant l bytes p entry bound (unknown place) keeps right = tt

@@ -1,41 +1,68 @@
 -- What the stages of a call leave to those before them.
-use Rattle.std.specs.Prelude.{◌≡◌, ◌⊎◌, ℕ, List, Option}
-use Rattle.std.specs.Io.KnownBytes.{append_known}
+use Rattle.std.specs.Prelude.{◌≡◌, ◌≢◌, ◌⊎◌, ℕ, List, Option}
+use Rattle.std.specs.Io.KnownBytes.{Appends}
 use Rattle.gil_io.specs.Faults.{FaultRose}
-use Rattle.gil_io.specs.Writing.{TakesPart}
-use Rattle.gillian_words.specs.Asked.{Asked}
-use Rattle.gillian_core.specs.declared.refusals.Refusal.{Refusal}
-use Rattle.gillian_core.specs.declared.refusals.Stop.{Stop}
-use Rattle.gillian_core.specs.declared.refusals.Stop.TheVariants as stops
+use Rattle.gil_io.specs.Writing.{IsUsedUp, TakesPart}
+use Rattle.gil_text.specs.declared.refused.Refused.{Refused}
+use Rattle.gil_text.specs.declared.refused.RefusedKind.{RefusedKind}
+use Rattle.gil_text.specs.declared.refused.RefusedKind.TheVariants as kinds
+use Rattle.gillian_words.specs.Tasks.{PureTask}
 use Rattle.gillian_core.specs.declared.status.Status.{Status}
 use Rattle.gillian_core.specs.declared.status.Status.TheVariants.{Text, WriteFault, Memory}
-use Rattle.gillian_core.specs.Outcomes.{Output, IsRightOutput, output_status, output_text}
-use Rattle.gillian_core.specs.Refusals.{IsRefusal, refusal_line}
+use Rattle.gillian_core.specs.Accepted.{HasEntry, HasProgram}
+use Rattle.gillian_core.specs.Definitions.{Definition}
+use Rattle.gillian_core.specs.Outputs.{PureOutput, output_status, output_text}
+use Rattle.gillian_core.specs.Refusals.{IsFaultOfEntry, IsRefusal, refusal_line}
+use Rattle.gillian_core.specs.Right.{IsRightOutput}
 
--- The text is written and the status given, or the sink met a fault and took a part.
-abbrev pub Finishes : Option (List ℕ) → Option (List ℕ) → ℕ → ℕ → List ℕ → Status → Status → Type 0
-Finishes taken taken_after faults faults_after text status result =
-    ((result ≡ status) × (taken_after ≡ append_known taken text))
-    ⊎ ((result ≡ WriteFault) × FaultRose faults faults_after × TakesPart taken taken_after text)
+-- what a sink tells: what it has taken and its count of faults, before and after, and its room
+pub record Told : Type 0 where
+  pub taken : Option (List ℕ)
+  pub taken_after : Option (List ℕ)
+  pub faults : ℕ
+  pub faults_after : ℕ
+  pub room : Option ℕ
 
--- why there is no answer: the text is refused so; want of memory says nothing
-abbrev pub IsStop : Asked → List ℕ → Stop → Type 0
-IsStop a bytes (stops.Refused r) = IsRefusal a bytes r
-IsStop a bytes stops.Memory = Unit {0}
+module _ {K : Type 0} (taken : K → Option (List ℕ)) (faults : K → ℕ) (room : K → Option ℕ) where
+  abbrev pub told : K → K → Told
+  told sink sink_after = record {
+    taken = taken sink;
+    taken_after = taken sink_after;
+    faults = faults sink;
+    faults_after = faults sink_after;
+    room = room sink_after;
+  }
 
--- the text and the status of a right output
-abbrev pub IsResponse : Asked → List ℕ → Status → List ℕ → Type 0
-IsResponse a bytes status text = (o : Output) × IsRightOutput a bytes o × (status ≡ output_status o) × (text ≡ output_text o)
+-- The text is written and the status given; or the sink met a fault and took a part, and its room is used up where it tells that.
+abbrev pub Finishes : Told → List ℕ → Status → Status → Type 0
+Finishes k text status result =
+    ((result ≡ status) × Appends k.taken k.taken_after text)
+    ⊎ ((result ≡ WriteFault) × FaultRose k.faults k.faults_after × TakesPart k.taken k.taken_after text × IsUsedUp k.room k.taken_after)
 
--- the same, or the refusal of the text
-abbrev pub IsResponseOrRefusal : Asked → List ℕ → Status → List ℕ → Type 0
-IsResponseOrRefusal a bytes status text =
-    ((r : Refusal) × IsRefusal a bytes r × (status ≡ Text) × (text ≡ refusal_line r))
-    ⊎ IsResponse a bytes status text
+-- The text isn't what is looked for, and this is the first fault that applies. Want of memory says nothing.
+pub record IsCause (looked_for : Type 0) (IsFault : ℕ → RefusedKind → Type 0) (r : Refused) : Type 0 where
+  pub never : r.kind ≢ kinds.Memory → looked_for → ⊥
+  pub fault : r.kind ≢ kinds.Memory → IsFault r.at r.kind
+
+-- why there is no program, and why there is none with the entry
+abbrev pub IsNoProgram : Definition → List ℕ → Refused → Type 0
+IsNoProgram d bytes r = IsCause (HasProgram d bytes) (d.IsFault bytes) r
+
+abbrev pub IsNoEntry : Definition → List ℕ → List ℕ → Refused → Type 0
+IsNoEntry d entry bytes r = IsCause (HasEntry d entry bytes) (IsFaultOfEntry d entry bytes) r
+
+-- why there is no output: the text is refused so; want of memory says nothing
+abbrev pub IsNoOutput : PureTask → List ℕ → Refused → Type 0
+IsNoOutput t bytes r = r.kind ≢ kinds.Memory → IsRefusal t bytes r
+
+-- the text and the status of a right output, or of the refusal of the text
+abbrev pub IsResponse : PureTask → List ℕ → Status → List ℕ → Type 0
+IsResponse t bytes status text =
+    ((r : Refused) × IsRefusal t bytes r × (status ≡ Text) × (text ≡ refusal_line r))
+    ⊎ ((o : PureOutput) × IsRightOutput t bytes o × (status ≡ output_status o) × (text ≡ output_text o))
 
 -- The response is finished, or memory ran out before anything was written.
-abbrev pub Answers : Asked → List ℕ → Option (List ℕ) → Option (List ℕ) → ℕ → ℕ → Status → Type 0
-Answers a bytes taken taken_after faults faults_after result =
-    ((result ≡ Memory) × (taken_after ≡ taken))
-    ⊎ ((status : Status) × (text : List ℕ) × IsResponseOrRefusal a bytes status text
-    × Finishes taken taken_after faults faults_after text status result)
+abbrev pub Answers : PureTask → List ℕ → Told → Status → Type 0
+Answers t bytes k result =
+    ((result ≡ Memory) × (k.taken_after ≡ k.taken))
+    ⊎ ((status : Status) × (text : List ℕ) × IsResponse t bytes status text × Finishes k text status result)

@@ -1,20 +1,22 @@
 -- How a call of the program may end, and what it has then written.
 use Rattle.std.specs.Prelude.{◌≡◌, ◌≤◌, ◌<◌, ℕ, List, ◌⊎◌, length, Option, IfSome, codes}
-use Rattle.std.specs.Io.KnownBytes.{append_known, IsAtEnd}
+use Rattle.std.specs.Io.KnownBytes.{Appends, IsAtEnd}
 use Rattle.gil_io.specs.Faults.{FaultRose}
 use Rattle.gil_io.specs.Reading.{Takes}
-use Rattle.gil_io.specs.Writing.{TakesPart}
-use Rattle.gil_syntax.specs.Pure.{PureParts}
-use Rattle.syntax_print.specs.Programs.{printed_program}
-use Rattle.gillian_words.specs.Asked.{Asked, AskFor}
-use Rattle.gillian_core.specs.declared.refusals.Refusal.{Refusal}
+use Rattle.gil_io.specs.Writing.{IsUsedUp, TakesPart}
+use Rattle.gil_text.specs.declared.refused.Refused.{Refused}
+use Rattle.gillian_words.specs.Asked.{AskFor}
+use Rattle.gillian_words.specs.Tasks.{PureTask}
 use Rattle.gillian_core.specs.declared.status.Status.{Status}
 use Rattle.gillian_core.specs.declared.status.Status.TheVariants.{Good, Found, Words, Text, ReadFault, WriteFault, Memory, TooLarge}
+use Rattle.gillian_core.specs.Outputs.{PureOutput, output_status, output_text}
 use Rattle.gillian_core.specs.Refusals.{IsRefusal, refusal_line}
-use Rattle.gillian_core.specs.Reports.{PureAnswer, clean, bug, undecided, returned, failed, vanished, cut, no_input, bad_input, number, sat, unsat, unknown}
-use Rattle.gillian_core.specs.Reports.{Report, line, report_text}
-use Rattle.gillian_core.specs.Right.{IsCompiled, IsRightAnswer}
-use Rattle.gillian_core.specs.Words.{WordsFit, head_of}
+use Rattle.gillian_core.specs.Reports.{line}
+use Rattle.gillian_core.specs.Right.{IsRightOutput}
+
+-- the words ask for something
+abbrev pub WordsFit : List (List ℕ) → Type 0
+WordsFit words = (t : PureTask) × AskFor words t
 
 -- the most bytes that a source may give
 abbrev pub most_bytes : ℕ
@@ -30,7 +32,7 @@ refused_size = line (codes "refused size")
 -- ---- calls
 
 -- a call: its words; what the source tells that it has left and its count of faults, before and after; what the sink tells
--- that it has taken and its count of faults, before and after
+-- that it has taken and its count of faults, before and after; and its room, where it tells it
 pub record Call : Type 0 where
   pub words : List (List ℕ)
   pub left : Option (List ℕ)
@@ -41,9 +43,11 @@ pub record Call : Type 0 where
   pub taken_after : Option (List ℕ)
   pub write_faults : ℕ
   pub write_faults_after : ℕ
+  pub room : Option ℕ
 
 -- the call with these words on a source and a sink, each before and after, of which this is told
-module _ {S K : Type 0} (left : S → Option (List ℕ)) (read_faults : S → ℕ) (taken : K → Option (List ℕ)) (write_faults : K → ℕ) where
+module _ {S K : Type 0} (left : S → Option (List ℕ)) (read_faults : S → ℕ) (taken : K → Option (List ℕ)) (write_faults : K → ℕ)
+    (room : K → Option ℕ) where
   abbrev pub call_of : List (List ℕ) → S → S → K → K → Call
   call_of words source source_after sink sink_after = record {
     words = words;
@@ -55,6 +59,7 @@ module _ {S K : Type 0} (left : S → Option (List ℕ)) (read_faults : S → �
     taken_after = taken sink_after;
     write_faults = write_faults sink;
     write_faults_after = write_faults sink_after;
+    room = room sink_after;
   }
 
 -- The source was read to its end: the bytes that it gave are all that it had, and no more than it may have.
@@ -69,47 +74,13 @@ OfBytes c P = (bytes : List ℕ) × IfSome c.left (λ left. bytes ≡ left) × P
 
 -- ---- outputs
 
--- what is written of an accepted text: a report, or a program
-pub data Output : Type 0 where
-  a_report : Report → Output
-  a_program : PureParts → Output
-
-abbrev pub output_text : Output → List ℕ
-output_text (a_report r) = report_text r
-output_text (a_program p) = printed_program p
-
--- a run that returned or vanished, a clean verdict, and a solution with values or a proof are good
-abbrev pub answer_status : PureAnswer → Status
-answer_status clean = Good
-answer_status (bug place value inputs) = Found
-answer_status (undecided query) = Found
-answer_status (returned value) = Good
-answer_status (failed value place) = Found
-answer_status vanished = Good
-answer_status cut = Found
-answer_status (no_input draw) = Found
-answer_status (bad_input draw) = Found
-answer_status (number place) = Found
-answer_status (sat bindings) = Good
-answer_status (unsat names proof) = Good
-answer_status (unknown place) = Found
-
-abbrev pub output_status : Output → Status
-output_status (a_report r) = answer_status r.answer
-output_status (a_program p) = Good
-
--- what is asked for is written of a text
-abbrev pub IsRightOutput : Asked → List ℕ → Output → Type 0
-IsRightOutput a bytes (a_report r) = (r.head ≡ head_of a) × IsRightAnswer a bytes r.answer
-IsRightOutput a bytes (a_program p) = IsCompiled a.mode a bytes p
-
 -- The output is right for the bytes, and is what the words ask for.
-abbrev pub IsRight : List (List ℕ) → List ℕ → Output → Type 0
-IsRight words bytes output = (a : Asked) × AskFor words a × IsRightOutput a bytes output
+abbrev pub IsRight : List (List ℕ) → List ℕ → PureOutput → Type 0
+IsRight words bytes output = (t : PureTask) × AskFor words t × IsRightOutput t bytes output
 
--- The text isn't accepted where this is asked that the words ask for, and is refused so.
-abbrev pub IsRefused : List (List ℕ) → List ℕ → Refusal → Type 0
-IsRefused words bytes r = (a : Asked) × AskFor words a × IsRefusal a bytes r
+-- The text isn't accepted where what the words ask for is asked, and is refused so.
+abbrev pub IsRefused : List (List ℕ) → List ℕ → Refused → Type 0
+IsRefused words bytes r = (t : PureTask) × AskFor words t × IsRefusal t bytes r
 
 -- ---- ends
 
@@ -119,14 +90,14 @@ IsReported status = (status ≡ Good) ⊎ (status ≡ Found)
 
 -- The text is that of an output with this status, which is right for the bytes and the words.
 pub record Reports (c : Call) (status : Status) (text : List ℕ) : Type 0 where
-  pub output : Output
+  pub output : PureOutput
   pub written : text ≡ output_text output
   pub ends : status ≡ output_status output
   pub right : OfBytes c (λ bytes. IsRight c.words bytes output)
 
 -- The text is the refusal of the bytes for the words.
 pub record Refuses (c : Call) (text : List ℕ) : Type 0 where
-  pub refusal : Refusal
+  pub refusal : Refused
   pub written : text ≡ refusal_line refusal
   pub right : OfBytes c (λ bytes. IsRefused c.words bytes refusal)
 
@@ -142,10 +113,10 @@ MayWrite c WriteFault text = ⊥
 MayWrite c Memory text = ⊥
 
 -- A call ends in one of four ways: it has written what it may with its status; the sink met a fault and took a part of
--- that; the source met a fault and nothing is written; or memory ran out and nothing is written.
+-- that, and has its room used up where it tells that; the source met a fault and nothing is written; or memory ran out and nothing is written.
 pub data Ends (c : Call) : Status → Type 0 where
-  written : (status : Status) (text : List ℕ) → MayWrite c status text → c.taken_after ≡ append_known c.taken text → Ends c status
+  written : (status : Status) (text : List ℕ) → MayWrite c status text → Appends c.taken c.taken_after text → Ends c status
   write_failed : (status : Status) (text : List ℕ) → MayWrite c status text → FaultRose c.write_faults c.write_faults_after
-      → TakesPart c.taken c.taken_after text → Ends c WriteFault
+      → TakesPart c.taken c.taken_after text → IsUsedUp c.room c.taken_after → Ends c WriteFault
   read_failed : FaultRose c.read_faults c.read_faults_after → c.taken_after ≡ c.taken → Ends c ReadFault
   out_of_memory : c.taken_after ≡ c.taken → Ends c Memory

@@ -8,12 +8,15 @@ use Rattle.solver_proof.specs.Pure.{PureProof}
 use Rattle.solver_print.specs.Proofs.{printed_proof}
 use Rattle.sym_test.specs.View.{PureQuery}
 use Rattle.gil_values.specs.Pieces.{printed_place, printed_list}
+use Rattle.gillian_words.specs.declared.tasks.Language.{Language}
+use Rattle.gillian_words.specs.Tasks.{language_word}
 use Rattle.gillian_core.specs.Queries.{printed_query}
 
--- What a report is about: of a mode and a language, one procedure and a bound, or the whole text.
-pub data Head : Type 0 where
-  of_entry : List ℕ → List ℕ → List ℕ → ℕ → Head
-  of_text : List ℕ → List ℕ → Head
+-- What a report is about: a run or a test of an entry of a text in a language within a bound, or the atoms of a text.
+pub data PureHead : Type 0 where
+  of_run : Language → List ℕ → ℕ → PureHead
+  of_test : Language → List ℕ → ℕ → PureHead
+  of_atoms : PureHead
 
 -- a variable and its value
 pub record PureBinding : Type 0 where
@@ -38,18 +41,23 @@ pub data PureAnswer : Type 0 where
   unsat : List (List ℕ) → PureProof → PureAnswer
   unknown : ℕ → PureAnswer
 
-pub record Report : Type 0 where
-  pub head : Head
+pub record PureReport : Type 0 where
+  pub head : PureHead
   pub answer : PureAnswer
 
 -- each line ends with LF
 abbrev pub line : List ℕ → List ℕ
 line characters = characters ++ 10 ∷ []
 
-abbrev pub head_line : Head → List ℕ
-head_line (of_entry mode language entry bound) =
-    line (codes "gillian " ++ mode ++ codes " " ++ language ++ codes " entry " ++ entry ++ codes " bound " ++ numeral bound)
-head_line (of_text mode language) = line (codes "gillian " ++ mode ++ codes " " ++ language)
+-- ` while entry main bound 1000`
+abbrev pub printed_entry : Language → List ℕ → ℕ → List ℕ
+printed_entry language entry bound =
+    codes " " ++ language_word language ++ codes " entry " ++ entry ++ codes " bound " ++ numeral bound
+
+abbrev pub head_line : PureHead → List ℕ
+head_line (of_run language entry bound) = line (codes "gillian run" ++ printed_entry language entry bound)
+head_line (of_test language entry bound) = line (codes "gillian test" ++ printed_entry language entry bound)
+head_line of_atoms = line (codes "gillian solve atoms")
 
 -- `x = 7`
 abbrev pub printed_binding : PureBinding → List ℕ
@@ -75,5 +83,5 @@ answer_line (sat bindings) = line (codes "sat " ++ printed_bindings bindings)
 answer_line (unsat names proof) = line (codes "unsat " ++ printed_proof names proof)
 answer_line (unknown place) = line (codes "unknown " ++ numeral place)
 
-abbrev pub report_text : Report → List ℕ
+abbrev pub report_text : PureReport → List ℕ
 report_text r = head_line r.head ++ answer_line r.answer

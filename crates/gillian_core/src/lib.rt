@@ -2,16 +2,21 @@
 #![tactic(auto)]
 
 mod answers;
-mod compiling;
+mod entries;
+mod gil_record;
+mod languages;
+mod outputs;
 mod queries;
 mod refusals;
+mod rendering;
 mod reports;
 mod running;
 mod solving;
-mod sources;
 mod status;
 mod testing;
 mod top;
+mod while_language;
+mod working;
 
 pub use status::Status;
 pub use top::gillian;

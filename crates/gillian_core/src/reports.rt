@@ -2,100 +2,100 @@
 ghost use Rattle.std.specs.Prelude.{◌≡◌, ◌++◌, codes, map, string_bytes, OnOk, IfOk};
 ghost use Rattle.std.specs.List.{join_by};
 ghost use Rattle.gil_values.specs.View.{value_view, values_view};
-ghost use Rattle.gillian_words.specs.Asked.{mode_word, language_word};
-ghost use Rattle.gillian_words.specs.View.{words_view};
 ghost use Rattle.solver_proof.specs.View.{proof_view};
 ghost use Rattle.sym_test.specs.View.{query_view};
-ghost use Rattle.gillian_core.specs.Answers.{answer_view, binding_view};
-ghost use Rattle.gillian_core.specs.Outcomes.{answer_status};
-ghost use Rattle.gillian_core.specs.Reports.{head_line, of_entry, of_text, answer_line, report_text, printed_binding};
+ghost use Rattle.gillian_core.specs.Answers.{answer_view, binding_view, head_view, report_view};
+ghost use Rattle.gillian_core.specs.Outputs.{answer_status};
+ghost use Rattle.gillian_core.specs.Reports.{head_line, of_run, of_test, answer_line, report_text, printed_binding, printed_entry};
 ghost use Rattle.gillian_core.specs.Reports.{bug, undecided, returned, failed, no_input, bad_input, number, sat, unsat, unknown};
-ghost use Rattle.gillian_core.specs.Words.{head_of};
 
 use crate::answers::{Answer, Binding, Bindings};
+use crate::outputs::{Head, Report};
 use crate::queries::push_query;
 use crate::status::Status;
 use gil_values::{
-    Place, Value, Values, push_number, push_place, push_separator, push_value, push_values,
+    Place, Text, Value, Values, push_number, push_place, push_separator, push_value, push_values,
 };
-use gillian_words::{Language, Mode, Words};
+use gillian_words::Language;
 use pure_terms::Query;
 use solver_print::{Names, push_proof};
 use solver_proof::Proof;
 use std::alloc::{AllocError, Global};
 
-/// The text of the report of an answer to words.
-pub fn report_of(alloc: Global, words: &Words, answer: &Answer) -> Result<String, AllocError>
-    ensures { IfOk result (λ text. string_bytes text
-        ≡ report_text (record { head = head_of (words_view words.now); answer = answer_view answer.now })) }
+/// The text of a report.
+pub fn report_text(alloc: Global, report: &Report) -> Result<String, AllocError>
+    ensures { IfOk result (λ text. string_bytes text ≡ report_text (report_view report.now)) }
 {
     let mut out = String::new(alloc);
-    push_head(&mut out, words)?;
-    push_answer(alloc, &mut out, answer)?;
+    push_head(&mut out, &report.head)?;
+    push_answer(alloc, &mut out, &report.answer)?;
     Ok(out)
 }
 
 /// Adds the head line.
-fn push_head(out: &mut String, words: &Words) -> Result<(), AllocError>
-    ensures { OnOk result (string_bytes out.new ≡ string_bytes out.old ++ head_line (head_of (words_view words.now))) }
+fn push_head(out: &mut String, head: &Head) -> Result<(), AllocError>
+    ensures { OnOk result (string_bytes out.new ≡ string_bytes out.old ++ head_line (head_view head.now)) }
 {
-    match words.mode {
-        Mode::Run | Mode::Test => push_entry_head(out, words),
-        Mode::Compile | Mode::Solve => push_text_head(out, words),
+    match head {
+        Head::Run {
+            language,
+            entry,
+            bound,
+        } => push_run_head(out, *language, entry, *bound),
+        Head::Test {
+            language,
+            entry,
+            bound,
+        } => push_test_head(out, *language, entry, *bound),
+        Head::Atoms => out.push_str("gillian solve atoms\n"),
     }
 }
 
-/// Adds the head line of a report of one procedure.
-fn push_entry_head(out: &mut String, words: &Words) -> Result<(), AllocError>
-    ensures { OnOk result (string_bytes out.new ≡ string_bytes out.old
-        ++ head_line (of_entry (mode_word words.now.mode) (language_word words.now.second) words.now.entry words.now.bound)) }
+/// Adds the head line of a report of a run.
+fn push_run_head(
+    out: &mut String,
+    language: Language,
+    entry: &Text,
+    bound: u32,
+) -> Result<(), AllocError>
+    ensures { OnOk result (string_bytes out.new ≡ string_bytes out.old ++ head_line (of_run language entry.now bound)) }
 {
-    out.push_str("gillian ")?;
-    out.push_str(word_of_mode(words.mode))?;
+    out.push_str("gillian run")?;
+    push_entry(out, language, entry, bound)?;
+    out.push_str("\n")?;
+    Ok(())
+}
+
+/// Adds the head line of a report of a test.
+fn push_test_head(
+    out: &mut String,
+    language: Language,
+    entry: &Text,
+    bound: u32,
+) -> Result<(), AllocError>
+    ensures { OnOk result (string_bytes out.new ≡ string_bytes out.old ++ head_line (of_test language entry.now bound)) }
+{
+    out.push_str("gillian test")?;
+    push_entry(out, language, entry, bound)?;
+    out.push_str("\n")?;
+    Ok(())
+}
+
+/// Adds a language, an entry and a bound.
+fn push_entry(
+    out: &mut String,
+    language: Language,
+    entry: &Text,
+    bound: u32,
+) -> Result<(), AllocError>
+    ensures { OnOk result (string_bytes out.new ≡ string_bytes out.old ++ printed_entry language entry.now bound) }
+{
     out.push_str(" ")?;
-    out.push_str(word_of_language(words.second))?;
+    out.push_str(language.word())?;
     out.push_str(" entry ")?;
-    out.push_str(words.entry.as_str())?;
+    out.push_str(entry.as_str())?;
     out.push_str(" bound ")?;
-    push_number(out, u64::from(words.bound))?;
-    out.push_str("\n")?;
-    Ok(())
-}
-
-/// Adds the head line of a report of a whole text.
-fn push_text_head(out: &mut String, words: &Words) -> Result<(), AllocError>
-    ensures { OnOk result (string_bytes out.new ≡ string_bytes out.old
-        ++ head_line (of_text (mode_word words.now.mode) (language_word words.now.second))) }
-{
-    out.push_str("gillian ")?;
-    out.push_str(word_of_mode(words.mode))?;
-    out.push_str(" ")?;
-    out.push_str(word_of_language(words.second))?;
-    out.push_str("\n")?;
-    Ok(())
-}
-
-/// The word of a mode.
-fn word_of_mode(mode: Mode) -> &'static str
-    ensures { result.now ≡ mode_word mode }
-{
-    match mode {
-        Mode::Run => "run",
-        Mode::Test => "test",
-        Mode::Compile => "compile",
-        Mode::Solve => "solve",
-    }
-}
-
-/// The word of a language.
-fn word_of_language(language: Language) -> &'static str
-    ensures { result.now ≡ language_word language }
-{
-    match language {
-        Language::GilRecord => "gil-record",
-        Language::Atoms => "atoms",
-        Language::While => "while",
-    }
+    push_number(out, u64::from(bound))
 }
 
 /// Adds the line of an answer.

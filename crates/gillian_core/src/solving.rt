@@ -4,16 +4,16 @@ ghost use Rattle.gil_values.specs.View.{value_view, values_view};
 ghost use Rattle.pure_terms.specs.Meaning.{AreOver};
 ghost use Rattle.pure_terms.specs.View.{atoms_view};
 ghost use Rattle.atom_text.specs.Accepted.{text_view};
-ghost use Rattle.gillian_words.specs.View.{words_view};
+ghost use Rattle.gillian_words.specs.Tasks.{solve};
 ghost use Rattle.gillian_core.specs.Answers.{answer_view};
-ghost use Rattle.gillian_core.specs.Finishing.{IsStop};
+ghost use Rattle.gillian_core.specs.Finishing.{IsNoOutput};
 ghost use Rattle.gillian_core.specs.Right.{IsRightSolution, IsSolved, place_of};
 
 use crate::answers::{Answer, Binding, Bindings};
-use crate::refusals::{Stop, stop_of};
+use crate::refusals::or_memory;
 use atom_text::{AtomText, read_atoms};
+use gil_text::Refused;
 use gil_values::Values;
-use gillian_words::{Mode, Words};
 use path_solver::{Solution, solve};
 use pure_terms::Reason;
 use rewrite_book::RuleBook;
@@ -22,21 +22,13 @@ use solver_print::Names;
 use solver_proof::closed_lists_have_no_solution;
 use std::alloc::{AllocError, Global};
 
-/// The solution that is asked for. Atoms outside the fragment are simplified by the rules.
-pub fn solution(
-    alloc: Global,
-    words: &Words,
-    rules: &RuleBook,
-    bytes: &[u8],
-) -> Result<Answer, Stop>
-    requires mode { words.now.mode ≡ Mode.Solve }
+/// The solution of the atoms of a text. Atoms outside the fragment are simplified by the rules.
+pub fn solution(alloc: Global, rules: &RuleBook, bytes: &[u8]) -> Result<Answer, Refused>
     ensures answer { IfOk result (λ answer. IsSolved bytes.now (answer_view answer)) }
-    ensures stop { IfErr result (IsStop (words_view words.now) bytes.now) }
+    ensures none { IfErr result (IsNoOutput solve bytes.now) }
 {
-    match read_atoms(alloc, bytes) {
-        Ok(text) => Ok(solution_of(alloc, rules, text)?),
-        Err(refused) => Err(stop_of(refused)),
-    }
+    let text = read_atoms(alloc, bytes)?;
+    or_memory(solution_of(alloc, rules, text))
 }
 
 /// The solution of a text.

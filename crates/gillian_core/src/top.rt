@@ -3,27 +3,23 @@ ghost use Rattle.std.specs.Prelude.{◌≡◌, ◌⊎◌, ◌<◌, ◌++◌, ◌
 ghost use Rattle.std.specs.Io.KnownBytes.{IsAtEnd};
 ghost use Rattle.gil_io.specs.Faults.{FaultRose};
 ghost use Rattle.gil_io.specs.Reading.{Takes};
+ghost use Rattle.gil_io.specs.Writing.{IsUsedUp};
+ghost use Rattle.gil_text.specs.declared.refused.Refused.{Refused};
+ghost use Rattle.gillian_words.specs.Asked.{AskFor};
 ghost use Rattle.gillian_words.specs.Line.{spelled};
-ghost use Rattle.gillian_words.specs.View.{words_view};
-ghost use Rattle.gillian_core.specs.declared.refusals.Refusal.{Refusal};
-ghost use Rattle.gillian_core.specs.Answers.{answer_view};
-ghost use Rattle.gillian_core.specs.Finishing.{Answers, Finishes, IsResponse, IsResponseOrRefusal, IsStop};
-ghost use Rattle.gillian_core.specs.Outcomes.{Ends, IsRefused, IsReported, IsRight, Output, call_of, most_bytes};
-ghost use Rattle.gillian_core.specs.Outcomes.{output_status, output_text};
+ghost use Rattle.gillian_words.specs.Tasks.{PureTask};
+ghost use Rattle.gillian_words.specs.View.{task_view};
+ghost use Rattle.gillian_core.specs.Accepted.{IsAccepted};
+ghost use Rattle.gillian_core.specs.Finishing.{Answers, Finishes, IsResponse, told};
+ghost use Rattle.gillian_core.specs.Outcomes.{Ends, IsRefused, IsReported, IsRight, WordsFit, call_of, most_bytes};
+ghost use Rattle.gillian_core.specs.Outputs.{PureOutput, output_status, output_text};
 ghost use Rattle.gillian_core.specs.Refusals.{refusal_line};
-ghost use Rattle.gillian_core.specs.Right.{IsRightAnswer};
-ghost use Rattle.gillian_core.specs.Words.{WordsFit};
 
-use crate::answers::Answer;
-use crate::compiling::compile;
-use crate::refusals::{Refusal, Stop, refusal_text};
-use crate::reports::{report_of, status_of};
-use crate::running::run;
-use crate::solving::solution;
+use crate::rendering::{Response, output_response, refusal_response};
 use crate::status::Status;
-use crate::testing::test;
+use crate::working::work;
 use gil_io::{ReadEnd, Sink, Source, read_all, write_all};
-use gillian_words::{Mode, Words, WordsFault, read_words};
+use gillian_words::{Task, WordsFault, read_words, words_ask_for_one_thing};
 use rewrite_book::RuleBook;
 use std::alloc::{AllocError, Global};
 
@@ -36,13 +32,6 @@ const USAGE_LINE: &str =
 
 /// What is written where the source has more bytes.
 const REFUSED_SIZE: &str = "refused size\n";
-
-/// What a call writes once the source is read, and how it then ends.
-#[derive(Debug, Drop)]
-struct Response {
-    status: Status,
-    text: Vec<u8>,
-}
 
 /// Does what the words ask with the text that the source gives. The words are read first, then the source to its end,
 /// then the text; then the work is done and the whole output is built, and only then is the first byte written. The rules
@@ -58,7 +47,7 @@ pub fn gillian<S: Source, K: Sink>(
 ) -> Status
     // What is reported is right: where source and sink tell their bytes, the sink took the text of one output, which is what
     // the words ask for and right for the bytes that the source gave.
-    ensures right { IsReported result → IfSome (S.left source.old) (λ bytes. IfSome (K.taken out.old) (λ before. (o : Output)
+    ensures right { IsReported result → IfSome (S.left source.old) (λ bytes. IfSome (K.taken out.old) (λ before. (o : PureOutput)
         × (K.taken out.new ≡ Some (before ++ output_text o)) × IsRight (spelled words.now) bytes o × (result ≡ output_status o))) }
 
     // 2: exactly where the words don't fit, and then the source isn't read.
@@ -70,6 +59,15 @@ pub fn gillian<S: Source, K: Sink>(
     ensures read_fault { result ≡ Status.ReadFault → FaultRose (S.faults source.old) (S.faults source.new) }
     ensures write_fault { result ≡ Status.WriteFault → FaultRose (K.faults out.old) (K.faults out.new) }
 
+    // A sink that tells its room fails only when that is used up.
+    ensures used_up { result ≡ Status.WriteFault → IsUsedUp (K.room out.new) (K.taken out.new) }
+
+    // Words that fit, an accepted text within the size and no fault of the source give 0 or 1; want of memory and a fault of the sink
+    // aside.
+    ensures answered { (t : PureTask) → AskFor (spelled words.now) t → IfSome (S.left source.old) (λ bytes. IsAccepted t bytes
+        → length bytes ≤ most_bytes → (FaultRose (S.faults source.old) (S.faults source.new) → ⊥)
+        → IsReported result ⊎ (result ≡ Status.WriteFault) ⊎ (result ≡ Status.Memory)) }
+
     // 7: exactly where the source gave one byte more than it may; a fault of the sink may stand in its place.
     ensures too_large { Takes (S.left source.old) (S.left source.new) (λ gave.
         (result ≡ Status.TooLarge → most_bytes < length gave)
@@ -77,7 +75,7 @@ pub fn gillian<S: Source, K: Sink>(
 
     // 3: exactly where the bytes are no accepted text, and then the first kind that applies is named. With 0 and 1 they are one,
     // by `right`.
-    ensures text { result ≡ Status.Text → IfSome (S.left source.old) (λ bytes. IfSome (K.taken out.old) (λ before. (r : Refusal)
+    ensures text { result ≡ Status.Text → IfSome (S.left source.old) (λ bytes. IfSome (K.taken out.old) (λ before. (r : Refused)
         × (K.taken out.new ≡ Some (before ++ refusal_line r)) × IsRefused (spelled words.now) bytes r)) }
 
     // With 0, 1 and 3 the source was read to its end.
@@ -87,8 +85,10 @@ pub fn gillian<S: Source, K: Sink>(
     ensures nothing { (result ≡ Status.ReadFault) ⊎ (result ≡ Status.Memory) → K.taken out.new ≡ K.taken out.old }
 
     // What is written with each status, and of which text a part is written with 5.
-    ensures ends { Ends (call_of S.left S.faults K.taken K.faults (spelled words.now) source.old source.new out.old out.new) result }
+    ensures ends { Ends (call_of S.left S.faults K.taken K.faults K.room (spelled words.now) source.old source.new out.old out.new)
+        result }
 {
+    words_ask_for_one_thing();
     respond(alloc, words, rules, source, out)
 }
 
@@ -105,7 +105,8 @@ fn respond<S: Source, K: Sink>(
     ensures too_large { Takes (S.left source.old) (S.left source.new) (λ gave.
         (result ≡ Status.TooLarge → most_bytes < length gave)
         × (most_bytes < length gave → (result ≡ Status.TooLarge) ⊎ (result ≡ Status.WriteFault))) }
-    ensures ends { Ends (call_of S.left S.faults K.taken K.faults (spelled words.now) source.old source.new out.old out.new) result }
+    ensures ends { Ends (call_of S.left S.faults K.taken K.faults K.room (spelled words.now) source.old source.new out.old out.new)
+        result }
 {
     let task = match read_words(alloc, words) {
         Ok(task) => task,
@@ -113,7 +114,7 @@ fn respond<S: Source, K: Sink>(
         Err(WordsFault::Memory) => return Status::Memory,
     };
     match read_all(alloc, source, MOST_BYTES) {
-        Ok(bytes) => answer(alloc, &task, rules, &bytes, out),
+        Ok(bytes) => answer(alloc, task, rules, &bytes, out),
         Err(ReadEnd::ReadFault) => Status::ReadFault,
         Err(ReadEnd::TooLarge) => finish_line(out, REFUSED_SIZE, Status::TooLarge),
         Err(ReadEnd::Memory) => Status::Memory,
@@ -121,17 +122,10 @@ fn respond<S: Source, K: Sink>(
 }
 
 /// Answers the whole text.
-fn answer<K: Sink>(
-    alloc: Global,
-    words: &Words,
-    rules: &RuleBook,
-    bytes: &[u8],
-    out: &mut K,
-) -> Status
-    requires { words.now.bound ≤ 10000 }
-    ensures { Answers (words_view words.now) bytes.now (K.taken out.old) (K.taken out.new) (K.faults out.old) (K.faults out.new) result }
+fn answer<K: Sink>(alloc: Global, task: Task, rules: &RuleBook, bytes: &[u8], out: &mut K) -> Status
+    ensures { Answers (task_view task) bytes.now (told K.taken K.faults K.room out.old out.new) result }
 {
-    match response_to(alloc, words, rules, bytes) {
+    match response_to(alloc, task, rules, bytes) {
         Ok(response) => finish(out, &response.text, response.status),
         Err(_) => Status::Memory,
     }
@@ -139,14 +133,14 @@ fn answer<K: Sink>(
 
 /// Writes the line, and ends with the status if it is written.
 fn finish_line<K: Sink>(out: &mut K, line: &str, status: Status) -> Status
-    ensures { Finishes (K.taken out.old) (K.taken out.new) (K.faults out.old) (K.faults out.new) line.now status result }
+    ensures { Finishes (told K.taken K.faults K.room out.old out.new) line.now status result }
 {
     finish(out, line.as_bytes(), status)
 }
 
 /// Writes the text, and ends with the status if it is written.
 fn finish<K: Sink>(out: &mut K, text: &[u8], status: Status) -> Status
-    ensures { Finishes (K.taken out.old) (K.taken out.new) (K.faults out.old) (K.faults out.new) text.now status result }
+    ensures { Finishes (told K.taken K.faults K.room out.old out.new) text.now status result }
 {
     match write_all(out, text) {
         Ok(()) => status,
@@ -154,112 +148,17 @@ fn finish<K: Sink>(out: &mut K, text: &[u8], status: Status) -> Status
     }
 }
 
-/// The response to a text.
+/// The response to a text: of what is to be written, or of the refusal.
 fn response_to(
     alloc: Global,
-    words: &Words,
+    task: Task,
     rules: &RuleBook,
     bytes: &[u8],
 ) -> Result<Response, AllocError>
-    requires { words.now.bound ≤ 10000 }
-    ensures { IfOk result (λ response. IsResponseOrRefusal (words_view words.now) bytes.now response.status response.text.items) }
+    ensures { IfOk result (λ response. IsResponse (task_view task) bytes.now response.status response.text.items) }
 {
-    match work(alloc, words, rules, bytes) {
-        Ok(response) => Ok(response),
-        Err(Stop::Refused(refusal)) => refuse(alloc, refusal),
-        Err(Stop::Memory) => Err(AllocError),
+    match work(alloc, task, rules, bytes) {
+        Ok(output) => output_response(alloc, &output),
+        Err(refused) => refusal_response(alloc, refused),
     }
-}
-
-/// The response to a text that isn't accepted.
-fn refuse(alloc: Global, refusal: Refusal) -> Result<Response, AllocError>
-    ensures { IfOk result (λ response. (response.status ≡ Status.Text) × (response.text.items ≡ refusal_line refusal)) }
-{
-    let text = refusal_text(alloc, refusal)?;
-    Ok(Response {
-        status: Status::Text,
-        text: text.into_bytes(),
-    })
-}
-
-/// Does what is asked with a text.
-fn work(alloc: Global, words: &Words, rules: &RuleBook, bytes: &[u8]) -> Result<Response, Stop>
-    requires { words.now.bound ≤ 10000 }
-    ensures response { IfOk result (λ response. IsResponse (words_view words.now) bytes.now response.status response.text.items) }
-    ensures stop { IfErr result (IsStop (words_view words.now) bytes.now) }
-{
-    match words.mode {
-        Mode::Run => run_response(alloc, words, bytes),
-        Mode::Test => test_response(alloc, words, rules, bytes),
-        Mode::Compile => compile_response(alloc, words, bytes),
-        Mode::Solve => solve_response(alloc, words, rules, bytes),
-    }
-}
-
-/// The report of a run.
-fn run_response(alloc: Global, words: &Words, bytes: &[u8]) -> Result<Response, Stop>
-    requires mode { words.now.mode ≡ Mode.Run }
-    requires bound { words.now.bound ≤ 10000 }
-    ensures response { IfOk result (λ response. IsResponse (words_view words.now) bytes.now response.status response.text.items) }
-    ensures stop { IfErr result (IsStop (words_view words.now) bytes.now) }
-{
-    let answer = run(alloc, words, bytes)?;
-    Ok(report(alloc, words, &answer)?)
-}
-
-/// The report of a verdict.
-fn test_response(
-    alloc: Global,
-    words: &Words,
-    rules: &RuleBook,
-    bytes: &[u8],
-) -> Result<Response, Stop>
-    requires mode { words.now.mode ≡ Mode.Test }
-    requires bound { words.now.bound ≤ 10000 }
-    ensures response { IfOk result (λ response. IsResponse (words_view words.now) bytes.now response.status response.text.items) }
-    ensures stop { IfErr result (IsStop (words_view words.now) bytes.now) }
-{
-    let answer = test(alloc, words, rules, bytes)?;
-    Ok(report(alloc, words, &answer)?)
-}
-
-/// A program as text.
-fn compile_response(alloc: Global, words: &Words, bytes: &[u8]) -> Result<Response, Stop>
-    requires { words.now.mode ≡ Mode.Compile }
-    ensures response { IfOk result (λ response. IsResponse (words_view words.now) bytes.now response.status response.text.items) }
-    ensures stop { IfErr result (IsStop (words_view words.now) bytes.now) }
-{
-    let text = compile(alloc, words, bytes)?;
-    Ok(Response {
-        status: Status::Good,
-        text,
-    })
-}
-
-/// The report of a solution.
-fn solve_response(
-    alloc: Global,
-    words: &Words,
-    rules: &RuleBook,
-    bytes: &[u8],
-) -> Result<Response, Stop>
-    requires { words.now.mode ≡ Mode.Solve }
-    ensures response { IfOk result (λ response. IsResponse (words_view words.now) bytes.now response.status response.text.items) }
-    ensures stop { IfErr result (IsStop (words_view words.now) bytes.now) }
-{
-    let answer = solution(alloc, words, rules, bytes)?;
-    Ok(report(alloc, words, &answer)?)
-}
-
-/// The report of an answer.
-fn report(alloc: Global, words: &Words, answer: &Answer) -> Result<Response, AllocError>
-    ensures { IfOk result (λ response. (bytes : List ℕ) → IsRightAnswer (words_view words.now) bytes (answer_view answer.now)
-        → IsResponse (words_view words.now) bytes response.status response.text.items) }
-{
-    let text = report_of(alloc, words, answer)?;
-    let status = status_of(answer);
-    Ok(Response {
-        status,
-        text: text.into_bytes(),
-    })
 }

@@ -1,16 +1,15 @@
 -- Words ask for one thing at most.
-use Rattle.std.proofs.Common.{◌≡◌, ℕ, ℤ, List, [], ◌∷◌, ◌++◌, length, get_or, Bool, true, false, Option, Some, None, refl, sym, ◌∙◌, ap, ap₂, subst, arith, length-append, codes, IsTrue, nat_eq}
+use Rattle.std.proofs.Common.{◌≡◌, ℕ, ℤ, List, [], ◌∷◌, ◌++◌, length, get_or, Bool, true, false, Option, Some, None, refl, sym, ◌∙◌, ap, ap₂, subst, arith, length-append, codes}
 use Rattle.std.specs.Str.Parse.{IsNumeral, without_leading_sign}
 use Rattle.gil_values.specs.Pure.{PureValue, integer, boolean, text, symbol, kind, procedure, list}
 use Rattle.gil_lexer.specs.Bytes.{quote}
 use Rattle.gil_lexer.specs.Spelling.{SpellsText}
 use Rattle.gil_lexer.proofs.LiteralLaws.{literal_once}
-use Rattle.gillian_words.specs.declared.options.Language.{Language}
-use Rattle.gillian_words.specs.declared.options.Language.TheVariants.{GilRecord, Atoms, While}
-use Rattle.gillian_words.specs.declared.options.Mode.{Mode}
-use Rattle.gillian_words.specs.declared.options.Mode.TheVariants.{Run, Test, Compile, Solve}
+use Rattle.gillian_words.specs.declared.tasks.Language.{Language}
+use Rattle.gillian_words.specs.declared.tasks.Language.TheVariants.{GilRecord, While}
 use Rattle.gillian_words.specs.declared.scan.Scan.TheVariants.{Outside}
-use Rattle.gillian_words.specs.Asked.{Asked, AskFor, IsOption, SpellsBound, SpellsEntry, mode_word, language_word}
+use Rattle.gillian_words.specs.Asked.{AskFor, Asks, Given, IsOption, SpellsBound, SpellsEntry}
+use Rattle.gillian_words.specs.Tasks.{PureTask, run, test, compile, solve, mode_word, language_word}
 use Rattle.gillian_words.specs.Inputs.{comma, boolean_word, SpellsInput, SpellsInputs, SpellsNumber, SpellsSome}
 use Rattle.gillian_words.specs.Pieces.{piece_len}
 use Rattle.gillian_words.proofs.Scans.{first_piece, first_spelled, last_piece, more_spelled}
@@ -97,13 +96,13 @@ one_inputs word [] (w ∷ ws) h k = absurd (none_not_empty w ws word h k)
 one_inputs word (v ∷ vs) [] h k = absurd (none_not_empty v vs word k h)
 one_inputs word (v ∷ vs) (w ∷ ws) h k = one_list v w vs ws word h k
 
--- ---- options, modes and languages
+-- ---- options, languages and tasks
 
-one_option : {X : Type 0} (takes takes' : Bool) (spells : List ℕ → X → Type 0) (default : X) (given : Option (List ℕ)) (x y : X)
+one_option : {X : Type 0} (spells : List ℕ → X → Type 0) (default : X) (given : Option (List ℕ)) (x y : X)
     → ((word : List ℕ) (x y : X) → spells word x → spells word y → x ≡ y)
-    → IsOption takes spells default given x → IsOption takes' spells default given y → x ≡ y
-one_option takes takes' spells default (Some word) x y once h k = once word x y h.1 k.1
-one_option takes takes' spells default None x y once h k = h ∙ sym k
+    → IsOption spells default given x → IsOption spells default given y → x ≡ y
+one_option spells default (Some word) x y once h k = once word x y h k
+one_option spells default None x y once h k = h ∙ sym k
 
 one_bound : (word : List ℕ) (m n : ℕ) → SpellsBound word m → SpellsBound word n → m ≡ n
 one_bound word m n h k = h.2 ∙ sym k.2
@@ -111,59 +110,53 @@ one_bound word m n h k = h.2 ∙ sym k.2
 one_entry : (word e f : List ℕ) → SpellsEntry word e → SpellsEntry word f → e ≡ f
 one_entry word e f h k = h.1 ∙ sym k.1
 
-one_mode : (m n : Mode) → mode_word m ≡ mode_word n → m ≡ n
-one_mode Run Run e = refl
-one_mode Run Test e = cc
-one_mode Run Compile e = cc
-one_mode Run Solve e = cc
-one_mode Test Run e = cc
-one_mode Test Test e = refl
-one_mode Test Compile e = cc
-one_mode Test Solve e = cc
-one_mode Compile Run e = cc
-one_mode Compile Test e = cc
-one_mode Compile Compile e = refl
-one_mode Compile Solve e = cc
-one_mode Solve Run e = cc
-one_mode Solve Test e = cc
-one_mode Solve Compile e = cc
-one_mode Solve Solve e = refl
-
--- the word begins with this character
-abbrev begins_with : ℕ → List ℕ → Type 0
-begins_with c word = IsTrue (nat_eq (get_or word 0 0) c)
-
 one_language : (l m : Language) → language_word l ≡ language_word m → l ≡ m
 one_language GilRecord GilRecord e = refl
-one_language GilRecord Atoms e = cc
 one_language GilRecord While e = cc
-one_language Atoms GilRecord e = cc
-one_language Atoms Atoms e = refl
-one_language Atoms While e = let h = subst (begins_with 97) e refl in cc
 one_language While GilRecord e = cc
-one_language While Atoms e = let h = subst (begins_with 119) e refl in cc
 one_language While While e = refl
 
 same_word : (given : Option (List ℕ)) (word other : List ℕ) → given ≡ Some word → given ≡ Some other → word ≡ other
 same_word given word other e f = cc
 
-abbrev made : Mode → Language → ℕ → List ℕ → List PureValue → Bool → Asked
-made m l n e vs j = record { mode = m; second = l; bound = n; entry = e; inputs = vs; json = j }
+same_run : (l l' : Language) (e e' : List ℕ) (n n' : ℕ) (vs vs' : List PureValue) → l ≡ l' → e ≡ e' → n ≡ n' → vs ≡ vs' → run l e n vs ≡ run l' e' n' vs'
+same_run l l' e e' n n' vs vs' p q r s =
+    ap (λ x. run x e n vs) p ∙ ap (λ x. run l' x n vs) q ∙ ap (λ x. run l' e' x vs) r ∙ ap (λ x. run l' e' n' x) s
 
-same_made : (m m' : Mode) (l l' : Language) (n n' : ℕ) (e e' : List ℕ) (vs vs' : List PureValue) (j j' : Bool)
-    → m ≡ m' → l ≡ l' → n ≡ n' → e ≡ e' → vs ≡ vs' → j ≡ j' → made m l n e vs j ≡ made m' l' n' e' vs' j'
-same_made m m' l l' n n' e e' vs vs' j j' p q r s t u =
-    ap (λ x. made x l n e vs j) p ∙ ap (λ x. made m' x n e vs j) q ∙ ap (λ x. made m' l' x e vs j) r
-    ∙ ap (λ x. made m' l' n' x vs j) s ∙ ap (λ x. made m' l' n' e' x j) t ∙ ap (λ x. made m' l' n' e' vs' x) u
+same_test : (l l' : Language) (e e' : List ℕ) (n n' : ℕ) → l ≡ l' → e ≡ e' → n ≡ n' → test l e n ≡ test l' e' n'
+same_test l l' e e' n n' p q r = ap (λ x. test x e n) p ∙ ap (λ x. test l' x n) q ∙ ap (λ x. test l' e' x) r
 
-pub asked_once : (words : List (List ℕ)) (a b : Asked) → AskFor words a → AskFor words b → a ≡ b
-asked_once words a b for other =
-    let h = for.asks in
-    let k = other.asks in
-    same_made a.mode b.mode a.second b.second a.bound b.bound a.entry b.entry a.inputs b.inputs a.json b.json
-    (one_mode a.mode b.mode (same_word _ _ _ h.mode k.mode))
-    (one_language a.second b.second (same_word _ _ _ h.second k.second))
-    (one_option _ _ SpellsBound 1000 _ a.bound b.bound one_bound h.bound k.bound)
-    (one_option _ _ SpellsEntry (codes "main") _ a.entry b.entry one_entry h.entry k.entry)
-    (one_option _ _ SpellsInputs [] _ a.inputs b.inputs one_inputs h.inputs k.inputs)
-    (h.json ∙ sym k.json)
+-- what is given asks for one mode
+one_mode : (g : Given) (a b : PureTask) → Asks g a → Asks g b → mode_word a ≡ mode_word b
+one_mode g a b h k = same_word g.mode (mode_word a) (mode_word b) h.mode k.mode
+
+same_language : (g : Given) (l m : Language) → g.second ≡ Some (language_word l) → g.second ≡ Some (language_word m) → l ≡ m
+same_language g l m h k = one_language l m (same_word g.second _ _ h k)
+
+asks_once : (g : Given) (a b : PureTask) → Asks g a → Asks g b → a ≡ b
+asks_once g (run l e n vs) (run l' e' n' vs') h k =
+    same_run l l' e e' n n' vs vs' (same_language g l l' h.second k.second)
+    (one_option SpellsEntry (codes "main") g.entry e e' one_entry h.options.0 k.options.0)
+    (one_option SpellsBound 1000 g.bound n n' one_bound h.options.1 k.options.1)
+    (one_option SpellsInputs [] g.inputs vs vs' one_inputs h.options.2 k.options.2)
+asks_once g (test l e n) (test l' e' n') h k =
+    same_test l l' e e' n n' (same_language g l l' h.second k.second)
+    (one_option SpellsEntry (codes "main") g.entry e e' one_entry h.options.0 k.options.0)
+    (one_option SpellsBound 1000 g.bound n n' one_bound h.options.1 k.options.1)
+asks_once g (compile l) (compile l') h k = ap compile (same_language g l l' h.second k.second)
+asks_once g solve solve h k = refl
+asks_once g (run l e n vs) (test l' e' n') h k = let is = one_mode g _ _ h k in cc
+asks_once g (run l e n vs) (compile l') h k = let is = one_mode g _ _ h k in cc
+asks_once g (run l e n vs) solve h k = let is = one_mode g _ _ h k in cc
+asks_once g (test l e n) (run l' e' n' vs') h k = let is = one_mode g _ _ h k in cc
+asks_once g (test l e n) (compile l') h k = let is = one_mode g _ _ h k in cc
+asks_once g (test l e n) solve h k = let is = one_mode g _ _ h k in cc
+asks_once g (compile l) (run l' e' n' vs') h k = let is = one_mode g _ _ h k in cc
+asks_once g (compile l) (test l' e' n') h k = let is = one_mode g _ _ h k in cc
+asks_once g (compile l) solve h k = let is = one_mode g _ _ h k in cc
+asks_once g solve (run l' e' n' vs') h k = let is = one_mode g _ _ h k in cc
+asks_once g solve (test l' e' n') h k = let is = one_mode g _ _ h k in cc
+asks_once g solve (compile l') h k = let is = one_mode g _ _ h k in cc
+
+pub asked_once : (words : List (List ℕ)) (a b : PureTask) → AskFor words a → AskFor words b → a ≡ b
+asked_once words a b for other = asks_once _ a b for.asks other.asks

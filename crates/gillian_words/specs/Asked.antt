@@ -1,72 +1,12 @@
 -- What words ask for.
-use Rattle.std.specs.Prelude.{◌≡◌, ◌≤◌, ℕ, List, [], Bool, true, false, Option, Some, None, length, IsTrue, codes}
+use Rattle.std.specs.Prelude.{◌≡◌, ◌≤◌, ℕ, List, [], Bool, false, Option, Some, None, length, codes}
 use Rattle.std.specs.Str.{bytes_eq}
 use Rattle.std.specs.Str.Parse.{IsNumeral, digits_value}
 use Rattle.gil_values.specs.Pure.{PureValue}
 use Rattle.gil_lexer.specs.Spelling.{IsName}
-use Rattle.gillian_words.specs.declared.options.Language.{Language}
-use Rattle.gillian_words.specs.declared.options.Language.TheVariants.{GilRecord, Atoms, While}
-use Rattle.gillian_words.specs.declared.options.Mode.{Mode}
-use Rattle.gillian_words.specs.declared.options.Mode.TheVariants.{Run, Test, Compile, Solve}
 use Rattle.gillian_words.specs.Inputs.{SpellsInputs}
 use Rattle.gillian_words.specs.Line.{AreTaken, matched}
-
--- the mode, what it works on, the options and whether the report is wanted as JSON
-pub record Asked : Type 0 where
-  pub mode : Mode
-  pub second : Language
-  pub bound : ℕ
-  pub entry : List ℕ
-  pub inputs : List PureValue
-  pub json : Bool
-
-abbrev pub mode_word : Mode → List ℕ
-mode_word Run = codes "run"
-mode_word Test = codes "test"
-mode_word Compile = codes "compile"
-mode_word Solve = codes "solve"
-
-abbrev pub language_word : Language → List ℕ
-language_word GilRecord = codes "gil-record"
-language_word Atoms = codes "atoms"
-language_word While = codes "while"
-
--- which sources a mode works on: `solve` on atoms, the others on programs
-abbrev pub takes_language : Mode → Language → Bool
-takes_language Run GilRecord = true
-takes_language Test GilRecord = true
-takes_language Compile GilRecord = true
-takes_language Solve GilRecord = false
-takes_language Run Atoms = false
-takes_language Test Atoms = false
-takes_language Compile Atoms = false
-takes_language Solve Atoms = true
-takes_language Run While = true
-takes_language Test While = true
-takes_language Compile While = true
-takes_language Solve While = false
-
--- which options a mode takes
-abbrev pub takes_bound : Mode → Bool
-takes_bound Run = true
-takes_bound Test = true
-takes_bound Compile = false
-takes_bound Solve = false
-
-abbrev pub takes_entry : Mode → Bool
-takes_entry Run = true
-takes_entry Test = true
-takes_entry Compile = false
-takes_entry Solve = false
-
-abbrev pub takes_inputs : Mode → Bool
-takes_inputs Run = true
-takes_inputs Test = false
-takes_inputs Compile = false
-takes_inputs Solve = false
-
-abbrev pub takes_json : Mode → Bool
-takes_json mode = false
+use Rattle.gillian_words.specs.Tasks.{PureTask, run, test, compile, solve, mode_word, second_word}
 
 -- one to five digits, and at most 10,000
 abbrev pub SpellsBound : List ℕ → ℕ → Type 0
@@ -76,10 +16,20 @@ SpellsBound word n = IsNumeral 10 word × (length word ≤ 5) × (n ≡ digits_v
 abbrev pub SpellsEntry : List ℕ → List ℕ → Type 0
 SpellsEntry word entry = IsName word × (entry ≡ word)
 
--- An option that is given is one that the mode takes, and its word spells the value. One that isn't given has its default.
-abbrev pub IsOption : {X : Type 0} → Bool → (List ℕ → X → Type 0) → X → Option (List ℕ) → X → Type 0
-IsOption takes spells default (Some word) x = IsTrue takes × spells word x
-IsOption takes spells default None x = x ≡ default
+-- The word of an option that is given spells the value. One that isn't given has its default.
+abbrev pub IsOption : {X : Type 0} → (List ℕ → X → Type 0) → X → Option (List ℕ) → X → Type 0
+IsOption spells default (Some word) x = spells word x
+IsOption spells default None x = x ≡ default
+
+-- the entry, the bound and the inputs that are asked for, with what they are by default
+abbrev pub IsEntryOption : Option (List ℕ) → List ℕ → Type 0
+IsEntryOption given entry = IsOption SpellsEntry (codes "main") given entry
+
+abbrev pub IsBoundOption : Option (List ℕ) → ℕ → Type 0
+IsBoundOption given bound = IsOption SpellsBound 1000 given bound
+
+abbrev pub IsInputsOption : Option (List ℕ) → List PureValue → Type 0
+IsInputsOption given inputs = IsOption SpellsInputs [] given inputs
 
 -- whether a flag is given
 abbrev pub is_given : Option (List ℕ) → Bool
@@ -105,18 +55,21 @@ given_by words = record {
   json = matched words (codes "json");
 }
 
+-- The options that a mode takes have these values, and no other option is given. No mode takes the flag `--json` yet.
+abbrev pub HasOptions : Given → PureTask → Type 0
+HasOptions g (run language entry bound inputs) = IsEntryOption g.entry entry × IsBoundOption g.bound bound × IsInputsOption g.inputs inputs
+HasOptions g (test language entry bound) = IsEntryOption g.entry entry × IsBoundOption g.bound bound × (g.inputs ≡ None)
+HasOptions g (compile language) = (g.entry ≡ None) × (g.bound ≡ None) × (g.inputs ≡ None)
+HasOptions g solve = (g.entry ≡ None) × (g.bound ≡ None) × (g.inputs ≡ None)
+
 -- what is given asks for this
-pub record Asks (g : Given) (a : Asked) : Type 0 where
-  pub mode : g.mode ≡ Some (mode_word a.mode)
-  pub second : g.second ≡ Some (language_word a.second)
-  pub taken : IsTrue (takes_language a.mode a.second)
-  pub bound : IsOption (takes_bound a.mode) SpellsBound 1000 g.bound a.bound
-  pub entry : IsOption (takes_entry a.mode) SpellsEntry (codes "main") g.entry a.entry
-  pub inputs : IsOption (takes_inputs a.mode) SpellsInputs [] g.inputs a.inputs
-  pub json : a.json ≡ is_given g.json
-  pub json_taken : IsTrue a.json → IsTrue (takes_json a.mode)
+pub record Asks (g : Given) (t : PureTask) : Type 0 where
+  pub mode : g.mode ≡ Some (mode_word t)
+  pub second : g.second ≡ Some (second_word t)
+  pub options : HasOptions g t
+  pub json : is_given g.json ≡ false
 
 -- The words ask for this: clap takes them, and what it matches asks for it.
-pub record AskFor (words : List (List ℕ)) (a : Asked) : Type 0 where
+pub record AskFor (words : List (List ℕ)) (t : PureTask) : Type 0 where
   pub taken : AreTaken words
-  pub asks : Asks (given_by words) a
+  pub asks : Asks (given_by words) t

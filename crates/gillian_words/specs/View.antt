@@ -4,12 +4,17 @@ use Rattle.std.specs.Option.{option_map}
 use Rattle.clap.specs.Words.{found_of, first_value}
 use Rattle.clap.specs.declared.parser.matches.ArgMatches.{ArgMatches}
 use Rattle.gil_values.specs.View.{values_view}
-use Rattle.gillian_words.specs.declared.words.Words.{Words}
+use Rattle.gillian_words.specs.declared.tasks.Task.{Task}
+use Rattle.gillian_words.specs.declared.tasks.Task.TheVariants.{Run, Test, Compile, Solve}
 use Rattle.gillian_words.specs.declared.line.Given.{Given as Matches}
-use Rattle.gillian_words.specs.Asked.{Asked, Given}
+use Rattle.gillian_words.specs.Asked.{Given}
+use Rattle.gillian_words.specs.Tasks.{PureTask, run, test, compile, solve}
 
-abbrev pub words_view : Words → Asked
-words_view w = record { mode = w.mode; second = w.second; bound = w.bound; entry = w.entry; inputs = values_view w.inputs; json = w.json }
+abbrev pub task_view : Task → PureTask
+task_view (Run language entry bound inputs) = run language entry bound.steps (values_view inputs)
+task_view (Test language entry bound) = test language entry bound.steps
+task_view (Compile language) = compile language
+task_view Solve = solve
 
 abbrev pub given_view : Matches → Given
 given_view g = record {

@@ -1,13 +1,15 @@
 //! Reading what words ask for.
-ghost use Rattle.std.specs.Prelude.{◌≡◌, Some, IfOk, IsErrOf, IsTrue};
+ghost use Rattle.std.specs.Prelude.{◌≡◌, ◌≢◌, Some, None, false, IfOk, IsErrOf, codes};
 ghost use Rattle.std.specs.Option.{option_map};
-ghost use Rattle.gillian_words.specs.Asked.{AskFor, Asked, Asks, is_given, language_word, mode_word, takes_language};
+ghost use Rattle.gillian_words.specs.declared.tasks.Language.{Language};
+ghost use Rattle.gillian_words.specs.Asked.{AskFor, Asks, is_given};
 ghost use Rattle.gillian_words.specs.Line.{spelled};
-ghost use Rattle.gillian_words.specs.View.{given_view, words_view};
+ghost use Rattle.gillian_words.specs.Tasks.{PureTask, language_word};
+ghost use Rattle.gillian_words.specs.View.{given_view, task_view};
 
 use crate::line::{Given, match_words};
-use crate::options::{Language, Mode, bound_option, entry_option, inputs_option};
-use crate::words::Words;
+use crate::options::{bound_option, entry_option, inputs_option, no_option};
+use crate::tasks::{Language, Task};
 use std::alloc::{AllocError, Global};
 use thiserror::Error;
 
@@ -34,66 +36,122 @@ impl From<AllocError> for WordsFault {
 
 /// What the words ask for, the program's name first, which isn't looked at. They are refused exactly where they ask for
 /// nothing that is built.
-pub fn read_words(alloc: Global, words: &Vec<String>) -> Result<Words, WordsFault>
-    ensures asked { IfOk result (λ w. AskFor (spelled words.now) (words_view w)) }
-    ensures refused { IsErrOf result WordsFault.Refused → (a : Asked) → AskFor (spelled words.now) a → ⊥ }
+pub fn read_words(alloc: Global, words: &Vec<String>) -> Result<Task, WordsFault>
+    ensures asked { IfOk result (λ task. AskFor (spelled words.now) (task_view task)) }
+    ensures refused { IsErrOf result WordsFault.Refused → (t : PureTask) → AskFor (spelled words.now) t → ⊥ }
 {
     match match_words(alloc, words)? {
-        Some(given) => asked(alloc, &given),
+        Some(given) => task_of(alloc, &given),
         None => Err(WordsFault::Refused),
     }
 }
 
 /// What is asked by what is given.
-fn asked(alloc: Global, given: &Given) -> Result<Words, WordsFault>
-    ensures asked { IfOk result (λ w. Asks (given_view given.now) (words_view w)) }
-    ensures refused { IsErrOf result WordsFault.Refused → (a : Asked) → Asks (given_view given.now) a → ⊥ }
+fn task_of(alloc: Global, given: &Given) -> Result<Task, WordsFault>
+    ensures asked { IfOk result (λ task. Asks (given_view given.now) (task_view task)) }
+    ensures refused { IsErrOf result WordsFault.Refused → (t : PureTask) → Asks (given_view given.now) t → ⊥ }
 {
-    let Some(mode) = given.mode.and_then(Mode::of_word) else {
+    let Some(mode) = given.mode else {
         return Err(WordsFault::Refused);
     };
-    let Some(second) = given.second.and_then(Language::of_word) else {
-        return Err(WordsFault::Refused);
-    };
-    if !mode.takes_language(second) {
-        return Err(WordsFault::Refused);
-    }
-    with_options(alloc, mode, second, given)
-}
-
-/// What is asked of a mode and a language.
-fn with_options(
-    alloc: Global,
-    mode: Mode,
-    second: Language,
-    given: &Given,
-) -> Result<Words, WordsFault>
-    requires mode { option_map (λ s. s.now) given.now.mode ≡ Some (mode_word mode) }
-    requires second { option_map (λ s. s.now) given.now.second ≡ Some (language_word second) }
-    requires taken { IsTrue (takes_language mode second) }
-    ensures asked { IfOk result (λ w. Asks (given_view given.now) (words_view w)) }
-    ensures refused { IsErrOf result WordsFault.Refused → (a : Asked) → Asks (given_view given.now) a → ⊥ }
-{
     if is_given(given.json) {
         return Err(WordsFault::Refused);
     }
-    let Some(bound) = bound_option(mode.takes_bound(), given.bound) else {
-        return Err(WordsFault::Refused);
-    };
-    let Some(entry) = entry_option(alloc, mode.takes_entry(), given.entry)? else {
-        return Err(WordsFault::Refused);
-    };
-    let Some(inputs) = inputs_option(alloc, mode.takes_inputs(), given.inputs)? else {
-        return Err(WordsFault::Refused);
-    };
-    Ok(Words {
-        mode,
-        second,
-        bound,
+    match mode {
+        "run" => run_of(alloc, given),
+        "test" => test_of(alloc, given),
+        "compile" => compile_of(given),
+        "solve" => solve_of(given),
+        _ => Err(WordsFault::Refused),
+    }
+}
+
+/// The run that is asked for.
+fn run_of(alloc: Global, given: &Given) -> Result<Task, WordsFault>
+    requires mode { option_map (λ s. s.now) given.now.mode ≡ Some (codes "run") }
+    requires json { is_given (option_map (λ s. s.now) given.now.json) ≡ false }
+    ensures asked { IfOk result (λ task. Asks (given_view given.now) (task_view task)) }
+    ensures refused { IsErrOf result WordsFault.Refused → (t : PureTask) → Asks (given_view given.now) t → ⊥ }
+{
+    let language = language_of(given.second)?;
+    let entry = entry_option(alloc, given.entry)?;
+    let bound = bound_option(given.bound)?;
+    let inputs = inputs_option(alloc, given.inputs)?;
+    Ok(Task::Run {
+        language,
         entry,
+        bound,
         inputs,
-        json: false,
     })
+}
+
+/// The test that is asked for.
+fn test_of(alloc: Global, given: &Given) -> Result<Task, WordsFault>
+    requires mode { option_map (λ s. s.now) given.now.mode ≡ Some (codes "test") }
+    requires json { is_given (option_map (λ s. s.now) given.now.json) ≡ false }
+    ensures asked { IfOk result (λ task. Asks (given_view given.now) (task_view task)) }
+    ensures refused { IsErrOf result WordsFault.Refused → (t : PureTask) → Asks (given_view given.now) t → ⊥ }
+{
+    let language = language_of(given.second)?;
+    let entry = entry_option(alloc, given.entry)?;
+    let bound = bound_option(given.bound)?;
+    no_option(given.inputs)?;
+    Ok(Task::Test {
+        language,
+        entry,
+        bound,
+    })
+}
+
+/// The compilation that is asked for.
+fn compile_of(given: &Given) -> Result<Task, WordsFault>
+    requires mode { option_map (λ s. s.now) given.now.mode ≡ Some (codes "compile") }
+    requires json { is_given (option_map (λ s. s.now) given.now.json) ≡ false }
+    ensures asked { IfOk result (λ task. Asks (given_view given.now) (task_view task)) }
+    ensures refused { IsErrOf result WordsFault.Refused → (t : PureTask) → Asks (given_view given.now) t → ⊥ }
+{
+    let language = language_of(given.second)?;
+    no_option(given.entry)?;
+    no_option(given.bound)?;
+    no_option(given.inputs)?;
+    Ok(Task::Compile { language })
+}
+
+/// The solution that is asked for.
+fn solve_of(given: &Given) -> Result<Task, WordsFault>
+    requires mode { option_map (λ s. s.now) given.now.mode ≡ Some (codes "solve") }
+    requires json { is_given (option_map (λ s. s.now) given.now.json) ≡ false }
+    ensures asked { IfOk result (λ task. Asks (given_view given.now) (task_view task)) }
+    ensures refused { IsErrOf result WordsFault.Refused → (t : PureTask) → Asks (given_view given.now) t → ⊥ }
+{
+    atoms_alone(given.second)?;
+    no_option(given.entry)?;
+    no_option(given.bound)?;
+    no_option(given.inputs)?;
+    Ok(Task::Solve)
+}
+
+/// The language that a word names.
+fn language_of(word: Option<&str>) -> Result<Language, WordsFault>
+    ensures named { IfOk result (λ language. option_map (λ s. s.now) word.entry ≡ Some (language_word language)) }
+    ensures refused { IsErrOf result WordsFault.Refused → (language : Language)
+        → option_map (λ s. s.now) word.entry ≢ Some (language_word language) }
+{
+    match word.and_then(Language::of_word) {
+        Some(language) => Ok(language),
+        None => Err(WordsFault::Refused),
+    }
+}
+
+/// What isn't the word for lists of atoms is refused.
+fn atoms_alone(word: Option<&str>) -> Result<(), WordsFault>
+    ensures named { IfOk result (λ _. option_map (λ s. s.now) word.entry ≡ Some (codes "atoms")) }
+    ensures refused { IsErrOf result WordsFault.Refused → option_map (λ s. s.now) word.entry ≢ Some (codes "atoms") }
+{
+    match word {
+        Some(word) if word == "atoms" => Ok(()),
+        _ => Err(WordsFault::Refused),
+    }
 }
 
 /// Whether a flag is given.

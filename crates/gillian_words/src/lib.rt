@@ -7,9 +7,8 @@ mod laws;
 mod line;
 mod options;
 mod scan;
-mod words;
+mod tasks;
 
 pub use asked::{WordsFault, read_words};
 pub use laws::words_ask_for_one_thing;
-pub use options::{Language, Mode};
-pub use words::Words;
+pub use tasks::{Bound, Language, Task};

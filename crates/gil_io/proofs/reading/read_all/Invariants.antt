@@ -1,10 +1,10 @@
 use Rattle.std.proofs.Common.{◌≡◌, ◌≤◌, ◌-◌, length}
-use Rattle.std.specs.Io.KnownBytes.{prepend_known}
+use Rattle.std.specs.Io.KnownBytes.{Consumes}
 use Rattle.gil_io.proofs.reading.read_all.Given as goal
 
 abbrev pub invariant-loop-bytes : goal.invariant-loop-bytes
 invariant-loop-bytes g l =
-    (g.S.Source.left l.fn.source ≡ prepend_known l.bytes.items (g.S.Source.left l.source))
+    Consumes (g.S.Source.left l.fn.source) (g.S.Source.left l.source) l.bytes.items
     × (length l.bytes.items ≤ l.limit)
     × (g.S.Source.faults l.source ≡ g.S.Source.faults l.fn.source)
 

@@ -1,4 +1,4 @@
-use Rattle.std.proofs.Common.{◌≡◌, ◌≤◌, length}
+use Rattle.std.proofs.Common.{◌≡◌, length}
 use Rattle.gil_io.proofs.Known.{Given}
 use Rattle.gil_io.proofs.writing.write_all.Given as goal
 

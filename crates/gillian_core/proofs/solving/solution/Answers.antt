@@ -1,11 +1,17 @@
-use Rattle.gillian_words.specs.declared.options.Language.TheVariants.{Atoms}
-use Rattle.gillian_words.specs.View.{words_view}
-use Rattle.gillian_core.proofs.Refusing.{nothing_to_solve, solved, unread_where}
+use Rattle.std.proofs.lemmas.Result.{err_from_is_err_and}
+use Rattle.gillian_words.specs.Tasks.{solve}
+use Rattle.gillian_core.proofs.Refusing.{no_output_for_memory}
+use Rattle.gillian_core.proofs.Solutions.{atoms_unread, solution_known, memory_alone, named_variables}
 use Rattle.gillian_core.proofs.solving.solution.Goals as goal
 
-pub returns-in-Err-clause-stop : goal.returns-in-Err-clause-stop
-returns-in-Err-clause-stop g c =
-    c.stop_of.ensures (words_view c.args.words.now) c.args.bytes.now
-    (unread_where (words_view c.args.words.now) Atoms c.args.bytes.now c.in-Err.refused.at c.in-Err.refused.kind
-    (solved c.args.words.now.mode c.args.words.now.second c.requires.mode c.args.words.now.taken) c.in-Err.ensures.refused)
-    (λ other. nothing_to_solve (words_view c.args.words.now) c.args.bytes.now c.requires.mode (λ t spells. other (c.in-Err.ensures.only t spells)))
+pub returns-in_err-text-clause-none : goal.returns-in_err-text-clause-none
+returns-in_err-text-clause-none g c =
+    let p = err_from_is_err_and c.from_residual.result c.from_residual.ensures.1 in
+    rw (p.1, p.2) (atoms_unread c.args.bytes.now c.in_err-text.field-0.0 c.in_err-text.ensures.only c.in_err-text.ensures.refused)
+
+pub returns-clause-answer : goal.returns-clause-answer
+returns-clause-answer g c =
+    solution_known c.args.bytes.now _ c.in_ok-text.ensures.ok c.solution_of.result c.or_memory.result c.or_memory.ensures.ok c.solution_of.ensures
+
+pub returns-clause-none : goal.returns-clause-none
+returns-clause-none g c = memory_alone c.args.bytes.now c.or_memory.result c.or_memory.ensures.err

@@ -5,5 +5,5 @@ use Rattle.gillian_core.proofs.testing.verdict.Goals as goal
 
 pub returns : goal.returns
 returns g c =
-    rw c.answer_of.ensures (verdict_is_right (prog_view c.args.prog.now) c.args.entry.now c.args.bound (verdict_view c.in_ok-tested.tested)
-    c.in_ok-tested.ensures.right (c.in_ok-tested.ensures.found tt))
+    rw c.answer_of.ensures (verdict_is_right _ _ _ _ _ _ (prog_view c.args.prog.now) c.args.entry.now c.args.bound.steps
+    (verdict_view c.in_ok-tested.tested) c.in_ok-tested.ensures.right c.in_ok-tested.ensures.found)

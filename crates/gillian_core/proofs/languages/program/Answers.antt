@@ -1,0 +1,19 @@
+use Rattle.gillian_core.proofs.languages.program.Goals as goal
+
+pub returns-in-GilRecord-clause-program : goal.returns-in-GilRecord-clause-program
+returns-in-GilRecord-clause-program c = rw c.in-GilRecord.is c.program.ensures.program
+
+pub returns-in-GilRecord-clause-only : goal.returns-in-GilRecord-clause-only
+returns-in-GilRecord-clause-only c = rw c.in-GilRecord.is c.program.ensures.only
+
+pub returns-in-GilRecord-clause-none : goal.returns-in-GilRecord-clause-none
+returns-in-GilRecord-clause-none c = rw c.in-GilRecord.is c.program.ensures.none
+
+pub returns-in-While-clause-program : goal.returns-in-While-clause-program
+returns-in-While-clause-program c = rw c.in-While.is c.program-in-While.ensures.program
+
+pub returns-in-While-clause-only : goal.returns-in-While-clause-only
+returns-in-While-clause-only c = rw c.in-While.is c.program-in-While.ensures.only
+
+pub returns-in-While-clause-none : goal.returns-in-While-clause-none
+returns-in-While-clause-none c = rw c.in-While.is c.program-in-While.ensures.none

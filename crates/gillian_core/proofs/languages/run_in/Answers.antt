@@ -1,0 +1,7 @@
+use Rattle.gillian_core.proofs.languages.run_in.Goals as goal
+
+pub returns-in-GilRecord : goal.returns-in-GilRecord
+returns-in-GilRecord c = rw c.in-GilRecord.is c.run_answer.ensures
+
+pub returns-in-While : goal.returns-in-While
+returns-in-While c = rw c.in-While.is c.run_answer-in-While.ensures

@@ -1,0 +1,46 @@
+-- What a language is to the program: its texts, their first fault, their ends, and the memory of its programs.
+use Rattle.std.specs.Prelude.{ℕ, List}
+use Rattle.gil_values.specs.declared.places.Place.{Place}
+use Rattle.gil_values.specs.Pure.{PureValue}
+use Rattle.gil_syntax.specs.Pure.{PureParts}
+use Rattle.gil_text.specs.declared.refused.RefusedKind.{RefusedKind}
+use Rattle.mem_model.specs.Actions.{Actions}
+use Rattle.mem_model.specs.Heaps.{Heap}
+use Rattle.pure_terms.specs.Pure.{PureTerm}
+use Rattle.sym_model.specs.Terms.{StateTerms}
+use Rattle.sym_test.specs.Bugs.{IsFound}
+use Rattle.sym_test.specs.Undecided.{IsUndecided}
+use Rattle.sym_test.specs.View.{PureQuery}
+use Rattle.gillian_core.specs.Reports.{PureAnswer}
+
+-- A memory: what its actions do to a heap; and, of tests over its symbolic states, where a bug comes from, what isn't decided, and
+-- whether they keep the law of plain memories, by which a command of simple form is always decided.
+pub record Memory : Type 1 where
+  pub actions : Actions
+  pub FindsBug : PureParts → List ℕ → ℕ → Place → PureValue → List PureValue → Type 0
+  pub LeavesOpen : PureParts → List ℕ → ℕ → PureQuery → Type 0
+  pub keeps_plain : Type 0
+
+-- the memory with these actions and symbolic states
+module _ {S : Type 0} (actions : Actions) (stands : S → List PureValue → Heap → Type 0) (terms : S → StateTerms)
+    (asked : List ℕ → List PureTerm → List PureTerm × List PureTerm) (depends : S → List ℕ → List PureTerm → List PureValue → Heap → PureTerm → Type 0)
+    (keeps_plain : Type 0) where
+  abbrev pub memory_of : Memory
+  memory_of = record {
+    actions = actions;
+    FindsBug = λ p entry bound place value inputs. IsFound p actions stands terms asked depends entry bound place value inputs;
+    LeavesOpen = λ p entry bound query. IsUndecided p actions stands terms asked depends keeps_plain entry bound query;
+    keeps_plain = keeps_plain;
+  }
+
+pub record Definition : Type 1 where
+  -- the bytes are a text of the language, and this is its program
+  pub IsText : List ℕ → PureParts → Type 0
+  -- the bytes are no text of the language, and this is the first fault that applies, at its byte
+  pub IsFault : List ℕ → ℕ → RefusedKind → Type 0
+  -- what the program has of the text itself, where the language is compiled: the same ends
+  pub KeepsEnds : List ℕ → PureParts → Type 0
+  -- what the answer of a run of an entry on inputs says of the text itself, where the language is compiled
+  pub IsMeant : List ℕ → List ℕ → List PureValue → PureAnswer → Type 0
+  -- the memory that the actions of its programs are those of
+  pub memory : Memory

@@ -1,0 +1,43 @@
+//! The program of a text with its entry.
+ghost use Rattle.std.specs.Prelude.{◌↔◌, IsTrue, IfOk, IfErr};
+ghost use Rattle.gil_machine.specs.Run.{IsEntry};
+ghost use Rattle.gil_program.specs.Program.{prog_view};
+ghost use Rattle.gillian_core.specs.Finishing.{IsNoEntry};
+ghost use Rattle.gillian_core.specs.Languages.{definition_of};
+ghost use Rattle.gillian_core.specs.Right.{IsProgramOf};
+
+use crate::languages::program;
+use gil_program::Prog;
+use gil_text::{Refused, RefusedKind};
+use gil_values::Text;
+use gillian_words::Language;
+use std::alloc::Global;
+
+/// The program of a text that has the entry, without parameters.
+pub fn program_with(
+    alloc: Global,
+    language: Language,
+    entry: &Text,
+    bytes: &[u8],
+) -> Result<Prog, Refused>
+    ensures program { IfOk result (λ prog. IsProgramOf (definition_of language) bytes.now (prog_view prog)) }
+    ensures entry { IfOk result (λ prog. IsEntry (prog_view prog) entry.now) }
+    ensures none { IfErr result (IsNoEntry (definition_of language) entry.now bytes.now) }
+{
+    let prog = program(alloc, language, bytes)?;
+    if is_entry(&prog, entry) {
+        Ok(prog)
+    } else {
+        Err(Refused {
+            at: bytes.len(),
+            kind: RefusedKind::Entry,
+        })
+    }
+}
+
+/// Whether the procedure is one of the program, without parameters.
+fn is_entry(prog: &Prog, entry: &Text) -> bool
+    ensures { IsTrue result ↔ IsEntry (prog_view prog.now) entry.now }
+{
+    prog.arity(entry) == Some(0)
+}

@@ -1,0 +1,76 @@
+//! The languages: how the texts of each are read, and the memory of its programs.
+ghost use Rattle.std.specs.Prelude.{◌≡◌, [], IfOk, IfErr};
+ghost use Rattle.std.specs.FinMap.{empty};
+ghost use Rattle.gil_machine.specs.Held.{held_run_of};
+ghost use Rattle.gil_machine.specs.Run.{IsEntry};
+ghost use Rattle.gil_program.specs.Program.{prog_view};
+ghost use Rattle.gil_syntax.specs.Pure.{PureParts};
+ghost use Rattle.gil_values.specs.View.{values_view};
+ghost use Rattle.gillian_core.specs.Answers.{answer_view};
+ghost use Rattle.gillian_core.specs.Ends.{end_answer};
+ghost use Rattle.gillian_core.specs.Finishing.{IsNoProgram};
+ghost use Rattle.gillian_core.specs.Languages.{definition_of};
+ghost use Rattle.gillian_core.specs.Right.{IsProgramOf, IsRightVerdict};
+
+use crate::answers::Answer;
+use crate::running::run_answer;
+use crate::testing::verdict;
+use crate::{gil_record, while_language};
+use gil_program::Prog;
+use gil_text::Refused;
+use gil_values::{Text, Values};
+use gillian_words::{Bound, Language};
+use record_heap::RecordHeap;
+use record_sym::RecordSym;
+use rewrite_book::RuleBook;
+use std::alloc::{AllocError, Global};
+
+/// The program of a text.
+pub fn program(alloc: Global, language: Language, bytes: &[u8]) -> Result<Prog, Refused>
+    ensures program { IfOk result (λ prog. IsProgramOf (definition_of language) bytes.now (prog_view prog)) }
+    ensures only { IfOk result (λ prog. (p : PureParts) → (definition_of language).IsText bytes.now p → prog_view prog ≡ p) }
+    ensures none { IfErr result (IsNoProgram (definition_of language) bytes.now) }
+{
+    match language {
+        Language::GilRecord => gil_record::program(alloc, bytes),
+        Language::While => while_language::program(alloc, bytes),
+    }
+}
+
+/// How the run of an entry of a program ends, from the empty heap.
+pub fn run_in(
+    alloc: Global,
+    language: Language,
+    prog: &Prog,
+    entry: &Text,
+    bound: Bound,
+    inputs: &Values,
+) -> Result<Answer, AllocError>
+    requires { IsEntry (prog_view prog.now) entry.now }
+    ensures { IfOk result (λ answer. answer_view answer ≡ end_answer (held_run_of (prog_view prog.now)
+        (definition_of language).memory.actions entry.now [] empty 0 (values_view inputs.now) bound.steps)) }
+{
+    match language {
+        Language::GilRecord => run_answer::<RecordHeap>(alloc, prog, entry, bound, inputs),
+        Language::While => run_answer::<RecordHeap>(alloc, prog, entry, bound, inputs),
+    }
+}
+
+/// The verdict on an entry of a program, from the empty heap.
+pub fn verdict_in(
+    alloc: Global,
+    language: Language,
+    prog: &Prog,
+    entry: &Text,
+    bound: Bound,
+    rules: &RuleBook,
+) -> Result<Answer, AllocError>
+    requires { IsEntry (prog_view prog.now) entry.now }
+    ensures { IfOk result (λ answer. IsRightVerdict (definition_of language).memory (prog_view prog.now) entry.now bound.steps
+        (answer_view answer)) }
+{
+    match language {
+        Language::GilRecord => verdict::<RecordSym>(alloc, prog, entry, bound, rules),
+        Language::While => verdict::<RecordSym>(alloc, prog, entry, bound, rules),
+    }
+}

@@ -1,0 +1,107 @@
+//! The work: what is to be written of a text.
+ghost use Rattle.std.specs.Prelude.{IfOk, IfErr};
+ghost use Rattle.gil_values.specs.View.{values_view};
+ghost use Rattle.gillian_words.specs.Tasks.{run, test, compile, solve};
+ghost use Rattle.gillian_words.specs.View.{task_view};
+ghost use Rattle.gillian_core.specs.Answers.{output_view};
+ghost use Rattle.gillian_core.specs.Finishing.{IsNoOutput};
+ghost use Rattle.gillian_core.specs.Right.{IsRightOutput};
+
+use crate::entries::program_with;
+use crate::languages::{program, run_in, verdict_in};
+use crate::outputs::{Head, Output, Report};
+use crate::refusals::or_memory;
+use crate::solving::solution;
+use gil_text::Refused;
+use gil_values::{Text, Values};
+use gillian_words::{Bound, Language, Task};
+use rewrite_book::RuleBook;
+use std::alloc::Global;
+
+/// Does what is asked with a text.
+pub fn work(alloc: Global, task: Task, rules: &RuleBook, bytes: &[u8]) -> Result<Output, Refused>
+    ensures output { IfOk result (λ output. IsRightOutput (task_view task) bytes.now (output_view output)) }
+    ensures none { IfErr result (IsNoOutput (task_view task) bytes.now) }
+{
+    match task {
+        Task::Run {
+            language,
+            entry,
+            bound,
+            inputs,
+        } => run_output(alloc, language, entry, bound, &inputs, bytes),
+        Task::Test {
+            language,
+            entry,
+            bound,
+        } => test_output(alloc, language, entry, bound, rules, bytes),
+        Task::Compile { language } => compile_output(alloc, language, bytes),
+        Task::Solve => solve_output(alloc, rules, bytes),
+    }
+}
+
+/// The report of a run.
+fn run_output(
+    alloc: Global,
+    language: Language,
+    entry: Text,
+    bound: Bound,
+    inputs: &Values,
+    bytes: &[u8],
+) -> Result<Output, Refused>
+    ensures output { IfOk result (λ output. IsRightOutput (run language entry bound.steps (values_view inputs.now)) bytes.now
+        (output_view output)) }
+    ensures none { IfErr result (IsNoOutput (run language entry bound.steps (values_view inputs.now)) bytes.now) }
+{
+    let prog = program_with(alloc, language, &entry, bytes)?;
+    let answer = or_memory(run_in(alloc, language, &prog, &entry, bound, inputs))?;
+    let head = Head::Run {
+        language,
+        entry,
+        bound: bound.steps,
+    };
+    Ok(Output::Report(Report { head, answer }))
+}
+
+/// The report of a verdict.
+fn test_output(
+    alloc: Global,
+    language: Language,
+    entry: Text,
+    bound: Bound,
+    rules: &RuleBook,
+    bytes: &[u8],
+) -> Result<Output, Refused>
+    ensures output { IfOk result (λ output. IsRightOutput (test language entry bound.steps) bytes.now (output_view output)) }
+    ensures none { IfErr result (IsNoOutput (test language entry bound.steps) bytes.now) }
+{
+    let prog = program_with(alloc, language, &entry, bytes)?;
+    let answer = or_memory(verdict_in(alloc, language, &prog, &entry, bound, rules))?;
+    let head = Head::Test {
+        language,
+        entry,
+        bound: bound.steps,
+    };
+    Ok(Output::Report(Report { head, answer }))
+}
+
+/// The program.
+fn compile_output(alloc: Global, language: Language, bytes: &[u8]) -> Result<Output, Refused>
+    ensures output { IfOk result (λ output. IsRightOutput (compile language) bytes.now (output_view output)) }
+    ensures none { IfErr result (IsNoOutput (compile language) bytes.now) }
+{
+    let prog = program(alloc, language, bytes)?;
+    Ok(Output::Program(prog))
+}
+
+/// The report of a solution.
+fn solve_output(alloc: Global, rules: &RuleBook, bytes: &[u8]) -> Result<Output, Refused>
+    ensures output { IfOk result (λ output. IsRightOutput solve bytes.now (output_view output)) }
+    ensures none { IfErr result (IsNoOutput solve bytes.now) }
+{
+    let answer = solution(alloc, rules, bytes)?;
+    Ok(Output::Report(Report {
+        head: Head::Atoms,
+        answer,
+    }))
+}

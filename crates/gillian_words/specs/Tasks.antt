@@ -1,0 +1,31 @@
+-- What can be asked for: a mode, with what it works on and its options.
+use Rattle.std.specs.Prelude.{ℕ, List, codes}
+use Rattle.gil_values.specs.Pure.{PureValue}
+use Rattle.gillian_words.specs.declared.tasks.Language.{Language}
+use Rattle.gillian_words.specs.declared.tasks.Language.TheVariants.{GilRecord, While}
+
+-- A run of an entry within a bound on inputs, a test of an entry within a bound, the program of a text, and the solution of a list
+-- of atoms.
+pub data PureTask : Type 0 where
+  run : Language → List ℕ → ℕ → List PureValue → PureTask
+  test : Language → List ℕ → ℕ → PureTask
+  compile : Language → PureTask
+  solve : PureTask
+
+abbrev pub language_word : Language → List ℕ
+language_word GilRecord = codes "gil-record"
+language_word While = codes "while"
+
+-- the first word
+abbrev pub mode_word : PureTask → List ℕ
+mode_word (run language entry bound inputs) = codes "run"
+mode_word (test language entry bound) = codes "test"
+mode_word (compile language) = codes "compile"
+mode_word solve = codes "solve"
+
+-- the second word: the language of the programs, and that of atoms where these are solved
+abbrev pub second_word : PureTask → List ℕ
+second_word (run language entry bound inputs) = language_word language
+second_word (test language entry bound) = language_word language
+second_word (compile language) = language_word language
+second_word solve = codes "atoms"

@@ -1,0 +1,72 @@
+//! What words ask for.
+ghost use Rattle.std.specs.Prelude.{◌≤◌};
+
+use gil_values::{Text, Values};
+
+/// The language of a program's text.
+#[derive(Clone, Copy, Debug, PartialEq, Eq)]
+pub enum Language {
+    /// GIL over records.
+    GilRecord,
+    /// While, over records.
+    While,
+}
+
+impl Language {
+    ghost use Rattle.std.specs.Prelude.{◌≡◌, ◌≢◌, IfSome, IfNone};
+    ghost use Rattle.gillian_words.specs.declared.tasks.Language.{Language};
+    ghost use Rattle.gillian_words.specs.Tasks.{language_word};
+
+    /// The word of the language.
+    pub fn word(self) -> &'static str
+        ensures { result.now ≡ language_word self }
+    {
+        match self {
+            Language::GilRecord => "gil-record",
+            Language::While => "while",
+        }
+    }
+
+    /// The language of a word.
+    pub(crate) fn of_word(word: &str) -> Option<Language>
+        ensures some { IfSome result (λ language. word.now ≡ language_word language) }
+        ensures none { IfNone result ((language : Language) → word.now ≢ language_word language) }
+    {
+        match word {
+            "gil-record" => Some(Language::GilRecord),
+            "while" => Some(Language::While),
+            _ => None,
+        }
+    }
+}
+
+/// The most steps of a run: at most 10,000.
+#[derive(Clone, Copy, Debug)]
+pub struct Bound {
+    pub steps: u32,
+    pub ghost within: { steps ≤ 10000 },
+}
+
+/// What words ask for: a mode, with what it works on and its options. Contracts see it as its pure data, by `task_view`.
+#[derive(Debug, Drop)]
+pub enum Task {
+    /// One run of the entry on these inputs, which draws take in order.
+    Run {
+        language: Language,
+        entry: Text,
+        bound: Bound,
+        inputs: Values,
+    },
+    /// A test of the entry for all inputs.
+    Test {
+        language: Language,
+        entry: Text,
+        bound: Bound,
+    },
+    /// The program as GIL text.
+    Compile {
+        language: Language,
+    },
+    /// A solution of a list of atoms.
+    Solve,
+}
