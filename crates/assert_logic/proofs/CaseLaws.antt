@@ -105,12 +105,12 @@ module _ (scope : List Param) where
               ap (value_of t) (sym (same_some name)) ∙ later.goes.extends q.name w (bound_value scope q.name w s) ∙ ap Some same
           at later (suc i) x v name value = later.values i x v name value
 
-map_get : {X : Type 0} (xs : List X) (i : ℕ) (x : X) → slice_get xs i ≡ Some x → slice_get (map Some xs) i ≡ Some (Some x)
+pub map_get : {X : Type 0} (xs : List X) (i : ℕ) (x : X) → slice_get xs i ≡ Some x → slice_get (map Some xs) i ≡ Some (Some x)
 map_get [] i x is = no_value x is
 map_get (y ∷ ys) zero x is = ap Some is
 map_get (y ∷ ys) (suc i) x is = map_get ys i x is
 
-values_agree : (t : Store) (xs : List (List ℕ)) (vs : List PureValue) → values_of t xs ≡ Some vs → Agrees t xs vs × (length xs ≡ length vs)
+pub values_agree : (t : Store) (xs : List (List ℕ)) (vs : List PureValue) → values_of t xs ≡ Some vs → Agrees t xs vs × (length xs ≡ length vs)
 values_agree t [] vs is = (λ i x v at. no_value x at, ap length (same_some is))
 values_agree t (x ∷ xs) vs is = by (values_agree t xs) (value_of t x) (values_of t xs) refl refl is
   where

@@ -59,7 +59,7 @@ module _ (scope : List Param) where
       let fits = (and_parts (is_among (param_names scope) x) (fits_sorts scope x v) test).1 in
       subst (λ u. Goes scope s u × (value_of u x ≡ Some v)) same (bound_goes x v s none fits)
 
-  unless_goes : (s : Store) (x y : List ℕ) → unless_known s x ≡ Some y → (x ≡ y) × (value_of s x ≡ None)
+  pub unless_goes : (s : Store) (x y : List ℕ) → unless_known s x ≡ Some y → (x ≡ y) × (value_of s x ≡ None)
   unless_goes s x y = by (value_of s x) refl
     where
       by : (o : Option PureValue) → value_of s x ≡ o → cond (is_some o) None (Some x) ≡ Some y → (x ≡ y) × (value_of s x ≡ None)
@@ -76,7 +76,7 @@ module _ (scope : List Param) where
       (ap (value_of s) (sym same) ∙ none, λ t v at. ap set_or_fault (ap (value_of t) same ∙ at))
   named e s x is = no_value x is
 
-  same_goes : (o : Outcome) (v : PureValue) (s t : Store) → where_same o v s ≡ Some t → (o ≡ Ok v) × (s ≡ t)
+  pub same_goes : (o : Outcome) (v : PureValue) (s t : Store) → where_same o v s ≡ Some t → (o ≡ Ok v) × (s ≡ t)
   same_goes (Ok w) v s t is =
       let (test, same) = chosen (same_value w v) s t is in
       (ap Ok (same_value-same w v test), same)

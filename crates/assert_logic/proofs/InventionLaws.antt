@@ -52,10 +52,10 @@ append_nil (x ∷ xs) = ap (λ ys. x ∷ ys) (append_nil xs)
 
 -- ---- the part of a store that is known
 
-abbrev kept : Known → Store → Store
+abbrev pub kept : Known → Store → Store
 kept known s = filter (λ b. known b.name) s
 
-kept_value : (known : Known) (s : Store) (x : List ℕ) → value_of (kept known s) x ≡ cond (known x) (value_of s x) None
+pub kept_value : (known : Known) (s : Store) (x : List ℕ) → value_of (kept known s) x ≡ cond (known x) (value_of s x) None
 kept_value known [] x = by (known x)
   where
     by : (b : Bool) → ◌≡◌ {A = Option PureValue} None (cond b None None)
@@ -74,7 +74,7 @@ kept_value known (b ∷ s) x = by (known b.name) refl (bytes_eq b.name x) refl (
         later ∙ ap (λ k. cond k (value_of s x) None) unknown ∙ ap (λ k. cond k (Some b.value) None) (sym unknown)
     by false here false named later = later
 
-from_cond : (k : Bool) (o : Option PureValue) (w : PureValue) → cond k o None ≡ Some w → (k ≡ true) × (o ≡ Some w)
+pub from_cond : (k : Bool) (o : Option PureValue) (w : PureValue) → cond k o None ≡ Some w → (k ≡ true) × (o ≡ Some w)
 from_cond true o w is = (refl, is)
 from_cond false o w is = no_value w is
 
@@ -373,7 +373,7 @@ module _ (P : ℕ → Type 0) where
 
 -- ---- programs
 
-found_at : (ds : List PurePredDef) (x : List ℕ) (d : PurePredDef) → find_pred ds x ≡ Some d → (i : ℕ) × (slice_get ds i ≡ Some d)
+pub found_at : (ds : List PurePredDef) (x : List ℕ) (d : PurePredDef) → find_pred ds x ≡ Some d → (i : ℕ) × (slice_get ds i ≡ Some d)
 found_at [] x d is = no_value d is
 found_at (e ∷ es) x d is = by (found_at es x d) (bytes_eq e.name x) is
   where
@@ -381,7 +381,7 @@ found_at (e ∷ es) x d is = by (found_at es x d) (bytes_eq e.name x) is
     by later true found = (zero, found)
     by later false found = let (i, at) = later found in (suc i, at)
 
-made_at : (ds : List PurePredDef) (i : ℕ) (d : PurePredDef) → slice_get ds i ≡ Some d → list_all is_well_made_pred ds ≡ true → is_well_made_pred d ≡ true
+pub made_at : (ds : List PurePredDef) (i : ℕ) (d : PurePredDef) → slice_get ds i ≡ Some d → list_all is_well_made_pred ds ≡ true → is_well_made_pred d ≡ true
 made_at [] i d at made = no_value d at
 made_at (e ∷ es) zero d at made = ap is_well_made_pred (sym (same_some at)) ∙ (and_parts (is_well_made_pred e) (list_all is_well_made_pred es) made).0
 made_at (e ∷ es) (suc i) d at made = made_at es i d at (and_parts (is_well_made_pred e) (list_all is_well_made_pred es) made).1

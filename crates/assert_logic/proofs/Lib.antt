@@ -8,3 +8,7 @@ pub mod Givings
 pub mod SplitLaws
 pub mod CaseLaws
 pub mod InventionLaws
+pub mod GivenNames
+pub mod MatchedValues
+pub mod FoldedOuts
+pub mod AddedFacts

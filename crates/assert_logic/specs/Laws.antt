@@ -1,9 +1,11 @@
 -- What holds of the meaning of assertions.
 use Rattle.std.specs.Prelude.{◌≡◌, ◌↔◌, ◌⊎◌, ℕ, ◌≤◌, List, ◌++◌, Some, None, IsTrue}
+use Rattle.std.specs.List.{Contains}
 use Rattle.gil_values.specs.Pure.{PureValue}
 use Rattle.gil_values.specs.Symbols.{OccursIn, OccursAmong}
 use Rattle.gil_syntax.specs.Evaluation.{Store, value_of}
 use Rattle.gil_syntax.specs.Pure.{PureItem, PurePredDef, PureParts}
+use Rattle.gil_syntax.specs.Valid.{param_names, is_among}
 use Rattle.gil_syntax.specs.WellMade.{is_well_made_assertion, is_well_made}
 use Rattle.mem_model.specs.declared.keys.MemoryName.{MemoryName}
 use Rattle.mem_model.specs.Heaps.{Heap, OccursInHeap}
@@ -11,7 +13,7 @@ use Rattle.assert_logic.specs.Names.{named_by_items}
 use Rattle.assert_logic.specs.Modes.{Scope, known_at_first, assertion_fault, HasModes}
 use Rattle.assert_logic.specs.Unions.{IsUnion}
 use Rattle.assert_logic.specs.Meets.{Meets, HoldsAt, HoldsSomewhere}
-use Rattle.assert_logic.specs.LogicStates.{LogicState, Realizes}
+use Rattle.assert_logic.specs.LogicStates.{Fact, LogicState, nothing, Realizes}
 use Rattle.assert_logic.specs.Adding.{added}
 use Rattle.assert_logic.specs.Matching.{Match, matched, CaseMatch, match_assertion, match_fold}
 use Rattle.assert_logic.specs.Sorts.{HasSorts, Extends}
@@ -61,18 +63,56 @@ MatchingSplits =
     → match_assertion preds scope items t s ≡ matched found → Realizes preds s h
     → SplitsHeap preds items t found h × (HasSorts scope t → HasSorts scope found.store)
 
--- A case that `fold` matched is one of the predicate's, so the predicate holds of the part that was taken.
-pub record FoldsHeap (preds : List PurePredDef) (name : List ℕ) (ins : List PureValue) (found : CaseMatch) (h : Heap) : Type 0 where
+-- A case that `fold` matched is one of the predicate's, so the predicate holds of the part that was taken, with the outs that were
+-- asked for.
+pub record FoldsHeap (preds : List PurePredDef) (name : List ℕ) (ins outs : List PureValue) (found : CaseMatch) (h : Heap) : Type 0 where
   pub part : Heap
   pub rest : Heap
   pub union : IsUnion h part rest
   pub holds_there : HoldsSomewhere preds name ins found.outs part
+  pub outs_are_given : found.outs ≡ outs
   pub realized : Realizes preds found.state rest
 
 abbrev pub FoldingSplits : Type 0
 FoldingSplits =
     (preds : List PurePredDef) (name : List ℕ) (ins outs : List PureValue) (s : LogicState) (found : CaseMatch) (h : Heap)
-    → match_fold preds name ins outs s ≡ Some found → Realizes preds s h → FoldsHeap preds name ins found h
+    → match_fold preds name ins outs s ≡ Some found → Realizes preds s h → FoldsHeap preds name ins outs found h
+
+-- Where an assertion is matched with nothing left, the whole heap meets it: a return leaves what its postcondition tells.
+pub record IsMatchedWhole (preds : List PurePredDef) (scope : List Param) (items : List PureItem) (t : Store) (found : Match) (h : Heap)
+    : Type 0 where
+  pub meets : Meets (HoldsSomewhere preds) found.store items h
+  pub extends : Extends t found.store
+  pub sorts : HasSorts scope t → HasSorts scope found.store
+
+abbrev pub ReturnsAreMatched : Type 0
+ReturnsAreMatched =
+    (preds : List PurePredDef) (scope : List Param) (items : List PureItem) (t : Store) (s : LogicState) (found : Match) (h : Heap)
+    → match_assertion preds scope items t s ≡ matched found → found.state ≡ nothing → Realizes preds s h
+    → IsMatchedWhole preds scope items t found h
+
+-- Matching gives a value to a name only where the items have it, the scope lists it, and it had none.
+abbrev pub MatchingGivesNames : Type 0
+MatchingGivesNames =
+    (preds : List PurePredDef) (scope : List Param) (items : List PureItem) (t : Store) (s : LogicState) (found : Match) (x : List ℕ)
+    (v : PureValue)
+    → match_assertion preds scope items t s ≡ matched found → value_of found.store x ≡ Some v
+    → (value_of t x ≡ Some v) ⊎ (IsTrue (named_by_items items x) × (IsTrue (is_among (param_names scope) x) × (value_of t x ≡ None)))
+
+abbrev pub OccursInStore : ℕ → Store → Type 0
+OccursInStore n t = (x : List ℕ) × ((v : PureValue) × ((value_of t x ≡ Some v) × OccursIn n v))
+
+-- in the heap, or in a value of a fact
+abbrev pub OccursInState : ℕ → LogicState → Type 0
+OccursInState n s = OccursInHeap n s.heap ⊎ ((f : Fact) × (Contains s.facts f × (OccursAmong n f.ins ⊎ OccursAmong n f.outs)))
+
+-- Matching invents nothing: each symbol of a value that it gives to a name was in the store or in the state.
+abbrev pub MatchingInventsNothing : Type 0
+MatchingInventsNothing =
+    (p : PureParts) (scope : List Param) (items : List PureItem) (t : Store) (s : LogicState) (found : Match) (x : List ℕ) (v : PureValue)
+    (n : ℕ)
+    → IsTrue (is_well_made p) → IsTrue (is_well_made_assertion items) → match_assertion p.preds scope items t s ≡ matched found
+    → value_of found.store x ≡ Some v → OccursIn n v → OccursInStore n t ⊎ OccursInState n s
 
 -- a name that is known at first has a value in which the symbol occurs
 abbrev pub IsKnownSymbol : Scope → Store → ℕ → Type 0

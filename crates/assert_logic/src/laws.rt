@@ -1,5 +1,5 @@
 //! What holds of the meaning of assertions: laws of the definitions, which no code is needed for.
-ghost use Rattle.assert_logic.specs.Laws.{AddingIsComplete, FoldingSplits, HeapsSplitAmongItems, LargerRanksKeep, MatchingSplits, MeetingInventsNothing};
+ghost use Rattle.assert_logic.specs.Laws.{AddingIsComplete, FoldingSplits, HeapsSplitAmongItems, LargerRanksKeep, MatchingGivesNames, MatchingInventsNothing, MatchingSplits, MeetingInventsNothing, ReturnsAreMatched};
 
 /// What holds at a rank holds at each larger one.
 pub fn larger_ranks_keep()
@@ -21,7 +21,7 @@ pub fn matching_splits()
     ensures { MatchingSplits }
 {}
 
-/// So does a case that was folded, and its predicate holds of what was taken.
+/// So does a case that was folded, and its predicate holds of what was taken, with the outs that were asked for.
 pub fn folding_splits()
     ensures { FoldingSplits }
 {}
@@ -29,4 +29,19 @@ pub fn folding_splits()
 /// Meeting an assertion that can be read invents no symbol.
 pub fn meeting_invents_nothing()
     ensures { MeetingInventsNothing }
+{}
+
+/// What was matched with nothing left is met by the whole heap, as at a return.
+pub fn returns_are_matched()
+    ensures { ReturnsAreMatched }
+{}
+
+/// Matching gives values to names of the assertion alone.
+pub fn matching_gives_names()
+    ensures { MatchingGivesNames }
+{}
+
+/// Matching invents no symbol.
+pub fn matching_invents_nothing()
+    ensures { MatchingInventsNothing }
 {}

@@ -295,7 +295,7 @@ module _ (p : PureParts) (memory : MemoryName) (m : Actions) (entry : Entry) whe
   -- listed variables have values, names that are known and declared have their sorts, and the assertion is matched
   abbrev pub invariant_match : List (List ℕ) → List Param → List PureItem → Checked → Option Match
   invariant_match xs ps items c =
-      match_of (has_all xs c.machine.current.store && known_fit (names_at entry c) ps)
+      match_of (has_all xs c.machine.current.store && known_fit (names_at entry c) (logicals_in c.machine.callers entry ++ ps))
       (match_assertion p.preds (logicals_in c.machine.callers entry ++ ps) items (names_at entry c) (logic_state c))
 
   -- the state at an invariant with these values of program variables, and with what the invariant leaves kept
@@ -316,8 +316,7 @@ module _ (p : PureParts) (memory : MemoryName) (m : Actions) (entry : Entry) whe
     pub listed_have_values : IsTrue (has_all xs store)
     pub others_stay : AreSame (unlisted_in xs store) (unlisted_in xs c.machine.current.store)
     pub names : Store
-    pub program_variables : Extends store names
-    pub variables_stay : Extends (variables_in c.machine.callers entry) names
+    pub known_stay : Extends (store ++ variables_in c.machine.callers entry) names
     pub sorts : HasSorts (logicals_in c.machine.callers entry ++ ps) names
     pub counter : ℕ
     pub next : Checked
