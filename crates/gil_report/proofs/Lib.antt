@@ -1,0 +1,5 @@
+mod Added
+mod Plain
+mod Seen
+mod Sizes
+mod Views
