@@ -1,0 +1,9 @@
+pub mod CaseLaws
+pub mod Elements
+pub mod Facts
+pub mod FoundLaws
+pub mod Loops
+pub mod OrderLaws
+pub mod PlaceLaws
+pub mod Shapes
+pub mod WalkLaws

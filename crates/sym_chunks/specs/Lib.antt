@@ -1,0 +1,9 @@
+pub mod ByPlace
+pub mod Cases
+pub mod Forms
+pub mod Keys
+pub mod Laws
+pub mod NameTerms
+pub mod Ordering
+pub mod View
+pub mod Walking
