@@ -1,0 +1,3 @@
+pub mod Over
+pub mod Same
+pub mod Tabled
