@@ -1,0 +1,6 @@
+pub mod Stores
+pub mod Forms
+pub mod Justified
+pub mod Entries
+pub mod Realized
+pub mod Runs

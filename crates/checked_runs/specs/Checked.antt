@@ -1,8 +1,7 @@
 -- Checked states and their steps: runs of a procedure that take only what its specification's precondition gives, call others by
 -- their specifications, and go through each loop once. Verification by matching assertions is that of Gillian, Part II (CAV 2021).
-use Rattle.std.specs.Prelude.{◌≡◌, ◌⊎◌, ℕ, ◌+◌, ◌-◌, ◌<◌, ◌≤◌, zero, suc, List, [], ◌∷◌, ◌++◌, map, drop, length, Bool, true, false, not, ◌&&◌, ◌||◌, nat_lt, nat_eq, if◌then◌else◌, Option, Some, None, Ok, Err, IsSome, IsTrue, is_some, slice_get}
+use Rattle.std.specs.Prelude.{◌≡◌, ◌⊎◌, ℕ, ◌+◌, ◌-◌, ◌≤◌, zero, suc, List, [], ◌∷◌, ◌++◌, map, drop, length, Bool, true, false, not, ◌&&◌, nat_lt, nat_eq, if◌then◌else◌, Option, Some, None, Ok, IsTrue, is_some, slice_get}
 use Rattle.std.specs.List.{list_all, list_any, filter, All}
-use Rattle.std.specs.Str.{bytes_eq}
 use Rattle.std.specs.FinMap.{len}
 use Rattle.gil_values.specs.declared.kinds.Kind.{Kind}
 use Rattle.gil_values.specs.declared.places.Place.{Place}
@@ -10,7 +9,7 @@ use Rattle.gil_values.specs.Pure.{PureValue, kind_of}
 use Rattle.gil_values.specs.Equality.{same_kind, same_value}
 use Rattle.gil_values.specs.Symbols.{AreBelow}
 use Rattle.gil_syntax.specs.declared.assertions.Param.{Param}
-use Rattle.gil_syntax.specs.Pure.{PurePredUse, PureItem, PureCommand, call, isym, fold_use, unfold_use, assert_that, loop_invariant, PureNumberedCommand, PureSpec, PurePredDef, PureParts}
+use Rattle.gil_syntax.specs.Pure.{PureItem, PureCommand, call, isym, fold_use, unfold_use, assert_that, loop_invariant, PureNumberedCommand, PureSpec, PurePredDef, PureParts}
 use Rattle.gil_syntax.specs.Programs.{find_spec, find_pred}
 use Rattle.gil_syntax.specs.Evaluation.{Store, bind, value_of, Agrees, Outcomes, evaluate_all}
 use Rattle.gil_syntax.specs.Valid.{param_names, is_among}
@@ -19,7 +18,7 @@ use Rattle.mem_model.specs.declared.keys.Key.{Key}
 use Rattle.mem_model.specs.declared.keys.MemoryName.{MemoryName}
 use Rattle.mem_model.specs.Actions.{Actions}
 use Rattle.mem_model.specs.CoreNames.{core_of}
-use Rattle.mem_model.specs.Heaps.{Heap, IsHeapBelow}
+use Rattle.mem_model.specs.Heaps.{IsHeapBelow}
 use Rattle.gil_machine.specs.Choices.{miss_at}
 use Rattle.gil_machine.specs.Proper.{IsFrameBelow, IsStoreBelow}
 use Rattle.gil_machine.specs.Run.{start}
@@ -28,7 +27,7 @@ use Rattle.gil_machine.specs.Step.{command_at, handling, throw_to, leave, to_nex
 use Rattle.assert_logic.specs.Adding.{IsAdding}
 use Rattle.assert_logic.specs.LogicStates.{Fact, LogicState, nothing}
 use Rattle.assert_logic.specs.Matching.{Match, Matching, matched, stops, CaseMatch, FoundFact, match_assertion, match_fold, first_fact, fits_fact, scope_of}
-use Rattle.assert_logic.specs.Sorts.{has_sort, fits_sorts, HasSorts, Extends}
+use Rattle.assert_logic.specs.Sorts.{has_sort, HasSorts, Extends}
 use Rattle.checked_runs.specs.Specifications.{fit_params, IsEntry, entry_store, result_name, IsPostStore}
 
 -- ---- states

@@ -1,3 +1,4 @@
 pub mod Specifications
 pub mod Checked
 pub mod Rows
+pub mod Laws

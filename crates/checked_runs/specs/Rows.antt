@@ -1,24 +1,23 @@
 -- A small program, for the rows that show what each step of a checked run leads to.
-use Rattle.std.specs.Prelude.{ℕ, ◌+◌, ℤ, pos, List, [], ◌∷◌, codes, true, Option, Some, None}
+use Rattle.std.specs.Prelude.{ℕ, ◌+◌, pos, List, [], ◌∷◌, codes, true}
 use Rattle.std.specs.FinMap.{empty, from_entries}
-use Rattle.gil_values.specs.declared.kinds.Kind.TheVariants.{Int}
 use Rattle.gil_values.specs.declared.operators.BinOp.TheVariants.{Equal}
-use Rattle.gil_values.specs.Pure.{PureValue, integer, boolean, procedure}
+use Rattle.gil_values.specs.Pure.{PureValue, integer, boolean}
 use Rattle.gil_syntax.specs.declared.assertions.Param.{Param}
 use Rattle.gil_syntax.specs.declared.assertions.SpecSort.{SpecSort}
 use Rattle.gil_syntax.specs.declared.assertions.SpecSort.TheVariants.{Any, Int as Numbers}
 use Rattle.gil_syntax.specs.Examples.{number, proc_of}
-use Rattle.gil_syntax.specs.Pure.{PureExpr, literal, name, logical, binary_of, PurePredUse, PureItem, pure, uses, PureCommand, assign, call, isym, return, fail, throw, vanish, fold_use, unfold_use, assert_that, loop_invariant, PureSpec, PurePredDef, PureParts}
-use Rattle.gil_syntax.specs.Evaluation.{Store, bind}
+use Rattle.gil_syntax.specs.Pure.{PureExpr, name, binary_of, PurePredUse, PureItem, pure, PureCommand, return, PureSpec, PurePredDef, PureParts}
+use Rattle.gil_syntax.specs.Evaluation.{bind}
 use Rattle.mem_model.specs.declared.keys.MemoryName.TheVariants.{Record}
 use Rattle.mem_model.specs.declared.keys.Sub.TheVariants.{Gone}
 use Rattle.mem_model.specs.Actions.{no_memory}
 use Rattle.mem_model.specs.Heaps.{Heap}
 use Rattle.mem_model.specs.Keys.{key}
-use Rattle.gil_machine.specs.State.{Frame, State}
+use Rattle.gil_machine.specs.State.{Frame}
 use Rattle.gil_machine.specs.Step.{first_frame}
-use Rattle.assert_logic.specs.LogicStates.{Fact, LogicState, nothing}
-use Rattle.checked_runs.specs.Checked.{Passed, Checked, Outcome, goes_on_to, is_over, has_fault, Entry, Leads}
+use Rattle.assert_logic.specs.LogicStates.{Fact, nothing}
+use Rattle.checked_runs.specs.Checked.{Passed, Checked, Outcome, Entry, Leads}
 
 abbrev pub param : List ℕ → SpecSort → Param
 param x sort = record { name = x; sort = sort }

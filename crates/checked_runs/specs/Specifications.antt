@@ -3,7 +3,6 @@
 -- O'Hearn, Reynolds, Yang, CSL 2001; specifications are those of Gillian, Part II (CAV 2021).
 use Rattle.std.specs.Prelude.{◌≡◌, ℕ, List, [], ◌∷◌, ◌++◌, Bool, true, false, ◌&&◌, Some, IsTrue, slice_get, ⊤, codes}
 use Rattle.gil_values.specs.Pure.{PureValue}
-use Rattle.gil_values.specs.Symbols.{IsBelow}
 use Rattle.gil_syntax.specs.declared.assertions.Param.{Param}
 use Rattle.gil_syntax.specs.Pure.{PureItem, PureSpec, PureParts}
 use Rattle.gil_syntax.specs.Evaluation.{Store, value_of, Agrees}
@@ -13,7 +12,7 @@ use Rattle.mem_model.specs.Actions.{Actions}
 use Rattle.mem_model.specs.Heaps.{Heap}
 use Rattle.gil_machine.specs.Proper.{IsStoreBelow}
 use Rattle.gil_machine.specs.Run.{run_of, IsProperStart}
-use Rattle.gil_machine.specs.State.{Ending, returned, threw, failed, End}
+use Rattle.gil_machine.specs.State.{Ending, returned, threw, failed}
 use Rattle.gil_machine.specs.Step.{bind_all}
 use Rattle.assert_logic.specs.Meets.{Meets, HoldsSomewhere}
 use Rattle.assert_logic.specs.Modes.{is_variable_of}

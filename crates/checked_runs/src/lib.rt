@@ -2,8 +2,10 @@
 //! show what each of their steps leads to. Verification is that of Gillian, Part II (CAV 2021).
 #![tactic(auto)]
 
+mod laws;
 mod rows;
 
+pub use laws::verified_specifications_hold;
 pub use rows::{
     calls_ask_for_the_precondition, folds_and_asserts_are_matched, invariants_are_asked,
     only_what_is_told_may_be_left, what_is_not_told_may_be_anything,

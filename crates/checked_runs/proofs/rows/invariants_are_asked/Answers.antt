@@ -1,4 +1,4 @@
-use Rattle.std.proofs.Common.{◌≡◌, Bool, true, false, codes, Option, Some, None, inr, refl, ap, true≢false}
+use Rattle.std.proofs.Common.{Bool, false, codes, Option, Some, None, inr, refl, ap, true≢false}
 use Rattle.gil_values.specs.Pure.{PureValue}
 use Rattle.gil_values.specs.Equality.{same_value}
 use Rattle.checked_runs.specs.Rows.{number_value}

@@ -3,7 +3,6 @@ use Rattle.std.specs.Prelude.{◌&&◌, ◌||◌, nat_eq}
 use Rattle.std.specs.FinMap.{empty, len, get-empty, len-empty, len-insert}
 use Rattle.gil_values.specs.Pure.{PureValue, boolean}
 use Rattle.mem_model.specs.declared.keys.Sub.TheVariants.{Gone}
-use Rattle.mem_model.specs.Heaps.{Heap}
 use Rattle.mem_model.specs.Keys.{key, key_cmp}
 use Rattle.mem_model.specs.KeyOrder.{key_cmp-total}
 use Rattle.checked_runs.specs.Checked.{Outcome, over_or, post}
