@@ -106,6 +106,21 @@ chosen_cases = record {
   cover = λ v when cases holds one. chosen_taken v when cases holds one;
 }
 
+-- what comes after a case that surely comes
+sure_first : (b : Bool) (c : PureCase) (more : Option PureCase) (rest : Bool) (longer : Option PureCase) → (b || rest) ≡ true → (rest ≡ true → (d : PureCase) × ((more ≡ Some d) × (longer ≡ Some d)))
+    → (d : PureCase) × (((if b then Some c else more) ≡ Some d) × ((if b then Some c else longer) ≡ Some d))
+sure_first true c more rest longer is later = (c, (refl, refl))
+sure_first false c more rest longer is later = later is
+
+sure_append : (xs ys : List PureCase) → list_any (λ (c : PureCase). list_any is_empty c.when) xs ≡ true → (d : PureCase) × ((sure_case xs ≡ Some d) × (sure_case (xs ++ ys) ≡ Some d))
+sure_append [] ys is = absurd (true≢false (sym is))
+sure_append (c ∷ xs) ys is = sure_first (list_any is_empty c.when) c (sure_case xs) (list_any (λ (d : PureCase). list_any is_empty d.when) xs) (sure_case (xs ++ ys)) is (sure_append xs ys)
+
+pub choose_sure : (when : Alternatives) (xs ys : List PureCase) → list_any (λ (c : PureCase). list_any is_empty c.when) xs ≡ true → choose when (xs ++ ys) ≡ choose when xs
+choose_sure when xs ys is =
+    let (d, (first, second)) = sure_append xs ys is in
+    ap (choose_by when (xs ++ ys)) second ∙ sym (ap (choose_by when xs) first)
+
 -- where no alternative is left there is no branch
 pub none_chosen : (P : Branch → Type 0) (cases : List PureCase) → Each P (choose never cases)
 none_chosen P cases = by (sure_case cases)

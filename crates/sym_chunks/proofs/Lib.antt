@@ -3,7 +3,10 @@ pub mod Elements
 pub mod Facts
 pub mod FoundLaws
 pub mod Loops
+pub mod Opening
 pub mod OrderLaws
 pub mod PlaceLaws
+pub mod Readings
 pub mod Shapes
 pub mod WalkLaws
+pub mod Wrapping

@@ -7,3 +7,4 @@ pub mod NameTerms
 pub mod Ordering
 pub mod View
 pub mod Walking
+pub mod Wrapped

@@ -23,6 +23,6 @@ pub use names::{distinct_names, equal_to_none, equal_to_one, listed, unlisted};
 pub use ordering::{at_most, inside, less, outside};
 pub use places::{ChunkTest, all_by_place, any_at, elsewhere_or, places_of};
 pub use walking::{
-    OtherSub, Walk, Way, Ways, all_other_subs, copy_alternatives, missed_key, walk_on,
-    with_all_taken, with_way, without_chunk,
+    OtherSub, SameSub, Walk, Way, Ways, all_other_subs, any_key, copy_alternatives, missed_key,
+    walk_on, with_all_taken, with_way, without_chunk,
 };

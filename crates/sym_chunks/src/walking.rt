@@ -4,7 +4,7 @@ ghost use Rattle.std.specs.List.{flat_map};
 ghost use Rattle.pure_terms.specs.View.{term_view};
 ghost use Rattle.sym_chunks.specs.ByPlace.{all_by_place as all_by_place_of};
 ghost use Rattle.sym_chunks.specs.Cases.{true_term};
-ghost use Rattle.sym_chunks.specs.Keys.{other_sub, at_key};
+ghost use Rattle.sym_chunks.specs.Keys.{same_sub, other_sub, at_key};
 ghost use Rattle.sym_chunks.specs.View.{cases_view, way_view, ways_view};
 ghost use Rattle.sym_chunks.specs.Walking.{
   way_of,
@@ -14,13 +14,13 @@ ghost use Rattle.sym_chunks.specs.Walking.{
   missing_key,
   all_taken,
 };
-ghost use Rattle.sym_conditions.specs.Alternatives.{alternatives_view, both};
+ghost use Rattle.sym_conditions.specs.Alternatives.{alternatives_view, any, both};
 ghost use Rattle.sym_model.specs.Pure.{gone, missed};
 ghost use Rattle.sym_model.specs.View.{frag_view, chunk_view, chunks_view, result_view, sub_view};
 
 use crate::cases::{Case, Cases, is_sure, with_case};
-use crate::keys::{key_here, subkeys_differ};
-use crate::places::{ChunkTest, all_by_place};
+use crate::keys::{key_here, subkeys_differ, subkeys_equal};
+use crate::places::{ChunkTest, all_by_place, any_at};
 use pure_terms::{Literal, Term};
 use sequence::Sequence;
 use std::alloc::{AllocError, Global};
@@ -50,6 +50,32 @@ impl ChunkTest for OtherSub<'_> {
     fn ask(&self, alloc: Global, chunk: &Chunk) -> Result<Alternatives, AllocError> {
         subkeys_differ(alloc, self.sub, &chunk.sub)
     }
+}
+
+/// A chunk has this subkey.
+#[derive(Debug, Drop)]
+pub struct SameSub<'a> {
+    pub sub: &'a SymSub,
+}
+
+impl ChunkTest for SameSub<'_> {
+    ghost says = { λ test c. same_sub (sub_view test.sub.now) c.sub };
+
+    fn ask(&self, alloc: Global, chunk: &Chunk) -> Result<Alternatives, AllocError> {
+        subkeys_equal(alloc, self.sub, &chunk.sub)
+    }
+}
+
+/// Some chunk is that of the key.
+pub fn any_key(
+    alloc: Global,
+    l: &Term,
+    s: &SymSub,
+    chunks: &[Chunk],
+) -> Result<Alternatives, AllocError>
+    ensures { IfOk result (λ x. alternatives_view x ≡ any (at_key (term_view l.now) (sub_view s.now)) (chunks_view chunks.now)) }
+{
+    any_at(alloc, l, &SameSub { sub: s }, chunks)
 }
 
 /// No chunk of the location has this subkey.
