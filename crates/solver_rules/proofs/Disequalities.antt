@@ -21,11 +21,11 @@ use Rattle.solver_rules.specs.declared.rules.Rule.{Rule}
 use Rattle.solver_rules.specs.Rules.{AreDone, AreKinds, SaysDifferent}
 use Rattle.solver_rules.specs.Steps.{IsPlainAtom, IsNode}
 use Rattle.solver_rules.proofs.KindsApart.{first_found}
-use Rattle.solver_rules.proofs.Meeting.{number_side}
+use Rattle.solver_rules.proofs.Plain.{number_side}
 use Rattle.solver_rules.proofs.Modelling.{same_truth}
 use Rattle.solver_rules.proofs.Sounding.{equated_same}
 
-flip_values : (u w : PureValue) → same_value u w ≡ false → same_value w u ≡ false
+pub flip_values : (u w : PureValue) → same_value u w ≡ false → same_value w u ≡ false
 flip_values u w h = false_from_ne_true (same_value w u) (λ same. both_ways (same_value u w) h (ap (same_value u) (same_value-same w u same) ∙ same_value-refl u))
 
 pub turned_differ : (v : List PureValue) (s t : PureTerm) → truth v (negative (equals s t)) ≡ true → truth v (negative (equals t s)) ≡ true

@@ -19,3 +19,4 @@ pub mod Disequalities
 pub mod ListValues
 pub mod Model
 pub mod Settled
+pub mod Unsaid

@@ -5,7 +5,6 @@ use Rattle.gil_values.specs.declared.kinds.Kind.{Kind}
 use Rattle.gil_values.specs.Pure.{PureValue}
 use Rattle.pure_terms.specs.declared.literals.Literal.{Literal}
 use Rattle.pure_terms.specs.declared.variables.Sort.{Sort}
-use Rattle.pure_terms.specs.EqualityLaws.{same_sorts}
 use Rattle.pure_terms.specs.Fragment.{is_simple, is_flat, names_sort, is_variable_of, is_integer_side}
 use Rattle.pure_terms.specs.Kinds.{same_sort, known_kind, is_of_kind, kind_of_sort}
 use Rattle.pure_terms.specs.Meaning.{value}
@@ -23,6 +22,7 @@ use Rattle.equality_core.proofs.Valuing.{no_clash}
 use Rattle.solver_rules.specs.Rules.{SaysEqual, IsMet}
 use Rattle.solver_rules.specs.Steps.{IsNode}
 use Rattle.solver_rules.proofs.KindsApart.{forms_given, clear_given, first_found}
+use Rattle.solver_rules.proofs.Plain.{number_side}
 
 -- the number of a term: of the first number of its class where it is a variable of sort any, else its own
 abbrev number_of_class : List PureValue → Option PureTerm → Option PureValue
@@ -43,17 +43,6 @@ AreRowsMet c v = (i : ℕ) (s t : PureTerm) → equality_at c.list i ≡ Some (r
 -- each variable of sort any meets the numbers that it is said to be equal to
 abbrev pub AreAllMet : PureClasses → Type 0
 AreAllMet c = (i : ℕ) (s t : PureTerm) → equality_at c.list i ≡ Some (record { left = s; right = t }) → IsMet c s t × IsMet c t s
-
-pub number_side : (t : PureTerm) → is_wanted Wanted.Number t ≡ true → is_integer_side t ≡ true
-number_side (literal (Literal.Int n)) is = refl
-number_side (literal (Literal.Bool b)) is = absurd (false≢true is)
-number_side (literal (Literal.Str cs)) is = absurd (false≢true is)
-number_side (literal (Literal.Kind k)) is = absurd (false≢true is)
-number_side (literal (Literal.Proc name)) is = absurd (false≢true is)
-number_side (variable x) is = ap (λ s. is_of_kind (kind_of_sort s) Kind.Int) (same_sorts x.sort Sort.Int (⊎_elim (λ e. e) (λ e. absurd (false≢true e)) (or_cases (same_sort x.sort Sort.Int) false is)))
-number_side (list_of ts) is = absurd (false≢true is)
-number_side (unary_of op t) is = absurd (false≢true is)
-number_side (binary_of op s t) is = absurd (false≢true is)
 
 integer_kind : (t : PureTerm) → is_integer_side t ≡ true → known_kind t ≡ Some Kind.Int
 integer_kind t side = from_is_of_kind (known_kind t) Kind.Int (and_parts (is_simple t) _ side).1

@@ -24,7 +24,7 @@ use Rattle.solver_rules.specs.Rules.{SaysPositive, SaysEqual}
 use Rattle.solver_rules.specs.Sides.{IsTableSide}
 use Rattle.solver_rules.specs.Steps.{IsPlainAtom, IsNode, IsSplit}
 use Rattle.solver_rules.proofs.KindsApart.{first_found, first_side}
-use Rattle.solver_rules.proofs.Plain.{equality_split, number_flat, sides_of}
+use Rattle.solver_rules.proofs.Plain.{equality_split, sides_of}
 
 -- an atom that is the equality of simple terms says that they are equal
 pub says_equal_from : (list : List PureAtom) (s t : PureTerm) → is_simple s ≡ true → is_simple t ≡ true → SaysPositive list s t → SaysEqual list s t
@@ -37,12 +37,12 @@ pub numbers_split : (vars : List Sort) (list : List PureAtom) (c : PureClasses) 
     → first_in_class c.nodes Wanted.Number s ≡ Some m → first_in_class c.nodes Wanted.Number t ≡ Some n → IsSplit vars (equals m n)
 numbers_split vars list c node s t m n side_s side_t is_m is_n =
     equality_split vars m n (first_side vars list c node Wanted.Number s m side_s is_m) (first_side vars list c node Wanted.Number t n side_t is_n)
-    (number_flat m (first_found vars list c node Wanted.Number s m is_m).wanted) (number_flat n (first_found vars list c node Wanted.Number t n is_n).wanted)
+    (first_found vars list c node Wanted.Number s m is_m).wanted (first_found vars list c node Wanted.Number t n is_n).wanted
 
 pub number_split : (vars : List Sort) (list : List PureAtom) (c : PureClasses) → IsNode vars list c → (s n m : PureTerm) → IsTableSide vars s → IsTableSide vars n
     → first_in_class c.nodes Wanted.Number s ≡ Some m → is_wanted Wanted.Number n ≡ true → IsSplit vars (equals m n)
 number_split vars list c node s n m side_s side_n is_m wanted =
-    equality_split vars m n (first_side vars list c node Wanted.Number s m side_s is_m) side_n (number_flat m (first_found vars list c node Wanted.Number s m is_m).wanted) (number_flat n wanted)
+    equality_split vars m n (first_side vars list c node Wanted.Number s m side_s is_m) side_n (first_found vars list c node Wanted.Number s m is_m).wanted wanted
 
 -- the variables of whole numbers are Int ones
 pub integer_names : (k : Sort) → same_sort Sort.Int k ≡ false → (t : PureTerm) → is_integer_side t ≡ true → names_sort k t ≡ false
@@ -69,7 +69,7 @@ integer_simple t side = (and_parts (is_simple t) _ side).0
 -- the order of two whole numbers
 pub order_split : (vars : List Sort) (s t : PureTerm) → IsOver vars s → IsOver vars t → has_literals_between (neg_ℤ (pos (2 ^ 80))) (pos (2 ^ 80)) s ≡ true → has_literals_between (neg_ℤ (pos (2 ^ 80))) (pos (2 ^ 80)) t ≡ true
     → is_integer_side s ≡ true → is_integer_side t ≡ true → IsSplit vars (at_most s t)
-order_split vars s t over_s over_t narrow_s narrow_t side_s side_t = record { may = compared; true_there = record { over = over_both vars BinOp.LessOrEqual s t over_s over_t; form = form; literals = and_from _ _ narrow_s narrow_t } } where
+order_split vars s t over_s over_t narrow_s narrow_t side_s side_t = record { may = compared; true_there = record { over = over_both vars BinOp.LessOrEqual s t over_s over_t; form = form; literals = and_from _ _ narrow_s narrow_t }; basic = inr (record { op = BinOp.LessOrEqual; left = s; right = t; is = refl; form = inr refl; whole_left = side_s; whole_right = side_t }) } where
   compared : is_comparison (at_most s t) ≡ true
   compared = and_from _ _ side_s side_t
 

@@ -1,15 +1,16 @@
 -- Terms of plain atoms, and of the classes that their equalities make.
-use Rattle.std.proofs.Common.{◌≡◌, ⊎_elim, ◌⊎◌, inl, inr, ℕ, zero, suc, ◌^◌, pos, neg_ℤ, List, [], Bool, true, not, ◌&&◌, ◌||◌, Some, slice_get, refl, sym, ap, ◌∙◌, subst, arith}
+use Rattle.std.proofs.Common.{◌≡◌, ⊎_elim, ◌⊎◌, inl, inr, ℕ, zero, suc, ◌^◌, pos, neg_ℤ, List, [], Bool, true, false, not, ◌&&◌, ◌||◌, Some, slice_get, refl, sym, ap, ◌∙◌, subst, arith}
 use Rattle.std.specs.List.{Contains}
-use Rattle.std.proofs.lemmas.Bool.{false≢true, and_parts, and_from, or_from, or_parts, or_left, or_right, not_from_false}
+use Rattle.std.proofs.lemmas.Bool.{false≢true, and_parts, and_from, or_from, or_parts, or_left, or_right, or_cases, not_from_false}
 use Rattle.std.proofs.lemmas.Option.{option_and_then_some, same_Some}
+use Rattle.gil_values.specs.declared.kinds.Kind.{Kind}
 use Rattle.gil_values.specs.declared.operators.BinOp.{BinOp}
 use Rattle.pure_terms.specs.declared.literals.Literal.{Literal}
 use Rattle.pure_terms.specs.declared.variables.Sort.{Sort}
 use Rattle.pure_terms.specs.declared.variables.Var.{Var}
 use Rattle.pure_terms.specs.EqualityLaws.{same_sorts}
-use Rattle.pure_terms.specs.Fragment.{is_simple, are_simple, is_flat, names_sort, name_sort, is_variable_of, is_integer_literal, has_literals_between, have_literals_between, has_narrow_literals, is_fragment_term, is_comparison}
-use Rattle.pure_terms.specs.Kinds.{same_sort}
+use Rattle.pure_terms.specs.Fragment.{is_simple, are_simple, is_flat, names_sort, name_sort, is_variable_of, is_integer_literal, is_integer_side, has_literals_between, have_literals_between, has_narrow_literals, is_fragment_term, is_comparison}
+use Rattle.pure_terms.specs.Kinds.{kind_of_sort, is_of_kind, same_sort}
 use Rattle.pure_terms.specs.Meaning.{IsOver}
 use Rattle.pure_terms.specs.Pure.{PureTerm, literal, variable, list_of, unary_of, binary_of, PureTerms, no_terms, term_and, to_list, PureAtom, positive, negative, term_of, variables, variables_of_all}
 use Rattle.pure_terms.proofs.KindLaws.{over_left, over_right}
@@ -112,11 +113,7 @@ equality_plain vars s t a b any = (record { over = over; form = form; literals =
   literals : (has_literals_between (neg_ℤ (pos (2 ^ 80))) (pos (2 ^ 80)) s && has_literals_between (neg_ℤ (pos (2 ^ 80))) (pos (2 ^ 80)) t) ≡ true
   literals = two_literals s t a.narrow b.narrow
 
-pub equality_split : (vars : List Sort) (s t : PureTerm) → IsSide vars s → IsSide vars t → is_flat s ≡ true → is_flat t ≡ true → IsSplit vars (equals s t)
-equality_split vars s t a b flat_s flat_t =
-    record { may = or_left (is_simple s && is_simple t) (is_comparison (equals s t)) (and_from _ _ a.simple b.simple); true_there = (equality_plain vars s t a b (or_left _ _ (and_from _ _ flat_s flat_t))).0 }
-
--- Int variables and numbers are flat
+-- Int variables and numbers are flat, and whole numbers
 pub number_flat : (t : PureTerm) → (is_variable_of Sort.Int t || is_integer_literal t) ≡ true → is_flat t ≡ true
 number_flat (literal l) is = refl
 number_flat (variable x) is = refl
@@ -124,8 +121,28 @@ number_flat (list_of ts) is = absurd (false≢true is)
 number_flat (unary_of op t) is = absurd (false≢true is)
 number_flat (binary_of op s t) is = absurd (false≢true is)
 
+pub number_side : (t : PureTerm) → (is_variable_of Sort.Int t || is_integer_literal t) ≡ true → is_integer_side t ≡ true
+number_side (literal (Literal.Int n)) is = refl
+number_side (literal (Literal.Bool b)) is = absurd (false≢true is)
+number_side (literal (Literal.Str cs)) is = absurd (false≢true is)
+number_side (literal (Literal.Kind k)) is = absurd (false≢true is)
+number_side (literal (Literal.Proc name)) is = absurd (false≢true is)
+number_side (variable x) is = ⊎_elim whole (λ never. absurd (false≢true never)) (or_cases (same_sort x.sort Sort.Int) false is) where
+  whole : same_sort x.sort Sort.Int ≡ true → is_integer_side (variable x) ≡ true
+  whole sort = ap (λ s. is_of_kind (kind_of_sort s) Kind.Int) (same_sorts x.sort Sort.Int sort)
+number_side (list_of ts) is = absurd (false≢true is)
+number_side (unary_of op t) is = absurd (false≢true is)
+number_side (binary_of op s t) is = absurd (false≢true is)
+
+pub equality_split : (vars : List Sort) (s t : PureTerm) → IsSide vars s → IsSide vars t → (is_variable_of Sort.Int s || is_integer_literal s) ≡ true → (is_variable_of Sort.Int t || is_integer_literal t) ≡ true → IsSplit vars (equals s t)
+equality_split vars s t a b number_s number_t = record {
+  may = or_left (is_simple s && is_simple t) (is_comparison (equals s t)) (and_from _ _ a.simple b.simple);
+  true_there = (equality_plain vars s t a b (or_left _ _ (and_from _ _ (number_flat s number_s) (number_flat t number_t)))).0;
+  basic = inr (record { op = BinOp.Equal; left = s; right = t; is = refl; form = inl refl; whole_left = number_side s number_s; whole_right = number_side t number_t });
+}
+
 pub boolean_split : (vars : List Sort) (t : PureTerm) → IsSide vars t → is_variable_of Sort.Bool t ≡ true → IsSplit vars t
-boolean_split vars (variable x) side is = record { may = or_left _ _ is; true_there = record { over = side.over; form = form; literals = refl } } where
+boolean_split vars (variable x) side is = record { may = or_left _ _ is; true_there = record { over = side.over; form = form; literals = refl }; basic = inl is } where
   sort : x.sort ≡ Sort.Bool
   sort = same_sorts x.sort Sort.Bool is
 

@@ -6,9 +6,9 @@ use Rattle.pure_terms.specs.Pure.{PureTerm, PureAtom}
 use Rattle.solver_proof.specs.Chains.{KindFact, kind_fact_of}
 use Rattle.equality_core.specs.Classes.{PureClasses, given_list}
 use Rattle.equality_core.specs.Equating.{Equates}
-use Rattle.equality_core.specs.Values.{IsInTable}
 use Rattle.solver_rules.specs.declared.kinds.KindsFound.{KindsFound}
 use Rattle.solver_rules.specs.Rules.{AreKinds}
+use Rattle.solver_rules.specs.Steps.{IsOpenVariable}
 
 -- the atom says the kind of a term that is equated with this one
 pub record IsKindSaid (c : PureClasses) (t : PureTerm) (a : PureAtom) (k : Kind) : Type 0 where
@@ -18,7 +18,7 @@ pub record IsKindSaid (c : PureClasses) (t : PureTerm) (a : PureAtom) (k : Kind)
   pub kind : fact.kind ≡ k
   pub equated : Equates (given_list c) t fact.subject
 
--- one kind for each variable, or a variable of sort any
+-- one kind for each variable, or a variable of sort any of which the list says no kind
 abbrev pub AreFound : List Sort → PureClasses → KindsFound → Type 0
 AreFound vars c (KindsFound.All kinds) = AreKinds vars c kinds
-AreFound vars c (KindsFound.Open x) = IsInTable vars x × (x.sort ≡ Sort.Any)
+AreFound vars c (KindsFound.Open x) = IsOpenVariable vars (given_list c) x

@@ -8,9 +8,11 @@ use Rattle.pure_terms.specs.Meaning.{IsProper}
 use Rattle.pure_terms.specs.Pure.{PureAtom}
 use Rattle.pure_terms.specs.View.{atoms_view}
 use Rattle.equality_core.specs.Classes.{PureClasses, classes_view}
+use Rattle.linear_core.specs.Answers.{IsSolution}
 use Rattle.solver_rules.specs.declared.nodes.Node.{Node}
 use Rattle.solver_rules.specs.declared.rules.Rule.{Rule}
 use Rattle.solver_rules.specs.declared.steps.Step.{Step}
+use Rattle.solver_rules.specs.Rows.{rows_from}
 use Rattle.solver_rules.specs.Rules.{IsDone, AreDone}
 use Rattle.solver_rules.specs.Steps.{IsNode, IsStep}
 
@@ -25,6 +27,10 @@ classes_of n = classes_view n.classes.now
 
 abbrev pub IsNodeOf : Node → Type 0
 IsNodeOf n = IsNode (vars_of n) (list_of_node n) (classes_of n)
+
+-- the numbers solve the rows of the list with its equalities of elements
+abbrev pub IsSolvedNode : Node → Type 0
+IsSolvedNode n = IsSolution (vars_of n) (rows_from (classes_of n).list) (values_view n.numbers.now)
 
 -- the numbers are those of a proper valuation, and aren't too far from 0
 pub record AreNumbers (n : Node) : Type 0 where

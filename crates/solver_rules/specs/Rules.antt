@@ -1,5 +1,5 @@
 -- What holds of an atom where a rule has nothing to add.
-use Rattle.std.specs.Prelude.{◌≡◌, ◌⊎◌, ℕ, List, length, slice_get, true, false, ◌&&◌, Some}
+use Rattle.std.specs.Prelude.{◌≡◌, ◌⊎◌, ℕ, List, length, slice_get, Bool, true, false, ◌&&◌, Some}
 use Rattle.std.specs.Option.{is_some}
 use Rattle.gil_values.specs.declared.kinds.Kind.{Kind}
 use Rattle.gil_values.specs.Pure.{PureValue}
@@ -10,7 +10,7 @@ use Rattle.pure_terms.specs.Kinds.{known_kind}
 use Rattle.pure_terms.specs.Meaning.{truth}
 use Rattle.pure_terms.specs.Pure.{PureTerm, variable, list_of, PureTerms, to_list, PureAtom, positive, negative}
 use Rattle.solver_proof.specs.Chains.{equals, kind_is, KindFact, kind_fact_of, kind_fact_at, AreEqualAt, is_against, are_facts_apart}
-use Rattle.solver_proof.specs.Closing.{HaveOneLength}
+use Rattle.solver_proof.specs.Closing.{HaveOneLength, at_most}
 use Rattle.equality_core.specs.declared.classes.Wanted.{Wanted}
 use Rattle.equality_core.specs.Classes.{PureClasses, given_list}
 use Rattle.equality_core.specs.Classified.{is_wanted, first_in_class}
@@ -18,18 +18,42 @@ use Rattle.equality_core.specs.Equating.{Equates}
 use Rattle.equality_core.specs.Valued.{is_small_kind}
 use Rattle.solver_rules.specs.declared.rules.Rule.{Rule}
 
+-- what is said where a term is true, and where it is false
+abbrev pub said : Bool → PureTerm → PureAtom
+said true t = positive t
+said false t = negative t
+
+-- the atom doesn't stand in the list
+abbrev pub IsUnsaid : List PureAtom → PureAtom → Type 0
+IsUnsaid list a = (i : ℕ) → slice_get list i ≡ Some a → ⊥
+
+-- the list says neither that the term is true nor that it is false
+pub record IsUndecided (list : List PureAtom) (t : PureTerm) : Type 0 where
+  pub not_true : IsUnsaid list (positive t)
+  pub not_false : IsUnsaid list (negative t)
+
+-- the list says that the term is false
+pub record IsDenied (list : List PureAtom) (t : PureTerm) : Type 0 where
+  pub place : ℕ
+  pub at : slice_get list place ≡ Some (negative t)
+
 -- the list says that the terms differ, either way round
 pub record SaysDifferent (list : List PureAtom) (s t : PureTerm) : Type 0 where
   pub place : ℕ
   pub at : (slice_get list place ≡ Some (negative (equals s t))) ⊎ (slice_get list place ≡ Some (negative (equals t s)))
 
-abbrev pub AreEitherWay : PureTerm → PureTerm → PureTerm → PureTerm → Type 0
-AreEitherWay s t u w = ((s ≡ u) × (t ≡ w)) ⊎ ((s ≡ w) × (t ≡ u))
-
 -- an atom of the list is the equality of the terms, either way round
 pub record SaysPositive (list : List PureAtom) (s t : PureTerm) : Type 0 where
   pub place : ℕ
   pub at : (slice_get list place ≡ Some (positive (equals s t))) ⊎ (slice_get list place ≡ Some (positive (equals t s)))
+
+-- the atom at the place says that the terms differ, either way round
+abbrev pub AreApartAt : List PureAtom → ℕ → PureTerm → PureTerm → Type 0
+AreApartAt list i s t = (slice_get list i ≡ Some (negative (equals s t))) ⊎ (slice_get list i ≡ Some (negative (equals t s)))
+
+-- the list denies that one of the terms is at most the other one
+abbrev pub IsOrderSaid : List PureAtom → PureTerm → PureTerm → Type 0
+IsOrderSaid list s t = IsDenied list (at_most s t) ⊎ IsDenied list (at_most t s)
 
 -- the list says that they are equal, either way round
 pub record SaysEqual (list : List PureAtom) (s t : PureTerm) : Type 0 where

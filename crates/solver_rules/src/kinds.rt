@@ -1,5 +1,6 @@
 //! The kinds of variables, as their classes tell.
 ghost use Rattle.std.specs.Prelude.{◌≡◌, None, IfOk, IfSome, IfNone};
+ghost use Rattle.gil_values.specs.declared.kinds.Kind.{Kind};
 ghost use Rattle.pure_terms.specs.declared.variables.Sort.{Sort};
 ghost use Rattle.pure_terms.specs.Kinds.{known_kind};
 ghost use Rattle.pure_terms.specs.Pure.{variable};
@@ -25,7 +26,8 @@ pub enum KindsFound {
 /// The kind that an atom says of a term that is equated with this one.
 fn kind_at(node: &Node<'_>, term: &Term, atom: &Atom) -> Option<Kind>
     requires { IsNodeOf node.now }
-    ensures { IfSome result (IsKindSaid (classes_of node.now) (term_view term.now) (atom_view atom.now)) }
+    ensures found { IfSome result (IsKindSaid (classes_of node.now) (term_view term.now) (atom_view atom.now)) }
+    ensures none { IfNone result ((k : Kind) → IsKindSaid (classes_of node.now) (term_view term.now) (atom_view atom.now) k → ⊥) }
 {
     match fact_of(atom) {
         Some(fact) => {
@@ -44,7 +46,8 @@ fn kind_at(node: &Node<'_>, term: &Term, atom: &Atom) -> Option<Kind>
 /// The kind that some atom says of a term that is equated with this one.
 fn said_kind(node: &Node<'_>, term: &Term) -> Option<Kind>
     requires { IsNodeOf node.now }
-    ensures { IfSome result (HasKindFact (classes_of node.now) (term_view term.now)) }
+    ensures found { IfSome result (HasKindFact (classes_of node.now) (term_view term.now)) }
+    ensures none { IfNone result ((k : Kind) → HasKindFact (classes_of node.now) (term_view term.now) k → ⊥) }
 {
     let atoms = node.list.as_slice();
     for atom in atoms {
@@ -60,6 +63,7 @@ fn kind_of(node: &Node<'_>, term: &Term) -> Option<Kind>
     requires { IsNodeOf node.now }
     ensures found { IfSome result (HasKind (classes_of node.now) (term_view term.now)) }
     ensures none { IfNone result (known_kind (term_view term.now) ≡ None) }
+    ensures unsaid { IfNone result ((k : Kind) → HasKindFact (classes_of node.now) (term_view term.now) k → ⊥) }
 {
     match node.classes.first_in_class(term, Wanted::KnownKind) {
         Some(known) => known.known_kind(),
@@ -72,6 +76,7 @@ fn kind_of_variable(node: &Node<'_>, x: Var) -> Option<Kind>
     requires { IsNodeOf node.now }
     ensures found { IfSome result (HasKind (classes_of node.now) (variable x)) }
     ensures none { IfNone result (x.sort ≡ Sort.Any) }
+    ensures unsaid { IfNone result ((k : Kind) → HasKindFact (classes_of node.now) (variable x) k → ⊥) }
 {
     let term = Term::Var(x);
     kind_of(node, &term)

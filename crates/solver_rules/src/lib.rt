@@ -16,6 +16,7 @@ mod rules;
 mod running;
 mod steps;
 
+pub use atoms::is_undecided;
 pub use kinds::{KindsFound, kinds_of};
 pub use laws::{
     combinations_close, loose_disequalities_may_be_met, models_satisfy, settled_lists_may_be_valued,

@@ -1,7 +1,7 @@
 //! A rule at each atom of a list.
 ghost use Rattle.std.specs.Prelude.{◌≡◌, slice_get, Some, IfOk};
 ghost use Rattle.pure_terms.specs.View.{atom_view};
-ghost use Rattle.solver_rules.specs.Nodes.{list_of_node, IsNodeOf, IsApplied, IsRun};
+ghost use Rattle.solver_rules.specs.Nodes.{list_of_node, IsNodeOf, IsSolvedNode, IsApplied, IsRun};
 
 use crate::applying::{linked, lists};
 use crate::kinding::{one_kind, small_fact, small_side, two_kinds};
@@ -21,6 +21,7 @@ fn apply(
     atom: &Atom,
 ) -> Result<Option<Step>, AllocError>
     requires node { IsNodeOf node.now }
+    requires solved { IsSolvedNode node.now }
     requires at { slice_get (list_of_node node.now) place ≡ Some (atom_view atom.now) }
     ensures { IfOk result (IsApplied node.now rule (atom_view atom.now)) }
 {
@@ -40,6 +41,7 @@ fn apply(
 /// The first step that a rule gives.
 pub fn run(alloc: Global, node: &Node<'_>, rule: Rule) -> Result<Option<Step>, AllocError>
     requires node { IsNodeOf node.now }
+    requires solved { IsSolvedNode node.now }
     ensures { IfOk result (IsRun node.now rule) }
 {
     let atoms = node.list.as_slice();

@@ -6,9 +6,10 @@ use Rattle.pure_terms.specs.declared.variables.Var.{Var}
 use Rattle.pure_terms.specs.Pure.{variable}
 use Rattle.equality_core.specs.Values.{IsInTable}
 use Rattle.equality_core.proofs.Classing.{in_table}
-use Rattle.solver_rules.specs.Nodes.{vars_of, classes_of}
+use Rattle.solver_rules.specs.Nodes.{vars_of, list_of_node, classes_of}
 use Rattle.solver_rules.specs.Rules.{HasKind}
 use Rattle.solver_rules.proofs.KindsApart.{longer_by_one, each_longer}
+use Rattle.solver_rules.proofs.Unsaid.{kind_unsaid}
 use Rattle.solver_rules.proofs.kinds.kinds_of.Goals as goal
 
 pub loop-number-preserved : goal.loop-number-preserved
@@ -36,3 +37,13 @@ returns c = record {
 
   within : (n : ℕ) → n < length (vars_of c.args.node.now) → n < c.loop-number.number
   within n h = omega (arith, h, c.loop-number-test.false, sorts)
+
+pub returns-in-None : goal.returns-in-None
+returns-in-None c =
+    let there : slice_get (vars_of c.args.node.now) c.loop-number.number ≡ Some (get_or c.as_slice-sorts.result.now c.loop-number.number Sort.Int) =
+    subst (λ (ss : List Sort). slice_get ss c.loop-number.number ≡ Some (get_or c.as_slice-sorts.result.now c.loop-number.number Sort.Int)) c.as_slice-sorts.ensures (slice_get-get_or c.as_slice-sorts.result.now c.loop-number.number Sort.Int c.loop-number-test.true) in
+    record {
+      there = there;
+      any = c.in-None.ensures.none;
+      unsaid = kind_unsaid (vars_of c.args.node.now) (list_of_node c.args.node.now) (classes_of c.args.node.now) c.requires (record { number = c.loop-number.number; sort = get_or c.as_slice-sorts.result.now c.loop-number.number Sort.Int }) c.in-None.ensures.unsaid;
+    }
