@@ -1,0 +1,51 @@
+-- Functions in order, one more at a time, and the first that is too long.
+use Rattle.std.proofs.Common.{◌≡◌, ℕ, ◌+◌, ◌<◌, List, [], ◌∷◌, ◌++◌, map, take, get_or, length, false, Some, None, sym, ap, ◌∙◌, arith}
+use Rattle.std.specs.Prelude.{nat_lt}
+use Rattle.std.proofs.lemmas.Bool.Decides.{nat_tests}
+use Rattle.std.proofs.lemmas.List.{map_push, length-map}
+use Rattle.std.proofs.lemmas.Option.{slice_get_within}
+use Rattle.gil_values.proofs.Lists.{slice_get-read}
+use Rattle.gil_program.proofs.NameLemmas.{map-take_read}
+use Rattle.gil_syntax.specs.declared.parts.Proc.{Proc}
+use Rattle.gil_syntax.specs.View.{proc_view}
+use Rattle.source_language.specs.declared.trees.Function.{Function}
+use Rattle.source_language.specs.Limits.{first_long}
+use Rattle.source_language.specs.Pure.{PureFunction}
+use Rattle.source_language.specs.View.{function_view}
+use Rattle.source_language.proofs.TooLong.{IsFirstTooLong, none_long, one_long}
+use Rattle.source_statements.specs.Codes.{Codes}
+use Rattle.source_statements.specs.Compiled.{compiled_function, first_too_long}
+use Rattle.source_statements.specs.Pure.{PureBlock}
+
+module _ {B PE PS : Type 0} (view : B → PureBlock PE PS) (c : Codes PE PS) where
+  module _ (xs : List (Function B)) (i : ℕ) (x : Function B) (below : i < length xs) (is : x ≡ get_or xs i x) where
+    pub procs-next : (procs more : List Proc) (q : Proc) → map proc_view procs ≡ map (compiled_function c) (map (function_view view) (take i xs))
+        → more ≡ procs ++ q ∷ [] → proc_view q ≡ compiled_function c (function_view view x)
+        → map proc_view more ≡ map (compiled_function c) (map (function_view view) (take (i + 1) xs))
+    procs-next procs more q before push same =
+        ap (map proc_view) push
+        ∙ map_push proc_view procs q
+        ∙ (λ k. before k ++ same k ∷ [])
+        ∙ sym (map_push (compiled_function c) (map (function_view view) (take i xs)) (function_view view x))
+        ∙ ap (map (compiled_function c)) (sym (map-take_read (function_view view) xs i x below is))
+
+  -- procedures in the order of their functions
+  module _ (ps : List Proc) (xs : List (Function B)) (same : map proc_view ps ≡ map (compiled_function c) (map (function_view view) xs)) where
+    pub none_too_long : None ≡ first_long (map proc_view ps) → None ≡ first_too_long c (map (function_view view) xs)
+    none_too_long none = sym (none_long (λ f. f.at) (compiled_function c) (map (function_view view) xs) (sym (none ∙ ap first_long same)))
+
+    module _ (i : ℕ) (long : Some i ≡ first_long (map proc_view ps)) where
+      found : IsFirstTooLong (λ f. f.at) (compiled_function c) (map (function_view view) xs) i
+      found = one_long (λ f. f.at) (compiled_function c) (map (function_view view) xs) i (sym (long ∙ ap first_long same))
+
+      pub one_too_long : (x : Function B) → i < length xs → x ≡ get_or xs i x → Some x.at ≡ first_too_long c (map (function_view view) xs)
+      one_too_long x below is =
+          let read : Some (function_view view x) ≡ Some found.function = sym (slice_get-read (function_view view) xs i x below is) ∙ found.there in
+          let it : function_view view x ≡ found.function = cc in
+          ap (λ (f : PureFunction (PureBlock PE PS)). Some f.at) it ∙ sym found.first
+
+      pub there_is_one : false ≡ nat_lt i (length xs) → ⊥
+      there_is_one none =
+          let within = slice_get_within (map (function_view view) xs) i found.function found.there in
+          let below : i < length xs = omega (arith, within, length-map xs (function_view view)) in
+          grind (arith, nat_tests)

@@ -1,0 +1,9 @@
+pub mod Counts
+pub mod Ends
+pub mod Fitting
+pub mod Following
+pub mod Functions
+pub mod Longer
+pub mod Making
+pub mod Tests
+pub mod Values

@@ -1,0 +1,11 @@
+pub mod Codes
+pub mod Compiled
+pub mod Items
+pub mod Meaning
+pub mod Names
+pub mod Pure
+pub mod SameEnds
+pub mod Tests
+pub mod Values
+pub mod View
+pub mod WellMade
