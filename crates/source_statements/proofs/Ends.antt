@@ -1,6 +1,6 @@
 -- A program of any language and its compiled program have the same ends, where the commands of the language's expressions and simple
 -- statements do what these mean.
-use Rattle.std.proofs.Common.{◌≡◌, ℕ, ◌-◌, ◌≤◌, List, Bool, true, Some, refl}
+use Rattle.std.proofs.Common.{◌≡◌, ℕ, ◌-◌, ◌≤◌, List, Bool, true, Some}
 use Rattle.std.specs.List.{list_all}
 use Rattle.std.proofs.lemmas.Bool.{and_parts}
 use Rattle.gil_values.specs.Pure.{PureValue}

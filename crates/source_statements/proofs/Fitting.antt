@@ -17,7 +17,7 @@ use Rattle.source_language.proofs.Labels as labels
 use Rattle.source_language.proofs.Labels.{Fits, fits_append, fits_jump, fits_invariant, fits_logic}
 use Rattle.source_language.proofs.Validity as validity
 use Rattle.source_language.proofs.Validity.{no_function, short_functions}
-use Rattle.source_statements.specs.Codes.{Codes, jumps_to, behind, exits_code, inside_label, guarded_code, far_label, choice_code, if_code}
+use Rattle.source_statements.specs.Codes.{Codes, jumps_to, behind, inside_label, guarded_code, far_label, choice_code, if_code}
 use Rattle.source_statements.specs.Compiled.{head_code, loop_code, statement_code, block_code, block_temporaries, compiled_function, compiled, first_too_long}
 use Rattle.source_statements.specs.Pure as tree
 use Rattle.source_statements.specs.Pure.{PureStatement, PureBlock, no_statements, statement_and}

@@ -1,8 +1,7 @@
 -- The commands of statements follow what the statements do, where those of expressions and simple statements do.
-use Rattle.std.proofs.Common.{◌≡◌, ℕ, ◌+◌, ◌≤◌, List, [], ◌∷◌, ◌++◌, Bool, true, not, Some, None, length, slice_get, refl, sym, ap, subst, ◌∙◌, arith, length-append}
+use Rattle.std.proofs.Common.{◌≡◌, ℕ, ◌+◌, ◌≤◌, List, ◌++◌, Bool, true, Some, None, length, refl, ap, ◌∙◌, arith, length-append}
 use Rattle.std.specs.Prelude.{codes, max, ◌&&◌}
 use Rattle.std.proofs.lemmas.Bool.{and_parts}
-use Rattle.gil_values.specs.declared.places.Place.{Place}
 use Rattle.gil_values.specs.Pure.{PureValue, text}
 use Rattle.gil_values.specs.Operators.{Outcome}
 use Rattle.gil_syntax.specs.Pure.{PureExpr, literal, fail, vanish, PureNumberedCommand, PureProc, PureParts}
@@ -12,14 +11,12 @@ use Rattle.mem_model.specs.Actions.{Actions}
 use Rattle.gil_machine.specs.State.{Frame, vanished}
 use Rattle.gil_machine.specs.Step as machine
 use Rattle.gil_machine.specs.Run.{run}
-use Rattle.source_language.specs.Code.{truth, jump}
 use Rattle.source_language.specs.Completions.{Situation, Completion, normal, returns, over, end_of, fails, with_value}
 use Rattle.source_language.specs.Names.{has_source_invariant, IsExtendedBy}
-use Rattle.source_language.specs.Procedures.{placed}
 use Rattle.source_language.proofs.Branches.{is_there, invariant_leads, logic_runs}
 use Rattle.source_language.proofs.Following.{state_at, Here, leaves, Runs, runs_then, at_place, value_matches, steps, matched}
 use Rattle.source_language.proofs.Stretches.{HasAt, has_front, has_back}
-use Rattle.source_statements.specs.Codes.{Codes, jumps_to, behind, inside_label, guarded_code}
+use Rattle.source_statements.specs.Codes.{Codes, inside_label}
 use Rattle.source_statements.specs.Compiled.{block_temporaries, head_code, loop_code, statement_code, block_code}
 use Rattle.source_statements.specs.Meaning.{Meanings, statement, block}
 use Rattle.source_statements.specs.Names.{is_source_statement, is_source_block}

@@ -1,9 +1,9 @@
 -- What statements have come to, they come to with more turns of loops and deeper calls too.
-use Rattle.std.proofs.Common.{◌≡◌, ℕ, zero, suc, ◌≤◌, List, refl, arith}
+use Rattle.std.proofs.Common.{ℕ, zero, suc, ◌≤◌, List, refl, arith}
 use Rattle.gil_values.specs.declared.places.Place.{Place}
 use Rattle.gil_values.specs.Pure.{PureValue}
-use Rattle.source_language.specs.Completions.{Situation, Completion, normal, returns, then_do}
-use Rattle.source_language.proofs.Longer.{Extends, extends_itself, then-extends}
+use Rattle.source_language.specs.Completions.{Situation, Completion}
+use Rattle.source_language.proofs.Longer.{Extends, then-extends}
 use Rattle.source_statements.specs.Meaning.{Meanings, statement, block}
 use Rattle.source_statements.specs.Pure.{PureStatement, simple, assert, assume, if_else, while, return, logic, PureBlock, no_statements, statement_and}
 use Rattle.source_statements.specs.Tests.{Test, turns}

@@ -1,13 +1,13 @@
 -- The program of statements is well made where their expressions and simple statements have well made commands, and what only proofs look at
 -- is well made.
-use Rattle.std.proofs.Common.{◌≡◌, ℕ, ◌+◌, true, false, Bool, ◌&&◌, List, [], ◌∷◌, ◌++◌, Option, Some, None, not, length, refl, sym, ap, ◌∙◌}
+use Rattle.std.proofs.Common.{◌≡◌, ℕ, ◌+◌, true, false, Bool, ◌&&◌, List, [], ◌∷◌, ◌++◌, Option, Some, None, not, length, refl}
 use Rattle.std.specs.Prelude.{codes, max}
 use Rattle.std.specs.List.{list_all}
-use Rattle.std.proofs.lemmas.Bool.{and_from, and_parts}
+use Rattle.std.proofs.lemmas.Bool.{and_parts}
 use Rattle.gil_values.specs.Pure.{text}
 use Rattle.gil_syntax.specs.Pure as gil
 use Rattle.gil_syntax.specs.Pure.{PureExpr, literal, fail, vanish, PureNumberedCommand}
-use Rattle.gil_syntax.specs.WellMade.{is_program_name, is_well_made_expr, is_well_made_command, is_well_made_proc}
+use Rattle.gil_syntax.specs.WellMade.{is_program_name, is_well_made_expr, is_well_made_proc}
 use Rattle.source_language.specs.Code.{truth, jump}
 use Rattle.source_language.specs.Compiled.{invariant_code, logic_command}
 use Rattle.source_language.specs.Procedures.{placed}
@@ -17,7 +17,7 @@ use Rattle.source_statements.specs.Codes.{Codes, jumps_to, behind, inside_label,
 use Rattle.source_statements.specs.Compiled.{head_code, loop_code, statement_code, block_code, block_temporaries, compiled_function}
 use Rattle.source_statements.specs.Pure as tree
 use Rattle.source_statements.specs.Pure.{PureStatement, PureBlock, no_statements, statement_and}
-use Rattle.source_statements.specs.WellMade.{is_well_made_logic, is_well_made_invariant, is_well_made_statement, is_well_made_block, is_well_made_function}
+use Rattle.source_statements.specs.WellMade.{is_well_made_invariant, is_well_made_statement, is_well_made_block, is_well_made_function}
 
 pub made_jumps : (at label : ℕ) (es : List PureExpr) → list_all is_well_made_expr es ≡ true → AreMade (jumps_to at es label)
 made_jumps at label [] h = refl

@@ -1,5 +1,5 @@
 -- The machine follows choices, checks and loops, whether the jumps of a condition are taken where it holds or where it doesn't.
-use Rattle.std.proofs.Common.{◌≡◌, ℕ, zero, suc, ◌+◌, ◌-◌, ◌≤◌, List, [], ◌∷◌, ◌++◌, Bool, true, false, not, Some, None, length, slice_get, refl, sym, ap, subst, ◌∙◌, arith, length-append}
+use Rattle.std.proofs.Common.{◌≡◌, ℕ, zero, suc, ◌+◌, ◌-◌, ◌≤◌, List, [], ◌∷◌, ◌++◌, Bool, true, false, not, Some, None, length, slice_get, refl, ap, subst, ◌∙◌, arith, length-append}
 use Rattle.std.proofs.lemmas.List.{length-map}
 use Rattle.gil_values.specs.Pure.{PureValue}
 use Rattle.gil_syntax.specs.Pure.{PureExpr, PureCommand, PureNumberedCommand, PureProc, PureParts}
@@ -13,9 +13,9 @@ use Rattle.source_language.specs.Completions.{Situation, Completion, normal, the
 use Rattle.source_language.specs.Names.{IsExtendedBy}
 use Rattle.source_language.specs.Procedures.{placed}
 use Rattle.source_language.proofs.Branches.{jumps, then_jumps}
-use Rattle.source_language.proofs.Following.{state_at, Leads, LeadsOn, stays, leads, Runs, fewer, runs_after, runs_on, runs_then, at_place, steps, one_step}
+use Rattle.source_language.proofs.Following.{state_at, Leads, stays, Runs, fewer, runs_after, runs_on, runs_then, at_place, steps, one_step}
 use Rattle.source_language.proofs.Stretches.{HasAt, has_front, has_back}
-use Rattle.source_statements.specs.Codes.{jumps_to, behind, exits_code, inside_label, guarded_code, far_label, choice_code, if_code}
+use Rattle.source_statements.specs.Codes.{jumps_to, behind, inside_label, guarded_code, far_label, choice_code, if_code}
 use Rattle.source_statements.specs.Tests.{Test, turns}
 
 -- where a condition leads that holds, by whether its jumps are taken then, by where they lead, and by what stands behind them

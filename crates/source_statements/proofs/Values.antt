@@ -1,11 +1,11 @@
 -- The machine follows draws of inputs and calls whose values are handed on.
-use Rattle.std.proofs.Common.{◌≡◌, ℕ, suc, ◌+◌, ◌-◌, List, [], ◌∷◌, Bool, true, false, cond, Option, Some, None, length, slice_get, refl, sym, ap, subst, ◌∙◌, arith}
+use Rattle.std.proofs.Common.{◌≡◌, ℕ, ◌+◌, ◌-◌, List, ◌∷◌, Bool, true, false, cond, Option, Some, None, length, slice_get, refl, sym, ap, subst, ◌∙◌, arith}
 use Rattle.std.specs.Prelude.{codes, ◌==◌}
 use Rattle.std.specs.Option.{option_map}
 use Rattle.gil_values.specs.declared.kinds.Kind.{Kind}
 use Rattle.gil_values.specs.declared.kinds.Kind.TheVariants.{Null}
 use Rattle.gil_values.specs.declared.places.Place.{Place}
-use Rattle.gil_values.specs.Pure.{PureValue, integer, boolean, text, symbol, kind, procedure, list, kind_of}
+use Rattle.gil_values.specs.Pure.{PureValue, text, kind, kind_of}
 use Rattle.gil_values.specs.Equality.{same_kind}
 use Rattle.gil_syntax.specs.Pure.{isym, PureProc, PureParts}
 use Rattle.gil_syntax.specs.Programs.{find_proc}
@@ -23,7 +23,7 @@ use Rattle.source_language.proofs.Ends.{CallsFollow}
 use Rattle.source_language.proofs.Following.{state_at, Here, leads, Runs, runs_after, call_then_runs, steps, one_step}
 use Rattle.source_language.proofs.Longer.{Extends, extends_itself}
 use Rattle.source_language.proofs.MoreTurns.{CallsExtend}
-use Rattle.source_statements.specs.Values.{Continuation, input_value, draws_value, function_of, call_function, call_value}
+use Rattle.source_statements.specs.Values.{Continuation, input_value, draws_value, call_function}
 
 module _ (p : PureParts) (m : Actions) (inputs : List PureValue) (f : List ℕ) (q : PureProc) (found : find_proc p.procs f ≡ Some q)
     (callers : List Frame) (some end : ℕ) where

@@ -1,5 +1,5 @@
 -- Inputs and results of calls that are handed on as values, and calls of values.
-use Rattle.std.specs.Prelude.{ℕ, ◌+◌, List, length, ◌==◌, slice_get, if◌then◌else◌, Option, Some, None, codes}
+use Rattle.std.specs.Prelude.{◌+◌, List, length, ◌==◌, slice_get, if◌then◌else◌, Option, Some, None, codes}
 use Rattle.gil_values.specs.declared.kinds.Kind.{Kind}
 use Rattle.gil_values.specs.declared.places.Place.{Place}
 use Rattle.gil_values.specs.Equality.{same_kind}

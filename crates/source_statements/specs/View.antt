@@ -1,5 +1,5 @@
 -- The pure data of statements, where that of expressions is seen by e and that of simple statements by s.
-use Rattle.std.specs.Prelude.{List, map}
+use Rattle.std.specs.Prelude.{List}
 use Rattle.source_language.specs.View.{logic_view, invariants_view}
 use Rattle.source_statements.specs.Pure.{PureStatement, simple, assert, assume, if_else, while, return, logic, PureBlock, PurePlacedStatement, from_placed}
 use Rattle.source_statements.specs.declared.tree.Statement.{Statement, fold-Statement}

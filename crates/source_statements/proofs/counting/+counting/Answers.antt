@@ -1,5 +1,4 @@
-use Rattle.std.proofs.Common.{◌≡◌, ap, sym, ◌∙◌, arith, map}
-use Rattle.std.specs.Prelude.{max}
+use Rattle.std.proofs.Common.{ap, sym, ◌∙◌, arith, map}
 use Rattle.source_statements.specs.Compiled.{block_temporaries}
 use Rattle.source_statements.specs.Pure.{from_placed}
 use Rattle.source_statements.specs.View.{placed_view}
