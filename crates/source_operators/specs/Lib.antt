@@ -1,0 +1,5 @@
+pub mod Codes
+pub mod Names
+pub mod Operands
+pub mod Pure
+pub mod View
