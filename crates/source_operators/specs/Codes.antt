@@ -22,15 +22,19 @@ pub record Codes (P J : Type 0) : Type 0 where
   pub decide : Connective → ℕ → ℕ → ℕ → ℕ → PureExpr → List PureNumberedCommand
   pub conclude : Connective → ℕ → ℕ → ℕ → PureExpr → List PureNumberedCommand
 
--- how many temporaries are taken before those of the right side
-abbrev pub before_right : Bool → ℕ
-before_right true = 1
-before_right false = 0
+-- the first temporary that is free for the right side, where a number is free behind the left one
+abbrev pub right_from : Bool → ℕ → ℕ
+right_from true i = i + 1
+right_from false i = i
 
--- the number of the temporary of what comes out, where a number is free and the right side takes so many
+-- the number of the temporary of what comes out, where these are free behind the left side and behind the right one
 abbrev pub taken : Bool → ℕ → ℕ → ℕ
-taken true j n = j
-taken false j n = j + n
+taken true i j = i
+taken false i j = j
+
+-- the last of so many temporaries from a number on
+abbrev pub last : ℕ → ℕ → PureExpr
+last i n = name (temporary (i + n - 1))
 
 module _ {P J : Type 0} (k : Codes P J) where
   -- how many temporaries an expression takes
@@ -42,10 +46,6 @@ module _ {P J : Type 0} (k : Codes P J) where
   uses (joined j d e) = uses d + uses e + k.join_uses j
   uses (skipping c d e) = uses d + uses e + 1
 
-  -- the last of so many temporaries from a number on
-  abbrev pub last : ℕ → ℕ → PureExpr
-  last i n = name (temporary (i + n - 1))
-
   -- what stands for the operand, where the temporaries from a number on are free
   abbrev pub result : PureExpression P J → ℕ → PureExpr
   result (constant v) i = literal v
@@ -53,7 +53,7 @@ module _ {P J : Type 0} (k : Codes P J) where
   result (brackets e) i = result e i
   result (prefixed u e) i = last (i + uses e) (k.apply_uses u)
   result (joined j d e) i = last (i + uses d + uses e) (k.join_uses j)
-  result (skipping c d e) i = name (temporary (taken k.early (i + uses d) (uses e)))
+  result (skipping c d e) i = name (temporary (taken k.early (i + uses d) (right_from k.early (i + uses d) + uses e)))
 
   -- behind the left side: what decides, the right side, and what ends
   abbrev pub skip_code : Connective → ℕ → ℕ → ℕ → PureExpr → PureExpr → (ℕ → List PureNumberedCommand) → List PureNumberedCommand
@@ -73,9 +73,8 @@ module _ {P J : Type 0} (k : Codes P J) where
       (result d i) (result e (i + uses d)))
   code (skipping c d e) pc at i =
       code d pc at i
-      ++ skip_code c (pc + length (code d pc at i)) at (taken k.early (i + uses d) (uses e)) (result d i)
-      (result e (i + uses d + before_right k.early))
-      (λ n. code e n at (i + uses d + before_right k.early))
+      ++ skip_code c (pc + length (code d pc at i)) at (taken k.early (i + uses d) (right_from k.early (i + uses d) + uses e))
+      (result d i) (result e (right_from k.early (i + uses d))) (λ n. code e n at (right_from k.early (i + uses d)))
 
   -- several expressions, from left to right
   abbrev pub all_uses : List (PureExpression P J) → ℕ

@@ -1,0 +1,4 @@
+pub mod Extending
+pub mod Fitting
+pub mod Making
+pub mod Operands
