@@ -1,6 +1,6 @@
 -- Where more turns and deeper calls change nothing of what has come to its end, for the operators of a language and for what is done with an
 -- operand, they change nothing of an expression.
-use Rattle.std.proofs.Common.{◌≡◌, ℕ, List, [], ◌∷◌, sym, subst}
+use Rattle.std.proofs.Common.{◌≡◌, ℕ, List, [], ◌∷◌, subst}
 use Rattle.gil_values.specs.declared.places.Place.{Place}
 use Rattle.gil_values.specs.Pure.{PureValue}
 use Rattle.source_language.specs.Completions.{Situation, Completion}

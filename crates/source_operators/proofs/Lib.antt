@@ -1,4 +1,6 @@
 pub mod Extending
 pub mod Fitting
 pub mod Making
-pub mod Operands
+pub mod Leaving
+pub mod ListCodes
+pub mod Steps

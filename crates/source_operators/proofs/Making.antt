@@ -2,7 +2,7 @@
 use Rattle.std.proofs.Common.{◌≡◌, ℕ, ◌+◌, Bool, true, ◌&&◌, List, [], ◌∷◌, ◌++◌, length, refl}
 use Rattle.std.specs.List.{list_all}
 use Rattle.std.proofs.lemmas.Bool.{and_from, and_parts}
-use Rattle.gil_syntax.specs.Pure.{PureExpr, literal, PureNumberedCommand}
+use Rattle.gil_syntax.specs.Pure.{PureExpr, PureNumberedCommand}
 use Rattle.gil_syntax.specs.WellMade.{is_spellable, is_program_name, is_well_made_expr}
 use Rattle.source_language.proofs.Made.{AreMade, made_append}
 use Rattle.source_operators.specs.declared.trees.Connective.{Connective}

@@ -102,6 +102,50 @@ fn taken(early: bool, left: usize, right: usize) -> usize
     if early { left } else { right }
 }
 
+/// The right side of a connective, which stands at a label, and the commands behind it.
+fn concluded<L: Operators>(
+    alloc: Global,
+    language: &L,
+    connective: Connective,
+    label: usize,
+    at: u32,
+    temporary: usize,
+    right: Operand,
+) -> Result<Body, AllocError>
+    ensures { IfOk result (λ code. code_view code ≡ code_view right.code
+        ++ (L.codes language.now).conclude connective (label + length (code_view right.code)) at temporary (expr_view right.expression)) }
+{
+    let label = sum(label, code_len(&right.code))?;
+    let last = language.conclude(alloc, connective, label, at, temporary, &right.expression)?;
+    let mut code = right.code;
+    append(&mut code, last)?;
+    Ok(code)
+}
+
+/// The commands of a connective behind its left side, which stand at a label: those that decide, the right side, and those behind it.
+fn skip_code<L: Operators>(
+    alloc: Global,
+    language: &L,
+    connective: Connective,
+    label: usize,
+    at: u32,
+    temporary: usize,
+    operand: &Expr,
+    right: Operand,
+) -> Result<Body, AllocError>
+    ensures { IfOk result (λ code. code_view code ≡ codes.skip_code (L.codes language.now) connective label at temporary (expr_view operand.now)
+        (expr_view right.expression) (λ n. code_view right.code)) }
+{
+    let count = code_len(&right.code);
+    let decided = sum(label, language.decide_size(connective))?;
+    let mut code = language.decide(alloc, connective, label, at, temporary, count, operand)?;
+    append(
+        &mut code,
+        concluded(alloc, language, connective, decided, at, temporary, right)?,
+    )?;
+    Ok(code)
+}
+
 /// A connective, of which the left side stands at a label, and the right side behind the commands that decide whether it is skipped.
 fn skipping<L: Operators>(
     alloc: Global,
@@ -121,18 +165,21 @@ fn skipping<L: Operators>(
     ensures next { IfOk result (λ all. all.next ≡ codes.right_from (not (L.codes language.now).early) right.next) }
 {
     let number = taken(language.early(), left.next, right.next);
-    let first = sum(label, code_len(&left.code))?;
-    let count = code_len(&right.code);
-    let mut behind = right.code;
-    let label = sum(sum(first, language.decide_size(connective))?, count)?;
-    let last = language.conclude(alloc, connective, label, at, number, &right.expression)?;
-    append(&mut behind, last)?;
-    let mut skip = language.decide(alloc, connective, first, at, number, count, &left.expression)?;
-    append(&mut skip, behind)?;
-    let mut code = left.code;
-    append(&mut code, skip)?;
-    let expression = temporary_variable(alloc, number)?;
     let next = right_from(!language.early(), right.next)?;
+    let label = sum(label, code_len(&left.code))?;
+    let behind = skip_code(
+        alloc,
+        language,
+        connective,
+        label,
+        at,
+        number,
+        &left.expression,
+        right,
+    )?;
+    let mut code = left.code;
+    append(&mut code, behind)?;
+    let expression = temporary_variable(alloc, number)?;
     Ok(Operand {
         code,
         expression,
@@ -178,7 +225,10 @@ pub fn operand_code<L: Operators>(
         }
         Expression::Skipping(connective, left, right) => {
             let left = operand_code(alloc, language, left, label, at, free)?;
-            let decided = sum(sum(label, code_len(&left.code))?, language.decide_size(*connective))?;
+            let decided = sum(
+                sum(label, code_len(&left.code))?,
+                language.decide_size(*connective),
+            )?;
             let first = right_from(language.early(), left.next)?;
             let right = operand_code(alloc, language, right, decided, at, first)?;
             skipping(alloc, language, *connective, label, at, left, right)
@@ -198,7 +248,10 @@ pub fn operand_uses<L: Operators>(
         Expression::Variable(_) => Ok(0),
         Expression::Brackets(inner) => operand_uses(language, inner),
         Expression::Prefixed(operator, inner) => {
-            sum(operand_uses(language, inner)?, language.apply_uses(operator))
+            sum(
+                operand_uses(language, inner)?,
+                language.apply_uses(operator),
+            )
         }
         Expression::Joined(operator, left, right) => {
             let left = operand_uses(language, left)?;

@@ -36,19 +36,21 @@ pub fn operands_code<L: Operators>(
         ≡ codes.results (L.codes language.now) (map expression_view expressions.now) free) }
     ensures next { IfOk result (λ all. all.next ≡ free + codes.all_uses (L.codes language.now) (map expression_view expressions.now)) }
 {
-    let mut all = Operands {
-        code: Body::new(alloc),
-        expressions: Exprs::new(alloc),
-        next: free,
-    };
+    let mut code = Body::new(alloc);
+    let mut results = Exprs::new(alloc);
+    let mut next = free;
     for expression in expressions {
-        let behind = sum(label, code_len(&all.code))?;
-        let operand = operand_code(alloc, language, expression, behind, at, all.next)?;
-        append(&mut all.code, operand.code)?;
-        all.expressions.push(operand.expression)?;
-        all.next = operand.next;
+        let behind = sum(label, code_len(&code))?;
+        let operand = operand_code(alloc, language, expression, behind, at, next)?;
+        append(&mut code, operand.code)?;
+        results.push(operand.expression)?;
+        next = operand.next;
     }
-    Ok(all)
+    Ok(Operands {
+        code,
+        expressions: results,
+        next,
+    })
 }
 
 /// How many temporaries several expressions take.

@@ -1,11 +1,10 @@
 -- The commands of an expression lead to its operand, where those of its operators do.
-use Rattle.std.proofs.Common.{◌≡◌, ⊎_elim, ◌⊎◌, inl, inr, ℕ, zero, suc, ◌+◌, ◌-◌, ◌<◌, ◌≤◌, List, [], ◌∷◌, ◌++◌, Bool, true, false, Some, None, Ok, Err, length, map, refl, sym, ap, subst, ◌∙◌, arith, length-append}
-use Rattle.std.specs.Prelude.{◌&&◌}
+use Rattle.std.proofs.Common.{◌≡◌, ◌⊎◌, inl, inr, ℕ, ◌+◌, ◌-◌, ◌<◌, ◌≤◌, List, [], ◌∷◌, ◌++◌, Bool, true, false, Some, length, refl, sym, ap, subst, ◌∙◌, arith, length-append}
 use Rattle.std.specs.List.{list_all}
 use Rattle.std.proofs.lemmas.Bool.{and_parts}
 use Rattle.gil_values.specs.Pure.{PureValue}
-use Rattle.gil_syntax.specs.Pure.{PureExpr, literal, name, PureNumberedCommand, PureProc, PureParts}
-use Rattle.gil_syntax.specs.Evaluation.{Store, bind, value_of, set_or_fault, both, evaluate, evaluate_all}
+use Rattle.gil_syntax.specs.Pure.{PureExpr, name, PureNumberedCommand, PureProc, PureParts}
+use Rattle.gil_syntax.specs.Evaluation.{Store, value_of, set_or_fault, both, evaluate, evaluate_all}
 use Rattle.mem_model.specs.Actions.{Actions}
 use Rattle.gil_machine.specs.State.{Frame}
 use Rattle.gil_machine.specs.Run.{run}
@@ -16,8 +15,8 @@ use Rattle.source_language.proofs.Stores.{same_value}
 use Rattle.source_language.proofs.Stretches.{HasAt, has_front, has_back}
 use Rattle.source_operators.specs.declared.trees.Connective.{Connective}
 use Rattle.source_operators.specs.Pure.{PureExpression, constant, variable, brackets, prefixed, joined, skipping}
-use Rattle.source_operators.specs.Operands.{Operand, known, named, operand_expr, read, read_all, Then, Meanings, operand, all_operands}
-use Rattle.source_operators.specs.Codes.{Codes, right_from, taken, uses, last, result, code, skip_code, all_uses, results, all_code}
+use Rattle.source_operators.specs.Operands.{Operand, known, operand_expr, read, read_all, Then, Meanings, operand, all_operands}
+use Rattle.source_operators.specs.Codes.{Codes, right_from, taken, uses, result, code, skip_code, all_uses, results, all_code}
 use Rattle.source_operators.specs.Names.{is_source_expression}
 
 -- the temporaries below a number have the values in the second store that they have in the first
@@ -230,7 +229,7 @@ module _ (p : PureParts) (m : Actions) (inputs : List PureValue) (f : List ℕ) 
           subst (λ n. Runs (run p m inputs) catcher some f callers end (state_at f n callers over r) (go (a ∷ rest) r)) (sym ends)
           (next (a ∷ rest) over r ext''
           (keeps_then i store more over keeps (keeps_fewer i (i + uses c e) more over (omega arith) keeps'))
-          (stands_on a (result c e i) (i + uses c e) (i + all_uses c (e ∷ es)) more over (omega arith) keeps' stands, further stand))))
+          (stands_on a (result c e i) (i + uses c e) (i + all_uses c (e ∷ es)) more over (omega arith) keeps' stands, further rest over stand))))
         where
           parts : (is_source_expression e ≡ true) × (list_all is_source_expression es ≡ true)
           parts = and_parts (is_source_expression e) (list_all is_source_expression es) names
@@ -247,6 +246,6 @@ module _ (p : PureParts) (m : Actions) (inputs : List PureValue) (f : List ℕ) 
           ends : pc1 + length back ≡ pc + length (all_code c (e ∷ es) pc at i)
           ends = omega (arith, length-append front back)
 
-          further : {rest : List Operand} {over : Store} → AllStand rest (results c es (i + uses c e)) (i + uses c e + all_uses c es) over
+          further : (rest : List Operand) (over : Store) → AllStand rest (results c es (i + uses c e)) (i + uses c e + all_uses c es) over
               → AllStand rest (results c es (i + uses c e)) (i + all_uses c (e ∷ es)) over
-          further {rest} {over} stand = subst (λ n. AllStand rest (results c es (i + uses c e)) n over) (omega arith) stand
+          further rest over stand = subst (λ n. AllStand rest (results c es (i + uses c e)) n over) (omega arith) stand
