@@ -1,5 +1,5 @@
 -- The commands that find a cell do what is meant.
-use Rattle.std.proofs.Common.{◌≡◌, ◌≢◌, ℕ, suc, ◌+◌, ◌≤◌, List, [], ◌∷◌, Bool, true, false, cond, not, Some, Ok, Err, slice_get, refl, sym, ap, subst, ◌∙◌, arith}
+use Rattle.std.proofs.Common.{◌≡◌, ◌≢◌, ℕ, ◌+◌, List, [], Bool, true, false, cond, not, Some, Ok, Err, refl, sym, ap, subst, ◌∙◌, arith}
 use Rattle.std.specs.Prelude.{codes}
 use Rattle.gil_values.specs.declared.kinds.Kind.TheVariants.{Null}
 use Rattle.gil_values.specs.declared.operators.BinOp.TheVariants.{Equal, Nth, Add}
@@ -7,7 +7,7 @@ use Rattle.gil_values.specs.declared.operators.UnOp.TheVariants.{Not}
 use Rattle.gil_values.specs.Equality.{same_value}
 use Rattle.gil_values.specs.Operators.{Outcome, unary, binary}
 use Rattle.gil_values.specs.Pure.{PureValue, boolean, text, kind}
-use Rattle.gil_syntax.specs.Pure.{PureExpr, name, unary_of, binary_of, PureNumberedCommand, PureProc, PureParts}
+use Rattle.gil_syntax.specs.Pure.{PureExpr, name, unary_of, binary_of, PureProc, PureParts}
 use Rattle.gil_syntax.specs.Programs.{find_proc}
 use Rattle.gil_syntax.specs.Evaluation.{Store, bind, value_of, set_or_fault, evaluate, after_value, as_list, both}
 use Rattle.mem_model.specs.Actions.{Actions}
@@ -110,8 +110,8 @@ module _ (p : PureParts) (m : Actions) (inputs : List PureValue) (f : List ℕ) 
                     apart : i + 1 ≢ i
                     apart = omega arith
 
-    abbrev all : Outcome → Completion
-    all o = with_value o (Here f at) s (λ pointer. cond (same_value pointer (kind Null)) (fails (text (codes "null")) (Here f at) s) (rest pointer))
+    abbrev found_or_null : PureValue → Completion
+    found_or_null pointer = cond (same_value pointer (kind Null)) (fails (text (codes "null")) (Here f at) s) (rest pointer)
 
     by_null : (pointer : PureValue) (is_null : Bool) → evaluate d store ≡ Ok pointer → same_value pointer (kind Null) ≡ is_null
         → RunsAt pc store s (cond is_null (fails (text (codes "null")) (Here f at) s) (rest pointer))
@@ -124,11 +124,11 @@ module _ (p : PureParts) (m : Actions) (inputs : List PureValue) (f : List ℕ) 
         (ap (λ r. after_value (after_value r (λ v. binary Equal v (kind Null))) (unary Not)) is ∙ ap (λ x. Ok (boolean (not x))) same)
         (at_label p m inputs f q found callers catcher some end (pc + 1 + 1) (pc + 2) store s (rest pointer) (omega arith) (rest_runs pointer is))
 
-    by_outcome : (o : Outcome) → evaluate d store ≡ o → RunsAt pc store s (all o)
+    by_outcome : (o : Outcome) → evaluate d store ≡ o → RunsAt pc store s (with_value o (Here f at) s found_or_null)
     by_outcome (Ok pointer) is = by_null pointer (same_value pointer (kind Null)) is refl
     by_outcome (Err fault) is =
-        jump_fails p m inputs f q found callers catcher some end pc (pc + 2) at (unary_of Not (binary_of Equal d null)) store s fault _ has.0
+        jump_fails p m inputs f q found callers catcher some end pc (pc + 2) at (unary_of Not (binary_of Equal d null)) store s fault found_or_null has.0
         (ap (λ r. after_value (after_value r (λ v. binary Equal v (kind Null))) (unary Not)) is)
 
     pub cell_runs : RunsAt pc store s (cell_of a b (Here f at) s go)
-    cell_runs = subst (λ o. RunsAt pc store s (all o)) (stands_for a d i s.store store ext stands) (by_outcome (evaluate d store) refl)
+    cell_runs = subst (λ o. RunsAt pc store s (with_value o (Here f at) s found_or_null)) (stands_for a d i s.store store ext stands) (by_outcome (evaluate d store) refl)

@@ -1,4 +1,6 @@
 pub mod Cells
-pub mod Laws
+pub mod Extending
+pub mod Fitting
+pub mod Making
 pub mod Ranges
-pub mod Rows
+pub mod Running

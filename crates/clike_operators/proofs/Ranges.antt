@@ -1,12 +1,12 @@
 -- The commands that test a range, or whether a value is false, lead on or to a label.
-use Rattle.std.proofs.Common.{◌≡◌, ℕ, suc, ◌+◌, pos, List, [], ◌∷◌, Bool, true, false, cond, ◌&&◌, ◌||◌, Some, Ok, Err, slice_get, refl, sym, ap, subst, ◌∙◌, arith}
+use Rattle.std.proofs.Common.{◌≡◌, ℕ, ◌+◌, List, Bool, true, false, cond, ◌&&◌, ◌||◌, Some, Ok, Err, slice_get, refl, ap, subst, ◌∙◌, arith}
 use Rattle.std.specs.Prelude.{codes, int_le}
 use Rattle.gil_values.specs.declared.kinds.Kind.TheVariants.{Null}
 use Rattle.gil_values.specs.declared.operators.BinOp.TheVariants.{Equal, LessOrEqual}
 use Rattle.gil_values.specs.Equality.{same_value}
 use Rattle.gil_values.specs.Operators.{wrong_kind, Outcome, binary}
 use Rattle.gil_values.specs.Pure.{PureValue, integer, boolean, text, symbol, kind, procedure, list}
-use Rattle.gil_syntax.specs.Pure.{PureExpr, literal, binary_of, PureNumberedCommand, PureProc, PureParts}
+use Rattle.gil_syntax.specs.Pure.{PureExpr, literal, binary_of, PureProc, PureParts}
 use Rattle.gil_syntax.specs.Programs.{find_proc}
 use Rattle.gil_syntax.specs.Evaluation.{Store, bind, evaluate, after_value}
 use Rattle.mem_model.specs.Actions.{Actions}
@@ -17,7 +17,7 @@ use Rattle.source_language.specs.Names.{temporary, IsExtendedBy}
 use Rattle.source_language.specs.Procedures.{null, placed}
 use Rattle.source_language.proofs.Following.{Here, Catcher}
 use Rattle.source_language.proofs.Stretches.{HasAt}
-use Rattle.source_operators.specs.Operands.{Operand, read, Then}
+use Rattle.source_operators.specs.Operands.{Operand, Then}
 use Rattle.source_operators.proofs.Leaving.{Stands, stands_for}
 use Rattle.source_operators.proofs.Steps as at_commands
 use Rattle.source_operators.proofs.Steps.{at_label, jumps_to, passes, jump_fails, gets, fails_here, vanishes_here}
@@ -50,15 +50,12 @@ module _ (p : PureParts) (m : Actions) (inputs : List PureValue) (f : List ℕ) 
       → HasAt q.body pc (range_code pc at e out) → RunsAt (pc + 4) store s (go v s) → RunsAt pc store s (ranged v out (Here f at) s go)
   range_runs pc at e (integer n) out store s go is has next = above (int_le n greatest) refl
     where
-      at_low : HasAt q.body (pc + 1 + 1) _
-      at_low = has.1.1
-
       below : (b : Bool) → int_le least n ≡ b → RunsAt (pc + 1 + 1) store s (cond b (go (integer n) s) (beyond out (Here f at) s))
-      below true low = jumps_to p m inputs f q found callers catcher some end (pc + 1 + 1) (pc + 2 + 2) at (binary_of LessOrEqual (literal (integer least)) e) store s (go (integer n) s) at_low.0
+      below true low = jumps_to p m inputs f q found callers catcher some end (pc + 1 + 1) (pc + 2 + 2) at (binary_of LessOrEqual (literal (integer least)) e) store s (go (integer n) s) has.1.1.0
           (ap (λ r. after_value r (binary LessOrEqual (integer least))) is ∙ ap (λ b. Ok (boolean b)) low)
           (at_label p m inputs f q found callers catcher some end (pc + 4) (pc + 2 + 2) store s (go (integer n) s) (omega arith) next)
-      below false low = passes p m inputs f q found callers catcher some end (pc + 1 + 1) (pc + 2 + 2) at (binary_of LessOrEqual (literal (integer least)) e) store s (beyond out (Here f at) s) at_low.0
-          (ap (λ r. after_value r (binary LessOrEqual (integer least))) is ∙ ap (λ b. Ok (boolean b)) low) (beyond_runs (pc + 1 + 1 + 1) at out store s at_low.1.0)
+      below false low = passes p m inputs f q found callers catcher some end (pc + 1 + 1) (pc + 2 + 2) at (binary_of LessOrEqual (literal (integer least)) e) store s (beyond out (Here f at) s) has.1.1.0
+          (ap (λ r. after_value r (binary LessOrEqual (integer least))) is ∙ ap (λ b. Ok (boolean b)) low) (beyond_runs (pc + 1 + 1 + 1) at out store s has.1.1.1.0)
 
       above : (b : Bool) → int_le n greatest ≡ b
           → RunsAt pc store s (cond (b && int_le least n) (go (integer n) s) (beyond out (Here f at) s))

@@ -1,5 +1,5 @@
 -- What the operators of C-like expressions come to, at a place. An operand that is a variable is read when an operator is applied to it.
-use Rattle.std.specs.Prelude.{ℕ, List, [], ◌∷◌, None, if◌then◌else◌, codes}
+use Rattle.std.specs.Prelude.{[], ◌∷◌, None, if◌then◌else◌, codes}
 use Rattle.gil_values.specs.declared.kinds.Kind.TheVariants.{Null}
 use Rattle.gil_values.specs.declared.operators.BinOp.{BinOp}
 use Rattle.gil_values.specs.declared.operators.BinOp.TheVariants as gil

@@ -1,5 +1,6 @@
 //! The commands that several operators and statements have.
 ghost use Rattle.std.specs.Prelude.{◌≡◌, ◌+◌, pos, [], ◌∷◌, ◌++◌, IfOk, OnOk};
+ghost use Rattle.gil_values.specs.declared.operators.UnOp.TheVariants.{Not};
 ghost use Rattle.gil_values.specs.Pure.{integer};
 ghost use Rattle.gil_syntax.specs.Pure.{literal, unary_of, binary_of};
 ghost use Rattle.gil_syntax.specs.View.{command_view, expr_view};
@@ -46,11 +47,7 @@ pub(crate) fn binary(
 {
     let left = copy_of_expression(alloc, left)?;
     let right = copy_of_expression(alloc, right)?;
-    Ok(Expr::Op2(
-        operator,
-        Box::new(alloc, left)?,
-        Box::new(alloc, right)?,
-    ))
+    Ok(Expr::Op2(operator, Box::new(alloc, left)?, Box::new(alloc, right)?))
 }
 
 /// The negation of an expression.
@@ -109,12 +106,7 @@ pub fn range_code(
 }
 
 /// Jumps to a label where the value of an expression is false.
-pub fn false_code(
-    alloc: Global,
-    at: u32,
-    value: &Expr,
-    label: usize,
-) -> Result<Body, AllocError>
+pub fn false_code(alloc: Global, at: u32, value: &Expr, label: usize) -> Result<Body, AllocError>
     ensures { IfOk result (λ code. code_view code ≡ codes.false_code at (expr_view value.now) label) }
 {
     let zero = binary(alloc, BinOp::Equal, value, &number(0))?;
@@ -165,7 +157,12 @@ pub fn cell_code(
     set(alloc, &mut code, at, free, block)?;
     let first = binary(alloc, BinOp::Nth, pointer, &number(1))?;
     set(alloc, &mut code, at, start, first)?;
-    let cell = binary(alloc, BinOp::Add, &temporary_variable(alloc, start)?, offset)?;
+    let cell = binary(
+        alloc,
+        BinOp::Add,
+        &temporary_variable(alloc, start)?,
+        offset,
+    )?;
     set(alloc, &mut code, at, start, cell)?;
     Ok(code)
 }

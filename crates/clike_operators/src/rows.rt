@@ -11,7 +11,9 @@ use crate::pieces::{
 use crate::trees::{Joint, Prefix};
 use gil_syntax::{Body, Command, Expr, Exprs};
 use gil_values::{BinOp, Text};
-use source_language::{append, jump, put, sum, temporary, temporary_variable, text, truth, variable};
+use source_language::{
+    append, jump, put, sum, temporary, temporary_variable, text, truth, variable,
+};
 use source_operators::{Connective, Operator, Operators};
 use std::alloc::{AllocError, Global};
 
@@ -180,6 +182,7 @@ pub struct Clike;
 
 impl Operators for Clike {
     type Prefix = Prefix;
+
     type Joint = Joint;
 
     ghost codes = { λ language. codes.codes_of_operators };
