@@ -26,7 +26,7 @@ use Rattle.assert_logic.proofs.GivenNames.{Within, or_left, or_right}
 use Rattle.assert_logic.proofs.InventionLaws.{KnownHold, values_hold}
 use Rattle.assert_logic.proofs.MatchedValues.{EachFactHolds, facts_hold_after}
 
-each_known : (known : Known) (xs : List (List ℕ)) → Within (is_among xs) known → list_all known xs ≡ true
+pub each_known : (known : Known) (xs : List (List ℕ)) → Within (is_among xs) known → list_all known xs ≡ true
 each_known known [] is = refl
 each_known known (x ∷ xs) is =
     let first : known x ≡ true = is x (ap (λ b. b || is_among xs x) ((bytes_eq-Decides x x).1 refl)) in

@@ -78,7 +78,7 @@ pub from_cond : (k : Bool) (o : Option PureValue) (w : PureValue) → cond k o N
 from_cond true o w is = (refl, is)
 from_cond false o w is = no_value w is
 
-each_known : (known : Known) (xs : List (List ℕ)) → list_all known xs ≡ true → (x : List ℕ) → Contains xs x → known x ≡ true
+pub each_known : (known : Known) (xs : List (List ℕ)) → list_all known xs ≡ true → (x : List ℕ) → Contains xs x → known x ≡ true
 each_known known xs all x has = All-contains (λ y. known y ≡ true) xs x (AllPass-from_list_all known xs all) has
 
 module _ (P : ℕ → Type 0) where

@@ -12,3 +12,4 @@ pub mod GivenNames
 pub mod MatchedValues
 pub mod FoldedOuts
 pub mod AddedFacts
+pub mod CoreMatching

@@ -1,13 +1,15 @@
 -- What holds of the meaning of assertions.
-use Rattle.std.specs.Prelude.{◌≡◌, ◌↔◌, ◌⊎◌, ℕ, ◌≤◌, List, ◌++◌, Some, None, IsTrue}
-use Rattle.std.specs.List.{Contains}
+use Rattle.std.specs.Prelude.{◌≡◌, ◌↔◌, ◌⊎◌, ℕ, ◌≤◌, List, ◌++◌, length, nat_eq, Bool, true, false, Option, Some, None, IsSome, IsTrue}
+use Rattle.std.specs.List.{list_all, Contains}
 use Rattle.gil_values.specs.Pure.{PureValue}
 use Rattle.gil_values.specs.Symbols.{OccursIn, OccursAmong}
 use Rattle.gil_syntax.specs.Evaluation.{Store, value_of}
-use Rattle.gil_syntax.specs.Pure.{PureItem, PurePredDef, PureParts}
+use Rattle.gil_syntax.specs.Pure.{PurePredUse, PureItem, pure, uses, PurePredDef, PureParts}
 use Rattle.gil_syntax.specs.Valid.{param_names, is_among}
 use Rattle.gil_syntax.specs.WellMade.{is_well_made_assertion, is_well_made}
+use Rattle.mem_model.specs.declared.cores.Core.{Core}
 use Rattle.mem_model.specs.declared.keys.MemoryName.{MemoryName}
+use Rattle.mem_model.specs.CoreNames.{core_of, ins_of}
 use Rattle.mem_model.specs.Heaps.{Heap, OccursInHeap}
 use Rattle.assert_logic.specs.Names.{named_by_items}
 use Rattle.assert_logic.specs.Modes.{Scope, known_at_first, assertion_fault, HasModes}
@@ -98,6 +100,36 @@ MatchingGivesNames =
     (v : PureValue)
     → match_assertion preds scope items t s ≡ matched found → value_of found.store x ≡ Some v
     → (value_of t x ≡ Some v) ⊎ (IsTrue (named_by_items items x) × (IsTrue (is_among (param_names scope) x) × (value_of t x ≡ None)))
+
+-- a use of a core predicate, with as many ins as it has
+abbrev pub is_core_use : Option Core → PurePredUse → Bool
+is_core_use (Some core) u = nat_eq (length u.ins) (ins_of core)
+is_core_use None u = false
+
+abbrev pub is_core_item : PureItem → Bool
+is_core_item (pure e) = true
+is_core_item (uses u) = is_core_use (core_of u.pred) u
+
+-- On core predicates nothing is chosen. Where the items can be read, and a store that gives the names that are known at first their
+-- values becomes one under which a part of the heap meets them, they are matched, with values of that store alone, and what is
+-- left is the rest of the heap: nothing, where the whole heap meets them.
+pub record IsMatchedWithTheRest (preds : List PurePredDef) (declared : List Param) (items : List PureItem) (t store : Store)
+    (whole rest : Heap) (facts : List Fact) : Type 0 where
+  pub found : Match
+  pub matches : match_assertion preds declared items t (record { heap = whole; facts = facts }) ≡ matched found
+  pub left : found.state ≡ record { heap = rest; facts = facts }
+  pub same_values : Extends found.store store
+
+abbrev pub CoreHeapsAreMatched : Type 0
+CoreHeapsAreMatched =
+    (preds : List PurePredDef) (memory : MemoryName) (scope : Scope) (declared : List Param) (items : List PureItem) (t store : Store)
+    (part rest whole : Heap) (facts : List Fact)
+    → IsTrue (list_all is_core_item items) → assertion_fault memory scope items ≡ None
+    → ((x : List ℕ) → IsTrue (named_by_items items x) → IsTrue (known_at_first scope x) → IsSome (value_of t x))
+    → ((x : List ℕ) → IsTrue (named_by_items items x) → value_of t x ≡ None → IsTrue (is_among (param_names declared) x))
+    → Extends t store → HasSorts declared store
+    → Meets (HoldsSomewhere preds) store items part → IsUnion whole part rest
+    → IsMatchedWithTheRest preds declared items t store whole rest facts
 
 abbrev pub OccursInStore : ℕ → Store → Type 0
 OccursInStore n t = (x : List ℕ) × ((v : PureValue) × ((value_of t x ≡ Some v) × OccursIn n v))

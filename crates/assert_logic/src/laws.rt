@@ -1,5 +1,5 @@
 //! What holds of the meaning of assertions: laws of the definitions, which no code is needed for.
-ghost use Rattle.assert_logic.specs.Laws.{AddingIsComplete, FoldingSplits, HeapsSplitAmongItems, LargerRanksKeep, MatchingGivesNames, MatchingInventsNothing, MatchingSplits, MeetingInventsNothing, ReturnsAreMatched};
+ghost use Rattle.assert_logic.specs.Laws.{AddingIsComplete, CoreHeapsAreMatched, FoldingSplits, HeapsSplitAmongItems, LargerRanksKeep, MatchingGivesNames, MatchingInventsNothing, MatchingSplits, MeetingInventsNothing, ReturnsAreMatched};
 
 /// What holds at a rank holds at each larger one.
 pub fn larger_ranks_keep()
@@ -44,4 +44,9 @@ pub fn matching_gives_names()
 /// Matching invents no symbol.
 pub fn matching_invents_nothing()
     ensures { MatchingInventsNothing }
+{}
+
+/// On core predicates nothing is chosen: what a part of a heap meets is matched, and the rest is left.
+pub fn core_heaps_are_matched()
+    ensures { CoreHeapsAreMatched }
 {}
