@@ -4,3 +4,4 @@ pub mod Justified
 pub mod Entries
 pub mod Realized
 pub mod Runs
+pub mod Traces

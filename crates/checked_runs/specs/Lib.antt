@@ -2,3 +2,4 @@ pub mod Specifications
 pub mod Checked
 pub mod Rows
 pub mod Laws
+pub mod Programs

@@ -1,0 +1,65 @@
+-- Checked runs of small programs, step by step.
+use Rattle.std.proofs.Common.{◌≡◌, ℕ, List, [], ◌∷◌, true, codes, Some, refl}
+use Rattle.std.specs.FinMap.{empty}
+use Rattle.std.proofs.lemmas.List.Elements.{All-nil}
+use Rattle.gil_values.specs.Pure.{PureValue}
+use Rattle.gil_syntax.specs.Evaluation.{Store, bind}
+use Rattle.gil_syntax.specs.Pure.{PureSpec, PureParts}
+use Rattle.gil_syntax.proofs.Symbols.{HoldsOfAll, each-nil}
+use Rattle.mem_model.specs.declared.keys.MemoryName.TheVariants.{Record}
+use Rattle.mem_model.specs.Actions.{no_memory}
+use Rattle.mem_model.proofs.Parts.{empty_is_heap, empty_is_below}
+use Rattle.gil_machine.proofs.Proper.{Below}
+use Rattle.gil_machine.specs.Proper.{IsFrameBelow}
+use Rattle.gil_machine.specs.Run.{params_of, start}
+use Rattle.gil_machine.specs.State.{Step, goes_on, ends}
+use Rattle.gil_machine.specs.Step.{step}
+use Rattle.gil_syntax.specs.Programs.{find_proc}
+use Rattle.assert_logic.specs.Adding.{added}
+use Rattle.assert_logic.specs.LogicStates.{Fact, nothing}
+use Rattle.assert_logic.proofs.MatchedValues.{EachFactHolds}
+use Rattle.checked_runs.specs.Checked.{Checked, Entry, moved, IsStart}
+use Rattle.checked_runs.specs.Specifications.{fit_params, entry_store}
+use Rattle.checked_runs.specs.Rows.{number_value}
+use Rattle.checked_runs.proofs.Entries.{args_hold}
+use Rattle.checked_runs.proofs.Realized.{facts_below}
+use Rattle.checked_runs.proofs.Stores.{no_value}
+
+abbrev pub entered : PureSpec → List PureValue → Entry
+entered s args = record { spec = s; args = args; variables = [] }
+
+-- the state at the start, with an empty heap
+abbrev pub at_start : PureParts → PureSpec → List PureValue → List Fact → Checked
+at_start p s args facts = record { machine = start p s.name args empty 0; facts = facts; passed = [] ∷ [] }
+
+pub starts : (p : PureParts) (s : PureSpec) (args : List PureValue) (facts : List Fact) → fit_params s.params args ≡ true → HoldsOfAll (Below 0) args → added (entry_store s args []) s.pre nothing ≡ Some (record { heap = empty; facts = facts }) → EachFactHolds (Below 0) facts
+    → IsStart p Record no_memory (entered s args) (at_start p s args facts)
+starts p s args facts fit below is facts_are = record {
+  entered = record { arguments_fit = fit; only_variables = λ x v at. no_value v at; sorts = λ x v at. no_value v at };
+  state = record { heap = empty; facts = facts };
+  adding = record { added_is = is; well_formed = empty_is_heap Record };
+  counter = 0;
+  is_start = refl;
+  above = record {
+    heap_below = empty_is_below 0;
+    current_below = args_hold (Below 0) (params_of (find_proc p.procs s.name)) args below;
+    callers_below = All-nil (IsFrameBelow 0);
+    facts_below = facts_below 0 facts facts_are;
+  };
+  variables_below = λ x v at. no_value v at;
+}
+
+-- where a step of the machine leads from a state
+abbrev pub after_step : Checked → Step → Checked
+after_step c (goes_on s) = moved c s
+after_step c (ends e) = c
+
+abbrev pub next : PureParts → Checked → Checked
+next p c = after_step c (step p no_memory [] c.machine)
+
+pub one_number : (v : ℕ) → HoldsOfAll (Below 0) (number_value v ∷ [])
+one_number v = (each-nil (Below 0), tt)
+
+-- x and the result have these values
+abbrev pub with_result : PureValue → PureValue → Store
+with_result v r = bind (codes "x") v (bind (codes "ret") r [])

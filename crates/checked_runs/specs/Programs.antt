@@ -1,0 +1,235 @@
+-- Small programs with a mistake each, for the rows that show that a checked run finds it.
+use Rattle.std.specs.Prelude.{◌≡◌, ℕ, pos, List, [], ◌∷◌, codes, true, false, Some, None}
+use Rattle.gil_values.specs.declared.operators.BinOp.TheVariants.{Add, Subtract, Equal, Less}
+use Rattle.gil_values.specs.declared.operators.UnOp.TheVariants.{Not}
+use Rattle.gil_values.specs.Pure.{PureValue, boolean, procedure}
+use Rattle.gil_syntax.specs.declared.assertions.Param.{Param}
+use Rattle.gil_syntax.specs.declared.assertions.SpecSort.TheVariants.{Any, Int as Numbers}
+use Rattle.gil_syntax.specs.Evaluation.{Store}
+use Rattle.gil_syntax.specs.Examples.{number, proc_of}
+use Rattle.gil_syntax.specs.Pure.{PureExpr, literal, name, logical, unary_of, binary_of, PurePredUse, PureItem, pure, uses, PureCommand, assign, call, usym, ifgoto, return, fail, unfold_use, assert_that, loop_invariant, PureProc, PureSpec, PurePredDef, PureParts}
+use Rattle.mem_model.specs.declared.keys.MemoryName.TheVariants.{Record}
+use Rattle.mem_model.specs.Actions.{no_memory}
+use Rattle.checked_runs.specs.Checked.{Checked, Fault, has_fault, Leads, IsReachedIn, used_by}
+use Rattle.gil_machine.specs.Step.{command_at}
+use Rattle.checked_runs.specs.Rows.{param, equals, a, ret, zero_or_one}
+
+-- a checked run of the specification comes to the fault
+pub record HasFault (p : PureParts) (spec : PureSpec) (fault : Fault) : Type 0 where
+  pub args : List PureValue
+  pub variables : Store
+  pub steps : ℕ
+  pub state : Checked
+  pub reached : IsReachedIn p Record no_memory (record { spec = spec; args = args; variables = variables }) steps state
+  pub leads : Leads p Record no_memory (record { spec = spec; args = args; variables = variables }) state (has_fault fault)
+
+-- a checked run of the specification uses the other one
+pub record Uses (p : PureParts) (spec used : PureSpec) : Type 0 where
+  pub args : List PureValue
+  pub variables : Store
+  pub steps : ℕ
+  pub state : Checked
+  pub reached : IsReachedIn p Record no_memory (record { spec = spec; args = args; variables = variables }) steps state
+  pub is_used : used_by p no_memory (command_at p state.machine.current) state.machine ≡ Some used
+
+abbrev pub x : PureExpr
+x = name (codes "x")
+
+abbrev pub y : PureExpr
+y = name (codes "y")
+
+abbrev pub i : PureExpr
+i = name (codes "i")
+
+abbrev pub n : PureExpr
+n = name (codes "n")
+
+abbrev pub same : PureExpr → PureExpr → PureExpr
+same d e = binary_of Equal d e
+
+abbrev pub always : PureExpr
+always = literal (boolean true)
+
+-- a call of a procedure of the program, without a handler
+abbrev pub calls : List ℕ → List ℕ → List PureExpr → PureCommand
+calls x f es = call x (literal (procedure f)) es None
+
+-- spec NAME(PARAMS) [] { PRE } { POST } ..
+abbrev pub spec_of : List ℕ → List Param → List PureItem → List (List PureItem) → PureSpec
+spec_of f params pre posts = record { name = f; params = params; logicals = []; pre = pre; posts = posts; errors = [] }
+
+abbrev pub any : List ℕ → Param
+any x = param x Any
+
+abbrev pub parts : List PureProc → List PureSpec → List PurePredDef → PureParts
+parts procs specs preds = record { procs = procs; specs = specs; preds = preds }
+
+-- ---- returns
+
+-- proc f(a) { a := 0; return a; } spec f(a) [] { emp } { (ret = a) }
+abbrev pub tells_the_argument : PureSpec
+tells_the_argument = spec_of (codes "f") (any (codes "a") ∷ []) [] ((pure (same ret a) ∷ []) ∷ [])
+
+abbrev pub changes_its_argument : PureParts
+changes_its_argument = parts (proc_of (codes "f") (codes "a" ∷ []) (assign (codes "a") (number 0) ∷ return a ∷ []) ∷ []) (tells_the_argument ∷ []) []
+
+-- proc f() { return 0; } spec f() [] { emp } { (ret = 1) }, with the names of the callers' rows
+abbrev pub tells_one : List ℕ → PureSpec
+tells_one f = spec_of f [] [] ((equals ret 1 ∷ []) ∷ [])
+
+-- ---- calls
+
+-- proc g() { return 0; } proc f() { x := call @g(); return x; } spec g() [] { emp } { (ret = 1) } spec f() [] { emp } { (ret = 1) }
+abbrev pub believes_a_false_one : PureParts
+believes_a_false_one =
+    parts (proc_of (codes "g") [] (return (number 0) ∷ []) ∷ proc_of (codes "f") [] (calls (codes "x") (codes "g") [] ∷ return x ∷ []) ∷ [])
+    (tells_one (codes "g") ∷ tells_one (codes "f") ∷ []) []
+
+-- proc g(x) { y := (x + 1); return y; } proc f(x) { y := call @g(x); return 0; } spec g(x: int) [] { emp } { emp }
+-- spec f(x) [] { emp } { emp }
+abbrev pub tells_nothing : PureSpec
+tells_nothing = spec_of (codes "f") (any (codes "x") ∷ []) [] ([] ∷ [])
+
+abbrev pub gives_any_argument : PureParts
+gives_any_argument =
+    parts (proc_of (codes "g") (codes "x" ∷ []) (assign (codes "y") (binary_of Add x (number 1)) ∷ return y ∷ [])
+    ∷ proc_of (codes "f") (codes "x" ∷ []) (calls (codes "y") (codes "g") (x ∷ []) ∷ return (number 0) ∷ []) ∷ [])
+    (spec_of (codes "g") (param (codes "x") Numbers ∷ []) [] ([] ∷ []) ∷ tells_nothing ∷ []) []
+
+-- proc g(x) { return x; } proc f(x) { y := call @g(x); return y; } spec g(x) [] { emp } { (ret = 0) } { (ret = x) }
+-- spec f(x) [] { emp } { (ret = 0) }
+abbrev pub tells_zero : PureSpec
+tells_zero = spec_of (codes "f") (any (codes "x") ∷ []) [] ((equals ret 0 ∷ []) ∷ [])
+
+abbrev pub reads_the_first_post : PureParts
+reads_the_first_post =
+    parts (proc_of (codes "g") (codes "x" ∷ []) (return x ∷ []) ∷ proc_of (codes "f") (codes "x" ∷ []) (calls (codes "y") (codes "g") (x ∷ []) ∷ return y ∷ []) ∷ [])
+    (spec_of (codes "g") (any (codes "x") ∷ []) [] ((equals ret 0 ∷ []) ∷ (pure (same ret x) ∷ []) ∷ []) ∷ tells_zero ∷ []) []
+
+-- proc g(x) { return x; } proc f() { s := usym; y := call @g(s); ifgoto (y = s) 4; return 0; fail 1; } spec g(x) [] { emp } { emp }
+-- spec f() [] { emp } { emp }
+abbrev pub of_no_argument : PureSpec
+of_no_argument = spec_of (codes "f") [] [] ([] ∷ [])
+
+abbrev pub gets_its_symbol_back : PureParts
+gets_its_symbol_back =
+    parts (proc_of (codes "g") (codes "x" ∷ []) (return x ∷ [])
+    ∷ proc_of (codes "f") [] (usym (codes "s") ∷ calls (codes "y") (codes "g") (name (codes "s") ∷ []) ∷ ifgoto (same y (name (codes "s"))) (pos 4) ∷ return (number 0) ∷ fail (number 1) ∷ []) ∷ [])
+    (spec_of (codes "g") (any (codes "x") ∷ []) [] ([] ∷ []) ∷ of_no_argument ∷ []) []
+
+-- proc even(n) { ifgoto (n = 0) 4; m := (n - 1); r := call @odd(m); return r; return true; }
+-- proc odd(n) { ifgoto (n = 0) 4; m := (n - 1); r := call @even(m); return r; return false; }
+-- spec even(n: int) [] { emp } { (ret = true) } spec odd(n: int) [] { emp } { (ret = true) }
+abbrev pub parity : List ℕ → List ℕ → PureExpr → PureProc
+parity f g at_zero =
+    proc_of f (codes "n" ∷ [])
+    (ifgoto (same n (number 0)) (pos 4) ∷ assign (codes "m") (binary_of Subtract n (number 1)) ∷ calls (codes "r") g (name (codes "m") ∷ []) ∷ return (name (codes "r")) ∷ return at_zero ∷ [])
+
+abbrev pub tells_true : List ℕ → PureSpec
+tells_true f = spec_of f (param (codes "n") Numbers ∷ []) [] ((pure (same ret always) ∷ []) ∷ [])
+
+abbrev pub even_and_odd : PureParts
+even_and_odd =
+    parts (parity (codes "even") (codes "odd") always ∷ parity (codes "odd") (codes "even") (literal (boolean false)) ∷ [])
+    (tells_true (codes "even") ∷ tells_true (codes "odd") ∷ []) []
+
+-- ---- predicates
+
+abbrev pub p_use : PureExpr → PurePredUse
+p_use e = record { pred = codes "p"; ins = e ∷ []; outs = [] }
+
+abbrev pub q_use : PureExpr → PureExpr → PureItem
+q_use e out = uses (record { pred = codes "q"; ins = e ∷ []; outs = out ∷ [] })
+
+-- pred p(x;) [] CASES
+abbrev pub pred_p : List (List PureItem) → PurePredDef
+pred_p cases = record { name = codes "p"; ins = any (codes "x") ∷ []; outs = []; logicals = []; cases = cases }
+
+-- proc f(a) { unfold p(a;); return a; } spec f(a) [] { p(a;) } { (ret = 0) } pred p(x;) [] { (x = 0) } { (x = 1) }
+abbrev pub gives_zero : PureSpec
+gives_zero = spec_of (codes "f") (any (codes "a") ∷ []) (uses (p_use a) ∷ []) ((equals ret 0 ∷ []) ∷ [])
+
+abbrev pub reads_the_first_case : PureParts
+reads_the_first_case =
+    parts (proc_of (codes "f") (codes "a" ∷ []) (unfold_use (p_use a) ∷ return a ∷ []) ∷ []) (gives_zero ∷ [])
+    (pred_p ((equals x 0 ∷ []) ∷ (equals x 1 ∷ []) ∷ []) ∷ [])
+
+-- proc f(a) { return 0; } spec f(a) [] { emp } { p(a;) } pred p(x;) [] { p(x;) }
+abbrev pub makes_p : PureSpec
+makes_p = spec_of (codes "f") (any (codes "a") ∷ []) [] ((uses (p_use a) ∷ []) ∷ [])
+
+abbrev pub assumes_what_it_shows : PureParts
+assumes_what_it_shows = parts (proc_of (codes "f") (codes "a" ∷ []) (return (number 0) ∷ []) ∷ []) (makes_p ∷ []) (pred_p ((uses (p_use x) ∷ []) ∷ []) ∷ [])
+
+-- proc f(x, y) { ifgoto (x = y) 2; return 0; fail 1; } spec f(x, y) [] { p(x;) * p(y;) } { p(x;) * p(y;) } pred p(x;) [] { emp }
+abbrev pub of_two : PureSpec
+of_two = spec_of (codes "f") (any (codes "x") ∷ any (codes "y") ∷ []) (uses (p_use x) ∷ uses (p_use y) ∷ []) ((uses (p_use x) ∷ uses (p_use y) ∷ []) ∷ [])
+
+abbrev pub two_of_one : PureParts
+two_of_one =
+    parts (proc_of (codes "f") (codes "x" ∷ codes "y" ∷ []) (ifgoto (same x y) (pos 2) ∷ return (number 0) ∷ fail (number 1) ∷ []) ∷ []) (of_two ∷ []) (pred_p ([] ∷ []) ∷ [])
+
+-- proc f(x) { return 0; } pred q(x; v) [] { (v = 0) } { (v = 1) }, with a specification
+abbrev pub with_q : PureSpec → PureParts
+with_q s = parts (proc_of (codes "f") (codes "x" ∷ []) (return (number 0) ∷ []) ∷ []) (s ∷ []) (zero_or_one ∷ [])
+
+abbrev pub of_v : PureExpr
+of_v = logical (codes "#v")
+
+abbrev pub of_w : PureExpr
+of_w = logical (codes "#w")
+
+-- spec f(x) [#v, #w] { q(x; 0) * q(x; 1) } { q(x; #v) * q(x; #w) * (#v = 1) }
+abbrev pub wants_the_second_fact : PureSpec
+wants_the_second_fact = record (spec_of (codes "f") (any (codes "x") ∷ []) (q_use x (number 0) ∷ q_use x (number 1) ∷ []) ((q_use x of_v ∷ q_use x of_w ∷ equals of_v 1 ∷ []) ∷ [])) {
+  logicals = any (codes "#v") ∷ any (codes "#w") ∷ [];
+}
+
+-- spec f(x) [#v] { emp } { q(x; #v) * (#v = 1) }
+abbrev pub wants_the_second_case : PureSpec
+wants_the_second_case = record (spec_of (codes "f") (any (codes "x") ∷ []) [] ((q_use x of_v ∷ equals of_v 1 ∷ []) ∷ [])) { logicals = any (codes "#v") ∷ [] }
+
+-- ---- assertions in bodies
+
+-- proc f() { COMMANDS }, spec f() [] { emp } { emp }
+abbrev pub main_of : List PureCommand → PureParts
+main_of cs = parts (proc_of (codes "f") [] cs ∷ []) (of_no_argument ∷ []) []
+
+-- proc f() { assert { (1 = 2) }; return 0; }
+abbrev pub asserts_the_false : PureParts
+asserts_the_false = main_of (assert_that (pure (same (number 1) (number 2)) ∷ []) ∷ return (number 0) ∷ [])
+
+-- proc f() { assert { (y = 1) }; y := 1; return 0; }
+abbrev pub asserts_of_no_value : PureParts
+asserts_of_no_value = main_of (assert_that (equals y 1 ∷ []) ∷ assign (codes "y") (number 1) ∷ return (number 0) ∷ [])
+
+-- ---- invariants
+
+abbrev pub invariant_of : List (List ℕ) → PureCommand
+invariant_of xs = loop_invariant xs [] []
+
+-- proc f() { i := 0; invariant (XS) [] { emp }; ifgoto (i = 1) 5; i := 1; ifgoto true 1; fail 1; }
+abbrev pub fails_at_one : List (List ℕ) → PureParts
+fails_at_one xs = main_of (assign (codes "i") (number 0) ∷ invariant_of xs ∷ ifgoto (same i (number 1)) (pos 5) ∷ assign (codes "i") (number 1) ∷ ifgoto always (pos 1) ∷ fail (number 1) ∷ [])
+
+-- proc f() { invariant (i) [] { emp }; return i; }
+abbrev pub lists_without_value : PureParts
+lists_without_value = main_of (invariant_of (codes "i" ∷ []) ∷ return i ∷ [])
+
+-- proc g() { invariant () [] { emp }; return 0; } proc f() { x := call @g(); x := call @g(); fail 1; }
+abbrev pub passes_in_two_calls : PureParts
+passes_in_two_calls =
+    parts (proc_of (codes "g") [] (invariant_of [] ∷ return (number 0) ∷ [])
+    ∷ proc_of (codes "f") [] (calls (codes "x") (codes "g") [] ∷ calls (codes "x") (codes "g") [] ∷ fail (number 1) ∷ []) ∷ [])
+    (of_no_argument ∷ []) []
+
+-- proc f(n) { i := 0; invariant () [] { emp }; ifgoto not((i < n)) 5; i := (i + 1); ifgoto true 1; return 0; }
+-- spec f(n: int) [] { emp } { emp }
+abbrev pub of_a_number : PureSpec
+of_a_number = spec_of (codes "f") (param (codes "n") Numbers ∷ []) [] ([] ∷ [])
+
+abbrev pub counts_without_listing : PureParts
+counts_without_listing =
+    parts (proc_of (codes "f") (codes "n" ∷ [])
+    (assign (codes "i") (number 0) ∷ invariant_of [] ∷ ifgoto (unary_of Not (binary_of Less i n)) (pos 5) ∷ assign (codes "i") (binary_of Add i (number 1)) ∷ ifgoto always (pos 1) ∷ return (number 0) ∷ []) ∷ [])
+    (of_a_number ∷ []) []

@@ -1,0 +1,71 @@
+//! Rows of whole programs: each has a mistake that a wrong rule would let through, and a checked run that finds it.
+ghost use Rattle.std.specs.Prelude.{[], ◌∷◌, codes};
+ghost use Rattle.checked_runs.specs.Checked.{fails, post, invariant, call_precondition, fold_body};
+ghost use Rattle.checked_runs.specs.Rows.{number_value};
+ghost use Rattle.checked_runs.specs.Programs.{
+  HasFault,
+  Uses,
+  tells_the_argument,
+  changes_its_argument,
+  tells_one,
+  believes_a_false_one,
+  tells_nothing,
+  gives_any_argument,
+  tells_zero,
+  reads_the_first_post,
+  of_no_argument,
+  gets_its_symbol_back,
+  tells_true,
+  even_and_odd,
+  gives_zero,
+  reads_the_first_case,
+  makes_p,
+  assumes_what_it_shows,
+  of_two,
+  two_of_one,
+  with_q,
+  wants_the_second_fact,
+  wants_the_second_case,
+  asserts_the_false,
+  asserts_of_no_value,
+  fails_at_one,
+  lists_without_value,
+  passes_in_two_calls,
+  of_a_number,
+  counts_without_listing,
+};
+
+/// A postcondition reads the parameters' values at entry; a call asks for the arguments' sorts, and its result is any value that
+/// any postcondition allows, a symbol of the caller too; and what a false specification tells is found where it is false.
+pub fn mistakes_of_calls_are_found()
+    ensures current_values { HasFault changes_its_argument tells_the_argument post }
+    ensures false_specification { HasFault believes_a_false_one (tells_one (codes "g")) post }
+    ensures depends { Uses believes_a_false_one (tells_one (codes "f")) (tells_one (codes "g")) }
+    ensures sorts { HasFault gives_any_argument tells_nothing call_precondition }
+    ensures other_post { HasFault reads_the_first_post tells_zero post }
+    ensures symbol_of_caller { HasFault gets_its_symbol_back of_no_argument (fails (number_value 1)) }
+    ensures odd { HasFault even_and_odd (tells_true (codes "odd")) post }
+    ensures even_depends { Uses even_and_odd (tells_true (codes "even")) (tells_true (codes "odd")) }
+{}
+
+/// `unfold` adds any case; a use without a fact is matched one level deep; two facts may be of one value; the first fact that fits
+/// and the first case that matches are taken, and no choice is taken back; what is asserted is matched.
+pub fn mistakes_of_assertions_are_found()
+    ensures other_case { HasFault reads_the_first_case gives_zero post }
+    ensures deeper { HasFault assumes_what_it_shows makes_p post }
+    ensures two_facts { HasFault two_of_one of_two (fails (number_value 1)) }
+    ensures first_fact { HasFault (with_q wants_the_second_fact) wants_the_second_fact post }
+    ensures first_case { HasFault (with_q wants_the_second_case) wants_the_second_case post }
+    ensures asserted { HasFault asserts_the_false of_no_argument fold_body }
+    ensures no_value { HasFault asserts_of_no_value of_no_argument fold_body }
+{}
+
+/// At an invariant each listed variable has a value, and any one from then on; the others are the same when it is reached again;
+/// and an invariant that was passed in another call doesn't count.
+pub fn mistakes_of_invariants_are_found()
+    ensures unlisted { HasFault (fails_at_one []) of_no_argument invariant }
+    ensures listed { HasFault (fails_at_one (codes "i" ∷ [])) of_no_argument (fails (number_value 1)) }
+    ensures unset { HasFault lists_without_value of_no_argument invariant }
+    ensures other_call { HasFault passes_in_two_calls of_no_argument (fails (number_value 1)) }
+    ensures counter { HasFault counts_without_listing of_a_number invariant }
+{}
