@@ -1,14 +1,19 @@
 //! The choice of a split where the numbers break a disequality. Any split is right; this is about how many follow.
-ghost use Rattle.std.specs.Prelude.{IfOk, IfSome};
+ghost use Rattle.std.specs.Prelude.{◌≡◌, IsTrue, IfOk, IfSome};
+ghost use Rattle.pure_terms.specs.declared.literals.Literal.{Literal as LiteralItself};
+ghost use Rattle.pure_terms.specs.Pure.{literal, variable as variable_term};
+ghost use Rattle.pure_terms.specs.View.{term_view, atoms_view};
+ghost use Rattle.solver_proof.specs.Closing.{at_most};
 ghost use Rattle.solver_rules.specs.Nodes.{vars_of, list_of_node, IsNodeOf};
+ghost use Rattle.solver_rules.specs.Rules.{IsUndecided};
 ghost use Rattle.solver_rules.specs.Steps.{IsStep};
 
 use crate::plain::is_plain;
 use crate::ranges::{Range, Sides as RowSides, node_of, range_at, ranges_from, sides_of_each};
 use gil_values::BinOp;
 use linear_core::Rows;
-use pure_terms::{Atom, Literal, Sort, Term, Var, holds};
-use solver_rules::{Node, Pair, RowList, Step, disequality_of, order_at, rows_of};
+use pure_terms::{Atom, Atoms, Literal, Sort, Term, Var, holds};
+use solver_rules::{Node, Pair, RowList, Step, disequality_of, is_undecided, order_at, rows_of};
 use std::alloc::{AllocError, Global};
 use std::rc::Rc;
 
@@ -241,7 +246,25 @@ fn choose(alloc: Global, node: &Node<'_>, rows: &Rows) -> Result<Option<Choice>,
     }
 }
 
-/// The split by whether a variable is at most a number, where that is an atom of the fragment.
+/// The term that a variable is at most a number.
+fn bound_of(alloc: Global, variable: Var, number: i128) -> Result<Term, AllocError>
+    ensures { IfOk result (λ t. term_view t ≡ at_most (variable_term variable) (literal (LiteralItself.Int number))) }
+{
+    let left = Rc::new(alloc, Term::Var(variable))?;
+    let right = Rc::new(alloc, Term::Lit(Literal::Int(number)))?;
+    Ok(Term::Op2(BinOp::LessOrEqual, left, right))
+}
+
+/// Whether the list says neither that a variable is at most a number nor that it isn't.
+fn is_bound_undecided(list: &Atoms, variable: Var, number: i128) -> bool
+    ensures { IsTrue result → IsUndecided (atoms_view list.now) (at_most (variable_term variable) (literal (LiteralItself.Int number))) }
+{
+    let left = Term::Var(variable);
+    let right = Term::Lit(Literal::Int(number));
+    is_undecided(list, BinOp::LessOrEqual, &left, &right)
+}
+
+/// The split by whether a variable is at most a number, where that is an atom of the fragment and the list doesn't say it.
 fn split_at(
     alloc: Global,
     node: &Node<'_>,
@@ -251,14 +274,13 @@ fn split_at(
     requires { IsNodeOf node.now }
     ensures { IfOk result (λ found. IfSome found (IsStep (vars_of node.now) (list_of_node node.now))) }
 {
-    if variable.sort != Sort::Int {
+    if !is_bound_undecided(node.list, variable, number) {
         return Ok(None);
     }
-    let left = Rc::new(alloc, Term::Var(variable))?;
-    let right = Rc::new(alloc, Term::Lit(Literal::Int(number)))?;
-    let atom = Atom::Holds(Term::Op2(BinOp::LessOrEqual, left, right));
+    let bound = bound_of(alloc, variable, number)?;
+    let atom = Atom::Holds(bound.copy(alloc)?);
     if is_plain(node.vars, &atom) {
-        return Ok(Some(Step::Split(atom.term().copy(alloc)?)));
+        return Ok(Some(Step::Split(bound)));
     }
     Ok(None)
 }

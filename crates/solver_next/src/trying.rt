@@ -1,7 +1,7 @@
 //! Rules one after another.
 ghost use Rattle.std.specs.Prelude.{IfOk};
 ghost use Rattle.gil_values.specs.View.{values_view};
-ghost use Rattle.solver_rules.specs.Nodes.{classes_of, IsNodeOf, IsStepOr};
+ghost use Rattle.solver_rules.specs.Nodes.{classes_of, IsNodeOf, IsSolvedNode, IsStepOr};
 ghost use Rattle.solver_next.specs.Steps.{AreAllDone};
 
 use solver_rules::{Node, Rule, Step, run};
@@ -13,7 +13,8 @@ pub(crate) fn run_each(
     node: &Node<'_>,
     rules: &[Rule],
 ) -> Result<Option<Step>, AllocError>
-    requires { IsNodeOf node.now }
+    requires node { IsNodeOf node.now }
+    requires solved { IsSolvedNode node.now }
     ensures { IfOk result (IsStepOr node.now (AreAllDone rules.now (classes_of node.now) (values_view node.now.numbers.now))) }
 {
     for rule in rules {
