@@ -1,3 +1,4 @@
 pub mod Appending
 pub mod Branching
 pub mod Keeping
+pub mod Sorting

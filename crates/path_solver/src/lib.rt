@@ -2,6 +2,7 @@
 #![tactic(auto)]
 
 mod branches;
+mod deciding;
 mod lists;
 mod outside;
 mod searching;

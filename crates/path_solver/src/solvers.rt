@@ -1,20 +1,24 @@
 //! The decider and refuter that solves.
+ghost use Rattle.std.specs.Prelude.{IfOk};
 ghost use Rattle.std.specs.Option.{option_map};
 ghost use Rattle.pure_terms.specs.Deciding.{IsRight};
+ghost use Rattle.pure_terms.specs.Meaning.{AreOver};
 ghost use Rattle.pure_terms.specs.Meaning.{AreOver};
 ghost use Rattle.pure_terms.specs.View.{atoms_view, decision_view};
 ghost use Rattle.solver_proof.specs.Refuting.{RefutesRightly};
 ghost use Rattle.solver_proof.specs.View.{proof_view};
-ghost use Rattle.path_solver.specs.Solving.{IsSolved, solution_view};
+ghost use Rattle.path_solver.specs.Solving.{IsSolved, IsDecidedWhenSorted, solution_view};
 
+use crate::deciding::decide_on;
 use crate::solutions::Solution;
 use crate::solving::solve_on;
 use pure_terms::{Atoms, Decider, Decision, VarTable};
 use rewrite_book::RuleBook;
-use solver_proof::{Proof, Refuter, closed_lists_have_no_solution};
+use solver_proof::{Proof, Refuter};
 use std::alloc::{AllocError, Global};
 
 /// A decider that proves what it refutes. It asks no rules, and searches each list anew.
+/// A list that isn't of the fragment is decided with the sorts that it says of its variables.
 #[derive(Drop)]
 pub struct PathSolver {
     /// The list that is searched.
@@ -36,10 +40,12 @@ impl Decider for PathSolver {
         alloc: Global,
         vars: &VarTable,
         atoms: &Atoms,
-    ) -> Result<Decision, AllocError> {
-        let none = RuleBook::new(alloc);
-        let solution = solve_on(alloc, vars, atoms, &none, &mut self.list)?;
-        Ok(decision_of(vars, atoms, solution))
+    ) -> Result<Decision, AllocError>
+        requires { AreOver vars.now (atoms_view atoms.now) }
+        ensures right { IfOk result (λ decision. IsRight vars.now (atoms_view atoms.now) (decision_view decision)) }
+        ensures decided { IfOk result (λ decision. IsDecidedWhenSorted vars.now (atoms_view atoms.now) (decision_view decision)) }
+    {
+        decide_on(alloc, vars, atoms, &mut self.list)
     }
 }
 
@@ -53,20 +59,6 @@ impl Refuter for PathSolver {
         let none = RuleBook::new(alloc);
         let solution = solve_on(alloc, vars, atoms, &none, &mut self.list)?;
         Ok(proof_of(vars, atoms, solution))
-    }
-}
-
-/// What a decider says where the solver says this.
-fn decision_of(vars: &VarTable, atoms: &Atoms, solution: Solution) -> Decision
-    requires over { AreOver vars.now (atoms_view atoms.now) }
-    requires solved { IsSolved vars.now (atoms_view atoms.now) (solution_view solution) }
-    ensures { IsRight vars.now (atoms_view atoms.now) (decision_view result) }
-{
-    closed_lists_have_no_solution();
-    match solution {
-        Solution::Sat(valuation) => Decision::Sat(valuation),
-        Solution::Unsat(_) => Decision::Unsat,
-        Solution::Unknown(reason) => Decision::Unknown(reason),
     }
 }
 
