@@ -1,0 +1,5 @@
+pub mod Actions
+pub mod Ends
+pub mod Fitting
+pub mod Following
+pub mod WellMade

@@ -1,0 +1,11 @@
+//! The compiler of the C-like language: programs become GIL programs with the same ends.
+#![tactic(auto)]
+
+mod compiling;
+mod language;
+mod making;
+mod simple;
+mod source;
+
+pub use compiling::compile;
+pub use source::Source;
