@@ -1,5 +1,5 @@
 -- The commands of C-like statements that do actions of the memory follow what the statements do.
-use Rattle.std.proofs.Common.{◌≡◌, ℕ, ◌+◌, ◌≤◌, List, [], ◌∷◌, ◌++◌, Bool, true, false, cond, Some, None, Ok, Err, length, slice_get, refl, sym, ap, subst, ◌∙◌, arith, length-append}
+use Rattle.std.proofs.Common.{◌≡◌, ℕ, ◌+◌, List, [], ◌∷◌, Bool, true, false, cond, Some, None, Ok, Err, length, slice_get, refl, ap, subst, ◌∙◌, arith}
 use Rattle.std.specs.Prelude.{codes}
 use Rattle.gil_values.specs.declared.kinds.Kind.TheVariants.{Null}
 use Rattle.gil_values.specs.declared.operators.BinOp.TheVariants.{Equal}
@@ -7,22 +7,21 @@ use Rattle.gil_values.specs.declared.places.Place.{Place}
 use Rattle.gil_values.specs.Equality.{same_value}
 use Rattle.gil_values.specs.Operators.{Outcome, binary}
 use Rattle.gil_values.specs.Pure.{PureValue, boolean, kind}
-use Rattle.gil_syntax.specs.Pure.{PureExpr, binary_of, act, PureNumberedCommand, PureProc, PureParts}
+use Rattle.gil_syntax.specs.Pure.{PureExpr, binary_of, act, PureProc, PureParts}
 use Rattle.gil_syntax.specs.Programs.{find_proc}
-use Rattle.gil_syntax.specs.Evaluation.{Store, bind, value_of, both, after_value, evaluate}
+use Rattle.gil_syntax.specs.Evaluation.{Store, bind, both, after_value, evaluate}
 use Rattle.mem_model.specs.Actions.{Actions, ActionResult}
 use Rattle.gil_machine.specs.State.{Frame, State, Step, goes_on}
 use Rattle.gil_machine.specs.Step as machine
 use Rattle.gil_machine.specs.Run.{run}
-use Rattle.source_language.specs.Code.{jump}
 use Rattle.source_language.specs.Completions.{Situation, Completion, normal, with_value, after_action}
 use Rattle.source_language.specs.Names.{temporary, IsExtendedBy}
 use Rattle.source_language.specs.Procedures.{null, placed}
-use Rattle.source_language.proofs.Following.{state_at, Here, Leads, Runs, leads, steps, one_step, value_runs, outcome_runs, stays}
+use Rattle.source_language.proofs.Following.{state_at, Here, Leads, steps, value_runs, outcome_runs, stays}
 use Rattle.source_language.proofs.Stores.{extended_more}
 use Rattle.source_language.proofs.Stretches.{HasAt, has_front, has_back}
 use Rattle.source_operators.specs.Operands.{Operand, read}
-use Rattle.source_operators.proofs.Leaving.{Keeps, Stands, stands_for, stands_on}
+use Rattle.source_operators.proofs.Leaving.{Stands, stands_for, stands_on}
 use Rattle.source_operators.proofs.Steps as at_commands
 use Rattle.source_operators.proofs.Steps.{jumps_to, passes, at_label}
 use Rattle.source_statements.specs.Values.{Continuation}

@@ -1,5 +1,5 @@
 -- A C-like program and its compiled program have the same ends.
-use Rattle.std.proofs.Common.{◌≡◌, ℕ, List, true, None, refl}
+use Rattle.std.proofs.Common.{◌≡◌, true, None, refl}
 use Rattle.std.specs.List.{list_all}
 use Rattle.mem_model.specs.declared.keys.MemoryName.TheVariants as memories
 use Rattle.block_heap.specs.Table.{block_actions}

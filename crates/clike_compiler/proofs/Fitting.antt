@@ -1,6 +1,6 @@
 -- The labels of compiled C-like statements are within their procedures, so a compiled program is valid, but for the number of its commands,
 -- where its source is.
-use Rattle.std.proofs.Common.{◌≡◌, ℕ, ◌+◌, ◌≤◌, List, [], ◌∷◌, ◌++◌, Some, None, length, refl, arith, length-append}
+use Rattle.std.proofs.Common.{◌≡◌, ℕ, ◌+◌, ◌≤◌, List, [], ◌∷◌, ◌++◌, None, length, refl, arith, length-append}
 use Rattle.std.specs.Prelude.{codes}
 use Rattle.gil_values.specs.declared.kinds.Kind.TheVariants.{Int}
 use Rattle.gil_values.specs.declared.operators.BinOp.TheVariants.{Equal}

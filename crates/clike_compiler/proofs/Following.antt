@@ -1,5 +1,5 @@
 -- The commands of C-like expressions and simple statements do what these mean.
-use Rattle.std.proofs.Common.{◌≡◌, ℕ, ◌+◌, ◌-◌, ◌≤◌, List, [], ◌∷◌, ◌++◌, true, Option, Some, None, Ok, length, slice_get, refl, sym, ap, subst, ◌∙◌, arith, length-append}
+use Rattle.std.proofs.Common.{◌≡◌, ℕ, ◌+◌, ◌-◌, List, [], ◌∷◌, ◌++◌, true, Option, Some, None, Ok, length, slice_get, refl, sym, ap, subst, ◌∙◌, arith, length-append}
 use Rattle.std.specs.Prelude.{codes, ◌&&◌}
 use Rattle.std.specs.List.{list_all}
 use Rattle.std.specs.Option.{option_map}
@@ -23,16 +23,14 @@ use Rattle.source_language.proofs.Stores.{bound_value, extended_both, extended_m
 use Rattle.source_language.proofs.Stretches.{HasAt, has_front, has_back}
 use Rattle.source_operators.specs.Codes.{uses, result, code, all_uses, results, all_code}
 use Rattle.source_operators.specs.Names.{is_source_expression}
-use Rattle.source_operators.specs.Operands.{Operand, read, read_all}
-use Rattle.source_operators.proofs.Leaving.{OperatorsRun, Stands, keeps_itself, stands_for, stands_on, all_stand_for, operand_leaves, operands_leave}
+use Rattle.source_operators.specs.Operands.{read, read_all}
+use Rattle.source_operators.proofs.Leaving.{OperatorsRun, keeps_itself, stands_for, stands_on, all_stand_for, operand_leaves, operands_leave}
 use Rattle.source_operators.proofs.Steps.{at_label}
-use Rattle.source_statements.specs.Codes.{jumps_to}
 use Rattle.source_statements.proofs.Following.{LanguageRuns}
 use Rattle.source_statements.proofs.Values.{draw_runs, call_runs}
 use Rattle.clike_operators.specs.declared.pieces.Beyond.TheVariants.{Vanishes}
 use Rattle.clike_operators.specs.Codes.{codes_of_operators, range_code}
 use Rattle.clike_operators.specs.Meaning.{meanings}
-use Rattle.clike_operators.specs.Pure.{PureExpression}
 use Rattle.clike_operators.specs.Ranges.{ranged}
 use Rattle.clike_operators.proofs.Ranges.{range_runs, tested_runs}
 use Rattle.clike_lang.specs.Meaning.{Calls, gets, simple, clike_meanings}

@@ -8,7 +8,7 @@ use Rattle.gil_values.specs.declared.kinds.Kind.TheVariants.{Int}
 use Rattle.gil_values.specs.declared.operators.BinOp.TheVariants.{Equal}
 use Rattle.gil_values.specs.Pure.{procedure}
 use Rattle.gil_syntax.specs.Pure.{PureExpr, literal, name, binary_of, assign, call, act, isym, PureNumberedCommand}
-use Rattle.gil_syntax.specs.WellMade.{is_program_name, is_well_made_expr, is_well_made_command, is_well_made_proc}
+use Rattle.gil_syntax.specs.WellMade.{is_program_name, is_well_made_expr, is_well_made_proc}
 use Rattle.source_language.specs.Names.{temporary}
 use Rattle.source_language.specs.Procedures.{null, placed}
 use Rattle.source_language.proofs.Made.{AreMade, made_one, made_append, made_jump, one_expr}

@@ -1,20 +1,19 @@
 -- An end of a C-like program is its end with more turns too.
-use Rattle.std.proofs.Common.{ℕ, ◌≤◌, List, Bool, true, false, cond, Option, Some, None, Ok, Err, refl}
+use Rattle.std.proofs.Common.{List, Bool, true, false, cond}
 use Rattle.gil_values.specs.declared.places.Place.{Place}
-use Rattle.gil_values.specs.Pure.{PureValue, procedure}
-use Rattle.gil_values.specs.Operators.{Outcome}
+use Rattle.gil_values.specs.Pure.{PureValue}
 use Rattle.mem_model.specs.Actions.{Actions}
-use Rattle.source_language.specs.Completions.{Situation, Completion, with_value, with_values}
+use Rattle.source_language.specs.Completions.{Situation, Completion}
 use Rattle.source_language.specs.Pure.{find_function}
 use Rattle.source_language.proofs.Longer.{Extends, extends_itself, value-extends, values-extend}
 use Rattle.source_language.proofs.MoreTurns as calls
 use Rattle.source_language.proofs.MoreTurns.{CallsExtend}
-use Rattle.source_operators.specs.Operands.{Operand, read, read_all}
+use Rattle.source_operators.specs.Operands.{read, read_all}
 use Rattle.source_operators.proofs.Extending.{operand_extends, all_operands_extend}
 use Rattle.source_statements.specs.Values.{Continuation}
 use Rattle.source_statements.proofs.Longer.{MeaningsExtend, block-extends}
 use Rattle.source_statements.proofs.Values.{function-extends}
-use Rattle.clike_operators.specs.Meaning.{meanings, tested}
+use Rattle.clike_operators.specs.Meaning.{meanings}
 use Rattle.clike_operators.specs.Pure.{PureExpression}
 use Rattle.clike_operators.specs.Ranges.{is_false}
 use Rattle.clike_operators.proofs.Extending.{operators_extend}

@@ -1,5 +1,5 @@
 -- The pure data of C-like programs.
-use Rattle.std.specs.Prelude.{List, map}
+use Rattle.std.specs.Prelude.{map}
 use Rattle.source_language.specs.View as trees
 use Rattle.source_language.specs.declared.trees.Function.{Function}
 use Rattle.source_language.specs.declared.trees.SourceParts.{SourceParts}
