@@ -1,0 +1,3 @@
+pub mod CountingLoop
+pub mod MoreLoop
+pub mod TwoFaults
