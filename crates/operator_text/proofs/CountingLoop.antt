@@ -1,5 +1,5 @@
 -- How many operators there are, as a loop counts them.
-use Rattle.std.proofs.Common.{◌≡◌, ◌≤◌, ◌<◌, ℕ, List, [], ◌∷◌, ◌++◌, length, Option, Some, refl, sym, ap, ◌∙◌, subst, append_assoc, append-nil, arith}
+use Rattle.std.proofs.Common.{◌≡◌, ◌≤◌, ◌<◌, ℕ, List, [], ◌∷◌, ◌++◌, length, Some, refl, sym, ap, ◌∙◌, subst, append_assoc, append-nil, arith}
 use Rattle.gil_lexer.specs.declared.forms.Form.{Form}
 use Rattle.gil_lexer.specs.declared.signs.Sign.TheVariants.{EqualEqual, NotEqual, LessEqual, GreaterEqual, AndAnd, OrOr, Plus, Minus, Star, Slash, Percent, Less, Greater, Bang, Ampersand, Dot, LeftBracket, Semicolon, LeftBrace, RightBrace}
 use Rattle.gil_lexemes.specs.declared.standing.Lexeme.{Lexeme}

@@ -1,6 +1,5 @@
 -- What follows a left side, as a loop reads it.
-use Rattle.std.proofs.Common.{◌≡◌, ℕ, zero, suc, ◌+◌, ◌-◌, ◌<◌, ◌≤◌, List, [], ◌∷◌, Bool, true, false, cond, Option, Some, None, refl, sym, ap, subst, ◌∙◌, arith}
-use Rattle.std.specs.Prelude.{nat_lt}
+use Rattle.std.proofs.Common.{◌≡◌, ℕ, zero, suc, ◌+◌, ◌-◌, ◌<◌, ◌≤◌, List, cond, Option, Some, None, sym, ap, ◌∙◌, arith}
 use Rattle.std.proofs.lemmas.Bool.{lt-ltb, le-ltb}
 use Rattle.gil_lexemes.specs.declared.standing.Lexeme.{Lexeme}
 use Rattle.gil_lexemes.specs.declared.stops.Stop.{Stop}
@@ -17,7 +16,7 @@ fails_so stops.Memory read other so h = tt
 fails_so (stops.Syntax left) read other so h = so h
 
 module _ {P J : Type 0} (g : Signs P J) (at : ℕ → List Lexeme → Reading (PureExpression P J)) where
-  one_more : (t k : ℕ) (left : PureExpression P J) (rest : List Lexeme) (a : After) → first_after g rest ≡ Some a → k ≤ strength a
+  pub one_more : (t k : ℕ) (left : PureExpression P J) (rest : List Lexeme) (a : After) → first_after g rest ≡ Some a → k ≤ strength a
       → more_at g at (suc t) k left rest ≡ (side_at g at a (behind rest) >>= λ e. more_at g at t k (join g a left e.0) e.1)
   one_more t k left rest a is le =
       ap (λ o. joined_by g at o k left rest (λ e more. more_at g at t k e more)) is

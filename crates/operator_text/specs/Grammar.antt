@@ -10,7 +10,7 @@ use Rattle.source_operators.specs.Operands.{known, named}
 use Rattle.source_operators.specs.Pure.{PureExpression, constant, variable, brackets, prefixed, joined, skipping}
 use Rattle.operator_text.specs.declared.strengths.After.{After}
 use Rattle.operator_text.specs.declared.strengths.After.TheVariants.{Infix, Connects, Bracketed, Dotted}
-use Rattle.operator_text.specs.Signs.{Signs, after, tight, tightest, strength, join}
+use Rattle.operator_text.specs.Signs.{Signs, after, tight, strength, join}
 
 abbrev pub ampersand : Lexeme
 ampersand = Sign Ampersand
@@ -45,7 +45,7 @@ module _ {P J : Type 0} (g : Signs P J) where
   SpellsExpression k (joined j d e) from rest =
       SpellsJoined k (joined j d e) d e (λ m more left. SpellsExpression m d more left) (λ m more left. SpellsExpression m e more left) from rest
       ⊎ ((i : J) × (inner : List Lexeme) × (g.taken i ≡ Some j) × (k ≤ tight) × (from ≡ ampersand ∷ inner)
-      × SpellsJoined tightest (joined i d e) d e (λ m more left. SpellsExpression m d more left) (λ m more left. SpellsExpression m e more left) inner rest)
+      × SpellsJoined tight (joined i d e) d e (λ m more left. SpellsExpression m d more left) (λ m more left. SpellsExpression m e more left) inner rest)
   SpellsExpression k (skipping c d e) from rest =
       SpellsJoined k (skipping c d e) d e (λ m more left. SpellsExpression m d more left) (λ m more left. SpellsExpression m e more left) from rest
 

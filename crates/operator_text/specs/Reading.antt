@@ -6,11 +6,11 @@ use Rattle.gil_lexer.specs.declared.forms.Form.{Form}
 use Rattle.gil_lexer.specs.declared.signs.Sign.TheVariants.{LeftParenthesis, RightParenthesis, RightBracket, Ampersand}
 use Rattle.gil_lexemes.specs.declared.standing.Lexeme.{Lexeme}
 use Rattle.gil_lexemes.specs.Reading.{Reading, ◌>>=◌, first_form, behind, is_sign, sign_at, name_at}
-use Rattle.source_operators.specs.Pure.{PureExpression, constant, variable, brackets, prefixed, joined, skipping}
+use Rattle.source_operators.specs.Pure.{PureExpression, constant, brackets, prefixed, joined}
 use Rattle.operator_text.specs.declared.strengths.After.{After}
 use Rattle.operator_text.specs.declared.strengths.After.TheVariants.{Infix, Connects, Bracketed, Dotted}
 use Rattle.operator_text.specs.Grammar.{first_after}
-use Rattle.operator_text.specs.Signs.{Signs, tight, tightest, strength, leaf_tree, join}
+use Rattle.operator_text.specs.Signs.{Signs, tight, strength, leaf_tree, join}
 
 module _ {P J : Type 0} (g : Signs P J) where
   abbrev pub Reads : Type 0
@@ -44,7 +44,7 @@ module _ {P J : Type 0} (g : Signs P J) where
 
     unfoldable pub address_at : List Lexeme → Reads
     address_at ls = do
-      e ← at tightest ls
+      e ← at tight ls
       tree ← addressed e.0
       Some (tree, e.1)
 

@@ -1,5 +1,5 @@
 -- What the lexemes of the expressions of a language are, and how strongly operators bind.
-use Rattle.std.specs.Prelude.{ℕ, List, Bool, Option, Some, None, if◌then◌else◌}
+use Rattle.std.specs.Prelude.{ℕ, Bool, Option, Some, None, if◌then◌else◌}
 use Rattle.gil_lexer.specs.declared.forms.Form.{Form}
 use Rattle.gil_lexer.specs.declared.forms.Form.TheVariants as forms
 use Rattle.gil_lexer.specs.declared.signs.Sign.TheVariants as signs

@@ -8,7 +8,7 @@ ghost use Rattle.operator_text.specs.Reading as read;
 ghost use Rattle.operator_text.specs.Signs as signs;
 
 use crate::language::OperatorLanguage;
-use crate::strengths::{After, TIGHT, TIGHTEST, after_of, strength};
+use crate::strengths::{After, TIGHT, after_of, strength};
 use gil_lexemes::{Cursor, Stop};
 use gil_lexer::Sign;
 use gil_values::Value;
@@ -159,7 +159,7 @@ fn address_at<'a, L: OperatorLanguage>(
         (read.address_at L.signs (read.expression_at L.signs inner) cursor.entry) }
 {
     let left = cursor.left();
-    let (expression, cursor) = expression_at::<L>(alloc, inner, TIGHTEST, cursor)?;
+    let (expression, cursor) = expression_at::<L>(alloc, inner, TIGHT, cursor)?;
     match addressed::<L>(expression) {
         Some(expression) => Ok((expression, cursor)),
         None => Err(Stop::Syntax(left)),

@@ -10,4 +10,4 @@ mod strengths;
 pub use expressions::expression_at;
 pub use few::nesting_fault;
 pub use language::OperatorLanguage;
-pub use strengths::{After, TIGHT, TIGHTEST};
+pub use strengths::{After, TIGHT};

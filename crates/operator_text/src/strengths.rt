@@ -22,7 +22,7 @@ pub enum After {
 pub const TIGHT: u8 = 6;
 
 /// The strength of what follows an expression directly.
-pub const TIGHTEST: u8 = 7;
+const TIGHTEST: u8 = 7;
 
 /// How strongly it binds.
 pub(crate) fn strength(after: After) -> u8

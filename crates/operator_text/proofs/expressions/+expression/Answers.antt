@@ -1,8 +1,7 @@
-use Rattle.std.proofs.Common.{sym, ◌∙◌, ap, ◌-◌, ◌+◌, ◌≡◌, ◌≤◌, ◌<◌, subst, arith}
+use Rattle.std.proofs.Common.{sym, ◌∙◌, ◌-◌, arith}
 use Rattle.std.proofs.lemmas.Result.{err_from_is_err_and}
 use Rattle.source_operators.specs.View.{expression_view}
-use Rattle.operator_text.specs.Reading.{expression_at, side_at, more_at}
-use Rattle.operator_text.specs.Signs.{strength}
+use Rattle.operator_text.specs.Reading.{expression_at}
 use Rattle.operator_text.proofs.MoreLoop.{nothing_follows, weak_follows, side_fails, side_follows, all_followed}
 use Rattle.operator_text.proofs.expressions.+expression.Goals as goal
 
