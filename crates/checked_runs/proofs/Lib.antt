@@ -5,3 +5,4 @@ pub mod Entries
 pub mod Realized
 pub mod Runs
 pub mod Traces
+pub mod Cells

@@ -1,11 +1,13 @@
 -- Checked runs of small programs, step by step.
-use Rattle.std.proofs.Common.{◌≡◌, ℕ, List, [], ◌∷◌, true, codes, Some, refl}
+use Rattle.std.proofs.Common.{⊎_elim, arith, ◌≡◌, ℕ, List, [], ◌∷◌, true, codes, Some, refl}
 use Rattle.std.specs.FinMap.{empty}
-use Rattle.std.proofs.lemmas.List.Elements.{All-nil}
-use Rattle.gil_values.specs.Pure.{PureValue}
+use Rattle.std.proofs.lemmas.List.Elements.{All-nil, Contains-push_cases}
+use Rattle.gil_values.specs.Pure.{PureValue, symbol}
+use Rattle.gil_values.specs.Symbols.{IsBelow}
+use Rattle.mem_model.specs.Heaps.{Heap, IsHeapOf, IsHeapBelow}
 use Rattle.gil_syntax.specs.Evaluation.{Store, bind}
 use Rattle.gil_syntax.specs.Pure.{PureSpec, PureParts}
-use Rattle.gil_syntax.proofs.Symbols.{HoldsOfAll, each-nil}
+use Rattle.gil_syntax.proofs.Symbols.{HoldsOfAll, each-nil, none_contained}
 use Rattle.mem_model.specs.declared.keys.MemoryName.TheVariants.{Record}
 use Rattle.mem_model.specs.Actions.{no_memory}
 use Rattle.mem_model.proofs.Parts.{empty_is_heap, empty_is_below}
@@ -63,3 +65,27 @@ one_number v = (each-nil (Below 0), tt)
 -- x and the result have these values
 abbrev pub with_result : PureValue → PureValue → Store
 with_result v r = bind (codes "x") v (bind (codes "ret") r [])
+
+-- the state at the start, with a heap whose one location is the argument
+abbrev pub with_heap_at_start : PureParts → PureSpec → Heap → List Fact → Checked
+with_heap_at_start p s h facts = record { machine = start p s.name (symbol 0 ∷ []) h 1; facts = facts; passed = [] ∷ [] }
+
+pub symbol_below : IsBelow 1 (symbol 0)
+symbol_below n is = ⊎_elim (λ none. absurd (none_contained n none)) (λ same. omega (arith, same)) (Contains-push_cases [] 0 n is)
+
+pub starts_with_heap : (p : PureParts) (s : PureSpec) (h : Heap) (facts : List Fact) → IsHeapOf Record h → IsHeapBelow 1 h → fit_params s.params (symbol 0 ∷ []) ≡ true → added (entry_store s (symbol 0 ∷ []) []) s.pre nothing ≡ Some (record { heap = h; facts = facts }) → EachFactHolds (Below 1) facts
+    → IsStart p Record no_memory (entered s (symbol 0 ∷ [])) (with_heap_at_start p s h facts)
+starts_with_heap p s h facts is_heap below fit is facts_are = record {
+  entered = record { arguments_fit = fit; only_variables = λ x w at. no_value w at; sorts = λ x w at. no_value w at };
+  state = record { heap = h; facts = facts };
+  adding = record { added_is = is; well_formed = is_heap };
+  counter = 1;
+  is_start = refl;
+  above = record {
+    heap_below = below;
+    current_below = args_hold (Below 1) (params_of (find_proc p.procs s.name)) (symbol 0 ∷ []) (symbol_below, tt);
+    callers_below = All-nil (IsFrameBelow 1);
+    facts_below = facts_below 1 facts facts_are;
+  };
+  variables_below = λ x w at. no_value w at;
+}

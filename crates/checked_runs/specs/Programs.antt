@@ -2,12 +2,13 @@
 use Rattle.std.specs.Prelude.{◌≡◌, ℕ, pos, List, [], ◌∷◌, codes, true, false, Some, None}
 use Rattle.gil_values.specs.declared.operators.BinOp.TheVariants.{Add, Subtract, Equal, Less}
 use Rattle.gil_values.specs.declared.operators.UnOp.TheVariants.{Not}
-use Rattle.gil_values.specs.Pure.{PureValue, boolean, procedure}
+use Rattle.gil_values.specs.declared.kinds.Kind.TheVariants.{Null}
+use Rattle.gil_values.specs.Pure.{PureValue, boolean, text, kind, procedure}
 use Rattle.gil_syntax.specs.declared.assertions.Param.{Param}
 use Rattle.gil_syntax.specs.declared.assertions.SpecSort.TheVariants.{Any, Int as Numbers}
 use Rattle.gil_syntax.specs.Evaluation.{Store}
 use Rattle.gil_syntax.specs.Examples.{number, proc_of}
-use Rattle.gil_syntax.specs.Pure.{PureExpr, literal, name, logical, unary_of, binary_of, PurePredUse, PureItem, pure, uses, PureCommand, assign, call, usym, ifgoto, return, fail, unfold_use, assert_that, loop_invariant, PureProc, PureSpec, PurePredDef, PureParts}
+use Rattle.gil_syntax.specs.Pure.{PureExpr, literal, name, logical, unary_of, binary_of, PurePredUse, PureItem, pure, uses, PureCommand, assign, call, usym, ifgoto, return, fail, vanish, fold_use, unfold_use, assert_that, loop_invariant, PureProc, PureSpec, PurePredDef, PureParts}
 use Rattle.mem_model.specs.declared.keys.MemoryName.TheVariants.{Record}
 use Rattle.mem_model.specs.Actions.{no_memory}
 use Rattle.checked_runs.specs.Checked.{Checked, Fault, has_fault, Leads, IsReachedIn, used_by}
@@ -233,3 +234,83 @@ counts_without_listing =
     parts (proc_of (codes "f") (codes "n" ∷ [])
     (assign (codes "i") (number 0) ∷ invariant_of [] ∷ ifgoto (unary_of Not (binary_of Less i n)) (pos 5) ∷ assign (codes "i") (binary_of Add i (number 1)) ∷ ifgoto always (pos 1) ∷ return (number 0) ∷ []) ∷ [])
     (of_a_number ∷ []) []
+
+-- ---- one cell: a is a location, whose name v is all that the heap holds
+
+-- prop(a, "v"; OUT)
+abbrev pub cell_of : PureExpr → PureExpr → PureItem
+cell_of l out = uses (record { pred = codes "prop"; ins = l ∷ literal (text (codes "v")) ∷ []; outs = out ∷ [] })
+
+-- proc f(a) { COMMANDS } spec f(a) [] { PRE } { POST } pred p(x;) [] { prop(x, "v"; 1) }
+abbrev pub of_cell : List PureItem → List PureItem → PureSpec
+of_cell pre post = spec_of (codes "f") (any (codes "a") ∷ []) pre (post ∷ [])
+
+abbrev pub with_cell : PureSpec → List PureCommand → PureParts
+with_cell s cs = parts (proc_of (codes "f") (codes "a" ∷ []) cs ∷ []) (s ∷ []) (pred_p ((cell_of x (number 1) ∷ []) ∷ []) ∷ [])
+
+abbrev pub returns_nothing : PureCommand
+returns_nothing = return (number 0)
+
+-- spec f(a) [] { prop(a, "v"; 1) } { emp }
+abbrev pub loses_the_cell : PureSpec
+loses_the_cell = of_cell (cell_of a (number 1) ∷ []) []
+
+-- spec f(a) [] { prop(a, "v"; 1) } { prop(a, "v"; 0) }
+abbrev pub tells_another_value : PureSpec
+tells_another_value = of_cell (cell_of a (number 1) ∷ []) (cell_of a (number 0) ∷ [])
+
+-- spec f(a) [] { prop(a, "v"; 1) } { p(a;) * prop(a, "v"; 1) }
+abbrev pub has_it_twice : List PureItem → PureSpec
+has_it_twice pre = of_cell pre (uses (p_use a) ∷ cell_of a (number 1) ∷ [])
+
+-- proc g(a) { vanish; } proc f(a) { x := call @g(a); return 0; } spec g(a) [] { prop(a, "v"; 1) } { emp }
+-- spec f(a) [] { prop(a, "v"; 1) } { prop(a, "v"; 1) }
+abbrev pub keeps_the_cell : PureSpec
+keeps_the_cell = of_cell (cell_of a (number 1) ∷ []) (cell_of a (number 1) ∷ [])
+
+abbrev pub gives_the_cell_away : PureParts
+gives_the_cell_away =
+    parts (proc_of (codes "g") (codes "a" ∷ []) (vanish ∷ []) ∷ proc_of (codes "f") (codes "a" ∷ []) (calls (codes "x") (codes "g") (a ∷ []) ∷ returns_nothing ∷ []) ∷ [])
+    (record loses_the_cell { name = codes "g" } ∷ keeps_the_cell ∷ []) []
+
+-- proc f(a) { fold p(a;); return 0; } and proc f(a) { unfold p(a;); return 0; }, with that specification
+abbrev pub folds_it : PureParts
+folds_it = with_cell (has_it_twice (cell_of a (number 1) ∷ [])) (fold_use (p_use a) ∷ returns_nothing ∷ [])
+
+abbrev pub unfolds_it : PureParts
+unfolds_it = with_cell (has_it_twice (uses (p_use a) ∷ [])) (unfold_use (p_use a) ∷ returns_nothing ∷ [])
+
+-- proc f(a) { fold prop(a, "v"; 1); return 0; }
+abbrev pub folds_a_key : PureParts
+folds_a_key = with_cell keeps_the_cell (fold_use (record { pred = codes "prop"; ins = a ∷ literal (text (codes "v")) ∷ []; outs = number 1 ∷ [] }) ∷ returns_nothing ∷ [])
+
+-- proc f(a) { b := true; invariant (b) [] { emp }; ifgoto (b = true) 4; return 0; fold p(a;); b := false; ifgoto true 1; return 0; }
+abbrev pub b : PureExpr
+b = name (codes "b")
+
+abbrev pub folds_in_a_loop : PureParts
+folds_in_a_loop =
+    with_cell keeps_the_cell
+    (assign (codes "b") always ∷ invariant_of (codes "b" ∷ []) ∷ ifgoto (same b always) (pos 4) ∷ returns_nothing ∷ fold_use (p_use a) ∷ assign (codes "b") (literal (boolean false)) ∷ ifgoto always (pos 1) ∷ returns_nothing ∷ [])
+
+-- proc f(a) { return 0; } spec f(a) [] { prop(a, "v"; Null) } { list(a;) } pred list(x;) [#n] { (x = Null) } { prop(x, "v"; #n) * list(#n;) }
+abbrev pub null : PureExpr
+null = literal (kind Null)
+
+abbrev pub list_use : PureExpr → PureItem
+list_use e = uses (record { pred = codes "list"; ins = e ∷ []; outs = [] })
+
+abbrev pub linked_list : PurePredDef
+linked_list = record {
+  name = codes "list";
+  ins = any (codes "x") ∷ [];
+  outs = [];
+  logicals = any (codes "#n") ∷ [];
+  cases = (pure (same x null) ∷ []) ∷ (cell_of x (logical (codes "#n")) ∷ list_use (logical (codes "#n")) ∷ []) ∷ [];
+}
+
+abbrev pub sees_a_list : PureSpec
+sees_a_list = of_cell (cell_of a null ∷ []) (list_use a ∷ [])
+
+abbrev pub one_cell_is_no_list : PureParts
+one_cell_is_no_list = parts (proc_of (codes "f") (codes "a" ∷ []) (returns_nothing ∷ []) ∷ []) (sees_a_list ∷ []) (linked_list ∷ [])

@@ -8,7 +8,8 @@ mod rows;
 
 pub use laws::verified_specifications_hold;
 pub use programs::{
-    mistakes_of_assertions_are_found, mistakes_of_calls_are_found, mistakes_of_invariants_are_found,
+    mistakes_of_assertions_are_found, mistakes_of_calls_are_found, mistakes_of_heaps_are_found,
+    mistakes_of_invariants_are_found,
 };
 pub use rows::{
     calls_ask_for_the_precondition, folds_and_asserts_are_matched, invariants_are_asked,

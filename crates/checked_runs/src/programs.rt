@@ -1,7 +1,9 @@
 //! Rows of whole programs: each has a mistake that a wrong rule would let through, and a checked run that finds it.
 ghost use Rattle.std.specs.Prelude.{[], ◌∷◌, codes};
 ghost use Rattle.checked_runs.specs.Checked.{fails, post, invariant, call_precondition, fold_body};
-ghost use Rattle.checked_runs.specs.Rows.{number_value};
+ghost use Rattle.checked_runs.specs.Rows.{a, number_value};
+ghost use Rattle.gil_syntax.specs.Examples.{number};
+ghost use Rattle.gil_syntax.specs.Pure.{uses};
 ghost use Rattle.checked_runs.specs.Programs.{
   HasFault,
   Uses,
@@ -33,6 +35,21 @@ ghost use Rattle.checked_runs.specs.Programs.{
   passes_in_two_calls,
   of_a_number,
   counts_without_listing,
+  with_cell,
+  returns_nothing,
+  loses_the_cell,
+  tells_another_value,
+  gives_the_cell_away,
+  keeps_the_cell,
+  folds_it,
+  unfolds_it,
+  has_it_twice,
+  cell_of,
+  p_use,
+  folds_a_key,
+  folds_in_a_loop,
+  one_cell_is_no_list,
+  sees_a_list,
 };
 
 /// A postcondition reads the parameters' values at entry; a call asks for the arguments' sorts, and its result is any value that
@@ -68,4 +85,17 @@ pub fn mistakes_of_invariants_are_found()
     ensures unset { HasFault lists_without_value of_no_argument invariant }
     ensures other_call { HasFault passes_in_two_calls of_no_argument (fails (number_value 1)) }
     ensures counter { HasFault counts_without_listing of_a_number invariant }
+{}
+
+/// A return leaves no key; a known out is what the key holds; a call by specification takes what its precondition tells, `fold` takes
+/// the body, and `unfold` the fact; what an invariant leaves is the same when it is reached again.
+pub fn mistakes_of_heaps_are_found()
+    ensures leftover { HasFault (with_cell loses_the_cell (returns_nothing ∷ [])) loses_the_cell post }
+    ensures other_value { HasFault (with_cell tells_another_value (returns_nothing ∷ [])) tells_another_value post }
+    ensures given_away { HasFault gives_the_cell_away keeps_the_cell post }
+    ensures folded { HasFault folds_it (has_it_twice (cell_of a (number 1) ∷ [])) post }
+    ensures unfolded { HasFault unfolds_it (has_it_twice (uses (p_use a) ∷ [])) post }
+    ensures core_predicate { HasFault folds_a_key keeps_the_cell fold_body }
+    ensures remainder { HasFault folds_in_a_loop keeps_the_cell invariant }
+    ensures one_level { HasFault one_cell_is_no_list sees_a_list post }
 {}
