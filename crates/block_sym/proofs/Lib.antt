@@ -1,0 +1,10 @@
+pub mod AllocRight
+pub mod Arguments
+pub mod BlockShapes
+pub mod CellRight
+pub mod FormLaws
+pub mod FreeRight
+pub mod Instance
+pub mod Law
+pub mod Loops
+pub mod Right
