@@ -1,5 +1,5 @@
 -- A block is read as its braces and what stands within them, where one may stand there at all.
-use Rattle.std.proofs.Common.{◌≡◌, ◌≢◌, ℕ, zero, suc, ◌-◌, ◌≤◌, List, None, refl, ap, arith}
+use Rattle.std.proofs.Common.{◌≡◌, ℕ, zero, suc, ◌-◌, ◌≤◌, List, None, refl, ap, arith}
 use Rattle.gil_lexemes.specs.declared.standing.Lexeme.{Lexeme}
 use Rattle.statement_text.specs.Reading.{Readers, statement_at, block_by, block_at}
 

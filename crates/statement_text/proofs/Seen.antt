@@ -1,5 +1,5 @@
 -- The statements of a block as pure data, where its list is known.
-use Rattle.std.proofs.Common.{◌≡◌, List, [], ◌∷◌, ◌++◌, map, sym, ap, ◌∙◌}
+use Rattle.std.proofs.Common.{◌≡◌, [], ◌∷◌, ◌++◌, map, sym, ap, ◌∙◌}
 use Rattle.std.proofs.lemmas.List.{map_push}
 use Rattle.source_statements.specs.declared.tree.Block.{Block}
 use Rattle.source_statements.specs.declared.tree.PlacedStatement.{PlacedStatement}

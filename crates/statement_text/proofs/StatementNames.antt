@@ -1,5 +1,5 @@
 -- Statements that lexemes without '$' spell name only what a source text can name, where expressions and simple statements do.
-use Rattle.std.proofs.Common.{◌≡◌, ℕ, List, ◌∷◌, Bool, refl, subst, inl, inr}
+use Rattle.std.proofs.Common.{ℕ, List, ◌∷◌, Bool, refl, subst, inl, inr}
 use Rattle.std.specs.Prelude.{◌&&◌, IsTrue}
 use Rattle.std.proofs.lemmas.Bool.{and_from}
 use Rattle.gil_lexemes.specs.declared.standing.Lexeme.{Lexeme}

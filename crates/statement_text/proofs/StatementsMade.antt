@@ -1,11 +1,10 @@
 -- What statements hold is well made where proper lexemes spell them, if expressions and simple statements are.
-use Rattle.std.proofs.Common.{◌≡◌, ℕ, List, ◌∷◌, Bool, true, ◌&&◌, Option, Some, None, refl, subst, inl, inr}
+use Rattle.std.proofs.Common.{ℕ, List, Bool, ◌&&◌, Some, None, refl, subst, inl, inr}
 use Rattle.std.proofs.lemmas.Bool.{and_from}
 use Rattle.gil_lexemes.specs.declared.standing.Lexeme.{Lexeme}
 use Rattle.gil_syntax.specs.Pure as gil
 use Rattle.gil_grammar.proofs.MadeLaws.{AreProper, Made, Makes, after, command_makes}
 use Rattle.source_language.specs.Compiled.{logic_command}
-use Rattle.source_language.specs.Pure.{PureLogic, PureInvariant}
 use Rattle.source_text.specs.Logic.{SpellsLogic, SpellsInvariant}
 use Rattle.source_statements.specs.Pure.{PureStatement, simple, assert, assume, if_else, while, return, logic, PureBlock, no_statements, statement_and}
 use Rattle.source_statements.specs.WellMade.{is_well_made_logic, is_well_made_invariant, is_well_made_statement, is_well_made_block}
