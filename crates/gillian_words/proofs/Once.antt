@@ -8,8 +8,8 @@ use Rattle.gil_lexer.proofs.LiteralLaws.{literal_once}
 use Rattle.gillian_words.specs.declared.tasks.Language.{Language}
 use Rattle.gillian_words.specs.declared.tasks.Language.TheVariants.{GilRecord, While}
 use Rattle.gillian_words.specs.declared.scan.Scan.TheVariants.{Outside}
-use Rattle.gillian_words.specs.Asked.{AskFor, Asks, Given, IsOption, SpellsBound, SpellsEntry}
-use Rattle.gillian_words.specs.Tasks.{PureTask, run, test, compile, solve, mode_word, language_word}
+use Rattle.gillian_words.specs.Asked.{AskFor, Asks, AsksTask, Given, IsOption, SpellsBound, SpellsEntry}
+use Rattle.gillian_words.specs.Tasks.{PureTask, run, test, compile, solve, PureRequest, mode_word, language_word}
 use Rattle.gillian_words.specs.Inputs.{comma, boolean_word, SpellsInput, SpellsInputs, SpellsNumber, SpellsSome}
 use Rattle.gillian_words.specs.Pieces.{piece_len}
 use Rattle.gillian_words.proofs.Scans.{first_piece, first_spelled, last_piece, more_spelled}
@@ -127,13 +127,13 @@ same_test : (l l' : Language) (e e' : List ℕ) (n n' : ℕ) → l ≡ l' → e 
 same_test l l' e e' n n' p q r = ap (λ x. test x e n) p ∙ ap (λ x. test l' x n) q ∙ ap (λ x. test l' e' x) r
 
 -- what is given asks for one mode
-one_mode : (g : Given) (a b : PureTask) → Asks g a → Asks g b → mode_word a ≡ mode_word b
+one_mode : (g : Given) (a b : PureTask) → AsksTask g a → AsksTask g b → mode_word a ≡ mode_word b
 one_mode g a b h k = same_word g.mode (mode_word a) (mode_word b) h.mode k.mode
 
 same_language : (g : Given) (l m : Language) → g.second ≡ Some (language_word l) → g.second ≡ Some (language_word m) → l ≡ m
 same_language g l m h k = one_language l m (same_word g.second _ _ h k)
 
-asks_once : (g : Given) (a b : PureTask) → Asks g a → Asks g b → a ≡ b
+asks_once : (g : Given) (a b : PureTask) → AsksTask g a → AsksTask g b → a ≡ b
 asks_once g (run l e n vs) (run l' e' n' vs') h k =
     same_run l l' e e' n n' vs vs' (same_language g l l' h.second k.second)
     (one_option SpellsEntry (codes "main") g.entry e e' one_entry h.options.0 k.options.0)
@@ -158,5 +158,11 @@ asks_once g solve (run l' e' n' vs') h k = let is = one_mode g _ _ h k in cc
 asks_once g solve (test l' e' n') h k = let is = one_mode g _ _ h k in cc
 asks_once g solve (compile l') h k = let is = one_mode g _ _ h k in cc
 
-pub asked_once : (words : List (List ℕ)) (a b : PureTask) → AskFor words a → AskFor words b → a ≡ b
-asked_once words a b for other = asks_once _ a b for.asks other.asks
+abbrev request_of : PureTask → Bool → PureRequest
+request_of task json = record { task = task; json = json }
+
+requested_once : (g : Given) (a b : PureRequest) → Asks g a → Asks g b → a ≡ b
+requested_once g a b h k = ap₂ request_of (asks_once g a.task b.task h.task k.task) (h.json ∙ sym k.json)
+
+pub asked_once : (words : List (List ℕ)) (a b : PureRequest) → AskFor words a → AskFor words b → a ≡ b
+asked_once words a b for other = requested_once _ a b for.asks other.asks

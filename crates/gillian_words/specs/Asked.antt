@@ -1,12 +1,12 @@
 -- What words ask for.
-use Rattle.std.specs.Prelude.{◌≡◌, ◌≤◌, ℕ, List, [], Bool, false, Option, Some, None, length, codes}
+use Rattle.std.specs.Prelude.{◌≡◌, ◌≤◌, ℕ, List, [], Bool, true, false, Option, Some, None, length, codes}
 use Rattle.std.specs.Str.{bytes_eq}
 use Rattle.std.specs.Str.Parse.{IsNumeral, digits_value}
 use Rattle.gil_values.specs.Pure.{PureValue}
 use Rattle.gil_lexer.specs.Spelling.{IsName}
 use Rattle.gillian_words.specs.Inputs.{SpellsInputs}
 use Rattle.gillian_words.specs.Line.{AreTaken, matched}
-use Rattle.gillian_words.specs.Tasks.{PureTask, run, test, compile, solve, mode_word, second_word}
+use Rattle.gillian_words.specs.Tasks.{PureTask, run, test, compile, solve, PureRequest, has_report, mode_word, second_word}
 
 -- one to five digits, and at most 10,000
 abbrev pub SpellsBound : List ℕ → ℕ → Type 0
@@ -55,21 +55,26 @@ given_by words = record {
   json = matched words (codes "json");
 }
 
--- The options that a mode takes have these values, and no other option is given. No mode takes the flag `--json` yet.
+-- The options with a value that a mode takes have these values, and no other such option is given.
 abbrev pub HasOptions : Given → PureTask → Type 0
 HasOptions g (run language entry bound inputs) = IsEntryOption g.entry entry × IsBoundOption g.bound bound × IsInputsOption g.inputs inputs
 HasOptions g (test language entry bound) = IsEntryOption g.entry entry × IsBoundOption g.bound bound × (g.inputs ≡ None)
 HasOptions g (compile language) = (g.entry ≡ None) × (g.bound ≡ None) × (g.inputs ≡ None)
 HasOptions g solve = (g.entry ≡ None) × (g.bound ≡ None) × (g.inputs ≡ None)
 
--- what is given asks for this
-pub record Asks (g : Given) (t : PureTask) : Type 0 where
+-- what is given asks for this, the form of the report aside
+pub record AsksTask (g : Given) (t : PureTask) : Type 0 where
   pub mode : g.mode ≡ Some (mode_word t)
   pub second : g.second ≡ Some (second_word t)
   pub options : HasOptions g t
-  pub json : is_given g.json ≡ false
+
+-- what is given asks for this: for JSON where the flag `--json` is given, which the modes with a report take
+pub record Asks (g : Given) (r : PureRequest) : Type 0 where
+  pub task : AsksTask g r.task
+  pub json : r.json ≡ is_given g.json
+  pub reports : r.json ≡ true → has_report r.task ≡ true
 
 -- The words ask for this: clap takes them, and what it matches asks for it.
-pub record AskFor (words : List (List ℕ)) (t : PureTask) : Type 0 where
+pub record AskFor (words : List (List ℕ)) (r : PureRequest) : Type 0 where
   pub taken : AreTaken words
-  pub asks : Asks (given_by words) t
+  pub asks : Asks (given_by words) r

@@ -1,5 +1,5 @@
 -- What can be asked for: a mode, with what it works on and its options.
-use Rattle.std.specs.Prelude.{ℕ, List, codes}
+use Rattle.std.specs.Prelude.{ℕ, List, Bool, true, false, codes}
 use Rattle.gil_values.specs.Pure.{PureValue}
 use Rattle.gillian_words.specs.declared.tasks.Language.{Language}
 use Rattle.gillian_words.specs.declared.tasks.Language.TheVariants.{GilRecord, While}
@@ -11,6 +11,18 @@ pub data PureTask : Type 0 where
   test : Language → List ℕ → ℕ → PureTask
   compile : Language → PureTask
   solve : PureTask
+
+-- what is asked for, and whether its report is to be JSON
+pub record PureRequest : Type 0 where
+  pub task : PureTask
+  pub json : Bool
+
+-- a program is no report
+abbrev pub has_report : PureTask → Bool
+has_report (run language entry bound inputs) = true
+has_report (test language entry bound) = true
+has_report (compile language) = false
+has_report solve = true
 
 abbrev pub language_word : Language → List ℕ
 language_word GilRecord = codes "gil-record"

@@ -8,13 +8,17 @@ use Rattle.gillian_words.specs.declared.tasks.Task.{Task}
 use Rattle.gillian_words.specs.declared.tasks.Task.TheVariants.{Run, Test, Compile, Solve}
 use Rattle.gillian_words.specs.declared.line.Given.{Given as Matches}
 use Rattle.gillian_words.specs.Asked.{Given}
-use Rattle.gillian_words.specs.Tasks.{PureTask, run, test, compile, solve}
+use Rattle.gillian_words.specs.declared.tasks.Request.{Request}
+use Rattle.gillian_words.specs.Tasks.{PureTask, run, test, compile, solve, PureRequest}
 
 abbrev pub task_view : Task → PureTask
 task_view (Run language entry bound inputs) = run language entry bound.steps (values_view inputs)
 task_view (Test language entry bound) = test language entry bound.steps
 task_view (Compile language) = compile language
 task_view Solve = solve
+
+abbrev pub request_view : Request → PureRequest
+request_view r = record { task = task_view r.task; json = r.json }
 
 abbrev pub given_view : Matches → Given
 given_view g = record {

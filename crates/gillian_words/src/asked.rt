@@ -1,15 +1,15 @@
 //! Reading what words ask for.
-ghost use Rattle.std.specs.Prelude.{◌≡◌, ◌≢◌, Some, None, false, IfOk, IsErrOf, codes};
+ghost use Rattle.std.specs.Prelude.{◌≡◌, ◌≢◌, Some, None, IfOk, IsErrOf, codes};
 ghost use Rattle.std.specs.Option.{option_map};
 ghost use Rattle.gillian_words.specs.declared.tasks.Language.{Language};
-ghost use Rattle.gillian_words.specs.Asked.{AskFor, Asks, is_given};
+ghost use Rattle.gillian_words.specs.Asked.{AskFor, Asks, AsksTask, is_given};
 ghost use Rattle.gillian_words.specs.Line.{spelled};
-ghost use Rattle.gillian_words.specs.Tasks.{PureTask, language_word};
-ghost use Rattle.gillian_words.specs.View.{given_view, task_view};
+ghost use Rattle.gillian_words.specs.Tasks.{PureRequest, PureTask, language_word};
+ghost use Rattle.gillian_words.specs.View.{given_view, request_view, task_view};
 
 use crate::line::{Given, match_words};
 use crate::options::{bound_option, entry_option, inputs_option, no_option};
-use crate::tasks::{Language, Task};
+use crate::tasks::{Language, Request, Task};
 use std::alloc::{AllocError, Global};
 use thiserror::Error;
 
@@ -36,27 +36,37 @@ impl From<AllocError> for WordsFault {
 
 /// What the words ask for, the program's name first, which isn't looked at. They are refused exactly where they ask for
 /// nothing that is built.
-pub fn read_words(alloc: Global, words: &Vec<String>) -> Result<Task, WordsFault>
-    ensures asked { IfOk result (λ task. AskFor (spelled words.now) (task_view task)) }
-    ensures refused { IsErrOf result WordsFault.Refused → (t : PureTask) → AskFor (spelled words.now) t → ⊥ }
+pub fn read_words(alloc: Global, words: &Vec<String>) -> Result<Request, WordsFault>
+    ensures asked { IfOk result (λ request. AskFor (spelled words.now) (request_view request)) }
+    ensures refused { IsErrOf result WordsFault.Refused → (r : PureRequest) → AskFor (spelled words.now) r → ⊥ }
 {
     match match_words(alloc, words)? {
-        Some(given) => task_of(alloc, &given),
+        Some(given) => request_of(alloc, &given),
         None => Err(WordsFault::Refused),
     }
 }
 
-/// What is asked by what is given.
+/// What is asked by what is given, with the form of the report. Only a mode with a report takes the flag.
+fn request_of(alloc: Global, given: &Given) -> Result<Request, WordsFault>
+    ensures asked { IfOk result (λ request. Asks (given_view given.now) (request_view request)) }
+    ensures refused { IsErrOf result WordsFault.Refused → (r : PureRequest) → Asks (given_view given.now) r → ⊥ }
+{
+    let task = task_of(alloc, given)?;
+    let json = is_given(given.json);
+    if json && !task.has_report() {
+        return Err(WordsFault::Refused);
+    }
+    Ok(Request { task, json })
+}
+
+/// What is asked by what is given, the form of the report aside.
 fn task_of(alloc: Global, given: &Given) -> Result<Task, WordsFault>
-    ensures asked { IfOk result (λ task. Asks (given_view given.now) (task_view task)) }
-    ensures refused { IsErrOf result WordsFault.Refused → (t : PureTask) → Asks (given_view given.now) t → ⊥ }
+    ensures asked { IfOk result (λ task. AsksTask (given_view given.now) (task_view task)) }
+    ensures refused { IsErrOf result WordsFault.Refused → (t : PureTask) → AsksTask (given_view given.now) t → ⊥ }
 {
     let Some(mode) = given.mode else {
         return Err(WordsFault::Refused);
     };
-    if is_given(given.json) {
-        return Err(WordsFault::Refused);
-    }
     match mode {
         "run" => run_of(alloc, given),
         "test" => test_of(alloc, given),
@@ -69,9 +79,8 @@ fn task_of(alloc: Global, given: &Given) -> Result<Task, WordsFault>
 /// The run that is asked for.
 fn run_of(alloc: Global, given: &Given) -> Result<Task, WordsFault>
     requires mode { option_map (λ s. s.now) given.now.mode ≡ Some (codes "run") }
-    requires json { is_given (option_map (λ s. s.now) given.now.json) ≡ false }
-    ensures asked { IfOk result (λ task. Asks (given_view given.now) (task_view task)) }
-    ensures refused { IsErrOf result WordsFault.Refused → (t : PureTask) → Asks (given_view given.now) t → ⊥ }
+    ensures asked { IfOk result (λ task. AsksTask (given_view given.now) (task_view task)) }
+    ensures refused { IsErrOf result WordsFault.Refused → (t : PureTask) → AsksTask (given_view given.now) t → ⊥ }
 {
     let language = language_of(given.second)?;
     let entry = entry_option(alloc, given.entry)?;
@@ -88,9 +97,8 @@ fn run_of(alloc: Global, given: &Given) -> Result<Task, WordsFault>
 /// The test that is asked for.
 fn test_of(alloc: Global, given: &Given) -> Result<Task, WordsFault>
     requires mode { option_map (λ s. s.now) given.now.mode ≡ Some (codes "test") }
-    requires json { is_given (option_map (λ s. s.now) given.now.json) ≡ false }
-    ensures asked { IfOk result (λ task. Asks (given_view given.now) (task_view task)) }
-    ensures refused { IsErrOf result WordsFault.Refused → (t : PureTask) → Asks (given_view given.now) t → ⊥ }
+    ensures asked { IfOk result (λ task. AsksTask (given_view given.now) (task_view task)) }
+    ensures refused { IsErrOf result WordsFault.Refused → (t : PureTask) → AsksTask (given_view given.now) t → ⊥ }
 {
     let language = language_of(given.second)?;
     let entry = entry_option(alloc, given.entry)?;
@@ -106,9 +114,8 @@ fn test_of(alloc: Global, given: &Given) -> Result<Task, WordsFault>
 /// The compilation that is asked for.
 fn compile_of(given: &Given) -> Result<Task, WordsFault>
     requires mode { option_map (λ s. s.now) given.now.mode ≡ Some (codes "compile") }
-    requires json { is_given (option_map (λ s. s.now) given.now.json) ≡ false }
-    ensures asked { IfOk result (λ task. Asks (given_view given.now) (task_view task)) }
-    ensures refused { IsErrOf result WordsFault.Refused → (t : PureTask) → Asks (given_view given.now) t → ⊥ }
+    ensures asked { IfOk result (λ task. AsksTask (given_view given.now) (task_view task)) }
+    ensures refused { IsErrOf result WordsFault.Refused → (t : PureTask) → AsksTask (given_view given.now) t → ⊥ }
 {
     let language = language_of(given.second)?;
     no_option(given.entry)?;
@@ -120,9 +127,8 @@ fn compile_of(given: &Given) -> Result<Task, WordsFault>
 /// The solution that is asked for.
 fn solve_of(given: &Given) -> Result<Task, WordsFault>
     requires mode { option_map (λ s. s.now) given.now.mode ≡ Some (codes "solve") }
-    requires json { is_given (option_map (λ s. s.now) given.now.json) ≡ false }
-    ensures asked { IfOk result (λ task. Asks (given_view given.now) (task_view task)) }
-    ensures refused { IsErrOf result WordsFault.Refused → (t : PureTask) → Asks (given_view given.now) t → ⊥ }
+    ensures asked { IfOk result (λ task. AsksTask (given_view given.now) (task_view task)) }
+    ensures refused { IsErrOf result WordsFault.Refused → (t : PureTask) → AsksTask (given_view given.now) t → ⊥ }
 {
     atoms_alone(given.second)?;
     no_option(given.entry)?;

@@ -47,7 +47,7 @@ pub struct Bound {
     pub ghost within: { steps ≤ 10000 },
 }
 
-/// What words ask for: a mode, with what it works on and its options. Contracts see it as its pure data, by `task_view`.
+/// What is asked for: a mode, with what it works on and its options. Contracts see it as its pure data, by `task_view`.
 #[derive(Debug, Drop)]
 pub enum Task {
     /// One run of the entry on these inputs, which draws take in order.
@@ -69,4 +69,28 @@ pub enum Task {
     },
     /// A solution of a list of atoms.
     Solve,
+}
+
+/// What words ask for, with the form of its report. Contracts see it as its pure data, by `request_view`.
+#[derive(Debug, Drop)]
+pub struct Request {
+    pub task: Task,
+    /// Whether the report is to be JSON.
+    pub json: bool,
+}
+
+impl Task {
+    ghost use Rattle.std.specs.Prelude.{◌≡◌};
+    ghost use Rattle.gillian_words.specs.Tasks.{has_report};
+    ghost use Rattle.gillian_words.specs.View.{task_view};
+
+    /// Whether a report is written of it. A program is none.
+    pub fn has_report(&self) -> bool
+        ensures { result ≡ has_report (task_view self.now) }
+    {
+        match self {
+            Task::Compile { .. } => false,
+            Task::Run { .. } | Task::Test { .. } | Task::Solve => true,
+        }
+    }
 }
