@@ -15,7 +15,7 @@ use Rattle.while_lang.specs.Pure.{PureSource}
 use Rattle.while_lang.specs.Meaning.{source_end}
 use Rattle.while_compiler.specs.SameEnds.{HasSameEnds}
 use Rattle.gillian_words.specs.declared.tasks.Language.{Language}
-use Rattle.gillian_words.specs.declared.tasks.Language.TheVariants.{GilRecord, While}
+use Rattle.gillian_words.specs.declared.tasks.Language.TheVariants.{GilRecord, GilBlock, While}
 use Rattle.gillian_core.specs.Ends.{end_answer}
 use Rattle.gillian_core.specs.Languages.{definition_of}
 use Rattle.gillian_core.specs.Reports.{failed as failed_answer}
@@ -30,6 +30,7 @@ pub run_is_meant : (l : Language) (bytes : List ℕ) (p : PureParts) (f : List �
     → (definition_of l).KeepsEnds bytes p → IsEntry p f
     → (definition_of l).IsMeant bytes f inputs (end_answer (held_run_of p (definition_of l).memory.actions f [] empty 0 inputs bound))
 run_is_meant GilRecord bytes p f inputs bound keeps entry = tt
+run_is_meant GilBlock bytes p f inputs bound keeps entry = tt
 run_is_meant While bytes p f inputs bound keeps entry = (
   keeps.0,
   keeps.1,
@@ -43,6 +44,7 @@ pub failure_is_meant : (l : Language) (bytes : List ℕ) (p : PureParts) (f : Li
     → (test_run p (definition_of l).memory.actions f inputs bound).ending ≡ failed v place
     → (definition_of l).IsMeant bytes f inputs (failed_answer v place)
 failure_is_meant GilRecord bytes p f inputs bound v place keeps entry fails = tt
+failure_is_meant GilBlock bytes p f inputs bound v place keeps entry fails = tt
 failure_is_meant While bytes p f inputs bound v place keeps entry fails = (
   keeps.0,
   keeps.1,

@@ -16,7 +16,7 @@ use Rattle.gillian_core.specs.Accepted.{IsAccepted}
 use Rattle.gillian_core.specs.Compiled.{IsSourceOf, SourceLanguage, definition_by_source, limit_refusal}
 use Rattle.gillian_core.specs.Definitions.{Definition}
 use Rattle.gillian_core.specs.Finishing.{IsCause, IsNoEntry, IsNoOutput, IsNoProgram}
-use Rattle.gillian_core.specs.GilRecord.{IsTextOf, gil_record}
+use Rattle.gillian_core.specs.Gil.{IsTextOf, gil_record}
 use Rattle.gillian_core.specs.Refusals.{IsFirstKind}
 use Rattle.gillian_core.specs.Right.{IsProgramOf}
 

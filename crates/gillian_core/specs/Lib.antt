@@ -5,12 +5,12 @@ pub mod Compiled
 pub mod Definitions
 pub mod Ends
 pub mod Finishing
-pub mod GilRecord
+pub mod Gil
 pub mod Languages
+pub mod Memories
 pub mod Outcomes
 pub mod Outputs
 pub mod Queries
-pub mod Records
 pub mod Refusals
 pub mod Reports
 pub mod Right

@@ -11,7 +11,7 @@ use Rattle.while_compiler.specs.Valid.{IsValidSource, first_too_long}
 use Rattle.while_text.specs.Refusals.{IsRefusedFor}
 use Rattle.gillian_core.specs.Compiled.{SourceLanguage, definition_by_source}
 use Rattle.gillian_core.specs.Definitions.{Definition}
-use Rattle.gillian_core.specs.Records.{record_memory}
+use Rattle.gillian_core.specs.Memories.{record_memory}
 
 abbrev pub while_sources : SourceLanguage
 while_sources = record {

@@ -15,7 +15,9 @@ ghost use Rattle.gillian_core.specs.Right.{IsProgramOf, IsRightVerdict};
 use crate::answers::Answer;
 use crate::running::run_answer;
 use crate::testing::verdict;
-use crate::{gil_record, while_language};
+use crate::{gil, while_language};
+use block_heap::BlockHeap;
+use block_sym::BlockSym;
 use gil_program::Prog;
 use gil_text::Refused;
 use gil_values::{Text, Values};
@@ -32,7 +34,8 @@ pub fn program(alloc: Global, language: Language, bytes: &[u8]) -> Result<Prog, 
     ensures none { IfErr result (IsNoProgram (definition_of language) bytes.now) }
 {
     match language {
-        Language::GilRecord => gil_record::program(alloc, bytes),
+        Language::GilRecord => gil::program(alloc, bytes),
+        Language::GilBlock => gil::program(alloc, bytes),
         Language::While => while_language::program(alloc, bytes),
     }
 }
@@ -52,6 +55,7 @@ pub fn run_in(
 {
     match language {
         Language::GilRecord => run_answer::<RecordHeap>(alloc, prog, entry, bound, inputs),
+        Language::GilBlock => run_answer::<BlockHeap>(alloc, prog, entry, bound, inputs),
         Language::While => run_answer::<RecordHeap>(alloc, prog, entry, bound, inputs),
     }
 }
@@ -71,6 +75,7 @@ pub fn verdict_in(
 {
     match language {
         Language::GilRecord => verdict::<RecordSym>(alloc, prog, entry, bound, rules),
+        Language::GilBlock => verdict::<BlockSym>(alloc, prog, entry, bound, rules),
         Language::While => verdict::<RecordSym>(alloc, prog, entry, bound, rules),
     }
 }

@@ -3,7 +3,7 @@
 
 mod answers;
 mod entries;
-mod gil_record;
+mod gil;
 mod languages;
 mod outputs;
 mod queries;

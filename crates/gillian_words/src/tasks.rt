@@ -8,6 +8,8 @@ use gil_values::{Text, Values};
 pub enum Language {
     /// GIL over records.
     GilRecord,
+    /// GIL over blocks.
+    GilBlock,
     /// While, over records.
     While,
 }
@@ -23,6 +25,7 @@ impl Language {
     {
         match self {
             Language::GilRecord => "gil-record",
+            Language::GilBlock => "gil-block",
             Language::While => "while",
         }
     }
@@ -34,6 +37,7 @@ impl Language {
     {
         match word {
             "gil-record" => Some(Language::GilRecord),
+            "gil-block" => Some(Language::GilBlock),
             "while" => Some(Language::While),
             _ => None,
         }

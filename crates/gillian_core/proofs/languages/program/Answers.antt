@@ -9,6 +9,15 @@ returns-in-GilRecord-clause-only c = rw c.in-GilRecord.is c.program.ensures.only
 pub returns-in-GilRecord-clause-none : goal.returns-in-GilRecord-clause-none
 returns-in-GilRecord-clause-none c = rw c.in-GilRecord.is c.program.ensures.none
 
+pub returns-in-GilBlock-clause-program : goal.returns-in-GilBlock-clause-program
+returns-in-GilBlock-clause-program c = rw c.in-GilBlock.is c.program-in-GilBlock.ensures.program
+
+pub returns-in-GilBlock-clause-only : goal.returns-in-GilBlock-clause-only
+returns-in-GilBlock-clause-only c = rw c.in-GilBlock.is c.program-in-GilBlock.ensures.only
+
+pub returns-in-GilBlock-clause-none : goal.returns-in-GilBlock-clause-none
+returns-in-GilBlock-clause-none c = rw c.in-GilBlock.is c.program-in-GilBlock.ensures.none
+
 pub returns-in-While-clause-program : goal.returns-in-While-clause-program
 returns-in-While-clause-program c = rw c.in-While.is c.program-in-While.ensures.program
 

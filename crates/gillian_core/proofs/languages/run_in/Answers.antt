@@ -3,5 +3,8 @@ use Rattle.gillian_core.proofs.languages.run_in.Goals as goal
 pub returns-in-GilRecord : goal.returns-in-GilRecord
 returns-in-GilRecord c = rw c.in-GilRecord.is c.run_answer.ensures
 
+pub returns-in-GilBlock : goal.returns-in-GilBlock
+returns-in-GilBlock c = rw c.in-GilBlock.is c.run_answer-in-GilBlock.ensures
+
 pub returns-in-While : goal.returns-in-While
 returns-in-While c = rw c.in-While.is c.run_answer-in-While.ensures

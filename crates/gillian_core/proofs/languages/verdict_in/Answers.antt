@@ -3,5 +3,8 @@ use Rattle.gillian_core.proofs.languages.verdict_in.Goals as goal
 pub returns-in-GilRecord : goal.returns-in-GilRecord
 returns-in-GilRecord g c = rw c.in-GilRecord.is c.verdict.ensures
 
+pub returns-in-GilBlock : goal.returns-in-GilBlock
+returns-in-GilBlock g c = rw c.in-GilBlock.is c.verdict-in-GilBlock.ensures
+
 pub returns-in-While : goal.returns-in-While
 returns-in-While g c = rw c.in-While.is c.verdict-in-While.ensures

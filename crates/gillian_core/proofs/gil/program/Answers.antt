@@ -1,6 +1,6 @@
 use Rattle.gil_program.specs.Program.{prog_view}
 use Rattle.gillian_core.proofs.Refusing.{gil_program, gil_only, gil_unread}
-use Rattle.gillian_core.proofs.gil_record.program.Goals as goal
+use Rattle.gillian_core.proofs.gil.program.Goals as goal
 
 pub returns-clause-program : goal.returns-clause-program
 returns-clause-program c = gil_program prog_view c.args.bytes.now c.read_prog.result c.read_prog.ensures.ok c.read_prog.ensures.valid
