@@ -1,19 +1,41 @@
 -- Reading the C-like statements without statements in them, as functions: what the functions of a reader answer.
 use Rattle.std.specs.Prelude.{ℕ, List, [], ◌∷◌, length, Option, Some, None, if◌then◌else◌}
+use Rattle.gil_values.specs.declared.kinds.Kind.TheVariants.{Null}
+use Rattle.gil_values.specs.Pure.{integer, kind}
 use Rattle.gil_lexer.specs.declared.forms.Form.{Form}
 use Rattle.gil_lexer.specs.declared.forms.Form.TheVariants as forms
 use Rattle.gil_lexer.specs.declared.signs.Sign.TheVariants.{LeftParenthesis, RightParenthesis, Comma, Semicolon, Equal, Star}
-use Rattle.gil_lexer.specs.declared.words.Word.TheVariants.{Int, Input, Malloc, Free}
+use Rattle.gil_lexer.specs.declared.words.Word.TheVariants.{Int, Input, Malloc, Free, NullPointer}
 use Rattle.gil_lexemes.specs.declared.standing.Lexeme.{Lexeme}
 use Rattle.gil_lexemes.specs.Lists.{separated_at}
-use Rattle.gil_lexemes.specs.Reading.{Reading, ◌>>=◌, form_of, first_form, behind, is_sign, sign_at, name_at}
-use Rattle.source_operators.specs.Pure.{variable}
+use Rattle.gil_lexemes.specs.Reading.{Reading, ◌>>=◌, form_of, first_form, behind, is_sign, sign_at, name_at, number_at}
+use Rattle.source_operators.specs.Pure.{constant, variable}
 use Rattle.operator_text.specs.Reading as operators
 use Rattle.operator_text.specs.Signs.{tight}
 use Rattle.clike_operators.specs.Pure.{PureExpression}
+use Rattle.clike_operators.specs.Ranges.{is_int}
 use Rattle.clike_lang.specs.Pure.{PureSimple, assign, input, malloc, call, free, store}
 use Rattle.clike_grammar.specs.Signs.{clike_signs}
 use Rattle.clike_grammar.specs.Statements.{place_parts}
+
+-- ---- what stands by itself
+
+abbrev pub variable_leaf : List Lexeme → Reading PureExpression
+variable_leaf ls = name_at ls >>= λ x. Some (variable x.0, x.1)
+
+unfoldable pub number_leaf : List Lexeme → Reading PureExpression
+number_leaf ls = number_at ls >>= λ n. if is_int n.0 then Some (constant (integer n.0), n.1) else None
+
+abbrev pub leaf_by : Option Form → List Lexeme → Reading PureExpression
+leaf_by (Some forms.Name) ls = variable_leaf ls
+leaf_by (Some forms.Number) ls = number_leaf ls
+leaf_by (Some (forms.Word NullPointer)) ls = Some (constant (kind Null), behind ls)
+leaf_by _ ls = None
+
+abbrev pub leaf_at : List Lexeme → Reading PureExpression
+leaf_at ls = leaf_by (first_form ls) ls
+
+-- ---- expressions
 
 -- an expression where only operators of at least a strength may stand
 abbrev pub expression_from : ℕ → List Lexeme → Reading PureExpression
@@ -63,7 +85,7 @@ malloc_at x ls = argument_at ls >>= λ e. Some (malloc x e.0, e.1)
 abbrev pub free_at : List Lexeme → Reading PureSimple
 free_at ls = argument_at ls >>= λ e. Some (free e.0, e.1)
 
--- the function that an expression names
+-- the variable or the function that an expression names
 abbrev pub variable_of : PureExpression → Option (List ℕ)
 variable_of (variable f) = Some f
 variable_of _ = None
@@ -105,9 +127,12 @@ store_at e ls = do
 unfoldable pub behind_name : List ℕ → List Lexeme → Reading PureSimple
 behind_name x ls = if is_sign LeftParenthesis (first_form ls) then call_at None x (behind ls) else target_at x ls
 
+abbrev pub begun_named : Option (List ℕ) → PureExpression → List Lexeme → Reading PureSimple
+begun_named (Some x) e ls = behind_name x ls
+begun_named None e ls = store_at e ls
+
 abbrev pub begun_by : PureExpression → List Lexeme → Reading PureSimple
-begun_by (variable x) ls = behind_name x ls
-begun_by e ls = store_at e ls
+begun_by e ls = begun_named (variable_of e) e ls
 
 abbrev pub begun_at : List Lexeme → Reading PureSimple
 begun_at ls = expression_from tight ls >>= λ e. begun_by e.0 e.1
