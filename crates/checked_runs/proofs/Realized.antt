@@ -72,7 +72,7 @@ use Rattle.checked_runs.proofs.Justified.{same_next, IsJustified, AreJustified, 
 use Rattle.checked_runs.proofs.Forms.{IsCalm, EndsThere, Form, IsNoDraw, command_form, redrawn, command_redrawn}
 use Rattle.checked_runs.proofs.Runs as runs
 use Rattle.checked_runs.proofs.Runs.{named_has_value}
-use Rattle.checked_runs.proofs.Stores.{same_some, no_value, either_value, fit_length, spec_at, IsGoodSpec, good_spec}
+use Rattle.checked_runs.proofs.Stores.{same_some, one_of_two, all_at, no_value, either_value, fit_length, spec_at, IsGoodSpec, good_spec}
 
 -- ---- parts of heaps
 
@@ -108,11 +108,6 @@ first_fault_at fault [] i x none at = no_value x at
 first_fault_at fault (y ∷ ys) zero x none at = ap fault (sym (same_some at)) ∙ (either_none (fault y) (first_fault fault ys) none).0
 first_fault_at fault (y ∷ ys) (suc i) x none at = first_fault_at fault ys i x (either_none (fault y) (first_fault fault ys) none).1 at
 
-well_at : {X : Type 0} (f : X → Bool) (xs : List X) (i : ℕ) (x : X) → slice_get xs i ≡ Some x → list_all f xs ≡ true → f x ≡ true
-well_at f [] i x at all = no_value x at
-well_at f (y ∷ ys) zero x at all = ap f (sym (same_some at)) ∙ (and_parts (f y) (list_all f ys) all).0
-well_at f (y ∷ ys) (suc i) x at all = well_at f ys i x at (and_parts (f y) (list_all f ys) all).1
-
 place_of : (xs : List (List ℕ)) (y : List ℕ) → is_among xs y ≡ true → (i : ℕ) × (slice_get xs i ≡ Some y)
 place_of [] y is = absurd (true≢false (sym is))
 place_of (x ∷ xs) y is = by (bytes_eq y x) refl is (place_of xs y)
@@ -145,10 +140,6 @@ items_made (item ∷ items) well =
     let (here, there) = and_parts (list_all is_well_made_expr (exprs_of_item item)) (list_all is_well_made_expr (flat_map exprs_of_item items)) (sym (list_all-append is_well_made_expr (exprs_of_item item) (flat_map exprs_of_item items)) ∙ well) in
     ap (λ b. b && is_well_made_assertion items) here ∙ items_made items there
 
-one_of_both : (a b : Bool) → (a || b) ≡ true → (a ≡ true) ⊎ (b ≡ true)
-one_of_both true b is = inl refl
-one_of_both false b is = inr is
-
 all_below_one : (counter : ℕ) (v : PureValue) → IsBelow counter v → AreBelow counter (v ∷ [])
 all_below_one counter v below = each_of_all (Below counter) (v ∷ []) (below, tt)
 
@@ -158,7 +149,7 @@ case_reads : (p : PureParts) (memory : MemoryName) → is_well_made p ≡ true �
 case_reads p memory made modes x d i items finds at =
     let (j, there) = found_at p.preds x d finds in
     let reads : pred_fault memory d ≡ None = sym (ap (option_and_then (pred_fault memory)) there) ∙ modes (Pred j) in (
-      well_at is_well_made_assertion d.cases i items at (cases_made p made x d finds),
+      all_at is_well_made_assertion d.cases i items at (cases_made p made x d finds),
       (either_none (assertion_fault memory (case d) items) _ (first_fault_at (case_fault memory d) d.cases i items reads at)).0,
     )
 
@@ -890,8 +881,8 @@ module _ (p : PureParts) (memory : MemoryName) where
 
                 known_below : IsKnownSymbol (postcondition spec) store n → n < e.counter
                 known_below (y, (w, (known, (value, within)))) =
-                    ⊎_elim (λ front. ⊎_elim (λ among. of_param y w among value within) (λ is_variable. of_variable y w is_variable value within) (one_of_both (is_among (param_names spec.params) y) (is_variable_of spec y) front))
-                    (λ named_so. of_result y w named_so value within) (one_of_both (is_among (param_names spec.params) y || is_variable_of spec y) (bytes_eq y result_name) known)
+                    ⊎_elim (λ front. ⊎_elim (λ among. of_param y w among value within) (λ is_variable. of_variable y w is_variable value within) (one_of_two (is_among (param_names spec.params) y) (is_variable_of spec y) front))
+                    (λ named_so. of_result y w named_so value within) (one_of_two (is_among (param_names spec.params) y || is_variable_of spec y) (bytes_eq y result_name) known)
 
             arrives : (posts : List (List PureItem)) (v : PureValue) → IsBelow e.counter v → ((i : ℕ) (items : List PureItem) → slice_get posts i ≡ Some items → (is_well_made_assertion items ≡ true) × (assertion_fault memory (postcondition spec) items ≡ None))
                 → LeavesIt p spec args callee.variables t.besides v posts e.heap → Arrives posts v
@@ -1008,7 +999,7 @@ module _ (p : PureParts) (memory : MemoryName) where
                 let posts = (and_parts (list_all is_well_made_assertion spec.posts) (list_all is_well_made_assertion spec.errors) (sym (list_all-append is_well_made_assertion spec.posts spec.errors) ∙ later)).0 in
                 let behind = (either_none (assertion_fault memory (precondition spec) spec.pre) (either (first_fault (assertion_fault memory (postcondition spec)) spec.posts) (first_fault (assertion_fault memory (postcondition spec)) spec.errors)) good_callee.reads).1 in
                 let read = (either_none (first_fault (assertion_fault memory (postcondition spec)) spec.posts) (first_fault (assertion_fault memory (postcondition spec)) spec.errors) behind).0 in
-                (well_at is_well_made_assertion spec.posts j items at posts, first_fault_at (assertion_fault memory (postcondition spec)) spec.posts j items read at)
+                (all_at is_well_made_assertion spec.posts j items at posts, first_fault_at (assertion_fault memory (postcondition spec)) spec.posts j items read at)
 
             read_errors : (j : ℕ) (items : List PureItem) → slice_get spec.errors j ≡ Some items → (is_well_made_assertion items ≡ true) × (assertion_fault memory (postcondition spec) items ≡ None)
             read_errors j items at =
@@ -1016,7 +1007,7 @@ module _ (p : PureParts) (memory : MemoryName) where
                 let errors = (and_parts (list_all is_well_made_assertion spec.posts) (list_all is_well_made_assertion spec.errors) (sym (list_all-append is_well_made_assertion spec.posts spec.errors) ∙ later)).1 in
                 let behind = (either_none (assertion_fault memory (precondition spec) spec.pre) (either (first_fault (assertion_fault memory (postcondition spec)) spec.posts) (first_fault (assertion_fault memory (postcondition spec)) spec.errors)) good_callee.reads).1 in
                 let read = (either_none (first_fault (assertion_fault memory (postcondition spec)) spec.posts) (first_fault (assertion_fault memory (postcondition spec)) spec.errors) behind).1 in
-                (well_at is_well_made_assertion spec.errors j items at errors, first_fault_at (assertion_fault memory (postcondition spec)) spec.errors j items read at)
+                (all_at is_well_made_assertion spec.errors j items at errors, first_fault_at (assertion_fault memory (postcondition spec)) spec.errors j items read at)
 
             returned_below : (v : PureValue) → e.ending ≡ returned v → EndsThere f.state e → LeavesIt p spec args callee.variables t.besides v spec.posts e.heap → Shown entry rest (after (ending_above frames e.ending (at_end e f.state)) (run p m inputs i))
             returned_below v ending there told =

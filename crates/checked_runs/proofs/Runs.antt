@@ -28,7 +28,7 @@ use Rattle.gil_machine.proofs.Proper.{stays_proper}
 use Rattle.assert_logic.specs.Meets.{Meets, ItemMeets, HoldsSomewhere}
 use Rattle.assert_logic.specs.Names.{named_among, named_by_item, named_by_items}
 use Rattle.checked_runs.proofs.Forms.{Form, command_form, drawn_form}
-use Rattle.checked_runs.proofs.Stores.{same_some, no_value}
+use Rattle.checked_runs.proofs.Stores.{same_some, no_value, one_of_two}
 
 -- ---- where a call begins
 
@@ -183,13 +183,9 @@ one_name s x y v is among = by (bytes_eq x y) refl among
     by true same any = subst (HasValue s) (sym ((bytes_eq-Decides x y).0 same)) (set_has s y v is)
     by false other any = absurd (cc)
 
-one_of : (a b : Bool) → (a || b) ≡ true → (a ≡ true) ⊎ (b ≡ true)
-one_of true b is = inl refl
-one_of false b is = inr is
-
 among_parts : (ds es : List PureExpr) (x : List ℕ) → is_among (flat_map own_names (ds ++ es)) x ≡ true → (is_among (flat_map own_names ds) x ≡ true) ⊎ (is_among (flat_map own_names es) x ≡ true)
 among_parts ds es x is =
-    one_of (is_among (flat_map own_names ds) x) (is_among (flat_map own_names es) x)
+    one_of_two (is_among (flat_map own_names ds) x) (is_among (flat_map own_names es) x)
     (sym (ap (λ xs. is_among xs x) (flat_map-append own_names ds es) ∙ list_any-append (bytes_eq x) (flat_map own_names ds) (flat_map own_names es)) ∙ is)
 
 module _ (s : Store) (x : List ℕ) where
@@ -228,14 +224,14 @@ module _ (s : Store) (x : List ℕ) where
   all_have [] vs is named = absurd (cc)
   all_have (e ∷ es) vs is named =
       let (w, (ws, (here, there))) = both_has (evaluate e s) (evaluate_all es s) vs is in
-      ⊎_elim (expr_has e w here) (all_have es ws there) (one_of (is_among (names_of e) x) (named_among es x) named)
+      ⊎_elim (expr_has e w here) (all_have es ws there) (one_of_two (is_among (names_of e) x) (named_among es x) named)
 
   item_has : (preds : List PurePredDef) (item : PureItem) (h : Heap) → ItemMeets (HoldsSomewhere preds) s item h → named_by_item item x ≡ true → HasValue s x
   item_has preds (pure e) h is named = expr_has e (boolean true) is.0 named
-  item_has preds (uses u) h is named = ⊎_elim (all_have u.ins is.ins is.ins_are) (all_have u.outs is.outs is.outs_are) (one_of (named_among u.ins x) (named_among u.outs x) named)
+  item_has preds (uses u) h is named = ⊎_elim (all_have u.ins is.ins is.ins_are) (all_have u.outs is.outs is.outs_are) (one_of_two (named_among u.ins x) (named_among u.outs x) named)
 
   -- each name of an assertion that is met has a value
   pub named_has_value : (preds : List PurePredDef) (items : List PureItem) (h : Heap) → Meets (HoldsSomewhere preds) s items h → named_by_items items x ≡ true → (v : PureValue) × (value_of s x ≡ Some v)
   named_has_value preds [] h is named = absurd (cc)
   named_has_value preds (item ∷ items) h (part, (rest, (union, (here, there)))) named =
-      ⊎_elim (item_has preds item part here) (named_has_value preds items rest there) (one_of (named_by_item item x) (named_by_items items x) named)
+      ⊎_elim (item_has preds item part here) (named_has_value preds items rest there) (one_of_two (named_by_item item x) (named_by_items items x) named)

@@ -72,7 +72,7 @@ none_of_two : (a b : Bool) → (a || b) ≡ false → (a ≡ false) × (b ≡ fa
 none_of_two true b is = absurd (true≢false is)
 none_of_two false b is = (refl, is)
 
-one_of_two : (a b : Bool) → (a || b) ≡ true → (a ≡ true) ⊎ (b ≡ true)
+pub one_of_two : (a b : Bool) → (a || b) ≡ true → (a ≡ true) ⊎ (b ≡ true)
 one_of_two true b is = inl refl
 one_of_two false b is = inr is
 
@@ -199,7 +199,7 @@ spec_at (t ∷ ts) f s is = by (spec_at ts f s) (bytes_eq t.name f) refl is
     by later true same found = (ap (λ x. x.name) (sym (same_some found)) ∙ (bytes_eq-Decides t.name f).0 same, (0, found))
     by later false other found = let (name, (i, at)) = later found in (name, (suc i, at))
 
-all_at : {X : Type 0} (f : X → Bool) (xs : List X) (i : ℕ) (x : X) → slice_get xs i ≡ Some x → list_all f xs ≡ true → f x ≡ true
+pub all_at : {X : Type 0} (f : X → Bool) (xs : List X) (i : ℕ) (x : X) → slice_get xs i ≡ Some x → list_all f xs ≡ true → f x ≡ true
 all_at f [] i x at all = no_value x at
 all_at f (y ∷ ys) zero x at all = ap f (sym (same_some at)) ∙ (and_parts (f y) (list_all f ys) all).0
 all_at f (y ∷ ys) (suc i) x at all = all_at f ys i x at (and_parts (f y) (list_all f ys) all).1

@@ -5,13 +5,13 @@ use Rattle.gil_values.specs.declared.operators.UnOp.TheVariants.{Not}
 use Rattle.gil_values.specs.declared.kinds.Kind.TheVariants.{Null}
 use Rattle.gil_values.specs.Pure.{PureValue, boolean, text, kind, procedure}
 use Rattle.gil_syntax.specs.declared.assertions.Param.{Param}
-use Rattle.gil_syntax.specs.declared.assertions.SpecSort.TheVariants.{Any, Int as Numbers}
+use Rattle.gil_syntax.specs.declared.assertions.SpecSort.TheVariants.{Any, Int as Numbers, Sym as Symbols}
 use Rattle.gil_syntax.specs.Evaluation.{Store}
 use Rattle.gil_syntax.specs.Examples.{number, proc_of}
 use Rattle.gil_syntax.specs.Pure.{PureExpr, literal, name, logical, unary_of, binary_of, PurePredUse, PureItem, pure, uses, PureCommand, assign, call, usym, ifgoto, return, fail, vanish, fold_use, unfold_use, assert_that, loop_invariant, PureProc, PureSpec, PurePredDef, PureParts}
 use Rattle.mem_model.specs.declared.keys.MemoryName.TheVariants.{Record}
 use Rattle.mem_model.specs.Actions.{no_memory}
-use Rattle.checked_runs.specs.Checked.{Checked, Fault, has_fault, Leads, IsReachedIn, used_by}
+use Rattle.checked_runs.specs.Checked.{Checked, Fault, has_fault, Leads, IsReachedIn, used_by, HasNoFault}
 use Rattle.gil_machine.specs.Step.{command_at}
 use Rattle.checked_runs.specs.Rows.{param, equals, a, ret, zero_or_one}
 
@@ -314,3 +314,43 @@ sees_a_list = of_cell (cell_of a null ∷ []) (list_use a ∷ [])
 
 abbrev pub one_cell_is_no_list : PureParts
 one_cell_is_no_list = parts (proc_of (codes "f") (codes "a" ∷ []) (returns_nothing ∷ []) ∷ []) (sees_a_list ∷ []) (linked_list ∷ [])
+
+-- ---- programs without a mistake
+
+-- proc f(a) { fail 1; } spec f(a: sym) [] { prop(a, "v"; 1) * prop(a, "v"; 1) } { emp }
+abbrev pub one_key_twice : PureSpec
+one_key_twice = spec_of (codes "f") (param (codes "a") Symbols ∷ []) (cell_of a (number 1) ∷ cell_of a (number 1) ∷ []) ([] ∷ [])
+
+abbrev pub fails_from_no_heap : PureParts
+fails_from_no_heap = parts (proc_of (codes "f") (codes "a" ∷ []) (fail (number 1) ∷ []) ∷ []) (one_key_twice ∷ []) []
+
+-- proc f() { vanish; } spec f() [] { emp } { (1 = 2) }
+abbrev pub tells_the_false : PureSpec
+tells_the_false = spec_of (codes "f") [] [] ((pure (same (number 1) (number 2)) ∷ []) ∷ [])
+
+abbrev pub vanishes : PureParts
+vanishes = parts (proc_of (codes "f") [] (vanish ∷ []) ∷ []) (tells_the_false ∷ []) []
+
+-- spec f(x) [#w] { q(x; 0) * q(x; 1) } { q(x; 1) * q(x; #w) }
+abbrev pub knows_the_second_fact : PureSpec
+knows_the_second_fact = record (spec_of (codes "f") (any (codes "x") ∷ []) (q_use x (number 0) ∷ q_use x (number 1) ∷ []) ((q_use x (number 1) ∷ q_use x of_w ∷ []) ∷ [])) {
+  logicals = any (codes "#w") ∷ [];
+}
+
+-- spec f(x) [] { emp } { q(x; 1) }
+abbrev pub knows_the_second_case : PureSpec
+knows_the_second_case = spec_of (codes "f") (any (codes "x") ∷ []) [] ((q_use x (number 1) ∷ []) ∷ [])
+
+-- proc f(n) { x := call @g(n); return x; } proc g(n) { x := call @f(n); return x; }
+-- spec f(n) [] { emp } { (ret = 0) } spec g(n) [] { emp } { (ret = 0) }
+abbrev pub asks : List ℕ → List ℕ → PureProc
+asks f g = proc_of f (codes "n" ∷ []) (calls (codes "x") g (n ∷ []) ∷ return x ∷ [])
+
+abbrev pub says_zero : List ℕ → PureSpec
+says_zero f = spec_of f (any (codes "n") ∷ []) [] ((equals ret 0 ∷ []) ∷ [])
+
+abbrev pub cycle_of_uses : PureParts
+cycle_of_uses = parts (asks (codes "f") (codes "g") ∷ asks (codes "g") (codes "f") ∷ []) (says_zero (codes "f") ∷ says_zero (codes "g") ∷ []) []
+
+abbrev pub HasNone : PureParts → PureSpec → Type 0
+HasNone p s = HasNoFault p Record no_memory s

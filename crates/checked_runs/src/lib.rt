@@ -9,7 +9,7 @@ mod rows;
 pub use laws::verified_specifications_hold;
 pub use programs::{
     mistakes_of_assertions_are_found, mistakes_of_calls_are_found, mistakes_of_heaps_are_found,
-    mistakes_of_invariants_are_found,
+    mistakes_of_invariants_are_found, programs_without_a_mistake_have_no_fault,
 };
 pub use rows::{
     calls_ask_for_the_precondition, folds_and_asserts_are_matched, invariants_are_asked,

@@ -6,7 +6,16 @@ ghost use Rattle.gil_syntax.specs.Examples.{number};
 ghost use Rattle.gil_syntax.specs.Pure.{uses};
 ghost use Rattle.checked_runs.specs.Programs.{
   HasFault,
+  HasNone,
   Uses,
+  fails_from_no_heap,
+  one_key_twice,
+  vanishes,
+  tells_the_false,
+  knows_the_second_fact,
+  knows_the_second_case,
+  cycle_of_uses,
+  says_zero,
   tells_the_argument,
   changes_its_argument,
   tells_one,
@@ -98,4 +107,14 @@ pub fn mistakes_of_heaps_are_found()
     ensures core_predicate { HasFault folds_a_key keeps_the_cell fold_body }
     ensures remainder { HasFault folds_in_a_loop keeps_the_cell invariant }
     ensures one_level { HasFault one_cell_is_no_list sees_a_list post }
+{}
+
+/// What no heap meets has no run; what vanishes isn't looked at; a known out is given to facts and to cases; and a cycle of uses has
+/// no fault of its own.
+pub fn programs_without_a_mistake_have_no_fault()
+    ensures no_heap { HasNone fails_from_no_heap one_key_twice }
+    ensures vanishing { HasNone vanishes tells_the_false }
+    ensures known_fact { HasNone (with_q knows_the_second_fact) knows_the_second_fact }
+    ensures known_case { HasNone (with_q knows_the_second_case) knows_the_second_case }
+    ensures cycle { HasNone cycle_of_uses (says_zero (codes "f")) }
 {}
