@@ -83,7 +83,10 @@ module _ (v : PureValue) where
       no_descriptor : {P : Type 0} (l : ℕ) (s : Sub) → IsDescriptor s → HasKey (cell v) (key l s) → P
       no_descriptor l s is has = absurd (subst IsDescriptor (sub_of l s has) is)
 
-  pub cell_is_below : IsBelow 1 v → IsHeapBelow 1 (cell v)
-  cell_is_below below q w at =
+  pub cell_is_below_any : (k : ℕ) → 0 < k → IsBelow k v → IsHeapBelow k (cell v)
+  cell_is_below_any k lt below q w at =
       let (same_key, same_value) = only_value q w at in
-      (subst (λ n. n < 1) (ap (λ k. k.loc) (sym same_key)) (omega arith), subst (IsBelow 1) (sym same_value) below)
+      (subst (λ n. n < k) (ap (λ k. k.loc) (sym same_key)) lt, subst (IsBelow k) (sym same_value) below)
+
+  pub cell_is_below : IsBelow 1 v → IsHeapBelow 1 (cell v)
+  cell_is_below = cell_is_below_any 1 (omega arith)

@@ -2,16 +2,22 @@
 use Rattle.std.specs.Prelude.{◌≡◌, ℕ, pos, List, [], ◌∷◌, codes, true, false, Some, None}
 use Rattle.gil_values.specs.declared.operators.BinOp.TheVariants.{Add, Subtract, Equal, Less}
 use Rattle.gil_values.specs.declared.operators.UnOp.TheVariants.{Not}
-use Rattle.gil_values.specs.declared.kinds.Kind.TheVariants.{Null}
+use Rattle.gil_values.specs.declared.kinds.Kind.TheVariants.{Null, Bool as Boolean}
 use Rattle.gil_values.specs.Pure.{PureValue, boolean, text, kind, procedure}
 use Rattle.gil_syntax.specs.declared.assertions.Param.{Param}
 use Rattle.gil_syntax.specs.declared.assertions.SpecSort.TheVariants.{Any, Int as Numbers, Sym as Symbols}
 use Rattle.gil_syntax.specs.Evaluation.{Store}
 use Rattle.gil_syntax.specs.Examples.{number, proc_of}
-use Rattle.gil_syntax.specs.Pure.{PureExpr, literal, name, logical, unary_of, binary_of, PurePredUse, PureItem, pure, uses, PureCommand, assign, call, usym, ifgoto, return, fail, vanish, fold_use, unfold_use, assert_that, loop_invariant, PureProc, PureSpec, PurePredDef, PureParts}
+use Rattle.gil_syntax.specs.Pure.{PureExpr, literal, name, logical, unary_of, binary_of, PurePredUse, PureItem, pure, uses, PureCommand, assign, call, usym, ifgoto, return, fail, vanish, fold_use, unfold_use, assert_that, loop_invariant, PureProc, PureSpec, PurePredDef, PureParts, isym}
 use Rattle.mem_model.specs.declared.keys.MemoryName.TheVariants.{Record}
+use Rattle.mem_model.specs.declared.keys.Sub.TheVariants.{Name}
 use Rattle.mem_model.specs.Actions.{no_memory}
-use Rattle.checked_runs.specs.Checked.{Checked, Fault, has_fault, Leads, IsReachedIn, used_by, HasNoFault}
+use Rattle.mem_model.specs.Heaps.{Heap}
+use Rattle.mem_model.specs.Keys.{key}
+use Rattle.gil_machine.specs.Run.{start}
+use Rattle.assert_logic.specs.LogicStates.{Fact}
+use Rattle.std.specs.FinMap.{empty, insert}
+use Rattle.checked_runs.specs.Checked.{Checked, Fault, has_fault, Leads, IsReachedIn, used_by, HasNoFault, Outcome}
 use Rattle.gil_machine.specs.Step.{command_at}
 use Rattle.checked_runs.specs.Rows.{param, equals, a, ret, zero_or_one}
 
@@ -354,3 +360,72 @@ cycle_of_uses = parts (asks (codes "f") (codes "g") ∷ asks (codes "g") (codes 
 
 abbrev pub HasNone : PureParts → PureSpec → Type 0
 HasNone p s = HasNoFault p Record no_memory s
+
+-- ---- more of draws, folds and unfolds
+
+-- proc f() { x := isym bool; ifgoto x 3; return 0; return 1; } spec f() [] { emp } { (ret = 0) }
+abbrev pub tells_one_side : PureSpec
+tells_one_side = spec_of (codes "f") [] [] ((equals ret 0 ∷ []) ∷ [])
+
+abbrev pub draws_a_side : PureParts
+draws_a_side = parts (proc_of (codes "f") [] (isym (codes "x") Boolean ∷ ifgoto x (pos 3) ∷ returns_nothing ∷ return (number 1) ∷ []) ∷ []) (tells_one_side ∷ []) []
+
+-- proc f(a, y) { b := true; invariant (b) [] { emp }; ifgoto (b = true) 4; return 0; unfold p(a;); fold p(a;); b := false; ifgoto true 1; return 0; }
+-- spec f(a, y) [] { p(a;) * p(y;) } { p(a;) * p(y;) } pred p(x;) [] { prop(x, "v"; 1) }
+abbrev pub of_two_facts : PureSpec
+of_two_facts = spec_of (codes "f") (any (codes "a") ∷ any (codes "y") ∷ []) (uses (p_use a) ∷ uses (p_use y) ∷ []) ((uses (p_use a) ∷ uses (p_use y) ∷ []) ∷ [])
+
+abbrev pub moves_a_fact : PureParts
+moves_a_fact =
+    parts
+    (proc_of (codes "f") (codes "a" ∷ codes "y" ∷ [])
+    (assign (codes "b") always ∷ invariant_of (codes "b" ∷ []) ∷ ifgoto (same b always) (pos 4) ∷ returns_nothing ∷ unfold_use (p_use a) ∷ fold_use (p_use a) ∷ assign (codes "b") (literal (boolean false))
+    ∷ ifgoto always (pos 1) ∷ returns_nothing ∷ []) ∷ [])
+    (of_two_facts ∷ []) (pred_p ((cell_of x (number 1) ∷ []) ∷ []) ∷ [])
+
+-- proc f(a, b) { fold p(a; b); return 0; } spec f(a, b) [] { emp } { emp } pred p(x; x) [] { emp }
+abbrev pub of_any_two : PureSpec
+of_any_two = spec_of (codes "f") (any (codes "a") ∷ any (codes "b") ∷ []) [] ([] ∷ [])
+
+abbrev pub folds_two_of_one_name : PureParts
+folds_two_of_one_name =
+    parts (proc_of (codes "f") (codes "a" ∷ codes "b" ∷ []) (fold_use (record { pred = codes "p"; ins = a ∷ []; outs = b ∷ [] }) ∷ returns_nothing ∷ []) ∷ []) (of_any_two ∷ [])
+    (record { name = codes "p"; ins = any (codes "x") ∷ []; outs = any (codes "x") ∷ []; logicals = []; cases = [] ∷ [] } ∷ [])
+
+-- what the step of a state of f may lead to, where f was entered with these arguments
+abbrev pub MayLead : PureParts → PureSpec → List PureValue → Checked → Outcome → Type 0
+MayLead p s args c out = Leads p Record no_memory (record { spec = s; args = args; variables = [] }) c out
+
+-- the first state of f with these arguments, heap, facts and counter
+abbrev pub first_state : PureParts → List PureValue → Heap → List Fact → ℕ → Checked
+first_state p args h facts counter = record { machine = start p (codes "f") args h counter; facts = facts; passed = [] ∷ [] }
+
+-- and the next one, with another heap, other facts and another counter
+abbrev pub next_state : PureParts → List PureValue → Heap → List Fact → ℕ → Checked
+next_state p args h facts counter = record (first_state p args h facts counter) {
+  machine = record (first_state p args h facts counter).machine { current = record (first_state p args h facts counter).machine.current { next = 1 } };
+}
+
+abbrev pub p_fact : PureValue → Fact
+p_fact v = record { pred = codes "p"; ins = v ∷ []; outs = [] }
+
+-- a heap of one key: the name v of location 0
+abbrev pub one_cell : PureValue → Heap
+one_cell v = insert empty (key 0 (Name (codes "v"))) v
+
+-- proc f(a) { unfold p(a;); return 0; } spec f(a) [] { p(a;) } { p(a;) } pred p(x;) [#n: sym, #s: sym] { prop(x, "v"; #n) }
+abbrev pub of_one_fact : PureSpec
+of_one_fact = of_cell (uses (p_use a) ∷ []) (uses (p_use a) ∷ [])
+
+abbrev pub unfolds_a_symbol : PureParts
+unfolds_a_symbol =
+    parts (proc_of (codes "f") (codes "a" ∷ []) (unfold_use (p_use a) ∷ returns_nothing ∷ []) ∷ []) (of_one_fact ∷ [])
+    (record (pred_p ((cell_of x (logical (codes "#n")) ∷ []) ∷ [])) { logicals = param (codes "#n") Symbols ∷ param (codes "#s") Symbols ∷ [] } ∷ [])
+
+-- proc f(a) { fold list(a;); return 0; }, with that list
+abbrev pub folds_one_cell : PureParts
+folds_one_cell =
+    parts (proc_of (codes "f") (codes "a" ∷ []) (fold_use (record { pred = codes "list"; ins = a ∷ []; outs = [] }) ∷ returns_nothing ∷ []) ∷ []) (sees_a_list ∷ []) (linked_list ∷ [])
+
+abbrev pub list_fact : PureValue → Fact
+list_fact v = record { pred = codes "list"; ins = v ∷ []; outs = [] }

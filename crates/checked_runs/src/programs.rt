@@ -1,11 +1,31 @@
 //! Rows of whole programs: each has a mistake that a wrong rule would let through, and a checked run that finds it.
 ghost use Rattle.std.specs.Prelude.{[], ◌∷◌, codes};
-ghost use Rattle.checked_runs.specs.Checked.{fails, post, invariant, call_precondition, fold_body};
+ghost use Rattle.checked_runs.specs.Checked.{goes_on_to, fails, post, invariant, call_precondition, fold_body};
 ghost use Rattle.checked_runs.specs.Rows.{a, number_value};
+ghost use Rattle.std.specs.FinMap.{empty, remove};
+ghost use Rattle.gil_values.specs.declared.kinds.Kind.TheVariants.{Null};
+ghost use Rattle.gil_values.specs.Pure.{symbol, kind};
+ghost use Rattle.mem_model.specs.declared.keys.Sub.TheVariants.{Name};
+ghost use Rattle.mem_model.specs.Keys.{key};
 ghost use Rattle.gil_syntax.specs.Examples.{number};
 ghost use Rattle.gil_syntax.specs.Pure.{uses};
 ghost use Rattle.checked_runs.specs.Programs.{
   HasFault,
+  MayLead,
+  draws_a_side,
+  tells_one_side,
+  moves_a_fact,
+  of_two_facts,
+  folds_two_of_one_name,
+  of_any_two,
+  first_state,
+  next_state,
+  p_fact,
+  list_fact,
+  one_cell,
+  unfolds_a_symbol,
+  of_one_fact,
+  folds_one_cell,
   HasNone,
   Uses,
   fails_from_no_heap,
@@ -117,4 +137,29 @@ pub fn programs_without_a_mistake_have_no_fault()
     ensures known_fact { HasNone (with_q knows_the_second_fact) knows_the_second_fact }
     ensures known_case { HasNone (with_q knows_the_second_case) knows_the_second_case }
     ensures cycle { HasNone cycle_of_uses (says_zero (codes "f")) }
+{}
+
+/// A draw is any value of its kind; the facts that an invariant leaves are the same in their order; one name among ins and outs has
+/// one value; `fold` goes one level deeper than other matching.
+pub fn draws_and_folds_are_followed()
+    ensures draw { HasFault draws_a_side tells_one_side post }
+    ensures order { HasFault moves_a_fact of_two_facts invariant }
+    ensures two_values { HasFault folds_two_of_one_name of_any_two fold_body }
+    ensures one_value { MayLead folds_two_of_one_name of_any_two (number_value 3 ∷ number_value 3 ∷ [])
+        (first_state folds_two_of_one_name (number_value 3 ∷ number_value 3 ∷ []) empty [] 0)
+        (goes_on_to (next_state folds_two_of_one_name (number_value 3 ∷ number_value 3 ∷ []) empty
+        (record { pred = codes "p"; ins = number_value 3 ∷ []; outs = number_value 3 ∷ [] } ∷ []) 0)) }
+    ensures deeper { MayLead folds_one_cell sees_a_list (symbol 0 ∷ []) (first_state folds_one_cell (symbol 0 ∷ []) (one_cell (kind Null)) [] 1)
+        (goes_on_to (next_state folds_one_cell (symbol 0 ∷ []) (remove (one_cell (kind Null)) (key 0 (Name (codes "v"))))
+        (list_fact (symbol 0) ∷ []) 1)) }
+{}
+
+/// `unfold` gives a variable any symbol and may raise the counter for it, gives none to a variable that nothing names, and leads
+/// nowhere, not to a fault either, where the case can't be added.
+pub fn unfolds_are_followed()
+    ensures new_symbol { MayLead unfolds_a_symbol of_one_fact (symbol 0 ∷ [])
+        (first_state unfolds_a_symbol (symbol 0 ∷ []) empty (p_fact (symbol 0) ∷ []) 1)
+        (goes_on_to (next_state unfolds_a_symbol (symbol 0 ∷ []) (one_cell (symbol 1)) [] 2)) }
+    ensures same_key_twice { (out : _) → ¬ MayLead unfolds_it (has_it_twice (uses (p_use a) ∷ [])) (symbol 0 ∷ [])
+        (first_state unfolds_it (symbol 0 ∷ []) (one_cell (number_value 1)) (p_fact (symbol 0) ∷ []) 1) out }
 {}
