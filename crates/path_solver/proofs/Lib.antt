@@ -1,4 +1,5 @@
 pub mod Appending
 pub mod Branching
+pub mod Falling
 pub mod Keeping
 pub mod Sorting

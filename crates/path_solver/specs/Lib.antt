@@ -1,3 +1,4 @@
+pub mod Falling
 pub mod Outside
 pub mod Searching
 pub mod Solving

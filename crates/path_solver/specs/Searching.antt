@@ -1,5 +1,5 @@
 -- What a search finds on a list of atoms of the fragment, and on such a list with one atom more.
-use Rattle.std.specs.Prelude.{List, [], ◌∷◌, ◌++◌, IsTrue}
+use Rattle.std.specs.Prelude.{◌≡◌, ℕ, List, [], ◌∷◌, ◌++◌, slice_get, Some, IsTrue}
 use Rattle.std.specs.List.{list_all}
 use Rattle.gil_values.specs.Pure.{PureValue}
 use Rattle.gil_values.specs.View.{values_view}
@@ -17,6 +17,7 @@ use Rattle.path_solver.specs.declared.branches.Form.{Form}
 use Rattle.path_solver.specs.declared.searching.Branch.{Branch}
 use Rattle.path_solver.specs.declared.searching.Each.{Each}
 use Rattle.path_solver.specs.declared.searching.Found.{Found}
+use Rattle.path_solver.specs.Falling.{Falls}
 
 -- the valuation satisfies the list, with numbers that a decider may give
 abbrev pub Meets : List Sort → List PureAtom → List PureValue → Type 0
@@ -41,14 +42,19 @@ abbrev pub AreEach : List Sort → List PureAtom → List PureAtom → Each → 
 AreEach vars list more (Each.Whole found) = IsFound vars list found
 AreEach vars list more (Each.Under ps) = CloseEach vars list more (from_list (proofs_view ps))
 
+-- less is left to say with each of the atoms
+abbrev pub EachFalls : List Sort → List PureAtom → List PureAtom → Type 0
+EachFalls vars list more = (i : ℕ) (a : PureAtom) → slice_get more i ≡ Some a → Falls vars list a
+
 abbrev pub joined_proof : Form → List PureProof → PureProof
 joined_proof (Form.Cases x) ps = cases_of (variable x) (from_list ps)
 joined_proof (Form.Values i) ps = values_at i (from_list ps)
 joined_proof (Form.Differ i) ps = differ_at i (from_list ps)
 
--- atoms of the fragment, of which each may be appended: proofs for all of them make one that closes the list
+-- atoms of the fragment, of which each may be appended and leaves less to say: proofs for all of them make one that closes the list
 pub record SplitsInto (vars : List Sort) (list : List PureAtom) (form : Form) (more : List PureAtom) : Type 0 where
   pub plain : ArePlain vars more
+  pub falls : EachFalls vars list more
   pub closes : (ps : List PureProof) → CloseEach vars list more (from_list ps) → Closes vars list (joined_proof form ps)
 
 abbrev pub AreBranches : List Sort → List PureAtom → Branches → Type 0

@@ -2,14 +2,12 @@
 ghost use Rattle.std.specs.Prelude.{◌≡◌, ◌<◌, length, map, slice_get, Some, IfOk};
 ghost use Rattle.gil_values.specs.declared.kinds.Kind.{Kind};
 ghost use Rattle.pure_terms.specs.declared.literals.Literal.{Literal};
-ghost use Rattle.pure_terms.specs.declared.variables.Sort.{Sort};
 ghost use Rattle.pure_terms.specs.Pure.{literal, variable, from_list, positive};
 ghost use Rattle.pure_terms.specs.View.{term_view, terms_view, atom_view, atoms_view};
-ghost use Rattle.equality_core.specs.Values.{IsInTable};
 ghost use Rattle.solver_proof.specs.Chains.{equals, kind_is};
 ghost use Rattle.solver_proof.specs.Closing.{boolean_atoms, kind_value_atoms, element_disequalities};
 ghost use Rattle.solver_proof.specs.View.{proof_view, proofs_view};
-ghost use Rattle.solver_rules.specs.Steps.{ArePlain, IsSmallFact, IsListDisequality};
+ghost use Rattle.solver_rules.specs.Steps.{ArePlain, IsOpenVariable, IsSmallFact, IsListDisequality};
 ghost use Rattle.path_solver.specs.Searching.{AreBranches, joined_proof};
 
 use crate::subjects::{different_lists, kind_said};
@@ -80,8 +78,7 @@ pub(crate) fn kinds_of(
     list: &Atoms,
     subject: Var,
 ) -> Result<Branches, AllocError>
-    requires table { IsInTable vars.now subject }
-    requires any { subject.sort ≡ Sort.Any }
+    requires { IsOpenVariable vars.now (atoms_view list.now) subject }
     ensures { IfOk result (AreBranches vars.now (atoms_view list.now)) }
 {
     let atoms = kind_tests(alloc, subject, KINDS_OF_VALUES.as_slice())?;

@@ -4,8 +4,10 @@ ghost use Rattle.pure_terms.specs.Pure.{PureAtom, positive, negative};
 ghost use Rattle.pure_terms.specs.View.{term_view, atom_view, atoms_view};
 ghost use Rattle.solver_proof.specs.Closing.{Closes};
 ghost use Rattle.solver_proof.specs.View.{proof_view};
+ghost use Rattle.solver_rules.specs.Rules.{IsUndecided};
 ghost use Rattle.solver_rules.specs.Steps.{IsPlainAtom, ArePlain, IsSplit};
-ghost use Rattle.path_solver.specs.Searching.{IsFound, IsBranch, AreEach, AreBranches};
+ghost use Rattle.path_solver.specs.Falling.{Falls};
+ghost use Rattle.path_solver.specs.Searching.{IsFound, IsBranch, EachFalls, AreEach, AreBranches};
 
 use crate::branches::{Branches, differences_at, joined, kinds_of, values_at};
 use crate::lists::cut_last;
@@ -44,14 +46,10 @@ pub(crate) enum Each {
     Under(Proofs),
 }
 
-/// Searches a list. It is made longer and cut back; where memory wants it may stay longer.
+/// Searches a list. It is made longer and cut back; where memory wants it may stay longer. The search ends, since each atom that
+/// is added leaves less to say.
 #[cycle(search)]
-pub(crate) fn search(
-    alloc: Global,
-    vars: &VarTable,
-    list: &mut Atoms,
-    depth: u64,
-) -> Result<Found, AllocError>
+pub(crate) fn search(alloc: Global, vars: &VarTable, list: &mut Atoms) -> Result<Found, AllocError>
     requires plain { ArePlain vars.now (atoms_view list.old) }
     ensures same { OnOk result (list.new ≡ list.old) }
     ensures found { IfOk result (IsFound vars.now (atoms_view list.old)) }
@@ -59,18 +57,13 @@ pub(crate) fn search(
     match guess_at(alloc, vars, list)? {
         Guess::Model(valuation) => Ok(Found::Model(valuation)),
         Guess::Closed(proof) => Ok(Found::Closed(proof)),
-        Guess::Nothing => search_by_steps(alloc, vars, list, depth),
+        Guess::Nothing => search_by_steps(alloc, vars, list),
     }
 }
 
 /// Searches a list of which no guess is right.
 #[cycle(search)]
-fn search_by_steps(
-    alloc: Global,
-    vars: &VarTable,
-    list: &mut Atoms,
-    depth: u64,
-) -> Result<Found, AllocError>
+fn search_by_steps(alloc: Global, vars: &VarTable, list: &mut Atoms) -> Result<Found, AllocError>
     requires plain { ArePlain vars.now (atoms_view list.old) }
     ensures same { OnOk result (list.new ≡ list.old) }
     ensures found { IfOk result (IsFound vars.now (atoms_view list.old)) }
@@ -78,18 +71,18 @@ fn search_by_steps(
     match next_step(alloc, vars, list)? {
         Step::Model(valuation) => Ok(Found::Model(valuation)),
         Step::Closed(proof) => Ok(Found::Closed(proof)),
-        Step::Split(term) => search_split(alloc, vars, list, term, depth),
+        Step::Split(term) => search_split(alloc, vars, list, term),
         Step::Cases(subject) => {
             let branches = kinds_of(alloc, vars, list, subject)?;
-            search_branches(alloc, vars, list, branches, depth)
+            search_branches(alloc, vars, list, branches)
         }
         Step::Values(place) => {
             let branches = values_at(alloc, vars, list, place)?;
-            search_branches(alloc, vars, list, branches, depth)
+            search_branches(alloc, vars, list, branches)
         }
         Step::Differ(place) => {
             let branches = differences_at(alloc, vars, list, place)?;
-            search_branches(alloc, vars, list, branches, depth)
+            search_branches(alloc, vars, list, branches)
         }
     }
 }
@@ -101,17 +94,17 @@ fn search_split(
     vars: &VarTable,
     list: &mut Atoms,
     term: Term,
-    depth: u64,
 ) -> Result<Found, AllocError>
     requires plain { ArePlain vars.now (atoms_view list.old) }
     requires split { IsSplit vars.now (term_view term) }
+    requires undecided { IsUndecided (atoms_view list.old) (term_view term) }
     ensures same { OnOk result (list.new ≡ list.old) }
     ensures found { IfOk result (IsFound vars.now (atoms_view list.old)) }
 {
     let holds = Atom::Holds(term.copy(alloc)?);
-    match search_with(alloc, vars, list, holds, depth)? {
+    match search_with(alloc, vars, list, holds)? {
         Branch::Whole(found) => Ok(found),
-        Branch::Under(first) => search_second(alloc, vars, list, term, first, depth),
+        Branch::Under(first) => search_second(alloc, vars, list, term, first),
     }
 }
 
@@ -123,16 +116,16 @@ fn search_second(
     list: &mut Atoms,
     term: Term,
     first: Proof,
-    depth: u64,
 ) -> Result<Found, AllocError>
     requires plain { ArePlain vars.now (atoms_view list.old) }
     requires split { IsSplit vars.now (term_view term) }
+    requires undecided { IsUndecided (atoms_view list.old) (term_view term) }
     requires first { Closes vars.now (atoms_view list.old ++ positive (term_view term) ∷ []) (proof_view first) }
     ensures same { OnOk result (list.new ≡ list.old) }
     ensures found { IfOk result (IsFound vars.now (atoms_view list.old)) }
 {
     let fails = Atom::Not(term.copy(alloc)?);
-    match search_with(alloc, vars, list, fails, depth)? {
+    match search_with(alloc, vars, list, fails)? {
         Branch::Whole(found) => Ok(found),
         Branch::Under(second) => {
             let first = Box::new(alloc, first)?;
@@ -150,14 +143,13 @@ fn search_branches(
     vars: &VarTable,
     list: &mut Atoms,
     branches: Branches,
-    depth: u64,
 ) -> Result<Found, AllocError>
     requires plain { ArePlain vars.now (atoms_view list.old) }
     requires branches { AreBranches vars.now (atoms_view list.old) branches }
     ensures same { OnOk result (list.new ≡ list.old) }
     ensures found { IfOk result (IsFound vars.now (atoms_view list.old)) }
 {
-    match search_each(alloc, vars, list, &branches.atoms, depth)? {
+    match search_each(alloc, vars, list, &branches.atoms)? {
         Each::Whole(found) => Ok(found),
         Each::Under(proofs) => Ok(Found::Closed(joined(branches.form, proofs))),
     }
@@ -170,17 +162,17 @@ fn search_each(
     vars: &VarTable,
     list: &mut Atoms,
     more: &Atoms,
-    depth: u64,
 ) -> Result<Each, AllocError>
     requires plain { ArePlain vars.now (atoms_view list.old) }
     requires more { ArePlain vars.now (atoms_view more.now) }
+    requires falls { EachFalls vars.now (atoms_view list.old) (atoms_view more.now) }
     ensures same { OnOk result (list.new ≡ list.old) }
     ensures each { IfOk result (AreEach vars.now (atoms_view list.old) (atoms_view more.now)) }
 {
     let mut proofs = Proofs::new(alloc);
     for atom in more.as_slice() {
         let appended = atom.copy(alloc)?;
-        match search_with(alloc, vars, list, appended, depth)? {
+        match search_with(alloc, vars, list, appended)? {
             Branch::Whole(found) => return Ok(Each::Whole(found)),
             Branch::Under(proof) => proofs.push(proof)?,
         }
@@ -195,18 +187,15 @@ fn search_with(
     vars: &VarTable,
     list: &mut Atoms,
     atom: Atom,
-    depth: u64,
 ) -> Result<Branch, AllocError>
     requires plain { ArePlain vars.now (atoms_view list.old) }
     requires atom { IsPlainAtom vars.now (atom_view atom) }
+    requires falls { Falls vars.now (atoms_view list.old) (atom_view atom) }
     ensures same { OnOk result (list.new ≡ list.old) }
     ensures branch { IfOk result (IsBranch vars.now (atoms_view list.old) (atom_view atom)) }
 {
-    if depth == 0 {
-        return Err(AllocError);
-    }
     list.push(atom)?;
-    let found = search(alloc, vars, list, depth - 1)?;
+    let found = search(alloc, vars, list)?;
     cut_last(list);
     without_last(alloc, vars, list, found)
 }

@@ -19,9 +19,6 @@ use solver_proof::accepts;
 use solver_sorts::{SortedList, sorted_list, sorted_lists_have_the_same_solutions};
 use std::alloc::{AllocError, Global};
 
-/// So many splits may stand within each other. A search that would go deeper is answered as want of memory.
-const GREATEST_DEPTH: u64 = 2_000;
-
 /// Solves a list of atoms over the variables of a table. Atoms that aren't of the fragment by themselves are simplified by the rules,
 /// and what is found then is tested on the atoms as they were given. Where that doesn't serve, values are looked for with the sorts
 /// that the list says.
@@ -101,7 +98,7 @@ pub(crate) fn found_of(
     ensures { IfOk result (IsFound vars.now (atoms_view atoms.now)) }
 {
     *list = copy_of(alloc, atoms)?;
-    search(alloc, vars, list, GREATEST_DEPTH)
+    search(alloc, vars, list)
 }
 
 /// Solves a list with an atom that isn't of the fragment.
@@ -118,7 +115,7 @@ fn solve_outside(
     ensures { IfOk result (λ s. IsSolved vars.now (atoms_view atoms.now) (solution_view s)) }
 {
     *list = plain_list(alloc, vars, rules, atoms)?;
-    let found = search(alloc, vars, list, GREATEST_DEPTH)?;
+    let found = search(alloc, vars, list)?;
     tested(alloc, vars, atoms, found, reason)
 }
 

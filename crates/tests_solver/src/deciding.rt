@@ -4,7 +4,7 @@ ghost use Rattle.pure_terms.specs.View.{atoms_view};
 
 use crate::reading::list;
 use path_solver::PathSolver;
-use pure_terms::{Atoms, Decision, Reason, VarTable};
+use pure_terms::{Atoms, Decider, Decision, Reason, VarTable};
 use solver_proof::Refuter;
 use std::alloc::{AllocError, Global};
 use std::test::Fail;
@@ -36,6 +36,30 @@ fn lists_are_decided_and_refuted(rt: HostRuntime) -> Result<(), Fail> {
         let text = list(alloc, stated)?;
         let answer = answer_of(alloc, &mut solver, &text.vars, &text.atoms)?;
         assert!(rt; answer == Some(wanted), "{stated}");
+    }
+    Ok(())
+}
+
+/// Lists that are decided with the sorts that they say, and refuted by no proof.
+const SORTED: [(&str, Answer); 5] = [
+    ("(kind(a) = Int); (a < x); (x < a);", Answer::Refuted),
+    (
+        "(kind(a) = Int); (kind(c) = Int); (0 <= a); (a < c); not((0 <= (a + 1)));",
+        Answer::Refuted,
+    ),
+    ("(kind(a) = Str); ([a] = [\"b\"]); (a = \"c\");", Answer::Refuted),
+    ("(kind(a) = Int); (kind(c) = Int); (a < c); (c < (a + 2));", Answer::Sat),
+    ("(kind(a) = Int); ((a * a) = 2);", Answer::Unknown(1)),
+];
+
+#[test]
+fn lists_are_decided_with_the_sorts_that_they_say(rt: HostRuntime) -> Result<(), Fail> {
+    let alloc = rt.alloc();
+    let mut solver = PathSolver::new(alloc);
+    for (stated, wanted) in SORTED {
+        let text = list(alloc, stated)?;
+        let answer = named(solver.decide(alloc, &text.vars, &text.atoms)?);
+        assert!(rt; answer == wanted, "{stated}");
     }
     Ok(())
 }
