@@ -1,24 +1,23 @@
 -- How a call ends, from what its stages leave.
 use Rattle.std.proofs.Common.{◌≡◌, ◌⊎◌, inl, inr, ◌≤◌, ◌<◌, ◌++◌, ℕ, List, length, length-append, Option, Some, None, IfSome, refl, sym}
-use Rattle.std.proofs.Common.{◌∙◌, ap, subst, arith}
+use Rattle.std.proofs.Common.{◌∙◌, ap, subst, arith, Bool, true, false, if◌then◌else◌}
 use Rattle.std.proofs.lemmas.Option.{same_Some}
+use Rattle.std.specs.List.{list_all}
 use Rattle.std.specs.Io.KnownBytes.{Appends, Consumes, IsAtEnd}
 use Rattle.gil_io.specs.Faults.{FaultRose}
 use Rattle.gil_io.specs.Reading.{Takes}
 use Rattle.gil_io.specs.Writing.{IsUsedUp}
 use Rattle.gil_text.specs.declared.refused.Refused.{Refused}
 use Rattle.gillian_words.specs.Asked.{AskFor}
-use Rattle.gillian_words.specs.Tasks.{PureTask}
+use Rattle.gillian_words.specs.Tasks.{PureRequest}
 use Rattle.gillian_core.specs.declared.status.Status.{Status}
 use Rattle.gillian_core.specs.declared.status.Status.TheVariants.{Good, Found, Words, Text, ReadFault, WriteFault, Memory, TooLarge}
 use Rattle.gillian_core.specs.Accepted.{IsAccepted}
 use Rattle.gillian_core.specs.Outcomes.{Call, IsReported, Ends, written, write_failed, read_failed, out_of_memory, MayWrite, IsRead}
 use Rattle.gillian_core.specs.Outcomes.{WordsFit, IsRefused, IsRight, OfBytes, Refuses, Reports, most_bytes}
-use Rattle.gillian_core.specs.Outputs.{PureOutput, a_report, a_program, answer_status, output_status, output_text}
+use Rattle.gillian_core.specs.Outputs.{PureOutput, a_report, a_program, is_good, output_status, output_text}
 use Rattle.gillian_core.specs.Finishing.{Finishes, Answers, IsResponse, Told}
 use Rattle.gillian_core.specs.Refusals.{IsRefusal, refusal_line}
-use Rattle.gillian_core.specs.Reports.{PureAnswer, clean, bug, undecided, returned, failed, vanished, cut, no_input, bad_input, number}
-use Rattle.gillian_core.specs.Reports.{sat, unsat, unknown}
 
 -- what the sink of a call tells
 abbrev told_of : Call → Told
@@ -30,44 +29,34 @@ ends_of_finish c status result text may (inl w) = subst (Ends c) (sym w.0) (writ
 ends_of_finish c status result text may (inr w) = subst (Ends c) (sym w.0) (write_failed status text may w.1 w.2 w.3)
 
 -- an output is written with a status of its own
-by_answer : (c : Call) (answer : PureAnswer) (text : List ℕ) → IsRead c → Reports c (answer_status answer) text → MayWrite c (answer_status answer) text
-by_answer c clean text read reports = (read, reports)
-by_answer c (bug place value inputs) text read reports = (read, reports)
-by_answer c (undecided query) text read reports = (read, reports)
-by_answer c (returned value) text read reports = (read, reports)
-by_answer c (failed value place) text read reports = (read, reports)
-by_answer c vanished text read reports = (read, reports)
-by_answer c cut text read reports = (read, reports)
-by_answer c (no_input draw) text read reports = (read, reports)
-by_answer c (bad_input draw) text read reports = (read, reports)
-by_answer c (number place) text read reports = (read, reports)
-by_answer c (sat bindings) text read reports = (read, reports)
-by_answer c (unsat names proof) text read reports = (read, reports)
-by_answer c (unknown place) text read reports = (read, reports)
+by_goodness : (c : Call) (good : Bool) (text : List ℕ) → IsRead c → Reports c (if good then Good else Found) text → MayWrite c (if good then Good else Found) text
+by_goodness c true text read reports = (read, reports)
+by_goodness c false text read reports = (read, reports)
 
 may_report : (c : Call) (output : PureOutput) (text : List ℕ) → IsRead c → Reports c (output_status output) text → MayWrite c (output_status output) text
-may_report c (a_report r) text read reports = by_answer c r.answer text read reports
+may_report c (a_report r) text read reports = by_goodness c (list_all is_good r.answers) text read reports
 may_report c (a_program p) text read reports = (read, reports)
 
 if_some_weaker : {X : Type 0} (o : Option X) (P Q : X → Type 0) → ((x : X) → P x → Q x) → IfSome o P → IfSome o Q
 if_some_weaker None P Q f h = tt
 if_some_weaker (Some x) P Q f h = f x h
 
-module _ (c : Call) (t : PureTask) (asked : AskFor c.words t) (read : IsRead c) (bytes : List ℕ) (whole : IfSome c.left (λ left. bytes ≡ left)) where
-  may_write_response : (status : Status) (text : List ℕ) → IsResponse t bytes status text → MayWrite c status text
+module _ (c : Call) (q : PureRequest) (asked : AskFor c.words q) (read : IsRead c) (bytes : List ℕ) (whole : IfSome c.left (λ left. bytes ≡ left)) where
+  may_write_response : (status : Status) (text : List ℕ) → IsResponse q bytes status text → MayWrite c status text
   may_write_response status text (inl (r, refusal, is, says)) =
-      let refuses : Refuses c text = record { refusal = r; written = says; right = (bytes, whole, (t, asked, refusal)) } in
+      let refuses : Refuses c text = record { refusal = r; written = says; right = (bytes, whole, (q, asked, refusal)) } in
       rw is (read, refuses)
   may_write_response status text (inr (output, right, is, says)) =
       let reports : Reports c (output_status output) text = record {
+        request = q;
         output = output;
         written = says;
         ends = refl;
-        right = (bytes, whole, (t, asked, right));
+        right = (bytes, whole, (asked, right));
       } in
       subst (λ s. MayWrite c s text) (sym is) (may_report c output text read reports)
 
-  pub ends_of_answer : (result : Status) → Answers t bytes (told_of c) result → Ends c result
+  pub ends_of_answer : (result : Status) → Answers q bytes (told_of c) result → Ends c result
   ends_of_answer result (inl w) = subst (Ends c) (sym w.0) (out_of_memory w.1)
   ends_of_answer result (inr (status, text, response, finishes)) = ends_of_finish c status result text (may_write_response status text response) finishes
 
@@ -75,31 +64,20 @@ module _ (c : Call) (t : PureTask) (asked : AskFor c.words t) (read : IsRead c) 
 pub within_read : (left : Option (List ℕ)) (bytes : List ℕ) (most : ℕ) → IfSome left (λ all. bytes ≡ all) → length bytes ≤ most → IfSome left (λ all. length all ≤ most)
 within_read left bytes most whole few = if_some_weaker left _ _ (λ all e. subst (λ bs. length bs ≤ most) e few) whole
 
-no_answer_too_large : (answer : PureAnswer) → answer_status answer ≡ TooLarge → ⊥
-no_answer_too_large clean e = cc
-no_answer_too_large (bug place value inputs) e = cc
-no_answer_too_large (undecided query) e = cc
-no_answer_too_large (returned value) e = cc
-no_answer_too_large (failed value place) e = cc
-no_answer_too_large vanished e = cc
-no_answer_too_large cut e = cc
-no_answer_too_large (no_input draw) e = cc
-no_answer_too_large (bad_input draw) e = cc
-no_answer_too_large (number place) e = cc
-no_answer_too_large (sat bindings) e = cc
-no_answer_too_large (unsat names proof) e = cc
-no_answer_too_large (unknown place) e = cc
+never_too_large : (good : Bool) → (if good then Good else Found) ≡ TooLarge → ⊥
+never_too_large true e = cc
+never_too_large false e = cc
 
 no_output_too_large : (output : PureOutput) → output_status output ≡ TooLarge → ⊥
-no_output_too_large (a_report r) e = no_answer_too_large r.answer e
+no_output_too_large (a_report r) e = never_too_large (list_all is_good r.answers) e
 no_output_too_large (a_program p) e = cc
 
 -- an answer to a text is no refusal of its size
-pub answer_not_too_large : (t : PureTask) (bytes : List ℕ) (k : Told) (result : Status) → Answers t bytes k result → result ≡ TooLarge → ⊥
-answer_not_too_large t bytes k result (inl w) e = let h = w.0 in cc
-answer_not_too_large t bytes k result (inr (status, text, response, inr w)) e = let h = w.0 in cc
-answer_not_too_large t bytes k result (inr (status, text, inl response, inl w)) e = let h = w.0 in let g = response.2 in cc
-answer_not_too_large t bytes k result (inr (status, text, inr response, inl w)) e =
+pub answer_not_too_large : (q : PureRequest) (bytes : List ℕ) (k : Told) (result : Status) → Answers q bytes k result → result ≡ TooLarge → ⊥
+answer_not_too_large q bytes k result (inl w) e = let h = w.0 in cc
+answer_not_too_large q bytes k result (inr (status, text, response, inr w)) e = let h = w.0 in cc
+answer_not_too_large q bytes k result (inr (status, text, inl response, inl w)) e = let h = w.0 in let g = response.2 in cc
+answer_not_too_large q bytes k result (inr (status, text, inr response, inl w)) e =
     no_output_too_large response.0 (sym response.2 ∙ sym w.0 ∙ e)
 
 -- what is said of some bytes is said of those that the source tells
@@ -112,22 +90,26 @@ appended None taken_after before text is more = cc
 appended (Some xs) None before text is more = absurd more
 appended (Some xs) (Some ys) before text is more = ap Some (more ∙ ap (λ zs. zs ++ text) (same_Some xs before is))
 
-reported : (left taken taken_after : Option (List ℕ)) (words : List (List ℕ)) (status : Status) (text : List ℕ) (o : PureOutput)
-    → text ≡ output_text o → status ≡ output_status o → IfSome left (λ bytes. IsRight words bytes o) → Appends taken taken_after text
-    → IfSome left (λ bytes. IfSome taken (λ before. (q : PureOutput) × (taken_after ≡ Some (before ++ output_text q)) × IsRight words bytes q × (status ≡ output_status q)))
-reported None taken taken_after words status text o says ends right e = tt
-reported (Some bytes) None taken_after words status text o says ends right e = tt
-reported (Some bytes) (Some before) taken_after words status text o says ends right e =
-    (o, appended (Some before) taken_after before text refl e ∙ ap (λ t. Some (before ++ t)) says, right, ends)
+reported : (left taken taken_after : Option (List ℕ)) (words : List (List ℕ)) (status : Status) (text : List ℕ) (q : PureRequest) (o : PureOutput)
+    → text ≡ output_text q.json o → status ≡ output_status o → IfSome left (λ bytes. IsRight words bytes q o) → Appends taken taken_after text
+    → IfSome left (λ bytes. IfSome taken (λ before. (r : PureRequest) × (p : PureOutput) × (taken_after ≡ Some (before ++ output_text r.json p))
+    × IsRight words bytes r p × (status ≡ output_status p)))
+reported None taken taken_after words status text q o says ends right e = tt
+reported (Some bytes) None taken_after words status text q o says ends right e = tt
+reported (Some bytes) (Some before) taken_after words status text q o says ends right e =
+    (q, o, appended (Some before) taken_after before text refl e ∙ ap (λ t. Some (before ++ t)) says, right, ends)
 
 by_reports : (c : Call) (status : Status) (text : List ℕ) (reports : Reports c status text) → Appends c.taken c.taken_after text
-    → IfSome c.left (λ bytes. IfSome c.taken (λ before. (q : PureOutput) × (c.taken_after ≡ Some (before ++ output_text q)) × IsRight c.words bytes q × (status ≡ output_status q)))
+    → IfSome c.left (λ bytes. IfSome c.taken (λ before. (r : PureRequest) × (p : PureOutput) × (c.taken_after ≡ Some (before ++ output_text r.json p))
+    × IsRight c.words bytes r p × (status ≡ output_status p)))
 by_reports c status text reports e =
-    reported c.left c.taken c.taken_after c.words status text reports.output reports.written reports.ends (of_left c (λ bytes. IsRight c.words bytes reports.output) reports.right) e
+    reported c.left c.taken c.taken_after c.words status text reports.request reports.output reports.written reports.ends
+    (of_left c (λ bytes. IsRight c.words bytes reports.request reports.output) reports.right) e
 
 -- what is reported is right
 pub right_if_reported : (c : Call) (result : Status) → Ends c result → IsReported result
-    → IfSome c.left (λ bytes. IfSome c.taken (λ before. (q : PureOutput) × (c.taken_after ≡ Some (before ++ output_text q)) × IsRight c.words bytes q × (result ≡ output_status q)))
+    → IfSome c.left (λ bytes. IfSome c.taken (λ before. (r : PureRequest) × (p : PureOutput) × (c.taken_after ≡ Some (before ++ output_text r.json p))
+    × IsRight c.words bytes r p × (result ≡ output_status p)))
 right_if_reported c result (written Good text may e) h = by_reports c Good text may.1 e
 right_if_reported c result (written Found text may e) h = by_reports c Found text may.1 e
 right_if_reported c result (written Words text may e) (inl h) = cc
@@ -249,12 +231,12 @@ not_longer (Some xs) None bytes gave is given = absurd given
 not_longer (Some xs) (Some ys) bytes gave is given =
     let counted = ap length (sym (same_Some xs bytes is) ∙ given) ∙ length-append gave ys in omega (arith, counted)
 
-module _ (c : Call) (once : (a b : PureTask) → AskFor c.words a → AskFor c.words b → a ≡ b) (t : PureTask) (asked : AskFor c.words t) (bytes : List ℕ)
-    (left : c.left ≡ Some bytes) (accepted : IsAccepted t bytes) (short : length bytes ≤ most_bytes) (no_fault : FaultRose c.read_faults c.read_faults_after → ⊥) where
+module _ (c : Call) (once : (a b : PureRequest) → AskFor c.words a → AskFor c.words b → a ≡ b) (q : PureRequest) (asked : AskFor c.words q) (bytes : List ℕ)
+    (left : c.left ≡ Some bytes) (accepted : IsAccepted q.task bytes) (short : length bytes ≤ most_bytes) (no_fault : FaultRose c.read_faults c.read_faults_after → ⊥) where
   not_refused : (r : Refused) → IfSome c.left (λ bs. IsRefused c.words bs r) → ⊥
   not_refused r known =
       let refused = subst (λ o. IfSome o (λ bs. IsRefused c.words bs r)) left known in
-      (subst (λ u. IsRefusal u bytes r) (once refused.0 t refused.1 asked) refused.2).not_accepted accepted
+      (subst (λ u. IsRefusal u.task bytes r) (once refused.0 q refused.1 asked) refused.2).not_accepted accepted
 
   not_too_large : Takes c.left c.left_after (λ gave. most_bytes < length gave) → ⊥
   not_too_large takes = let few = not_longer c.left c.left_after bytes takes.0 left takes.1 in omega (arith, few, short, takes.2)
@@ -263,7 +245,7 @@ module _ (c : Call) (once : (a b : PureTask) → AskFor c.words a → AskFor c.w
   pub answered_if_accepted : (result : Status) → Ends c result → IsReported result ⊎ (result ≡ WriteFault) ⊎ (result ≡ Memory)
   answered_if_accepted result (written Good text may e) = inl (inl refl)
   answered_if_accepted result (written Found text may e) = inl (inr refl)
-  answered_if_accepted result (written Words text may e) = absurd (may.0 (t, asked))
+  answered_if_accepted result (written Words text may e) = absurd (may.0 (q, asked))
   answered_if_accepted result (written Text text may e) =
       absurd (not_refused may.1.refusal (of_left c (λ bs. IsRefused c.words bs may.1.refusal) may.1.right))
   answered_if_accepted result (written TooLarge text may e) = absurd (not_too_large may.1)
@@ -275,12 +257,12 @@ module _ (c : Call) (once : (a b : PureTask) → AskFor c.words a → AskFor c.w
   answered_if_accepted result (out_of_memory nothing) = inr (inr refl)
 
 -- the same of the bytes that the source tells
-pub answered_where_told : (c : Call) → ((a b : PureTask) → AskFor c.words a → AskFor c.words b → a ≡ b) → (result : Status) → Ends c result
-    → (t : PureTask) → AskFor c.words t → IfSome c.left (λ bytes. IsAccepted t bytes → length bytes ≤ most_bytes
+pub answered_where_told : (c : Call) → ((a b : PureRequest) → AskFor c.words a → AskFor c.words b → a ≡ b) → (result : Status) → Ends c result
+    → (q : PureRequest) → AskFor c.words q → IfSome c.left (λ bytes. IsAccepted q.task bytes → length bytes ≤ most_bytes
     → (FaultRose c.read_faults c.read_faults_after → ⊥) → IsReported result ⊎ (result ≡ WriteFault) ⊎ (result ≡ Memory))
-answered_where_told c once result ends t asked = by c.left refl
+answered_where_told c once result ends q asked = by c.left refl
   where
-    by : (left : Option (List ℕ)) → c.left ≡ left → IfSome left (λ bytes. IsAccepted t bytes → length bytes ≤ most_bytes
+    by : (left : Option (List ℕ)) → c.left ≡ left → IfSome left (λ bytes. IsAccepted q.task bytes → length bytes ≤ most_bytes
         → (FaultRose c.read_faults c.read_faults_after → ⊥) → IsReported result ⊎ (result ≡ WriteFault) ⊎ (result ≡ Memory))
     by None is = tt
-    by (Some bytes) is = λ accepted short no_fault. answered_if_accepted c once t asked bytes is accepted short no_fault result ends
+    by (Some bytes) is = λ accepted short no_fault. answered_if_accepted c once q asked bytes is accepted short no_fault result ends

@@ -1,6 +1,5 @@
 pub mod Cases
 pub mod Ending
-pub mod Joined
 pub mod MeantTexts
 pub mod Meant
 pub mod Refusing

@@ -11,7 +11,7 @@ use Rattle.gil_machine.specs.State.{End, Ending, IsOver, told, returned, threw, 
 use Rattle.gil_machine.proofs.HeldRuns.{held_runs_are_runs}
 use Rattle.source_language.specs.SameEnds.{AreSameEnds}
 use Rattle.gillian_core.specs.Ends.{IsEndOf, end_answer, ending_answer}
-use Rattle.gillian_core.specs.Reports.{failed as failed_answer}
+use Rattle.gil_report.specs.Pure.{failed as failed_answer}
 
 -- an end is answered as it is told
 told_answer : (e : Ending) → ending_answer (told e) ≡ ending_answer e

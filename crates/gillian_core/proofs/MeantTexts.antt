@@ -18,7 +18,7 @@ use Rattle.gillian_words.specs.declared.tasks.Language.{Language}
 use Rattle.gillian_words.specs.declared.tasks.Language.TheVariants.{GilRecord, GilBlock, While}
 use Rattle.gillian_core.specs.Ends.{end_answer}
 use Rattle.gillian_core.specs.Languages.{definition_of}
-use Rattle.gillian_core.specs.Reports.{failed as failed_answer}
+use Rattle.gil_report.specs.Pure.{failed as failed_answer}
 use Rattle.gillian_core.proofs.Meant.{run_meant, failure_meant}
 
 while_same : (s : PureSource) (p : PureParts) (f : List ℕ) (inputs : List PureValue) → HasSameEnds s p → IsEntry p f

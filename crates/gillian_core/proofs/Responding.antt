@@ -2,7 +2,7 @@
 use Rattle.std.proofs.Common.{◌≡◌, ◌≢◌, inl, inr, ℕ, List, Result, Ok, Err, IfOk, OnOk}
 use Rattle.gil_text.specs.declared.refused.Refused.{Refused}
 use Rattle.gil_text.specs.declared.refused.RefusedKind.TheVariants as kinds
-use Rattle.gillian_words.specs.Tasks.{PureTask}
+use Rattle.gillian_words.specs.Tasks.{PureRequest}
 use Rattle.gillian_core.specs.declared.rendering.Response.{Response}
 use Rattle.gillian_core.specs.declared.status.Status.TheVariants.{Text}
 use Rattle.gillian_core.specs.Finishing.{IsNoOutput, IsResponse}
@@ -10,14 +10,14 @@ use Rattle.gillian_core.specs.Outputs.{PureOutput, output_status, output_text}
 use Rattle.gillian_core.specs.Refusals.{refusal_line}
 use Rattle.gillian_core.specs.Right.{IsRightOutput}
 
-pub response_of_output : {E : Type 0} (t : PureTask) (bytes : List ℕ) (o : PureOutput) (r : Result Response E) → IsRightOutput t bytes o
-    → IfOk r (λ x. x.status ≡ output_status o) → IfOk r (λ x. x.text.items ≡ output_text o)
-    → IfOk r (λ x. IsResponse t bytes x.status x.text.items)
-response_of_output t bytes o (Ok x) right status text = inr (o, right, status, text)
-response_of_output t bytes o (Err e) right status text = tt
+pub response_of_output : {E : Type 0} (q : PureRequest) (bytes : List ℕ) (o : PureOutput) (r : Result Response E) → IsRightOutput q.task bytes o
+    → IfOk r (λ x. x.status ≡ output_status o) → IfOk r (λ x. x.text.items ≡ output_text q.json o)
+    → IfOk r (λ x. IsResponse q bytes x.status x.text.items)
+response_of_output q bytes o (Ok x) right status text = inr (o, right, status, text)
+response_of_output q bytes o (Err e) right status text = tt
 
-pub response_of_refusal : {E : Type 0} (t : PureTask) (bytes : List ℕ) (refused : Refused) (r : Result Response E) → IsNoOutput t bytes refused
+pub response_of_refusal : {E : Type 0} (q : PureRequest) (bytes : List ℕ) (refused : Refused) (r : Result Response E) → IsNoOutput q.task bytes refused
     → IfOk r (λ x. x.status ≡ Text) → IfOk r (λ x. x.text.items ≡ refusal_line refused) → OnOk r (refused.kind ≢ kinds.Memory)
-    → IfOk r (λ x. IsResponse t bytes x.status x.text.items)
-response_of_refusal t bytes refused (Ok x) none status text refusal = inl (refused, none refusal, status, text)
-response_of_refusal t bytes refused (Err e) none status text refusal = tt
+    → IfOk r (λ x. IsResponse q bytes x.status x.text.items)
+response_of_refusal q bytes refused (Ok x) none status text refusal = inl (refused, none refusal, status, text)
+response_of_refusal q bytes refused (Err e) none status text refusal = tt

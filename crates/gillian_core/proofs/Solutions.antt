@@ -10,12 +10,12 @@ use Rattle.atom_text.specs.Refusals.{IsRefused}
 use Rattle.gil_text.specs.declared.refused.Refused.{Refused}
 use Rattle.gil_text.specs.declared.refused.RefusedKind.TheVariants as kinds
 use Rattle.gillian_words.specs.Tasks.{solve}
-use Rattle.gillian_core.specs.declared.answers.Answer.{Answer}
-use Rattle.gillian_core.specs.declared.answers.Binding.{Binding}
-use Rattle.gillian_core.specs.Answers.{answer_view, binding_view}
+use Rattle.gil_report.specs.declared.answers.Answer.{Answer}
+use Rattle.gil_report.specs.declared.answers.Binding.{Binding}
+use Rattle.gil_report.specs.Pure.{PureBinding}
+use Rattle.gil_report.specs.View.{answer_view, binding_view}
 use Rattle.gillian_core.specs.Finishing.{IsNoOutput}
 use Rattle.gillian_core.specs.Right.{IsRightSolution, IsSolved}
-use Rattle.gillian_core.specs.Reports.{PureBinding}
 
 -- each variable of a text has a name
 pub named_variables : (bytes : List ℕ) (t : PureAtomText) → SpellAtoms bytes t → length t.names ≡ length t.vars

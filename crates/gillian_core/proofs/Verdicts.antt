@@ -1,5 +1,5 @@
 -- Verdicts of tests are right, for the text too.
-use Rattle.std.proofs.Common.{ℕ, List}
+use Rattle.std.proofs.Common.{ℕ, List, refl}
 use Rattle.gil_values.specs.Pure.{PureValue}
 use Rattle.gil_syntax.specs.Pure.{PureParts}
 use Rattle.mem_model.specs.Actions.{Actions}
@@ -10,11 +10,11 @@ use Rattle.sym_test.specs.Undecided.{FailsSimply, IsBugVerdict, IsRightVerdict a
 use Rattle.sym_test.specs.View.{PureVerdict}
 use Rattle.sym_test.specs.View as verdict
 use Rattle.gillian_words.specs.declared.tasks.Language.{Language}
+use Rattle.gil_report.specs.Pure.{PureAnswer, returned, failed, vanished, cut, no_input, bad_input, number, clean, bug, undecided}
+use Rattle.gil_report.specs.Pure.{verified, vacuous, unproved, found as found_spec, sat, unsat, unknown, bytes as length_of}
 use Rattle.gillian_core.specs.Answers.{verdict_answer}
 use Rattle.gillian_core.specs.Definitions.{memory_of}
 use Rattle.gillian_core.specs.Languages.{definition_of}
-use Rattle.gillian_core.specs.Reports.{PureAnswer, clean, bug, undecided, returned, failed, vanished, cut, no_input, bad_input, number}
-use Rattle.gillian_core.specs.Reports.{sat, unsat, unknown}
 use Rattle.gillian_core.specs.Right.{IsMeantVerdict, IsRightVerdict}
 use Rattle.gillian_core.proofs.MeantTexts.{failure_is_meant}
 
@@ -28,7 +28,7 @@ module _ {S : Type 0} (actions : Actions) (stands : S → List PureValue → Hea
       → IsRightVerdict (memory_of actions stands terms asked depends keeps_plain) p entry bound (verdict_answer v)
   verdict_is_right p entry bound (verdict.bug place w inputs) right found = right
   verdict_is_right p entry bound verdict.clean right found = right
-  verdict_is_right p entry bound (verdict.unknown q) right found = (right, found)
+  verdict_is_right p entry bound (verdict.unknown q) right found = ((q, refl, right), found)
 
 -- a verdict is meant where it is right
 pub verdict_is_meant : (l : Language) (bytes : List ℕ) (p : PureParts) (entry : List ℕ) (bound : ℕ) (answer : PureAnswer)
@@ -46,5 +46,10 @@ verdict_is_meant l bytes p entry bound (no_input k) keeps right = tt
 verdict_is_meant l bytes p entry bound (bad_input k) keeps right = tt
 verdict_is_meant l bytes p entry bound (number place) keeps right = tt
 verdict_is_meant l bytes p entry bound (sat bindings) keeps right = tt
-verdict_is_meant l bytes p entry bound (unsat names proof) keeps right = tt
+verdict_is_meant l bytes p entry bound (unsat proof) keeps right = tt
 verdict_is_meant l bytes p entry bound (unknown place) keeps right = tt
+verdict_is_meant l bytes p entry bound (verified name) keeps right = tt
+verdict_is_meant l bytes p entry bound (vacuous name proof) keeps right = tt
+verdict_is_meant l bytes p entry bound (unproved name cause) keeps right = tt
+verdict_is_meant l bytes p entry bound (found_spec spec is_cut) keeps right = tt
+verdict_is_meant l bytes p entry bound (length_of length) keeps right = tt

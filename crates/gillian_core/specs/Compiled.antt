@@ -9,7 +9,7 @@ use Rattle.gil_text.specs.declared.refused.RefusedKind.TheVariants as kinds
 use Rattle.source_language.specs.declared.limits.TooMany.{TooMany}
 use Rattle.gillian_core.specs.Definitions.{Definition, Memory}
 use Rattle.gillian_core.specs.Ends.{IsEndOf}
-use Rattle.gillian_core.specs.Reports.{PureAnswer}
+use Rattle.gil_report.specs.Pure.{PureAnswer}
 
 pub record SourceLanguage : Type 1 where
   pub Source : Type 0

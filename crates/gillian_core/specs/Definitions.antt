@@ -11,7 +11,7 @@ use Rattle.sym_model.specs.Terms.{StateTerms}
 use Rattle.sym_test.specs.Bugs.{IsFound}
 use Rattle.sym_test.specs.Undecided.{IsUndecided}
 use Rattle.sym_test.specs.View.{PureQuery}
-use Rattle.gillian_core.specs.Reports.{PureAnswer}
+use Rattle.gil_report.specs.Pure.{PureAnswer}
 
 -- A memory: what its actions do to a heap; and, of tests over its symbolic states, where a bug comes from, what isn't decided, and
 -- whether they keep the law of plain memories, by which a command of simple form is always decided.

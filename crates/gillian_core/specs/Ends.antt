@@ -4,8 +4,7 @@ use Rattle.gil_machine.specs.Held.{HeldEnd, ended as held_end, number as held_nu
 use Rattle.gil_machine.specs.State.{End, Ending, returned as end_returned, threw as end_threw, failed as end_failed}
 use Rattle.gil_machine.specs.State.{vanished as end_vanished}
 use Rattle.gil_machine.specs.State.{no_input as end_no_input, bad_input as end_bad_input, cut as end_cut}
-use Rattle.gillian_core.specs.Reports.{PureAnswer, clean, bug, undecided, returned, failed, vanished, cut, no_input, bad_input, number}
-use Rattle.gillian_core.specs.Reports.{sat, unsat, unknown}
+use Rattle.gil_report.specs.Pure.{PureAnswer, returned, failed, vanished, cut, no_input, bad_input, number}
 
 -- How a run ended. A throw that no call has a handler for is a failure.
 abbrev pub ending_answer : Ending → PureAnswer

@@ -6,7 +6,7 @@ use Rattle.gil_io.specs.Writing.{IsUsedUp, TakesPart}
 use Rattle.gil_text.specs.declared.refused.Refused.{Refused}
 use Rattle.gil_text.specs.declared.refused.RefusedKind.{RefusedKind}
 use Rattle.gil_text.specs.declared.refused.RefusedKind.TheVariants as kinds
-use Rattle.gillian_words.specs.Tasks.{PureTask}
+use Rattle.gillian_words.specs.Tasks.{PureTask, PureRequest}
 use Rattle.gillian_core.specs.declared.status.Status.{Status}
 use Rattle.gillian_core.specs.declared.status.Status.TheVariants.{Text, WriteFault, Memory}
 use Rattle.gillian_core.specs.Accepted.{HasEntry, HasProgram}
@@ -55,14 +55,14 @@ IsNoEntry d entry bytes r = IsCause (HasEntry d entry bytes) (IsFaultOfEntry d e
 abbrev pub IsNoOutput : PureTask → List ℕ → Refused → Type 0
 IsNoOutput t bytes r = r.kind ≢ kinds.Memory → IsRefusal t bytes r
 
--- the text and the status of a right output, or of the refusal of the text
-abbrev pub IsResponse : PureTask → List ℕ → Status → List ℕ → Type 0
-IsResponse t bytes status text =
-    ((r : Refused) × IsRefusal t bytes r × (status ≡ Text) × (text ≡ refusal_line r))
-    ⊎ ((o : PureOutput) × IsRightOutput t bytes o × (status ≡ output_status o) × (text ≡ output_text o))
+-- the text and the status of a right output, in the form that is asked for, or of the refusal of the text
+abbrev pub IsResponse : PureRequest → List ℕ → Status → List ℕ → Type 0
+IsResponse q bytes status text =
+    ((r : Refused) × IsRefusal q.task bytes r × (status ≡ Text) × (text ≡ refusal_line r))
+    ⊎ ((o : PureOutput) × IsRightOutput q.task bytes o × (status ≡ output_status o) × (text ≡ output_text q.json o))
 
 -- The response is finished, or memory ran out before anything was written.
-abbrev pub Answers : PureTask → List ℕ → Told → Status → Type 0
-Answers t bytes k result =
+abbrev pub Answers : PureRequest → List ℕ → Told → Status → Type 0
+Answers q bytes k result =
     ((result ≡ Memory) × (k.taken_after ≡ k.taken))
-    ⊎ ((status : Status) × (text : List ℕ) × IsResponse t bytes status text × Finishes k text status result)
+    ⊎ ((status : Status) × (text : List ℕ) × IsResponse q bytes status text × Finishes k text status result)

@@ -10,8 +10,6 @@ pub mod Languages
 pub mod Memories
 pub mod Outcomes
 pub mod Outputs
-pub mod Queries
 pub mod Refusals
-pub mod Reports
 pub mod Right
 pub mod WhileLanguage

@@ -6,17 +6,17 @@ use Rattle.gil_io.specs.Reading.{Takes}
 use Rattle.gil_io.specs.Writing.{IsUsedUp, TakesPart}
 use Rattle.gil_text.specs.declared.refused.Refused.{Refused}
 use Rattle.gillian_words.specs.Asked.{AskFor}
-use Rattle.gillian_words.specs.Tasks.{PureTask}
+use Rattle.gillian_words.specs.Tasks.{PureRequest}
 use Rattle.gillian_core.specs.declared.status.Status.{Status}
 use Rattle.gillian_core.specs.declared.status.Status.TheVariants.{Good, Found, Words, Text, ReadFault, WriteFault, Memory, TooLarge}
 use Rattle.gillian_core.specs.Outputs.{PureOutput, output_status, output_text}
 use Rattle.gillian_core.specs.Refusals.{IsRefusal, refusal_line}
-use Rattle.gillian_core.specs.Reports.{line}
+use Rattle.gil_report.specs.Lines.{line}
 use Rattle.gillian_core.specs.Right.{IsRightOutput}
 
 -- the words ask for something
 abbrev pub WordsFit : List (List ℕ) → Type 0
-WordsFit words = (t : PureTask) × AskFor words t
+WordsFit words = (q : PureRequest) × AskFor words q
 
 -- the most bytes that a source may give
 abbrev pub most_bytes : ℕ
@@ -74,13 +74,13 @@ OfBytes c P = (bytes : List ℕ) × IfSome c.left (λ left. bytes ≡ left) × P
 
 -- ---- outputs
 
--- The output is right for the bytes, and is what the words ask for.
-abbrev pub IsRight : List (List ℕ) → List ℕ → PureOutput → Type 0
-IsRight words bytes output = (t : PureTask) × AskFor words t × IsRightOutput t bytes output
+-- The output is right for the bytes, and is what the words ask for, which is this.
+abbrev pub IsRight : List (List ℕ) → List ℕ → PureRequest → PureOutput → Type 0
+IsRight words bytes q output = AskFor words q × IsRightOutput q.task bytes output
 
 -- The text isn't accepted where what the words ask for is asked, and is refused so.
 abbrev pub IsRefused : List (List ℕ) → List ℕ → Refused → Type 0
-IsRefused words bytes r = (t : PureTask) × AskFor words t × IsRefusal t bytes r
+IsRefused words bytes r = (q : PureRequest) × AskFor words q × IsRefusal q.task bytes r
 
 -- ---- ends
 
@@ -88,12 +88,13 @@ IsRefused words bytes r = (t : PureTask) × AskFor words t × IsRefusal t bytes 
 abbrev pub IsReported : Status → Type 0
 IsReported status = (status ≡ Good) ⊎ (status ≡ Found)
 
--- The text is that of an output with this status, which is right for the bytes and the words.
+-- The text is that of an output with this status, in the form that is asked for, which is right for the bytes and the words.
 pub record Reports (c : Call) (status : Status) (text : List ℕ) : Type 0 where
+  pub request : PureRequest
   pub output : PureOutput
-  pub written : text ≡ output_text output
+  pub written : text ≡ output_text request.json output
   pub ends : status ≡ output_status output
-  pub right : OfBytes c (λ bytes. IsRight c.words bytes output)
+  pub right : OfBytes c (λ bytes. IsRight c.words bytes request output)
 
 -- The text is the refusal of the bytes for the words.
 pub record Refuses (c : Call) (text : List ℕ) : Type 0 where

@@ -13,7 +13,7 @@ use Rattle.gillian_words.specs.Tasks.{PureTask, run, test, compile, solve}
 use Rattle.gillian_core.specs.Accepted.{IsAccepted}
 use Rattle.gillian_core.specs.Definitions.{Definition}
 use Rattle.gillian_core.specs.Languages.{definition_of}
-use Rattle.gillian_core.specs.Reports.{line}
+use Rattle.gil_report.specs.Lines.{line}
 
 abbrev pub fault_word : InvalidKind → List ℕ
 fault_word faults.Duplicate = codes "duplicate"

@@ -1,5 +1,5 @@
 -- What is right to be written of a text, by what is asked for.
-use Rattle.std.specs.Prelude.{◌≡◌, ℕ, List, [], map}
+use Rattle.std.specs.Prelude.{◌≡◌, ℕ, List, [], ◌∷◌, map}
 use Rattle.std.specs.FinMap.{empty}
 use Rattle.gil_values.specs.Pure.{PureValue}
 use Rattle.gil_syntax.specs.Pure.{PureParts}
@@ -10,16 +10,20 @@ use Rattle.pure_terms.specs.Deciding.{IsRight as IsRightDecision, sat as decided
 use Rattle.pure_terms.specs.Meaning.{IsUnsatisfiable}
 use Rattle.pure_terms.specs.declared.deciders.Reason.{Reason}
 use Rattle.solver_proof.specs.Closing.{Closes}
+use Rattle.solver_proof.specs.Pure.{PureProof}
 use Rattle.atom_text.specs.Accepted.{PureAtomText, SpellAtoms}
 use Rattle.sym_test.specs.Undecided.{FailsSimply}
+use Rattle.sym_test.specs.View.{PureQuery}
 use Rattle.gillian_words.specs.Tasks.{PureTask, run, test, compile, solve}
+use Rattle.gil_report.specs.declared.heads.EntryMode.TheVariants.{Run, Test}
+use Rattle.gil_report.specs.declared.heads.Head.{Head}
+use Rattle.gil_report.specs.Pure.{PureAnswer, failed, clean, bug, undecided, sat, unsat, unknown, PureReport}
+use Rattle.report_names.specs.Named.{proof_of}
+use Rattle.gillian_core.specs.Answers.{question_of}
 use Rattle.gillian_core.specs.Definitions.{Definition, Memory}
 use Rattle.gillian_core.specs.Ends.{end_answer}
 use Rattle.gillian_core.specs.Languages.{definition_of}
 use Rattle.gillian_core.specs.Outputs.{PureOutput, a_report, a_program}
-use Rattle.gillian_core.specs.Reports.{PureAnswer, clean, bug, undecided, returned, failed, vanished, cut, no_input, bad_input, number}
-use Rattle.gillian_core.specs.Reports.{sat, unsat, unknown}
-use Rattle.gillian_core.specs.Reports.{of_run, of_test, of_atoms}
 
 -- ---- run
 
@@ -40,13 +44,14 @@ NoneFailsSimply p actions entry bound = (inputs : List PureValue) → ¬ FailsSi
 
 -- `clean` is right where no run over the memory fails within the bound; `bug` where the run with these inputs fails with this value at
 -- this place within the bound, and draws each of them, and those that no condition on its way names are 0, false and the empty text;
--- `unknown` where the query isn't decided, and none fails by simple commands, if the memory keeps the law of plain memories.
+-- `unknown` where it names a query that isn't decided, and none fails by simple commands, if the memory keeps the law of plain memories.
 abbrev pub IsRightVerdict : Memory → PureParts → List ℕ → ℕ → PureAnswer → Type 0
 IsRightVerdict m p entry bound clean = IsClean p m.actions entry bound
 IsRightVerdict m p entry bound (bug place value inputs) =
     IsBug p m.actions entry bound inputs value place × m.FindsBug p entry bound place value inputs
-IsRightVerdict m p entry bound (undecided query) =
-    m.LeavesOpen p entry bound query × (m.keeps_plain → NoneFailsSimply p m.actions entry bound)
+IsRightVerdict m p entry bound (undecided question) =
+    ((q : PureQuery) × (question ≡ question_of q) × m.LeavesOpen p entry bound q)
+    × (m.keeps_plain → NoneFailsSimply p m.actions entry bound)
 IsRightVerdict m p entry bound _ = ⊥
 
 -- where a text is compiled, it fails so itself on the inputs of a bug
@@ -70,10 +75,11 @@ place_of (Reason.Atom i) = i
 place_of (Reason.Number i) = i
 
 -- `sat` is right where the variables have proper values that make every atom true; `unsat` where no proper values do, and
--- the proof closes the list; `unknown` where the list isn't in the fragment, and the atom is one that keeps it out.
+-- it names a proof that closes the list; `unknown` where the list isn't in the fragment, and the atom is one that keeps it out.
 abbrev pub IsRightSolution : PureAtomText → PureAnswer → Type 0
 IsRightSolution t (sat bindings) = (map (λ b. b.name) bindings ≡ t.names) × IsRightDecision t.vars t.atoms (decided_sat (map (λ b. b.value) bindings))
-IsRightSolution t (unsat names proof) = (names ≡ t.names) × Closes t.vars t.atoms proof × IsUnsatisfiable t.vars t.atoms
+IsRightSolution t (unsat proof) =
+    ((p : PureProof) × (proof ≡ proof_of t.names p) × Closes t.vars t.atoms p) × IsUnsatisfiable t.vars t.atoms
 IsRightSolution t (unknown place) = (reason : Reason) × (place_of reason ≡ place) × IsRightDecision t.vars t.atoms (decided_unknown reason)
 IsRightSolution t _ = ⊥
 
@@ -91,15 +97,19 @@ IsProgramOf d bytes p = d.IsText bytes p × d.KeepsEnds bytes p
 
 -- ---- each task
 
+-- the report has this head and one answer, of which this holds
+abbrev pub Says : PureReport → Head → (PureAnswer → Type 0) → Type 0
+Says r head P = (r.head ≡ head) × ((answer : PureAnswer) × (r.answers ≡ answer ∷ []) × P answer)
+
 -- The output is what is asked for, and right for the bytes: a report with the head of what is asked and a right answer, or the program.
 abbrev pub IsRightOutput : PureTask → List ℕ → PureOutput → Type 0
 IsRightOutput (run language entry bound inputs) bytes (a_report r) =
-    (r.head ≡ of_run language entry bound) × IsRightRun (definition_of language) entry bound inputs bytes r.answer
+    Says r (Head.Entry Run language entry bound) (IsRightRun (definition_of language) entry bound inputs bytes)
 IsRightOutput (run language entry bound inputs) bytes (a_program p) = ⊥
 IsRightOutput (test language entry bound) bytes (a_report r) =
-    (r.head ≡ of_test language entry bound) × IsRightTest (definition_of language) entry bound bytes r.answer
+    Says r (Head.Entry Test language entry bound) (IsRightTest (definition_of language) entry bound bytes)
 IsRightOutput (test language entry bound) bytes (a_program p) = ⊥
 IsRightOutput (compile language) bytes (a_report r) = ⊥
 IsRightOutput (compile language) bytes (a_program p) = IsProgramOf (definition_of language) bytes p
-IsRightOutput solve bytes (a_report r) = (r.head ≡ of_atoms) × IsSolved bytes r.answer
+IsRightOutput solve bytes (a_report r) = Says r Head.Solve (IsSolved bytes)
 IsRightOutput solve bytes (a_program p) = ⊥

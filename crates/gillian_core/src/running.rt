@@ -6,12 +6,12 @@ ghost use Rattle.gil_program.specs.Program.{prog_view};
 ghost use Rattle.gil_machine.specs.Held.{HeldEnd, held_run_of};
 ghost use Rattle.gil_machine.specs.Run.{IsEntry};
 ghost use Rattle.gil_machine.specs.Standing.{IsEndOf};
-ghost use Rattle.gillian_core.specs.Answers.{answer_view};
+ghost use Rattle.gil_report.specs.View.{answer_view};
 ghost use Rattle.gillian_core.specs.Ends.{end_answer};
 
-use crate::answers::Answer;
 use gil_machine::{End, run};
 use gil_program::Prog;
+use gil_report::Answer;
 use gil_values::{Text, Values};
 use gillian_words::Bound;
 use mem_model::LocalMemory;

@@ -5,17 +5,18 @@ ghost use Rattle.pure_terms.specs.Meaning.{AreOver};
 ghost use Rattle.pure_terms.specs.View.{atoms_view};
 ghost use Rattle.atom_text.specs.Accepted.{text_view};
 ghost use Rattle.gillian_words.specs.Tasks.{solve};
-ghost use Rattle.gillian_core.specs.Answers.{answer_view};
+ghost use Rattle.gil_report.specs.View.{answer_view};
 ghost use Rattle.gillian_core.specs.Finishing.{IsNoOutput};
 ghost use Rattle.gillian_core.specs.Right.{IsRightSolution, IsSolved, place_of};
 
-use crate::answers::{Answer, Binding, Bindings};
 use crate::refusals::or_memory;
 use atom_text::{AtomText, read_atoms};
+use gil_report::{Answer, Binding, Bindings};
 use gil_text::Refused;
 use gil_values::Values;
 use path_solver::{Solution, solve};
 use pure_terms::Reason;
+use report_names::named_proof;
 use rewrite_book::RuleBook;
 use sequence::Sequence;
 use solver_print::Names;
@@ -41,7 +42,7 @@ fn solution_of(alloc: Global, rules: &RuleBook, text: AtomText) -> Result<Answer
     let AtomText { names, vars, atoms } = text;
     match solve(alloc, &vars, &atoms, rules)? {
         Solution::Sat(values) => Ok(Answer::Sat(bindings_of(alloc, &names, &values)?)),
-        Solution::Unsat(proof) => Ok(Answer::Unsat(names, proof)),
+        Solution::Unsat(proof) => Ok(Answer::Unsat(named_proof(alloc, &names, &proof)?)),
         Solution::Unknown(reason) => Ok(Answer::Unknown(place_of(reason))),
     }
 }

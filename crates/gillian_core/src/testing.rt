@@ -2,17 +2,21 @@
 ghost use Rattle.std.specs.Prelude.{◌≡◌, IfOk};
 ghost use Rattle.gil_program.specs.Program.{prog_view};
 ghost use Rattle.gil_machine.specs.Run.{IsEntry};
-ghost use Rattle.sym_test.specs.View.{verdict_view};
-ghost use Rattle.gillian_core.specs.Answers.{answer_view, verdict_answer};
+ghost use Rattle.sym_test.specs.View.{query_view, verdict_view};
+ghost use Rattle.gil_report.specs.View.{answer_view, question_view};
+ghost use Rattle.gillian_core.specs.Answers.{question_of, verdict_answer};
 ghost use Rattle.gillian_core.specs.Definitions.{memory_of};
 ghost use Rattle.gillian_core.specs.Right.{IsRightVerdict};
 
-use crate::answers::Answer;
 use gil_program::Prog;
+use gil_report::{Answer, Question};
 use gil_values::Text;
 use gillian_words::Bound;
 use path_solver::PathSolver;
+use pure_terms::Query;
+use report_names::named_atoms;
 use rewrite_book::RuleBook;
+use solver_print::Names;
 use std::alloc::{AllocError, Global};
 use sym_model::SymMemory;
 use sym_test::{Verdict, test};
@@ -31,24 +35,50 @@ pub fn verdict<M: SymMemory>(
 {
     let mut decider = PathSolver::new(alloc);
     let tested = test::<M, PathSolver>(alloc, prog, entry, bound.steps, rules, &mut decider)?;
-    Ok(answer_of(tested))
+    let answer = answer_of(alloc, tested)?;
+    Ok(answer)
 }
 
 /// The answer that a verdict is.
-fn answer_of(verdict: Verdict) -> Answer
-    ensures { answer_view result ≡ verdict_answer (verdict_view verdict) }
+fn answer_of(alloc: Global, verdict: Verdict) -> Result<Answer, AllocError>
+    ensures { IfOk result (λ answer. answer_view answer ≡ verdict_answer (verdict_view verdict)) }
 {
     match verdict {
         Verdict::Bug {
             place,
             value,
             inputs,
-        } => Answer::Bug {
+        } => Ok(Answer::Bug {
             place,
             value,
             inputs,
-        },
-        Verdict::Clean => Answer::Clean,
-        Verdict::Unknown(query) => Answer::Undecided(query),
+        }),
+        Verdict::Clean => Ok(Answer::Clean),
+        Verdict::Unknown(query) => Ok(Answer::Undecided(question_of(alloc, query)?)),
     }
+}
+
+/// The question that a query is. Its variables have no names but `v` and their numbers.
+fn question_of(alloc: Global, query: Query) -> Result<Question, AllocError>
+    ensures { IfOk result (λ question. question_view question ≡ question_of (query_view query)) }
+{
+    let Query {
+        place,
+        path,
+        vars,
+        given,
+        query,
+        outside,
+    } = query;
+    let names = Names::new(alloc);
+    let given = named_atoms(alloc, &names, &given)?;
+    let query = named_atoms(alloc, &names, &query)?;
+    Ok(Question {
+        place,
+        path,
+        vars,
+        given,
+        query,
+        outside,
+    })
 }

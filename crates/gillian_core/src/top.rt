@@ -7,8 +7,8 @@ ghost use Rattle.gil_io.specs.Writing.{IsUsedUp};
 ghost use Rattle.gil_text.specs.declared.refused.Refused.{Refused};
 ghost use Rattle.gillian_words.specs.Asked.{AskFor};
 ghost use Rattle.gillian_words.specs.Line.{spelled};
-ghost use Rattle.gillian_words.specs.Tasks.{PureTask};
-ghost use Rattle.gillian_words.specs.View.{task_view};
+ghost use Rattle.gillian_words.specs.Tasks.{PureRequest};
+ghost use Rattle.gillian_words.specs.View.{request_view};
 ghost use Rattle.gillian_core.specs.Accepted.{IsAccepted};
 ghost use Rattle.gillian_core.specs.Finishing.{Answers, Finishes, IsResponse, told};
 ghost use Rattle.gillian_core.specs.Outcomes.{Ends, IsRefused, IsReported, IsRight, WordsFit, call_of, most_bytes};
@@ -19,7 +19,7 @@ use crate::rendering::{Response, output_response, refusal_response};
 use crate::status::Status;
 use crate::working::work;
 use gil_io::{ReadEnd, Sink, Source, read_all, write_all};
-use gillian_words::{Task, WordsFault, read_words, words_ask_for_one_thing};
+use gillian_words::{Request, WordsFault, read_words, words_ask_for_one_thing};
 use rewrite_book::RuleBook;
 use std::alloc::{AllocError, Global};
 
@@ -45,10 +45,11 @@ pub fn gillian<S: Source, K: Sink>(
     source: &mut S,
     out: &mut K,
 ) -> Status
-    // What is reported is right: where source and sink tell their bytes, the sink took the text of one output, which is what
-    // the words ask for and right for the bytes that the source gave.
-    ensures right { IsReported result → IfSome (S.left source.old) (λ bytes. IfSome (K.taken out.old) (λ before. (o : PureOutput)
-        × (K.taken out.new ≡ Some (before ++ output_text o)) × IsRight (spelled words.now) bytes o × (result ≡ output_status o))) }
+    // What is reported is right: where source and sink tell their bytes, the sink took the text of one output, a report in the form
+    // that the words ask for, which is what they ask for and right for the bytes that the source gave.
+    ensures right { IsReported result → IfSome (S.left source.old) (λ bytes. IfSome (K.taken out.old) (λ before. (q : PureRequest)
+        × (o : PureOutput) × (K.taken out.new ≡ Some (before ++ output_text q.json o)) × IsRight (spelled words.now) bytes q o
+        × (result ≡ output_status o))) }
 
     // 2: exactly where the words don't fit, and then the source isn't read.
     ensures words { result ≡ Status.Words → WordsFit (spelled words.now) → ⊥ }
@@ -64,7 +65,7 @@ pub fn gillian<S: Source, K: Sink>(
 
     // Words that fit, an accepted text within the size and no fault of the source give 0 or 1; want of memory and a fault of the sink
     // aside.
-    ensures answered { (t : PureTask) → AskFor (spelled words.now) t → IfSome (S.left source.old) (λ bytes. IsAccepted t bytes
+    ensures answered { (q : PureRequest) → AskFor (spelled words.now) q → IfSome (S.left source.old) (λ bytes. IsAccepted q.task bytes
         → length bytes ≤ most_bytes → (FaultRose (S.faults source.old) (S.faults source.new) → ⊥)
         → IsReported result ⊎ (result ≡ Status.WriteFault) ⊎ (result ≡ Status.Memory)) }
 
@@ -108,13 +109,13 @@ fn respond<S: Source, K: Sink>(
     ensures ends { Ends (call_of S.left S.faults K.taken K.faults K.room (spelled words.now) source.old source.new out.old out.new)
         result }
 {
-    let task = match read_words(alloc, words) {
-        Ok(task) => task,
+    let request = match read_words(alloc, words) {
+        Ok(request) => request,
         Err(WordsFault::Refused) => return finish_line(out, USAGE_LINE, Status::Words),
         Err(WordsFault::Memory) => return Status::Memory,
     };
     match read_all(alloc, source, MOST_BYTES) {
-        Ok(bytes) => answer(alloc, task, rules, &bytes, out),
+        Ok(bytes) => answer(alloc, request, rules, &bytes, out),
         Err(ReadEnd::ReadFault) => Status::ReadFault,
         Err(ReadEnd::TooLarge) => finish_line(out, REFUSED_SIZE, Status::TooLarge),
         Err(ReadEnd::Memory) => Status::Memory,
@@ -122,10 +123,16 @@ fn respond<S: Source, K: Sink>(
 }
 
 /// Answers the whole text.
-fn answer<K: Sink>(alloc: Global, task: Task, rules: &RuleBook, bytes: &[u8], out: &mut K) -> Status
-    ensures { Answers (task_view task) bytes.now (told K.taken K.faults K.room out.old out.new) result }
+fn answer<K: Sink>(
+    alloc: Global,
+    request: Request,
+    rules: &RuleBook,
+    bytes: &[u8],
+    out: &mut K,
+) -> Status
+    ensures { Answers (request_view request) bytes.now (told K.taken K.faults K.room out.old out.new) result }
 {
-    match response_to(alloc, task, rules, bytes) {
+    match response_to(alloc, request, rules, bytes) {
         Ok(response) => finish(out, &response.text, response.status),
         Err(_) => Status::Memory,
     }
@@ -151,14 +158,15 @@ fn finish<K: Sink>(out: &mut K, text: &[u8], status: Status) -> Status
 /// The response to a text: of what is to be written, or of the refusal.
 fn response_to(
     alloc: Global,
-    task: Task,
+    request: Request,
     rules: &RuleBook,
     bytes: &[u8],
 ) -> Result<Response, AllocError>
-    ensures { IfOk result (λ response. IsResponse (task_view task) bytes.now response.status response.text.items) }
+    ensures { IfOk result (λ response. IsResponse (request_view request) bytes.now response.status response.text.items) }
 {
+    let Request { task, json } = request;
     match work(alloc, task, rules, bytes) {
-        Ok(output) => output_response(alloc, &output),
+        Ok(output) => output_response(alloc, &output, json),
         Err(refused) => refusal_response(alloc, refused),
     }
 }

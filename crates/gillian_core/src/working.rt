@@ -1,22 +1,25 @@
 //! The work: what is to be written of a text.
-ghost use Rattle.std.specs.Prelude.{IfOk, IfErr};
+ghost use Rattle.std.specs.Prelude.{◌≡◌, [], ◌∷◌, IfOk, IfErr};
 ghost use Rattle.gil_values.specs.View.{values_view};
 ghost use Rattle.gillian_words.specs.Tasks.{run, test, compile, solve};
 ghost use Rattle.gillian_words.specs.View.{task_view};
+ghost use Rattle.gil_report.specs.View.{answer_view};
 ghost use Rattle.gillian_core.specs.Answers.{output_view};
 ghost use Rattle.gillian_core.specs.Finishing.{IsNoOutput};
+ghost use Rattle.gillian_core.specs.Outputs.{a_report};
 ghost use Rattle.gillian_core.specs.Right.{IsRightOutput};
 
 use crate::entries::program_with;
 use crate::languages::{program, run_in, verdict_in};
-use crate::outputs::{Head, Output, Report};
+use crate::outputs::Output;
 use crate::refusals::or_memory;
 use crate::solving::solution;
+use gil_report::{Answer, Answers, EntryMode, Head, Report};
 use gil_text::Refused;
 use gil_values::{Text, Values};
 use gillian_words::{Bound, Language, Task};
 use rewrite_book::RuleBook;
-use std::alloc::Global;
+use std::alloc::{AllocError, Global};
 
 /// Does what is asked with a text.
 pub fn work(alloc: Global, task: Task, rules: &RuleBook, bytes: &[u8]) -> Result<Output, Refused>
@@ -55,12 +58,14 @@ fn run_output(
 {
     let prog = program_with(alloc, language, &entry, bytes)?;
     let answer = or_memory(run_in(alloc, language, &prog, &entry, bound, inputs))?;
-    let head = Head::Run {
+    let head = Head::Entry {
+        mode: EntryMode::Run,
         language,
         entry,
         bound: bound.steps,
     };
-    Ok(Output::Report(Report { head, answer }))
+    let output = or_memory(report_of(alloc, head, answer))?;
+    Ok(output)
 }
 
 /// The report of a verdict.
@@ -77,12 +82,14 @@ fn test_output(
 {
     let prog = program_with(alloc, language, &entry, bytes)?;
     let answer = or_memory(verdict_in(alloc, language, &prog, &entry, bound, rules))?;
-    let head = Head::Test {
+    let head = Head::Entry {
+        mode: EntryMode::Test,
         language,
         entry,
         bound: bound.steps,
     };
-    Ok(Output::Report(Report { head, answer }))
+    let output = or_memory(report_of(alloc, head, answer))?;
+    Ok(output)
 }
 
 /// The program.
@@ -100,8 +107,16 @@ fn solve_output(alloc: Global, rules: &RuleBook, bytes: &[u8]) -> Result<Output,
     ensures none { IfErr result (IsNoOutput solve bytes.now) }
 {
     let answer = solution(alloc, rules, bytes)?;
-    Ok(Output::Report(Report {
-        head: Head::Atoms,
-        answer,
-    }))
+    let output = or_memory(report_of(alloc, Head::Solve, answer))?;
+    Ok(output)
+}
+
+/// The report with one answer.
+fn report_of(alloc: Global, head: Head, answer: Answer) -> Result<Output, AllocError>
+    ensures { IfOk result (λ output. output_view output
+        ≡ a_report (record { head = head; answers = answer_view answer ∷ [] })) }
+{
+    let mut answers = Answers::new(alloc);
+    answers.push(answer)?;
+    Ok(Output::Report(Report { head, answers }))
 }

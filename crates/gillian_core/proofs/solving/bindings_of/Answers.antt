@@ -1,7 +1,7 @@
 use Rattle.std.proofs.Common.{◌≡◌, Some, slice_get, sym, arith}
 use Rattle.gil_values.specs.View.{value_view, values_view}
 use Rattle.gil_values.proofs.Joined.{element_read}
-use Rattle.gillian_core.specs.declared.answers.Binding.{Binding}
+use Rattle.gil_report.specs.declared.answers.Binding.{Binding}
 use Rattle.gillian_core.proofs.Solutions.{one_more}
 use Rattle.gillian_core.proofs.solving.bindings_of.Goals as goal
 

@@ -1,9 +1,22 @@
+use Rattle.std.proofs.Common.{subst, sym}
 use Rattle.gil_program.specs.Program.{prog_view}
 use Rattle.sym_test.specs.View.{verdict_view}
+use Rattle.gillian_core.specs.Definitions.{memory_of}
+use Rattle.gillian_core.specs.Right.{IsRightVerdict}
 use Rattle.gillian_core.proofs.Verdicts.{verdict_is_right}
 use Rattle.gillian_core.proofs.testing.verdict.Goals as goal
 
 pub returns : goal.returns
 returns g c =
-    rw c.answer_of.ensures (verdict_is_right _ _ _ _ _ _ (prog_view c.args.prog.now) c.args.entry.now c.args.bound.steps
-    (verdict_view c.in_ok-tested.tested) c.in_ok-tested.ensures.right c.in_ok-tested.ensures.found)
+    let actions = g.M.Local.LocalMemory.actions in
+    let stands = g.M.SymMemory.stands in
+    let terms = g.M.SymMemory.terms in
+    let asked = g.M.SymMemory.asked in
+    let depends = g.M.SymMemory.depends in
+    let keeps_plain = g.M.SymMemory.keeps_plain in
+    let p = prog_view c.args.prog.now in
+    let entry = c.args.entry.now in
+    let bound = c.args.bound.steps in
+    let right = verdict_is_right actions stands terms asked depends keeps_plain p entry bound (verdict_view c.in_ok-tested.tested)
+    c.in_ok-tested.ensures.right c.in_ok-tested.ensures.found in
+    subst (IsRightVerdict (memory_of actions stands terms asked depends keeps_plain) p entry bound) (sym c.in_ok-answer.ensures) right

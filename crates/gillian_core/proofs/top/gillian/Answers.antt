@@ -12,7 +12,7 @@ pub returns-clause-used_up : goal.returns-clause-used_up
 returns-clause-used_up g c = used_up_if_failed _ _ c.respond.ensures.ends
 
 pub returns-clause-answered : goal.returns-clause-answered
-returns-clause-answered g c = λ t asked. answered_where_told _ (c.words_ask_for_one_thing.ensures _) _ c.respond.ensures.ends t asked
+returns-clause-answered g c = λ q asked. answered_where_told _ (c.words_ask_for_one_thing.ensures _) _ c.respond.ensures.ends q asked
 
 pub returns-clause-text : goal.returns-clause-text
 returns-clause-text g c = refused_if_text _ _ c.respond.ensures.ends

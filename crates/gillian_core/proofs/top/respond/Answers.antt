@@ -1,5 +1,5 @@
 use Rattle.std.proofs.Common.{Err, ap, refl}
-use Rattle.gillian_words.specs.View.{task_view}
+use Rattle.gillian_words.specs.View.{request_view}
 use Rattle.gillian_core.specs.declared.status.Status.TheVariants as status
 use Rattle.gillian_core.specs.Outcomes.{read_failed, out_of_memory}
 use Rattle.gillian_core.proofs.Ending.{ends_of_finish, ends_of_answer, within_read}
@@ -14,9 +14,9 @@ returns-in-Err-Memory-clause-ends g c = out_of_memory refl
 
 pub returns-in-Ok-read_all-clause-ends : goal.returns-in-Ok-read_all-clause-ends
 returns-in-Ok-read_all-clause-ends g c =
-    ends_of_answer _ (task_view c.in-Ok.task) c.in-Ok.ensures.asked
+    ends_of_answer _ (request_view c.in-Ok.request) c.in-Ok.ensures.asked
     (record {
-      fit = (task_view c.in-Ok.task, c.in-Ok.ensures.asked);
+      fit = (request_view c.in-Ok.request, c.in-Ok.ensures.asked);
       end = c.in-Ok-read_all.ensures.at_end;
       within = within_read _ c.in-Ok-read_all.bytes.items _ c.in-Ok-read_all.ensures.whole c.in-Ok-read_all.ensures.within;
     })
@@ -29,7 +29,7 @@ pub returns-in-Err-TooLarge-clause-ends : goal.returns-in-Err-TooLarge-clause-en
 returns-in-Err-TooLarge-clause-ends g c =
     let taken = c.in-Err-TooLarge.ensures.taken in
     ends_of_finish _ status.TooLarge _ _
-    ((task_view c.in-Ok.task, c.in-Ok.ensures.asked), (taken.0, taken.1, taken.2.0 (ap Err c.in-Err-TooLarge.field-0-is)), refl) c.finish_line-in-Err-TooLarge.ensures
+    ((request_view c.in-Ok.request, c.in-Ok.ensures.asked), (taken.0, taken.1, taken.2.0 (ap Err c.in-Err-TooLarge.field-0-is)), refl) c.finish_line-in-Err-TooLarge.ensures
 
 pub returns-clause-ends : goal.returns-clause-ends
 returns-clause-ends g c = out_of_memory refl

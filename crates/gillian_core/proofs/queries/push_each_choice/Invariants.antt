@@ -1,8 +1,0 @@
-use Rattle.std.proofs.Common.{◌≡◌, ◌++◌, take, string_bytes}
-use Rattle.std.specs.Prelude.{codes}
-use Rattle.std.specs.List.{join_by}
-use Rattle.gil_values.specs.Printed.{numeral}
-use Rattle.gillian_core.proofs.queries.push_each_choice.Given as goal
-
-abbrev pub invariant-loop-index : goal.invariant-loop-index
-invariant-loop-index l = string_bytes l.out ≡ string_bytes l.fn.out ++ join_by numeral (codes ", ") (take l.index l.choices)
