@@ -1,5 +1,5 @@
 -- Why texts aren't accepted.
-use Rattle.std.proofs.Common.{◌≡◌, ◌≢◌, inl, inr, ℕ, List, length, Option, Some, None, Result, Ok, Err, IfOk, IfErr, MatchResult, refl}
+use Rattle.std.proofs.Common.{◌≡◌, inl, inr, ℕ, List, length, Option, Some, None, Result, Ok, Err, IfOk, IfErr, MatchResult, refl}
 use Rattle.std.proofs.Common.{sym, ◌∙◌, ap, subst}
 use Rattle.gil_syntax.specs.Pure.{PureParts}
 use Rattle.gil_syntax.specs.Valid.{IsValid}

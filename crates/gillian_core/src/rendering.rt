@@ -40,11 +40,7 @@ pub fn output_response(
 }
 
 /// The response of a report.
-fn report_response(
-    alloc: Global,
-    report: &Report,
-    as_json: bool,
-) -> Result<Response, AllocError>
+fn report_response(alloc: Global, report: &Report, as_json: bool) -> Result<Response, AllocError>
     ensures status { IfOk result (λ response. response.status ≡ answers_status (report_view report.now).answers) }
     ensures text { IfOk result (λ response. response.text.items ≡ report_written as_json (report_view report.now)) }
 {

@@ -1,4 +1,4 @@
-use Rattle.std.proofs.Common.{◌≡◌, Some, Bool, slice_get, map, sym, ap, ◌∙◌, if◌then◌else◌}
+use Rattle.std.proofs.Common.{Bool, map, sym, ap, ◌∙◌, if◌then◌else◌}
 use Rattle.gil_values.proofs.Lists.{slice_get-read}
 use Rattle.pure_terms.proofs.ListTests.{all_more, all_fails}
 use Rattle.gil_report.specs.View.{answer_view}

@@ -1,7 +1,5 @@
 use Rattle.std.proofs.lemmas.Result.{err_from_is_err_and}
-use Rattle.gillian_words.specs.Tasks.{solve}
-use Rattle.gillian_core.proofs.Refusing.{no_output_for_memory}
-use Rattle.gillian_core.proofs.Solutions.{atoms_unread, solution_known, memory_alone, named_variables}
+use Rattle.gillian_core.proofs.Solutions.{atoms_unread, solution_known, memory_alone}
 use Rattle.gillian_core.proofs.solving.solution.Goals as goal
 
 pub returns-in_err-text-clause-none : goal.returns-in_err-text-clause-none

@@ -32,13 +32,17 @@ returns-clause-output c =
     let built = if_ok_known c.report_of.result c.in_ok-output.output _ c.in_ok-output.ensures.ok c.report_of.ensures in
     rw built (
       refl,
-      (answer_view c.in_ok-answer.answer, refl, record {
-        program = prog_view c.in_ok-prog.prog;
-        text = c.in_ok-prog.ensures.program.0;
-        enters = c.in_ok-prog.ensures.entry;
-        ends = known;
-        meant = subst ((definition_of c.args.language).IsMeant c.args.bytes.now c.args.entry (values_view c.args.inputs.now)) (sym known)
-            (run_is_meant c.args.language c.args.bytes.now (prog_view c.in_ok-prog.prog) c.args.entry (values_view c.args.inputs.now)
-            c.args.bound.steps program.1 c.in_ok-prog.ensures.entry);
-      }),
+      (
+        answer_view c.in_ok-answer.answer,
+        refl,
+        record {
+          program = prog_view c.in_ok-prog.prog;
+          text = c.in_ok-prog.ensures.program.0;
+          enters = c.in_ok-prog.ensures.entry;
+          ends = known;
+          meant = subst ((definition_of c.args.language).IsMeant c.args.bytes.now c.args.entry (values_view c.args.inputs.now)) (sym known)
+              (run_is_meant c.args.language c.args.bytes.now (prog_view c.in_ok-prog.prog) c.args.entry (values_view c.args.inputs.now)
+              c.args.bound.steps program.1 c.in_ok-prog.ensures.entry);
+        },
+      ),
     )

@@ -30,12 +30,16 @@ returns-clause-output g c =
     let built = if_ok_known c.report_of.result c.in_ok-output.output _ c.in_ok-output.ensures.ok c.report_of.ensures in
     rw built (
       refl,
-      (answer_view c.in_ok-answer.answer, refl, record {
-        program = prog_view c.in_ok-prog.prog;
-        text = c.in_ok-prog.ensures.program.0;
-        enters = c.in_ok-prog.ensures.entry;
-        verdict = known;
-        meant = verdict_is_meant c.args.language c.args.bytes.now (prog_view c.in_ok-prog.prog) c.args.entry c.args.bound.steps
-            (answer_view c.in_ok-answer.answer) program.1 known;
-      }),
+      (
+        answer_view c.in_ok-answer.answer,
+        refl,
+        record {
+          program = prog_view c.in_ok-prog.prog;
+          text = c.in_ok-prog.ensures.program.0;
+          enters = c.in_ok-prog.ensures.entry;
+          verdict = known;
+          meant = verdict_is_meant c.args.language c.args.bytes.now (prog_view c.in_ok-prog.prog) c.args.entry c.args.bound.steps
+              (answer_view c.in_ok-answer.answer) program.1 known;
+        },
+      ),
     )
