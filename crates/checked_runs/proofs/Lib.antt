@@ -6,3 +6,5 @@ pub mod Realized
 pub mod Runs
 pub mod Traces
 pub mod Cells
+pub mod FrameTheorem
+pub mod Cycles

@@ -347,16 +347,12 @@ knows_the_second_fact = record (spec_of (codes "f") (any (codes "x") ∷ []) (q_
 abbrev pub knows_the_second_case : PureSpec
 knows_the_second_case = spec_of (codes "f") (any (codes "x") ∷ []) [] ((q_use x (number 1) ∷ []) ∷ [])
 
--- proc f(n) { x := call @g(n); return x; } proc g(n) { x := call @f(n); return x; }
--- spec f(n) [] { emp } { (ret = 0) } spec g(n) [] { emp } { (ret = 0) }
-abbrev pub asks : List ℕ → List ℕ → PureProc
-asks f g = proc_of f (codes "n" ∷ []) (calls (codes "x") g (n ∷ []) ∷ return x ∷ [])
+-- proc f(n) { x := call @f(n); return x; } spec f(n) [] { emp } { (ret = 0) }
+abbrev pub says_zero : PureSpec
+says_zero = spec_of (codes "f") (any (codes "n") ∷ []) [] ((equals ret 0 ∷ []) ∷ [])
 
-abbrev pub says_zero : List ℕ → PureSpec
-says_zero f = spec_of f (any (codes "n") ∷ []) [] ((equals ret 0 ∷ []) ∷ [])
-
-abbrev pub cycle_of_uses : PureParts
-cycle_of_uses = parts (asks (codes "f") (codes "g") ∷ asks (codes "g") (codes "f") ∷ []) (says_zero (codes "f") ∷ says_zero (codes "g") ∷ []) []
+abbrev pub asks_itself : PureParts
+asks_itself = parts (proc_of (codes "f") (codes "n" ∷ []) (calls (codes "x") (codes "f") (n ∷ []) ∷ return x ∷ []) ∷ []) (says_zero ∷ []) []
 
 abbrev pub HasNone : PureParts → PureSpec → Type 0
 HasNone p s = HasNoFault p Record no_memory s

@@ -10,7 +10,7 @@ pub use laws::verified_specifications_hold;
 pub use programs::{
     draws_and_folds_are_followed, mistakes_of_assertions_are_found, mistakes_of_calls_are_found,
     mistakes_of_heaps_are_found, mistakes_of_invariants_are_found,
-    programs_without_a_mistake_have_no_fault, unfolds_are_followed,
+    programs_without_a_mistake_have_no_fault, unfolds_are_followed, what_is_verified_holds,
 };
 pub use rows::{
     calls_ask_for_the_precondition, folds_and_asserts_are_matched, invariants_are_asked,

@@ -7,6 +7,9 @@ ghost use Rattle.gil_values.specs.declared.kinds.Kind.TheVariants.{Null};
 ghost use Rattle.gil_values.specs.Pure.{symbol, kind};
 ghost use Rattle.mem_model.specs.declared.keys.Sub.TheVariants.{Name};
 ghost use Rattle.mem_model.specs.Keys.{key};
+ghost use Rattle.mem_model.specs.declared.keys.MemoryName.TheVariants.{Record};
+ghost use Rattle.mem_model.specs.Actions.{no_memory};
+ghost use Rattle.checked_runs.specs.Specifications.{SpecHolds};
 ghost use Rattle.gil_syntax.specs.Examples.{number};
 ghost use Rattle.gil_syntax.specs.Pure.{uses};
 ghost use Rattle.checked_runs.specs.Programs.{
@@ -34,7 +37,7 @@ ghost use Rattle.checked_runs.specs.Programs.{
   tells_the_false,
   knows_the_second_fact,
   knows_the_second_case,
-  cycle_of_uses,
+  asks_itself,
   says_zero,
   tells_the_argument,
   changes_its_argument,
@@ -136,7 +139,7 @@ pub fn programs_without_a_mistake_have_no_fault()
     ensures vanishing { HasNone vanishes tells_the_false }
     ensures known_fact { HasNone (with_q knows_the_second_fact) knows_the_second_fact }
     ensures known_case { HasNone (with_q knows_the_second_case) knows_the_second_case }
-    ensures cycle { HasNone cycle_of_uses (says_zero (codes "f")) }
+    ensures cycle { HasNone asks_itself says_zero }
 {}
 
 /// A draw is any value of its kind; the facts that an invariant leaves are the same in their order; one name among ins and outs has
@@ -162,4 +165,9 @@ pub fn unfolds_are_followed()
         (goes_on_to (next_state unfolds_a_symbol (symbol 0 ∷ []) (one_cell (symbol 1)) [] 2)) }
     ensures same_key_twice { (out : _) → ¬ MayLead unfolds_it (has_it_twice (uses (p_use a) ∷ [])) (symbol 0 ∷ [])
         (first_state unfolds_it (symbol 0 ∷ []) (one_cell (number_value 1)) (p_fact (symbol 0) ∷ []) 1) out }
+{}
+
+/// A specification that uses itself, and whose checked runs have no fault, holds: of each run that ends.
+pub fn what_is_verified_holds()
+    ensures { SpecHolds asks_itself Record no_memory says_zero }
 {}
