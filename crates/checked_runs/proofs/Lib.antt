@@ -8,3 +8,6 @@ pub mod Traces
 pub mod Cells
 pub mod FrameTheorem
 pub mod Cycles
+pub mod Parts
+pub mod Readable
+pub mod Remainders

@@ -1,38 +1,33 @@
 -- Which states of the machine a checked state stands for, beside any rest of the heap; and that starts and steps keep it.
-use Rattle.std.proofs.Common.{◌≡◌, ◌⊎◌, ⊎_elim, inl, inr, ℕ, zero, suc, ◌+◌, ◌<◌, ◌≤◌, ℤ, List, [], ◌∷◌, ◌++◌, Bool, true, false, not, ◌&&◌, ◌||◌, map, length, cond, All, Option, Some, None, is_some, slice_get, Ok, Err, refl, sym, ap, subst, ◌∙◌, true≢false, arith}
-use Rattle.std.specs.Prelude.{codes, nat_eq}
-use Rattle.std.proofs.lemmas.Bool.Decides.{Decides-eqb}
-use Rattle.std.specs.FinMap.{empty, get}
+use Rattle.std.proofs.Common.{◌≡◌, ◌⊎◌, ⊎_elim, inl, inr, ℕ, zero, suc, ◌+◌, ◌<◌, ◌≤◌, ℤ, List, [], ◌∷◌, ◌++◌, Bool, true, false, ◌&&◌, ◌||◌, map, cond, All, Option, Some, None, is_some, slice_get, Ok, Err, refl, sym, ap, subst, ◌∙◌, arith}
+use Rattle.std.specs.Prelude.{codes}
+use Rattle.std.specs.FinMap.{empty}
 use Rattle.std.specs.Option.{option_and_then}
 use Rattle.std.specs.Str.{bytes_eq}
 use Rattle.std.proofs.lemmas.Slice.Eq.{bytes_eq-Decides}
-use Rattle.std.specs.List.{list_all, flat_map}
+use Rattle.std.specs.List.{list_all}
 use Rattle.std.proofs.lemmas.Bool.{and_parts}
 use Rattle.std.proofs.lemmas.List.Folds.{list_all-append}
-use Rattle.std.proofs.lemmas.List.Elements.{All-nil, All-cons, All-head, All-tail, All-weaker}
+use Rattle.std.proofs.lemmas.List.Elements.{All-nil, All-weaker}
 use Rattle.gil_values.specs.declared.places.Place.{Place}
 use Rattle.gil_values.specs.declared.kinds.Kind.{Kind}
-use Rattle.gil_values.specs.Equality.{same_kind, same_value, same_elements}
-use Rattle.gil_values.specs.EqualityLaws.{same_value-same, same_value-refl, same_elements-Decides}
+use Rattle.gil_values.specs.Equality.{same_kind, same_elements}
 use Rattle.gil_values.specs.Pure.{PureValue, text, kind_of}
 use Rattle.gil_values.specs.Symbols.{OccursIn, IsBelow, AreBelow}
 use Rattle.gil_syntax.specs.declared.assertions.Param.{Param}
 use Rattle.gil_syntax.specs.Pure.{PureExpr, PurePredUse, PureItem, PureCommand, assign, call, act, usym, isym, ifgoto, return, fail, throw, vanish, fold_use, unfold_use, assert_that, loop_invariant, PureNumberedCommand, PureProc, PureSpec, PurePredDef, PureParts}
-use Rattle.gil_syntax.specs.Evaluation.{Store, bind, Outcomes, value_of, Agrees, evaluate_all}
+use Rattle.gil_syntax.specs.Evaluation.{Store, bind, Outcomes, value_of, evaluate_all}
 use Rattle.gil_syntax.specs.Programs.{find_proc, find_spec, find_pred}
-use Rattle.gil_syntax.specs.Subexpressions.{exprs_of_item, exprs_of}
+use Rattle.gil_syntax.specs.Subexpressions.{exprs_of}
 use Rattle.gil_syntax.specs.Valid.{param_names, is_among, IsValid}
 use Rattle.gil_syntax.specs.WellMade.{has_hash, has_well_made_names, is_well_made_command, is_well_made, is_well_made_expr, is_well_made_assertion}
-use Rattle.gil_syntax.proofs.Symbols.{Holds as HoldsOfSymbols, HoldsOfAll, HoldsInStore, each_of_all, all_of_each}
+use Rattle.gil_syntax.proofs.Symbols.{HoldsOfAll, HoldsInStore, each_of_all, all_of_each}
 use Rattle.mem_model.specs.declared.cores.Core.{Core}
 use Rattle.mem_model.specs.declared.keys.Key.{Key}
 use Rattle.mem_model.specs.declared.keys.MemoryName.{MemoryName}
 use Rattle.mem_model.specs.CoreNames.{core_of}
 use Rattle.mem_model.specs.Actions.{Actions, ActionResult, IsMemory}
-use Rattle.mem_model.specs.Heaps.{Heap, Holds, IsWellFormed, IsCompatible, IsHeapOf, IsHeapBelow, OccursInHeap, joined}
-use Rattle.mem_model.proofs.Compatible.{first_part, second_part}
-use Rattle.mem_model.proofs.Joins.{same_heap}
-use Rattle.mem_model.proofs.Parts.{parts_are_heaps}
+use Rattle.mem_model.specs.Heaps.{Heap, IsWellFormed, IsCompatible, IsHeapOf, IsHeapBelow, joined}
 use Rattle.gil_machine.specs.Beside.{beside, step_beside, heap_after}
 use Rattle.gil_machine.specs.Choices.{of_values, missed_key, result_of, miss_at}
 use Rattle.gil_machine.specs.Proper.{IsStoreBelow, IsFrameBelow, IsProperState, IsEndingBelow, IsProperEnd, IsProperStep}
@@ -48,213 +43,32 @@ use Rattle.assert_logic.specs.Adding.{IsAdding}
 use Rattle.assert_logic.specs.LogicStates.{Fact, LogicState, nothing, FactsHold, Realizes}
 use Rattle.assert_logic.specs.Matching.{Match, Matching, matched, stops, CaseMatch, FoundFact, all_agree, fits_fact, first_fact, match_assertion, match_fold}
 use Rattle.assert_logic.specs.Meets.{Meets, HoldsAt, HoldsSomewhere}
-use Rattle.assert_logic.specs.declared.checking.ModeItem.TheVariants.{Pred}
-use Rattle.assert_logic.specs.declared.checking.ModeKind.{ModeKind}
 use Rattle.assert_logic.specs.Laws.{IsKnownSymbol}
 use Rattle.assert_logic.specs.Names.{named_by_items}
-use Rattle.assert_logic.specs.Modes.{case, precondition, postcondition, is_variable_of, either, first_fault, assertion_fault, case_fault, pred_fault, HasModes}
-use Rattle.assert_logic.specs.Sorts.{has_sort, fits_sorts, HasSorts, Extends}
+use Rattle.assert_logic.specs.Modes.{precondition, postcondition, is_variable_of, either, first_fault, assertion_fault, HasModes}
+use Rattle.assert_logic.specs.Sorts.{HasSorts, Extends}
 use Rattle.assert_logic.specs.Unions.{IsUnion}
 use Rattle.assert_logic.proofs.AddedFacts.{added_facts}
 use Rattle.assert_logic.proofs.AddingLaws.{realizes_with_fact, adding_is_complete}
 use Rattle.assert_logic.proofs.CaseLaws.{fold_splits, assertion_splits}
 use Rattle.assert_logic.proofs.FoldedOuts.{fold_outs}
-use Rattle.assert_logic.proofs.InventionLaws.{HeapHolds, KnownHold, part_holds, found_at, meeting_invents_nothing}
+use Rattle.assert_logic.proofs.InventionLaws.{HeapHolds, KnownHold, part_holds, meeting_invents_nothing}
 use Rattle.assert_logic.proofs.MeetLaws.{meets_wider}
 use Rattle.assert_logic.proofs.SplitLaws.{found_fits, found_splits}
 use Rattle.assert_logic.proofs.MatchedValues.{FactHolds, EachFactHolds, StateHolds, facts_hold_after, found_holds, values_of_exprs, cases_made, fold_holds, assertion_holds}
 use Rattle.assert_logic.proofs.UnionLaws.{union_commutes, union_with_none, union_after_none, regrouped, ungrouped}
-use Rattle.checked_runs.specs.Checked.{Passed, Checked, Outcome, goes_on_to, has_fault, Fault, missing, post, call_precondition, fold_body, Entry, IsFactBelow, logic_state, with_logic, moved, variables_in, logicals_in, names_at, has_all, fits_if_known, known_fit, unlisted_in, match_of, passed_at, current_passed, invariant_match, at_invariant, PassesFirst, IsAsBefore, Visits, Draws, folded, fold_by, Unfolds, UnfoldsFound, UnfoldsBy, asserted, Comes, Called, CalledIfFit, Entered, Calls, is_call, used_in, used_by, over_or, some_matches, result_store, fails_or_misses, ended, stepped, Leads, LeadsAt, LeadsBy, IsStart, IsReachedIn}
+use Rattle.checked_runs.specs.Checked.{Passed, Checked, Outcome, goes_on_to, has_fault, Fault, missing, post, call_precondition, fold_body, Entry, logic_state, with_logic, moved, variables_in, logicals_in, names_at, has_all, known_fit, unlisted_in, passed_at, current_passed, invariant_match, at_invariant, PassesFirst, IsAsBefore, Visits, Draws, folded, fold_by, Unfolds, UnfoldsFound, UnfoldsBy, asserted, Comes, Called, CalledIfFit, Entered, Calls, is_call, used_in, used_by, over_or, some_matches, result_store, fails_or_misses, ended, stepped, Leads, LeadsAt, LeadsBy, IsStart, IsReachedIn}
 use Rattle.checked_runs.specs.Laws.{IsChosen, AreVerified}
 use Rattle.checked_runs.specs.Specifications.{fit_params, IsEntry, entry_store, result_name, IsPostStore, Leaves as LeavesIt, EndsAsTold}
 use Rattle.checked_runs.proofs.Entries.{meets_further, entry_holds, entry_sorted, variables_of_call, call_enters, call_keeps, call_store, call_entry_store, call_holds, returned_meets}
-use Rattle.checked_runs.proofs.Justified.{same_next, IsJustified, AreJustified, reached_justified}
+use Rattle.checked_runs.proofs.Justified.{same_next, IsJustified, reached_justified}
 use Rattle.checked_runs.proofs.Forms.{IsCalm, EndsThere, Form, IsNoDraw, command_form, redrawn, command_redrawn}
 use Rattle.checked_runs.proofs.Runs as runs
 use Rattle.checked_runs.proofs.Runs.{named_has_value}
 use Rattle.checked_runs.proofs.Stores.{same_some, one_of_two, all_at, no_value, either_value, fit_length, spec_at, IsGoodSpec, good_spec}
-
--- ---- parts of heaps
-
-pub union_parts : (memory : MemoryName) (h a b : Heap) → IsUnion h a b → IsHeapOf memory h → IsHeapOf memory a × IsHeapOf memory b
-union_parts memory h a b u is = (
-  parts_are_heaps memory a h (λ k v at. subst (λ x. Holds x k v) (sym u.union) (first_part a b u.disjoint k v at)) is,
-  parts_are_heaps memory b h (λ k v at. subst (λ x. Holds x k v) (sym u.union) (second_part a b u.disjoint k v at)) is,
-)
-
-pub facts_below : (k : ℕ) (fs : List Fact) → EachFactHolds (Below k) fs → All (IsFactBelow k) fs
-facts_below k [] h = All-nil (IsFactBelow k)
-facts_below k (f ∷ fs) h = All-cons (IsFactBelow k) f fs (each_of_all (Below k) f.ins h.0.0, each_of_all (Below k) f.outs h.0.1) (facts_below k fs h.1)
-
-values_raised : (j k : ℕ) → j ≤ k → (vs : List PureValue) → HoldsOfAll (Below j) vs → HoldsOfAll (Below k) vs
-values_raised j k le [] h = tt
-values_raised j k le (v ∷ vs) h = (λ n occurs. let lt = h.0 n occurs in omega (arith, lt, le), values_raised j k le vs h.1)
-
-pub facts_raised : (j k : ℕ) → j ≤ k → (fs : List Fact) → EachFactHolds (Below j) fs → EachFactHolds (Below k) fs
-facts_raised j k le [] h = tt
-facts_raised j k le (f ∷ fs) h = ((values_raised j k le f.ins h.0.0, values_raised j k le f.outs h.0.1), facts_raised j k le fs h.1)
-
-pub store_raised : (j k : ℕ) → j ≤ k → (s : Store) → IsStoreBelow j s → IsStoreBelow k s
-store_raised j k le s h x v is n occurs = let lt = h x v is n occurs in omega (arith, lt, le)
-
--- ---- what can be read
-
-either_none : (o later : Option ModeKind) → either o later ≡ None → (o ≡ None) × (later ≡ None)
-either_none (Some why) later is = no_value why (sym is)
-either_none None later is = (refl, is)
-
-first_fault_at : {X : Type 0} (fault : X → Option ModeKind) (xs : List X) (i : ℕ) (x : X) → first_fault fault xs ≡ None → slice_get xs i ≡ Some x → fault x ≡ None
-first_fault_at fault [] i x none at = no_value x at
-first_fault_at fault (y ∷ ys) zero x none at = ap fault (sym (same_some at)) ∙ (either_none (fault y) (first_fault fault ys) none).0
-first_fault_at fault (y ∷ ys) (suc i) x none at = first_fault_at fault ys i x (either_none (fault y) (first_fault fault ys) none).1 at
-
-place_of : (xs : List (List ℕ)) (y : List ℕ) → is_among xs y ≡ true → (i : ℕ) × (slice_get xs i ≡ Some y)
-place_of [] y is = absurd (true≢false (sym is))
-place_of (x ∷ xs) y is = by (bytes_eq y x) refl is (place_of xs y)
-  where
-    by : (b : Bool) → bytes_eq y x ≡ b → (b || is_among xs y) ≡ true → (is_among xs y ≡ true → (i : ℕ) × (slice_get xs i ≡ Some y)) → (i : ℕ) × (slice_get (x ∷ xs) i ≡ Some y)
-    by true same any later = (0, ap Some (sym ((bytes_eq-Decides y x).0 same)))
-    by false other any later = let (i, at) = later any in (suc i, at)
-
-value_at_place : (P : ℕ → Type 0) (xs : List (List ℕ)) (vs : List PureValue) (i : ℕ) (y : List ℕ) → length xs ≡ length vs → slice_get xs i ≡ Some y → HoldsOfAll P vs → (v : PureValue) × ((slice_get vs i ≡ Some v) × HoldsOfSymbols P v)
-value_at_place P [] vs i y as_many at h = no_value y at
-value_at_place P (x ∷ xs) [] i y as_many at h = absurd (cc)
-value_at_place P (x ∷ xs) (v ∷ vs) zero y as_many at h = (v, (refl, h.0))
-value_at_place P (x ∷ xs) (v ∷ vs) (suc i) y as_many at h = value_at_place P xs vs i y (omega (arith, as_many)) at h.1
-
-names_length : (ps : List Param) → length (param_names ps) ≡ length ps
-names_length [] = refl
-names_length (q ∷ qs) = ap suc (names_length qs)
-
-in_heap_below : (counter : ℕ) (h : Heap) → HeapHolds (Below counter) h → (n : ℕ) → OccursInHeap n h → n < counter
-in_heap_below counter h below n (k, (v, (holds, inl at))) = subst (Below counter) at (below k v holds).0
-in_heap_below counter h below n (k, (v, (holds, inr within))) = (below k v holds).1 n within
-
-same_ok : (vs ws : List PureValue) → ◌≡◌ {A = Outcomes} (Ok vs) (Ok ws) → vs ≡ ws
-same_ok vs ws is = cc
-
--- an assertion is well made where its expressions are
-items_made : (items : List PureItem) → list_all is_well_made_expr (flat_map exprs_of_item items) ≡ true → is_well_made_assertion items ≡ true
-items_made [] well = refl
-items_made (item ∷ items) well =
-    let (here, there) = and_parts (list_all is_well_made_expr (exprs_of_item item)) (list_all is_well_made_expr (flat_map exprs_of_item items)) (sym (list_all-append is_well_made_expr (exprs_of_item item) (flat_map exprs_of_item items)) ∙ well) in
-    ap (λ b. b && is_well_made_assertion items) here ∙ items_made items there
-
-all_below_one : (counter : ℕ) (v : PureValue) → IsBelow counter v → AreBelow counter (v ∷ [])
-all_below_one counter v below = each_of_all (Below counter) (v ∷ []) (below, tt)
-
--- a case can be read
-case_reads : (p : PureParts) (memory : MemoryName) → is_well_made p ≡ true → HasModes p memory → (x : List ℕ) (d : PurePredDef) (i : ℕ) (items : List PureItem) → find_pred p.preds x ≡ Some d → slice_get d.cases i ≡ Some items
-    → (is_well_made_assertion items ≡ true) × (assertion_fault memory (case d) items ≡ None)
-case_reads p memory made modes x d i items finds at =
-    let (j, there) = found_at p.preds x d finds in
-    let reads : pred_fault memory d ≡ None = sym (ap (option_and_then (pred_fault memory)) there) ∙ modes (Pred j) in (
-      all_at is_well_made_assertion d.cases i items at (cases_made p made x d finds),
-      (either_none (assertion_fault memory (case d) items) _ (first_fault_at (case_fault memory d) d.cases i items reads at)).0,
-    )
-
--- what a case is met under is below the counter, where the ins and the heap are
-case_values : (p : PureParts) (memory : MemoryName) → is_well_made p ≡ true → HasModes p memory → (counter : ℕ) (d : PurePredDef) (ins : List PureValue) (items : List PureItem) (store : Store) (part : Heap) → is_well_made_assertion items ≡ true → assertion_fault memory (case d) items ≡ None
-    → Meets (HoldsSomewhere p.preds) store items part → Agrees store (param_names d.ins) ins → length d.ins ≡ length ins → HoldsOfAll (Below counter) ins → HeapHolds (Below counter) part → KnownHold (Below counter) (named_by_items items) store
-case_values p memory made modes counter d ins items store part well reads meets agree as_many ins_below part_below x v named at n occurs =
-    ⊎_elim known_below (λ is. in_heap_below counter part part_below n is) (meeting_invents_nothing p memory made modes (case d) items store part x v n well reads meets named at occurs)
-  where
-    known_below : IsKnownSymbol (case d) store n → n < counter
-    known_below (y, (w, (known, (value, within)))) =
-        let (i, name) = place_of (param_names d.ins) y known in
-        let (u, (in_ins, below)) = value_at_place (Below counter) (param_names d.ins) ins i y (names_length d.ins ∙ as_many) name ins_below in
-        below n (subst (OccursIn n) (same_some (sym value ∙ agree i y u name in_ins)) within)
-
--- ---- invariants
-
-abbrev listed_in : PureCommand → List (List ℕ)
-listed_in (loop_invariant xs ps items) = xs
-listed_in _ = []
-
-abbrev declared_in : PureCommand → List Param
-declared_in (loop_invariant xs ps items) = ps
-declared_in _ = []
-
-abbrev items_in : PureCommand → List PureItem
-items_in (loop_invariant xs ps items) = items
-items_in _ = []
-
-match_was : (b : Bool) (o : Matching) (found : Match) → match_of b o ≡ Some found → (b ≡ true) × (o ≡ matched found)
-match_was true (matched other) found is = (refl, ap matched (same_some is))
-match_was true (stops n) found is = no_value found is
-match_was false (matched other) found is = no_value found is
-match_was false (stops n) found is = no_value found is
-
-fit_sorts : (ps : List Param) (names : Store) → known_fit names ps ≡ true → HasSorts ps names
-fit_sorts [] names fit x v is = refl
-fit_sorts (q ∷ qs) names fit x v is =
-    let (here, there) = and_parts (fits_if_known (value_of names q.name) q) (known_fit names qs) fit in
-    by (bytes_eq q.name x) refl here (fit_sorts qs names there x v is)
-  where
-    by : (b : Bool) → bytes_eq q.name x ≡ b → fits_if_known (value_of names q.name) q ≡ true → fits_sorts qs x v ≡ true → ((not b || has_sort q.sort v) && fits_sorts qs x v) ≡ true
-    by false other here later = later
-    by true same here later =
-        let at : value_of names q.name ≡ Some v = ap (value_of names) ((bytes_eq-Decides q.name x).0 same) ∙ is in
-        ap (λ b. b && fits_sorts qs x v) (sym (ap (λ o. fits_if_known o q) at) ∙ here) ∙ later
-
--- equality of what a remainder is made of is decided, so what can't fail to be equal is
-stable : {X : Type 0} (same : X → X → Bool) → ((x y : X) → same x y ≡ true → x ≡ y) → ((x : X) → same x x ≡ true) → (x y : X) → ¬ ¬ (x ≡ y) → x ≡ y
-stable same sound itself x y isnt = by (same x y) refl
-  where
-    by : (b : Bool) → same x y ≡ b → x ≡ y
-    by true is = sound x y is
-    by false is = absurd (isnt (λ equal. true≢false (sym (itself x) ∙ ap (same x) equal ∙ is)))
-
-stable_value : (v w : PureValue) → ¬ ¬ (v ≡ w) → v ≡ w
-stable_value = stable same_value same_value-same same_value-refl
-
-stable_option : (v w : Option PureValue) → ¬ ¬ (v ≡ w) → v ≡ w
-stable_option None None isnt = refl
-stable_option None (Some w) isnt = absurd (isnt (λ is. no_value w is))
-stable_option (Some v) None isnt = absurd (isnt (λ is. no_value v (sym is)))
-stable_option (Some v) (Some w) isnt = ap Some (stable_value v w (λ other. isnt (λ is. other (same_some is))))
-
-stable_fact : (f g : Fact) → ¬ ¬ (f ≡ g) → f ≡ g
-stable_fact f g isnt = λ i. record {
-  pred = stable bytes_eq (λ x y. (bytes_eq-Decides x y).0) (λ x. (bytes_eq-Decides x x).1 refl) f.pred g.pred (λ other. isnt (λ is. other (ap (λ x. x.pred) is))) i;
-  ins = stable same_elements (λ x y. (same_elements-Decides x y).0) (λ x. (same_elements-Decides x x).1 refl) f.ins g.ins (λ other. isnt (λ is. other (ap (λ x. x.ins) is))) i;
-  outs = stable same_elements (λ x y. (same_elements-Decides x y).0) (λ x. (same_elements-Decides x x).1 refl) f.outs g.outs (λ other. isnt (λ is. other (ap (λ x. x.outs) is))) i;
-}
-
-first_facts : (f g : Fact) (fs gs : List Fact) → ◌≡◌ {A = List Fact} (f ∷ fs) (g ∷ gs) → (f ≡ g) × (fs ≡ gs)
-first_facts f g fs gs is = (cc, cc)
-
-stable_facts : (fs gs : List Fact) → ¬ ¬ (fs ≡ gs) → fs ≡ gs
-stable_facts [] [] isnt = refl
-stable_facts [] (g ∷ gs) isnt = absurd (isnt (λ is. absurd (cc)))
-stable_facts (f ∷ fs) [] isnt = absurd (isnt (λ is. absurd (cc)))
-stable_facts (f ∷ fs) (g ∷ gs) isnt =
-    let head = stable_fact f g (λ other. isnt (λ is. other (first_facts f g fs gs is).0)) in
-    let tail = stable_facts fs gs (λ other. isnt (λ is. other (first_facts f g fs gs is).1)) in
-    λ i. head i ∷ tail i
-
-stable_heap : (g h : Heap) → ¬ ¬ (g ≡ h) → g ≡ h
-stable_heap g h isnt = same_heap g h (λ k. stable_option (get g k) (get h k) (λ other. isnt (λ is. other (ap (λ x. get x k) is))))
-
-before_stable : (p : PureParts) (memory : MemoryName) (m : Actions) (entry : Entry) (xs : List (List ℕ)) (q : Passed) (left : LogicState) (c : Checked) → ¬ ¬ IsAsBefore p memory m entry xs q left c → IsAsBefore p memory m entry xs q left c
-before_stable p memory m entry xs q left c isnt = record {
-  same_heap = stable_heap left.heap q.remainder.heap (λ other. isnt (λ is. other is.same_heap));
-  same_facts = stable_facts left.facts q.remainder.facts (λ other. isnt (λ is. other is.same_facts));
-  same_values = λ x. stable_option (value_of (unlisted_in xs c.machine.current.store) x) (value_of q.unlisted x) (λ other. isnt (λ is. other (is.same_values x)));
-}
-
-place_passed : (P : Passed → Type 0) (i : ℕ) (qs : List Passed) (q : Passed) → passed_at i qs ≡ Some q → All P qs → (q.at ≡ i) × P q
-place_passed P i [] q is all = no_value q is
-place_passed P i (r ∷ rs) q is all = by (nat_eq r.at i) refl is (λ later. place_passed P i rs q later (All-tail P r rs all))
-  where
-    by : (b : Bool) → nat_eq r.at i ≡ b → cond b (Some r) (passed_at i rs) ≡ Some q → (passed_at i rs ≡ Some q → (q.at ≡ i) × P q) → (q.at ≡ i) × P q
-    by true same found later = subst (λ x. (x.at ≡ i) × P x) (same_some found) ((Decides-eqb r.at i).0 same, All-head P r rs all)
-    by false other found later = later found
-
-passed_justified : (p : PureParts) (memory : MemoryName) (m : Actions) (entry : Entry) (counter : ℕ) (f : Frame) (fs : List Frame) (qss : List (List Passed)) (i : ℕ) (q : Passed) → AreJustified p memory m entry counter (f ∷ fs) qss → passed_at i (current_passed qss) ≡ Some q
-    → (q.at ≡ i) × IsJustified p memory m entry counter f.procedure fs q
-passed_justified p memory m entry counter f fs [] i q j is = absurd j
-passed_justified p memory m entry counter f fs (qs ∷ qss) i q j is = place_passed (IsJustified p memory m entry counter f.procedure fs) i qs q is j.0
+use Rattle.checked_runs.proofs.Parts.{union_parts, facts_below, facts_raised, store_raised}
+use Rattle.checked_runs.proofs.Readable.{either_none, first_fault_at, place_of, value_at_place, in_heap_below, same_ok, items_made, all_below_one, case_reads, case_values}
+use Rattle.checked_runs.proofs.Remainders.{listed_in, declared_in, items_in, match_was, fit_sorts, before_stable, passed_justified}
 
 module _ (p : PureParts) (memory : MemoryName) where
   -- The frames and the counter are equal. What isn't the rest realizes the logic state. All symbols are below the counter.

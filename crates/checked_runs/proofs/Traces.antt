@@ -25,7 +25,7 @@ use Rattle.checked_runs.specs.Checked.{Checked, Entry, moved, IsStart}
 use Rattle.checked_runs.specs.Specifications.{fit_params, entry_store}
 use Rattle.checked_runs.specs.Rows.{number_value}
 use Rattle.checked_runs.proofs.Entries.{args_hold}
-use Rattle.checked_runs.proofs.Realized.{facts_below}
+use Rattle.checked_runs.proofs.Parts.{facts_below}
 use Rattle.checked_runs.proofs.Stores.{same_some, no_value}
 
 abbrev pub entered : PureSpec → List PureValue → Entry

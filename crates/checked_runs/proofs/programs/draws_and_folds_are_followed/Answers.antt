@@ -16,7 +16,7 @@ use Rattle.checked_runs.specs.Checked.{Checked}
 use Rattle.checked_runs.specs.Programs.{x, cell_of, p_fact, one_cell, draws_a_side, tells_one_side, moves_a_fact, of_two_facts, folds_two_of_one_name, of_any_two}
 use Rattle.checked_runs.specs.Rows.{number_value}
 use Rattle.checked_runs.proofs.Cells.{the_key, held_value, is_new, cell_is_heap, cell_is_below}
-use Rattle.checked_runs.proofs.Realized.{facts_below}
+use Rattle.checked_runs.proofs.Parts.{facts_below}
 use Rattle.checked_runs.proofs.Stores.{no_value}
 use Rattle.gil_machine.specs.Run.{start}
 use Rattle.checked_runs.proofs.Traces.{at_start, starts, starts_at, next, one_number, symbol_below, any_sort_of_x, parameter_x}
