@@ -1,5 +1,6 @@
-//! Checked runs on plain values: what it means that a specification holds, the runs by which one is verified, and rows that
-//! show what each of their steps leads to. Verification is that of Gillian, Part II (CAV 2021).
+//! Checked runs on plain values: what it means that a specification holds, the runs by which one is verified, that what they
+//! verify holds whatever else the heap holds, and rows that show what each of their steps leads to and which mistakes they find.
+//! Verification is that of Gillian, Part II (CAV 2021); frames are those of O'Hearn, Reynolds, Yang, CSL 2001.
 #![tactic(auto)]
 
 mod laws;
