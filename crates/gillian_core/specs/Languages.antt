@@ -1,6 +1,7 @@
 -- The definition of each language.
 use Rattle.gillian_words.specs.declared.tasks.Language.{Language}
-use Rattle.gillian_words.specs.declared.tasks.Language.TheVariants.{GilRecord, GilBlock, While}
+use Rattle.gillian_words.specs.declared.tasks.Language.TheVariants.{GilRecord, GilBlock, While, Clike}
+use Rattle.gillian_core.specs.ClikeLanguage.{clike_language}
 use Rattle.gillian_core.specs.Definitions.{Definition}
 use Rattle.gillian_core.specs.Gil.{gil_record, gil_block}
 use Rattle.gillian_core.specs.WhileLanguage.{while_language}
@@ -9,3 +10,4 @@ abbrev pub definition_of : Language → Definition
 definition_of GilRecord = gil_record
 definition_of GilBlock = gil_block
 definition_of While = while_language
+definition_of Clike = clike_language

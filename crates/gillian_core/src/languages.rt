@@ -14,7 +14,7 @@ ghost use Rattle.gillian_core.specs.Right.{IsProgramOf, IsRightVerdict};
 
 use crate::running::run_answer;
 use crate::testing::verdict;
-use crate::{gil, while_language};
+use crate::{clike_language, gil, while_language};
 use block_heap::BlockHeap;
 use block_sym::BlockSym;
 use gil_program::Prog;
@@ -37,6 +37,7 @@ pub fn program(alloc: Global, language: Language, bytes: &[u8]) -> Result<Prog, 
         Language::GilRecord => gil::program(alloc, bytes),
         Language::GilBlock => gil::program(alloc, bytes),
         Language::While => while_language::program(alloc, bytes),
+        Language::Clike => clike_language::program(alloc, bytes),
     }
 }
 
@@ -57,6 +58,7 @@ pub fn run_in(
         Language::GilRecord => run_answer::<RecordHeap>(alloc, prog, entry, bound, inputs),
         Language::GilBlock => run_answer::<BlockHeap>(alloc, prog, entry, bound, inputs),
         Language::While => run_answer::<RecordHeap>(alloc, prog, entry, bound, inputs),
+        Language::Clike => run_answer::<BlockHeap>(alloc, prog, entry, bound, inputs),
     }
 }
 
@@ -77,5 +79,6 @@ pub fn verdict_in(
         Language::GilRecord => verdict::<RecordSym>(alloc, prog, entry, bound, rules),
         Language::GilBlock => verdict::<BlockSym>(alloc, prog, entry, bound, rules),
         Language::While => verdict::<RecordSym>(alloc, prog, entry, bound, rules),
+        Language::Clike => verdict::<BlockSym>(alloc, prog, entry, bound, rules),
     }
 }

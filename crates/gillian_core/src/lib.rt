@@ -1,9 +1,11 @@
 //! The top call: from words and source bytes to a status and the bytes of a report.
 #![tactic(auto)]
 
+mod clike_language;
 mod entries;
 mod gil;
 mod languages;
+mod limits;
 mod outputs;
 mod refusals;
 mod rendering;

@@ -2,14 +2,14 @@
 ghost use Rattle.std.specs.Prelude.{◌≡◌, IfOk, IfErr};
 ghost use Rattle.gil_program.specs.Program.{prog_view};
 ghost use Rattle.gil_syntax.specs.Pure.{PureParts};
-ghost use Rattle.gillian_core.specs.Compiled.{IsSourceOf, limit_refusal};
+ghost use Rattle.gillian_core.specs.Compiled.{IsSourceOf};
 ghost use Rattle.gillian_core.specs.Finishing.{IsNoProgram};
 ghost use Rattle.gillian_core.specs.Right.{IsProgramOf};
 ghost use Rattle.gillian_core.specs.WhileLanguage.{while_language, while_sources};
 
+use crate::limits::limit_refused;
 use gil_program::Prog;
-use gil_text::{Refused, RefusedKind};
-use source_language::TooMany;
+use gil_text::Refused;
 use std::alloc::Global;
 use while_compiler::compile;
 use while_text::read;
@@ -23,22 +23,6 @@ pub fn program(alloc: Global, bytes: &[u8]) -> Result<Prog, Refused>
     let source = read(alloc, bytes)?;
     match compile(alloc, &source) {
         Ok(prog) => Ok(prog),
-        Err(too_many) => Err(refused(too_many)),
-    }
-}
-
-/// What a function of too many commands is refused as.
-fn refused(too_many: TooMany) -> Refused
-    ensures { result ≡ limit_refusal too_many }
-{
-    match too_many {
-        TooMany::Limit(at) => Refused {
-            at,
-            kind: RefusedKind::Limit,
-        },
-        TooMany::Memory => Refused {
-            at: 0,
-            kind: RefusedKind::Memory,
-        },
+        Err(too_many) => Err(limit_refused(too_many)),
     }
 }

@@ -6,7 +6,7 @@ use Rattle.gil_lexer.specs.Bytes.{quote}
 use Rattle.gil_lexer.specs.Spelling.{SpellsText}
 use Rattle.gil_lexer.proofs.LiteralLaws.{literal_once}
 use Rattle.gillian_words.specs.declared.tasks.Language.{Language}
-use Rattle.gillian_words.specs.declared.tasks.Language.TheVariants.{GilRecord, GilBlock, While}
+use Rattle.gillian_words.specs.declared.tasks.Language.TheVariants.{GilRecord, GilBlock, While, Clike}
 use Rattle.gillian_words.specs.declared.scan.Scan.TheVariants.{Outside}
 use Rattle.gillian_words.specs.Asked.{AskFor, Asks, AsksTask, Given, IsOption, SpellsBound, SpellsEntry}
 use Rattle.gillian_words.specs.Tasks.{PureTask, run, test, compile, solve, PureRequest, mode_word, language_word}
@@ -114,12 +114,19 @@ one_language : (l m : Language) → language_word l ≡ language_word m → l �
 one_language GilRecord GilRecord e = refl
 one_language GilRecord GilBlock e = cc
 one_language GilRecord While e = cc
+one_language GilRecord Clike e = cc
 one_language GilBlock GilRecord e = cc
 one_language GilBlock GilBlock e = refl
 one_language GilBlock While e = cc
+one_language GilBlock Clike e = cc
 one_language While GilRecord e = cc
 one_language While GilBlock e = cc
 one_language While While e = refl
+one_language While Clike e = cc
+one_language Clike GilRecord e = cc
+one_language Clike GilBlock e = cc
+one_language Clike While e = cc
+one_language Clike Clike e = refl
 
 same_word : (given : Option (List ℕ)) (word other : List ℕ) → given ≡ Some word → given ≡ Some other → word ≡ other
 same_word given word other e f = cc

@@ -12,6 +12,8 @@ pub enum Language {
     GilBlock,
     /// While, over records.
     While,
+    /// The C-like language, over blocks.
+    Clike,
 }
 
 impl Language {
@@ -27,6 +29,7 @@ impl Language {
             Language::GilRecord => "gil-record",
             Language::GilBlock => "gil-block",
             Language::While => "while",
+            Language::Clike => "clike",
         }
     }
 
@@ -39,6 +42,7 @@ impl Language {
             "gil-record" => Some(Language::GilRecord),
             "gil-block" => Some(Language::GilBlock),
             "while" => Some(Language::While),
+            "clike" => Some(Language::Clike),
             _ => None,
         }
     }

@@ -26,3 +26,12 @@ returns-in-While-clause-only c = rw c.in-While.is c.program-in-While.ensures.onl
 
 pub returns-in-While-clause-none : goal.returns-in-While-clause-none
 returns-in-While-clause-none c = rw c.in-While.is c.program-in-While.ensures.none
+
+pub returns-in-Clike-clause-program : goal.returns-in-Clike-clause-program
+returns-in-Clike-clause-program c = rw c.in-Clike.is c.program-in-Clike.ensures.program
+
+pub returns-in-Clike-clause-only : goal.returns-in-Clike-clause-only
+returns-in-Clike-clause-only c = rw c.in-Clike.is c.program-in-Clike.ensures.only
+
+pub returns-in-Clike-clause-none : goal.returns-in-Clike-clause-none
+returns-in-Clike-clause-none c = rw c.in-Clike.is c.program-in-Clike.ensures.none

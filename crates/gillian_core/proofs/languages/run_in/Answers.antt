@@ -8,3 +8,6 @@ returns-in-GilBlock c = rw c.in-GilBlock.is c.run_answer-in-GilBlock.ensures
 
 pub returns-in-While : goal.returns-in-While
 returns-in-While c = rw c.in-While.is c.run_answer-in-While.ensures
+
+pub returns-in-Clike : goal.returns-in-Clike
+returns-in-Clike c = rw c.in-Clike.is c.run_answer-in-Clike.ensures

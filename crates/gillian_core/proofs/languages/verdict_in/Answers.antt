@@ -8,3 +8,6 @@ returns-in-GilBlock g c = rw c.in-GilBlock.is c.verdict-in-GilBlock.ensures
 
 pub returns-in-While : goal.returns-in-While
 returns-in-While g c = rw c.in-While.is c.verdict-in-While.ensures
+
+pub returns-in-Clike : goal.returns-in-Clike
+returns-in-Clike g c = rw c.in-Clike.is c.verdict-in-Clike.ensures

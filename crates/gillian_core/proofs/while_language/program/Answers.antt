@@ -30,6 +30,6 @@ returns-in-Ok-clause-only c =
 
 pub returns-clause-none : goal.returns-clause-none
 returns-clause-none c =
-    rw c.refused.ensures
+    rw c.limit_refused.ensures
     (source_too_long while_sources c.args.bytes.now (source_view c.in_ok-source.source) c.in-Err.too_many c.in_ok-source.ensures.ok
     c.in_ok-source.source.valid c.in_ok-source.ensures.only c.in-Err.ensures.limit)
