@@ -122,10 +122,10 @@ one_language GilBlock Clike e = cc
 one_language While GilRecord e = cc
 one_language While GilBlock e = cc
 one_language While While e = refl
-one_language While Clike e = cc
+one_language While Clike e = absurd (let first : 119 ≡ 99 = ap (λ bytes. get_or bytes 0 0) e in omega arith)
 one_language Clike GilRecord e = cc
 one_language Clike GilBlock e = cc
-one_language Clike While e = cc
+one_language Clike While e = absurd (let first : 99 ≡ 119 = ap (λ bytes. get_or bytes 0 0) e in omega arith)
 one_language Clike Clike e = refl
 
 same_word : (given : Option (List ℕ)) (word other : List ℕ) → given ≡ Some word → given ≡ Some other → word ≡ other
