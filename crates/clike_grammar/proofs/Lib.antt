@@ -1,4 +1,6 @@
 pub mod Beginnings
+pub mod FunctionLaws
 pub mod Leaves
+pub mod Rests
 pub mod SimpleReads
 pub mod SimpleTakes

@@ -131,12 +131,12 @@ input_reads x rest = rw (same_sign-refl signs.LeftParenthesis, same_sign-refl si
 
 -- ---- how a statement begins
 
-past_stars : (n : ℕ) (x : List ℕ) (ls : List Lexeme) → behind_stars (stars n (lexemes.Name x ∷ ls)) ≡ lexemes.Name x ∷ ls
+pub past_stars : (n : ℕ) (x : List ℕ) (ls : List Lexeme) → behind_stars (stars n (lexemes.Name x ∷ ls)) ≡ lexemes.Name x ∷ ls
 unfolding same_sign
 past_stars zero x ls = refl
 past_stars (suc n) x ls = past_stars n x ls
 
-stars_length : (n : ℕ) (ls : List Lexeme) → length ls ≤ length (stars n ls)
+pub stars_length : (n : ℕ) (ls : List Lexeme) → length ls ≤ length (stars n ls)
 stars_length zero ls = omega arith
 stars_length (suc n) ls = omega (arith, stars_length n ls)
 
