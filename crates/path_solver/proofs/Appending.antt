@@ -1,6 +1,6 @@
 -- Lists of atoms of the fragment with atoms appended, and what is found of them.
 use Rattle.std.proofs.Common.{◌≡◌, ⊎_elim, ℕ, zero, suc, ◌+◌, ◌-◌, ◌<◌, ◌≤◌, List, [], ◌∷◌, ◌++◌, length, get_or, take, true, Some, slice_get, refl, sym, ap, ◌∙◌, subst, add-one, arith}
-use Rattle.std.proofs.lemmas.List.{map-append}
+use Rattle.std.proofs.lemmas.List.{map-append, take-map}
 use Rattle.std.proofs.lemmas.Bool.{and_parts, and_from, cases_lt}
 use Rattle.std.proofs.lemmas.List.Folds.{list_all-append}
 use Rattle.std.proofs.lemmas.Option.{same_Some}
@@ -80,3 +80,31 @@ each_next vars list more i a b ps new p at same before closes is =
 pub true_next : (v : List PureValue) (atoms : List PureAtom) (i : ℕ) (a : PureAtom) → slice_get atoms i ≡ Some a → all_true v (take i atoms) ≡ true → truth v a ≡ true → all_true v (take (i + 1) atoms) ≡ true
 true_next v atoms i a at before is =
     ap (all_true v) (take_at atoms i a at) ∙ list_all-append (truth v) (take i atoms) (a ∷ []) ∙ and_from (all_true v (take i atoms)) (all_true v (a ∷ [])) before (and_from (truth v a) true is refl)
+
+-- ---- lists that are cut
+
+pub take_pop : {X : Type 0} (ys xs : List X) (x : X) → ys ++ x ∷ [] ≡ take (length (ys ++ x ∷ [])) xs → ys ≡ take (length ys) xs
+take_pop [] [] x h = refl
+take_pop [] (z ∷ xs) x h = refl
+take_pop (y ∷ ys) [] x h = cc
+take_pop (y ∷ ys) (z ∷ xs) x h =
+    let first : y ≡ z = cc in
+    let rest : ys ++ x ∷ [] ≡ take (length (ys ++ x ∷ [])) xs = cc in
+    let more = take_pop ys xs x rest in
+    λ i. first i ∷ more i
+
+-- both lists begin alike, one atom further
+pub take_same : (left right : List PureAtom) (i : ℕ) (a : PureAtom) → take i left ≡ take i right → slice_get left i ≡ Some a → slice_get right i ≡ Some a → take (i + 1) left ≡ take (i + 1) right
+take_same left right i a same at_left at_right = take_at left i a at_left ∙ ap (λ (xs : List PureAtom). xs ++ a ∷ []) same ∙ sym (take_at right i a at_right)
+
+pub split_last : {X : Type 0} (xs : List X) → 1 ≤ length xs → (ys : List X) × ((x : X) × (xs ≡ ys ++ x ∷ []))
+split_last [] long = absurd (omega (arith, long))
+split_last (x ∷ []) long = ([], (x, refl))
+split_last (x ∷ y ∷ xs) long = let (ys, (z, is)) = split_last (y ∷ xs) (omega arith) in (x ∷ ys, (z, ap (λ zs. x ∷ zs) is))
+
+pub length-last : {X : Type 0} (ys : List X) (x : X) → length (ys ++ x ∷ []) ≡ length ys + 1
+length-last [] x = refl
+length-last (y ∷ ys) x = let rest = length-last ys x in omega (arith, rest)
+
+pub views_taken : (n : ℕ) (atoms new : List Atom) → new ≡ take n atoms → atoms_view new ≡ take n (atoms_view atoms)
+views_taken n atoms new is = ap atoms_view is ∙ sym (take-map atom_view n atoms)

@@ -1,36 +1,103 @@
-//! The decider and refuter that solves.
-ghost use Rattle.std.specs.Prelude.{IfOk};
+//! The decider and refuter that solves, and keeps what it was asked last.
+ghost use Rattle.std.specs.Prelude.{◌≡◌, ◌≤◌, ◌∷◌, ◌++◌, [], length, take, IfOk, OnOk, OnErr};
 ghost use Rattle.std.specs.Option.{option_map};
 ghost use Rattle.pure_terms.specs.Deciding.{IsRight};
 ghost use Rattle.pure_terms.specs.Meaning.{AreOver};
-ghost use Rattle.pure_terms.specs.Meaning.{AreOver};
-ghost use Rattle.pure_terms.specs.View.{atoms_view, decision_view};
+ghost use Rattle.pure_terms.specs.View.{atom_view, atoms_view, decision_view};
 ghost use Rattle.solver_proof.specs.Refuting.{RefutesRightly};
 ghost use Rattle.solver_proof.specs.View.{proof_view};
 ghost use Rattle.path_solver.specs.Solving.{IsSolved, IsDecidedWhenSorted, solution_view};
+ghost use Rattle.path_solver.specs.Standing.{table_of, list_of};
 
 use crate::deciding::decide_on;
+use crate::lists::{common, copy_of_table, cut_to};
 use crate::solutions::Solution;
 use crate::solving::solve_on;
-use pure_terms::{Atoms, Decider, Decision, VarTable};
+use pure_terms::{Atom, Atoms, Decider, Decision, VarTable};
 use rewrite_book::RuleBook;
 use solver_proof::{Proof, Refuter};
 use std::alloc::{AllocError, Global};
 
-/// A decider that proves what it refutes. It asks no rules, and searches each list anew.
-/// A list that isn't of the fragment is decided with the sorts that it says of its variables.
+/// A decider that proves what it refutes. It asks no rules. A list that isn't of the fragment is decided with the sorts that it says
+/// of its variables. A table and a list stand in it from one question to the next, to which atoms are added and from which they are
+/// cut.
 #[derive(Drop)]
 pub struct PathSolver {
-    /// The list that is searched.
+    vars: VarTable,
     list: Atoms,
+    /// The list that is searched.
+    searched: Atoms,
 }
 
 impl PathSolver {
-    /// A solver, which takes no memory yet.
-    pub fn new(alloc: Global) -> PathSolver {
+    /// A solver in which the empty list stands, over the empty table. It takes no memory yet.
+    pub fn new(alloc: Global) -> PathSolver
+        ensures table { table_of result ≡ [] }
+        ensures list { list_of result ≡ [] }
+    {
         PathSolver {
+            vars: VarTable::new(alloc),
             list: Atoms::new(alloc),
+            searched: Atoms::new(alloc),
         }
+    }
+
+    /// Puts another table in the place of the one that stands: a longer one, or one over which the list is.
+    pub fn grow(&mut self, alloc: Global, vars: &VarTable) -> Result<(), AllocError>
+        ensures table { OnOk result (table_of self.new ≡ vars.now) }
+        ensures err { OnErr result (table_of self.new ≡ table_of self.old) }
+        ensures list { list_of self.new ≡ list_of self.old }
+    {
+        self.vars = copy_of_table(alloc, vars)?;
+        Ok(())
+    }
+
+    /// Adds an atom to the end of the list.
+    pub fn add(&mut self, alloc: Global, atom: &Atom) -> Result<(), AllocError>
+        ensures list { OnOk result (list_of self.new ≡ list_of self.old ++ atom_view atom.now ∷ []) }
+        ensures err { OnErr result (list_of self.new ≡ list_of self.old) }
+        ensures table { table_of self.new ≡ table_of self.old }
+    {
+        let atom = atom.copy(alloc)?;
+        self.list.push(atom)?;
+        Ok(())
+    }
+
+    /// Cuts the list back to its first atoms, which takes no memory.
+    pub fn cut(&mut self, len: usize)
+        requires { len ≤ length (list_of self.old) }
+        ensures list { list_of self.new ≡ take len (list_of self.old) }
+        ensures table { table_of self.new ≡ table_of self.old }
+    {
+        cut_to(&mut self.list, len);
+    }
+
+    /// Decides the list that stands.
+    pub fn answer(&mut self, alloc: Global) -> Result<Decision, AllocError>
+        requires { AreOver (table_of self.old) (list_of self.old) }
+        ensures table { table_of self.new ≡ table_of self.old }
+        ensures list { list_of self.new ≡ list_of self.old }
+        ensures right { IfOk result (λ decision. IsRight (table_of self.old) (list_of self.old) (decision_view decision)) }
+        ensures decided { IfOk result (λ decision. IsDecidedWhenSorted (table_of self.old) (list_of self.old) (decision_view decision)) }
+    {
+        decide_on(alloc, &self.vars, &self.list, &mut self.searched)
+    }
+
+    /// Turns to another list, by cutting back to what the two have in common and adding the rest.
+    fn turn_to(&mut self, alloc: Global, vars: &VarTable, atoms: &Atoms) -> Result<(), AllocError>
+        ensures table { OnOk result (table_of self.new ≡ vars.now) }
+        ensures list { OnOk result (list_of self.new ≡ atoms_view atoms.now) }
+    {
+        let kept = common(&self.list, atoms);
+        self.cut(kept);
+        self.grow(alloc, vars)?;
+        for index in kept..atoms.len() {
+            let Some(atom) = atoms.get(index) else {
+                unreachable!()
+            };
+            self.add(alloc, atom)?;
+        }
+        Ok(())
     }
 }
 
@@ -45,7 +112,8 @@ impl Decider for PathSolver {
         ensures right { IfOk result (λ decision. IsRight vars.now (atoms_view atoms.now) (decision_view decision)) }
         ensures decided { IfOk result (λ decision. IsDecidedWhenSorted vars.now (atoms_view atoms.now) (decision_view decision)) }
     {
-        decide_on(alloc, vars, atoms, &mut self.list)
+        self.turn_to(alloc, vars, atoms)?;
+        self.answer(alloc)
     }
 }
 
@@ -57,7 +125,7 @@ impl Refuter for PathSolver {
         atoms: &Atoms,
     ) -> Result<Option<Proof>, AllocError> {
         let none = RuleBook::new(alloc);
-        let solution = solve_on(alloc, vars, atoms, &none, &mut self.list)?;
+        let solution = solve_on(alloc, vars, atoms, &none, &mut self.searched)?;
         Ok(proof_of(vars, atoms, solution))
     }
 }
