@@ -1,15 +1,12 @@
 -- With which lexemes C-like expressions and statements begin, and which of them are apart.
-use Rattle.std.proofs.Common.{◌≡◌, ◌⊎◌, inl, inr, ℕ, List, [], ◌∷◌, Bool, true, false, cond, Option, Some, None, refl, sym, ap, subst, ◌∙◌}
-use Rattle.gil_values.specs.declared.kinds.Kind.TheVariants.{Null}
+use Rattle.std.proofs.Common.{◌≡◌, inl, inr, ℕ, List, ◌∷◌, Bool, true, false, Some, None, refl, sym, ap, ◌∙◌}
 use Rattle.gil_lexer.specs.declared.forms.Form.{Form}
 use Rattle.gil_lexer.specs.declared.forms.Form.TheVariants as forms
-use Rattle.gil_lexer.specs.declared.signs.Sign.{Sign}
 use Rattle.gil_lexer.specs.declared.signs.Sign.TheVariants as signs
-use Rattle.gil_lexer.specs.declared.words.Word.{Word}
 use Rattle.gil_lexer.specs.declared.words.Word.TheVariants as words
 use Rattle.gil_lexemes.specs.declared.standing.Lexeme.{Lexeme}
 use Rattle.gil_lexemes.specs.declared.standing.Lexeme.TheVariants as lexemes
-use Rattle.gil_lexemes.specs.Reading.{Reading, form_of, first_form, same_sign, is_sign}
+use Rattle.gil_lexemes.specs.Reading.{form_of, first_form, same_sign, is_sign}
 use Rattle.gil_grammar.specs.Vocabulary.{opening_parenthesis}
 use Rattle.source_operators.specs.Operands.{Operand, known, named}
 use Rattle.source_operators.specs.Pure.{constant, variable, brackets, prefixed, joined, skipping}
@@ -19,11 +16,10 @@ use Rattle.clike_operators.specs.declared.trees.Prefix.{Prefix}
 use Rattle.clike_operators.specs.declared.trees.Joint.{Joint}
 use Rattle.clike_operators.specs.declared.trees.Joint.TheVariants.{Operation, Cell, Address}
 use Rattle.clike_operators.specs.Pure.{PureExpression}
-use Rattle.clike_operators.specs.Ranges.{is_int}
 use Rattle.clike_lang.specs.Pure.{PureSimple, assign, input, malloc, call, free, store}
 use Rattle.clike_grammar.specs.Reading.{given_at, assigned_by, begun_at, simple_by}
 use Rattle.clike_grammar.specs.Signs.{prefix, leaf, taken, clike_signs}
-use Rattle.clike_grammar.specs.Statements.{SpellsExpressionAt, SpellsDeclared, SpellsTarget, SpellsCall, SpellsSimple}
+use Rattle.clike_grammar.specs.Statements.{SpellsExpressionAt, SpellsTarget, SpellsSimple}
 
 -- ---- which lexemes are apart
 

@@ -1,30 +1,30 @@
 -- Functions of the C-like language are read as they are spelled.
-use Rattle.std.proofs.Common.{◌≡◌, ◌⊎◌, inl, inr, ◌≤◌, ◌<◌, ◌+◌, ℕ, zero, suc, Bool, true, false, cond, List, [], ◌∷◌, length, Option, Some, None, refl, sym, ap, subst, ◌∙◌, arith}
+use Rattle.std.proofs.Common.{◌≡◌, ◌⊎◌, inl, inr, ◌<◌, ℕ, Bool, true, false, cond, List, ◌∷◌, length, Some, None, refl, sym, ap, subst, ◌∙◌, arith}
 use Rattle.gil_lexer.specs.declared.forms.Form.{Form}
 use Rattle.gil_lexer.specs.declared.forms.Form.TheVariants as forms
 use Rattle.gil_lexer.specs.declared.signs.Sign.TheVariants as signs
 use Rattle.gil_lexer.specs.declared.words.Word.TheVariants as words
 use Rattle.gil_lexemes.specs.declared.standing.Lexeme.{Lexeme}
 use Rattle.gil_lexemes.specs.declared.standing.Lexeme.TheVariants as lexemes
-use Rattle.gil_lexemes.specs.Reading.{Reading, ◌>>=◌, form_of, first_form, behind, same_sign, is_sign, same_word, is_word, sign_at, word_at, name_at}
-use Rattle.gil_lexemes.proofs.ReadingLaws.{bind_some, sign_takes, name_takes, at_word_is, same_sign-refl, same_word-refl}
+use Rattle.gil_lexemes.specs.Reading.{◌>>=◌, form_of, first_form, behind, same_sign, is_sign, same_word, is_word, sign_at, word_at, name_at}
+use Rattle.gil_lexemes.proofs.ReadingLaws.{bind_some, sign_takes, at_word_is, same_sign-refl, same_word-refl}
 use Rattle.gil_grammar.specs.Lists.{SpellsSeparated}
 use Rattle.gil_grammar.specs.Vocabulary.{opening_parenthesis, closing_parenthesis, comma, semicolon}
 use Rattle.gil_grammar.proofs.AssertionLaws.{in_place}
-use Rattle.gil_grammar.proofs.ListLaws.{Takes, Again, Reads, ReadsList, NeverBegins, separated_takes, separated_again}
+use Rattle.gil_grammar.proofs.ListLaws.{Takes, Again, Reads, NeverBegins, separated_takes, separated_again}
 use Rattle.gil_grammar.proofs.NestingLaws.{Nested, nested_tail}
 use Rattle.source_text.specs.Grammar.{HasReading}
 use Rattle.statement_text.specs.Reading.{is_shared, block_at}
-use Rattle.statement_text.proofs.StatementReads.{PiecesRead, Room, block_again}
+use Rattle.statement_text.proofs.StatementReads.{PiecesRead, block_again}
 use Rattle.statement_text.proofs.StatementTakes.{block_takes}
 use Rattle.clike_operators.specs.Pure.{PureExpression}
 use Rattle.clike_lang.specs.Pure.{PureSimple, PureFunction}
 use Rattle.clike_grammar.specs.Functions.{clike_spellings, clike_readers, SpellsFunction, param_at, params_at, function_at}
-use Rattle.clike_grammar.specs.Reading.{expression_at, simple_at, behind_stars, declared_name_at}
+use Rattle.clike_grammar.specs.Reading.{expression_at, simple_at, declared_name_at}
 use Rattle.clike_grammar.specs.Statements.{SpellsExpression, stars, SpellsDeclared, SpellsSimple}
-use Rattle.clike_grammar.proofs.Beginnings.{begins_expression, begins_simple, BeginsSo, simple_begins}
+use Rattle.clike_grammar.proofs.Beginnings.{begins_simple, simple_begins}
 use Rattle.clike_grammar.proofs.Rests.{expression_keeps, simple_keeps, declared_keeps}
-use Rattle.clike_grammar.proofs.SimpleReads.{IsRead, expression_reads, simple_reads, past_stars, stars_length}
+use Rattle.clike_grammar.proofs.SimpleReads.{expression_reads, simple_reads, past_stars, stars_length}
 use Rattle.clike_grammar.proofs.SimpleTakes.{expression_takes, declared_takes, simple_takes}
 
 -- ---- expressions and statements without statements in them

@@ -1,7 +1,6 @@
 -- What stands by itself is read by the form of the first token.
-use Rattle.std.proofs.Common.{◌≡◌, ℕ, List, [], ◌∷◌, Bool, true, false, cond, Option, Some, None, refl}
-use Rattle.gil_values.specs.declared.kinds.Kind.TheVariants.{Null}
-use Rattle.gil_values.specs.Pure.{PureValue, integer, kind}
+use Rattle.std.proofs.Common.{◌≡◌, List, [], ◌∷◌, Bool, true, false, cond, Some, None, refl}
+use Rattle.gil_values.specs.Pure.{PureValue, integer}
 use Rattle.gil_lexer.specs.declared.words.Word.TheVariants as words
 use Rattle.gil_lexemes.specs.declared.standing.Lexeme.{Lexeme}
 use Rattle.gil_lexemes.specs.declared.standing.Lexeme.TheVariants as lexemes
@@ -13,7 +12,7 @@ use Rattle.operator_text.specs.Signs.{leaf_tree}
 use Rattle.clike_operators.specs.Pure.{PureExpression}
 use Rattle.clike_operators.specs.Ranges.{is_int}
 use Rattle.clike_grammar.specs.Reading.{number_leaf, leaf_at}
-use Rattle.clike_grammar.specs.Signs.{leaf, clike_signs}
+use Rattle.clike_grammar.specs.Signs.{clike_signs}
 
 abbrev as_expression : Operand → List Lexeme → Reading PureExpression
 as_expression a ls = Some (leaf_tree a, ls)

@@ -1,6 +1,8 @@
 pub mod Beginnings
 pub mod FunctionLaws
 pub mod Leaves
+pub mod NameLaws
 pub mod Rests
 pub mod SimpleReads
 pub mod SimpleTakes
+pub mod TextLaws

@@ -1,16 +1,16 @@
 -- What holds of lexemes and is kept by dropping the first of them holds of those behind what is spelled.
-use Rattle.std.proofs.Common.{◌≡◌, ◌⊎◌, inl, inr, ℕ, zero, suc, List, [], ◌∷◌, Option, Some, None, subst}
+use Rattle.std.proofs.Common.{inl, inr, ℕ, zero, suc, List, [], ◌∷◌, Some, None, subst}
 use Rattle.gil_lexer.specs.declared.signs.Sign.TheVariants as signs
 use Rattle.gil_lexer.specs.declared.words.Word.TheVariants as words
 use Rattle.gil_lexemes.specs.declared.standing.Lexeme.{Lexeme}
 use Rattle.gil_lexemes.specs.declared.standing.Lexeme.TheVariants as lexemes
-use Rattle.gil_grammar.specs.Lists.{SpellsMore, SpellsSeparated}
+use Rattle.gil_grammar.specs.Lists.{SpellsMore}
 use Rattle.gil_grammar.specs.Vocabulary.{opening_parenthesis, closing_parenthesis, closing_bracket, comma, semicolon}
 use Rattle.source_operators.specs.Pure.{constant, variable, brackets, prefixed, joined, skipping}
 use Rattle.source_text.specs.Vocabulary.{equals}
 use Rattle.operator_text.specs.declared.strengths.After.{After}
 use Rattle.operator_text.specs.declared.strengths.After.TheVariants.{Infix, Connects, Bracketed, Dotted}
-use Rattle.operator_text.specs.Grammar.{ampersand, SpellsSide}
+use Rattle.operator_text.specs.Grammar.{ampersand}
 use Rattle.operator_text.specs.Signs.{tight, strength}
 use Rattle.operator_text.proofs.ExpressionReads.{SpelledSide}
 use Rattle.clike_operators.specs.Pure.{PureExpression}

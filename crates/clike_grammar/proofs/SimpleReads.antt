@@ -1,15 +1,14 @@
 -- What is spelled as an expression or a statement without statements in it is read so.
-use Rattle.std.proofs.Common.{◌≡◌, ◌⊎◌, inl, inr, ◌≤◌, ◌<◌, ◌+◌, ℕ, zero, suc, true, false, List, [], ◌∷◌, length, Option, Some, None, refl, sym, ap, subst, ◌∙◌, arith}
+use Rattle.std.proofs.Common.{◌≡◌, inl, inr, ◌≤◌, ◌<◌, ℕ, zero, suc, false, List, [], ◌∷◌, length, Some, None, refl, sym, ap, subst, ◌∙◌, arith}
 use Rattle.gil_lexer.specs.declared.signs.Sign.TheVariants as signs
 use Rattle.gil_lexer.specs.declared.words.Word.TheVariants as words
 use Rattle.gil_lexemes.specs.declared.standing.Lexeme.{Lexeme}
 use Rattle.gil_lexemes.specs.declared.standing.Lexeme.TheVariants as lexemes
-use Rattle.gil_lexemes.specs.Lists.{separated_at}
-use Rattle.gil_lexemes.specs.Reading.{Reading, ◌>>=◌, form_of, first_form, same_sign, is_sign, name_at}
+use Rattle.gil_lexemes.specs.Reading.{Reading, ◌>>=◌, form_of, same_sign, name_at}
 use Rattle.gil_lexemes.proofs.ReadingLaws.{same_sign-refl}
 use Rattle.gil_grammar.specs.Lists.{SpellsMore, SpellsSeparated}
 use Rattle.gil_grammar.specs.Vocabulary.{opening_parenthesis, closing_parenthesis, comma, semicolon}
-use Rattle.gil_grammar.proofs.ListLaws.{Again, Reads, ReadsList, NeverBegins, separated_again}
+use Rattle.gil_grammar.proofs.ListLaws.{Again, NeverBegins, separated_again}
 use Rattle.source_operators.specs.Pure.{variable, constant, brackets, prefixed, joined, skipping}
 use Rattle.source_text.specs.Vocabulary.{equals}
 use Rattle.operator_text.specs.Grammar.{Stops}
@@ -17,7 +16,7 @@ use Rattle.operator_text.specs.Signs.{after, tight}
 use Rattle.operator_text.proofs.ExpressionReads.{spelled_is_read, shorter}
 use Rattle.clike_operators.specs.Pure.{PureExpression}
 use Rattle.clike_lang.specs.Pure.{PureSimple, assign, input, malloc, call, free, store}
-use Rattle.clike_grammar.specs.Reading.{expression_from, expression_at, value_at, argument_at, arguments_at, call_at, input_at, variable_of, behind_value, given_at, assigned_at, target_at, store_at, behind_name, begun_by, begun_at, behind_stars, declared_at, simple_at}
+use Rattle.clike_grammar.specs.Reading.{expression_from, expression_at, value_at, argument_at, arguments_at, input_at, behind_value, assigned_at, target_at, store_at, behind_name, begun_by, behind_stars, simple_at}
 use Rattle.clike_grammar.specs.Signs.{clike_signs}
 use Rattle.clike_grammar.specs.Statements.{SpellsExpressionAt, SpellsExpression, stars, SpellsTarget, SpellsArgument, SpellsCall, place_parts, SpellsSimple}
 use Rattle.clike_grammar.proofs.Beginnings.{clike_apart, begins_expression, BeginsSo, expression_begins, given_so, begun_so, never_closes}

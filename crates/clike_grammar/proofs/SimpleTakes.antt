@@ -1,14 +1,12 @@
 -- What is read as an expression or a statement without statements in it is spelled so.
-use Rattle.std.proofs.Common.{◌≡◌, ◌⊎◌, inl, inr, ◌≤◌, ◌<◌, ◌+◌, ℕ, zero, suc, Bool, true, false, cond, List, [], ◌∷◌, length, Option, Some, None, refl, sym, ap, subst, ◌∙◌, arith}
+use Rattle.std.proofs.Common.{◌≡◌, inl, inr, ◌≤◌, ℕ, suc, Bool, true, false, cond, List, [], ◌∷◌, length, Some, None, refl, ap, subst, ◌∙◌, arith}
 use Rattle.gil_values.specs.Pure.{PureValue, integer}
-use Rattle.gil_lexer.specs.declared.forms.Form.{Form}
-use Rattle.gil_lexer.specs.declared.forms.Form.TheVariants as forms
 use Rattle.gil_lexer.specs.declared.signs.Sign.TheVariants as signs
 use Rattle.gil_lexer.specs.declared.words.Word.TheVariants as words
 use Rattle.gil_lexemes.specs.declared.standing.Lexeme.{Lexeme}
 use Rattle.gil_lexemes.specs.declared.standing.Lexeme.TheVariants as lexemes
 use Rattle.gil_lexemes.specs.Lists.{separated_at}
-use Rattle.gil_lexemes.specs.Reading.{Reading, ◌>>=◌, form_of, first_form, behind, is_sign, sign_at, name_at}
+use Rattle.gil_lexemes.specs.Reading.{◌>>=◌, form_of, first_form, behind, is_sign, sign_at, name_at}
 use Rattle.gil_lexemes.proofs.ReadingLaws.{bind_some, at_sign_is, sign_takes, name_takes}
 use Rattle.gil_grammar.specs.Lists.{SpellsSeparated}
 use Rattle.gil_grammar.specs.Vocabulary.{opening_parenthesis, closing_parenthesis, comma, semicolon}
@@ -22,8 +20,8 @@ use Rattle.operator_text.proofs.ExpressionTakes.{read_is_spelled}
 use Rattle.clike_operators.specs.Pure.{PureExpression}
 use Rattle.clike_operators.specs.Ranges.{is_int}
 use Rattle.clike_lang.specs.Pure.{PureSimple, assign, input, malloc, call, free, store}
-use Rattle.clike_grammar.specs.Reading.{expression_from, expression_at, value_at, argument_at, arguments_at, call_at, input_at, variable_of, called_at, assign_at, behind_value, given_at, assigned_by, assigned_at, target_at, store_at, behind_name, begun_by, begun_at, behind_stars, declared_at, free_at, simple_by, simple_at}
-use Rattle.clike_grammar.specs.Signs.{leaf, clike_signs}
+use Rattle.clike_grammar.specs.Reading.{expression_from, expression_at, value_at, argument_at, arguments_at, call_at, input_at, variable_of, called_at, assign_at, behind_value, given_at, assigned_at, target_at, store_at, behind_name, begun_by, begun_at, behind_stars, simple_at}
+use Rattle.clike_grammar.specs.Signs.{clike_signs}
 use Rattle.clike_grammar.specs.Statements.{SpellsExpressionAt, SpellsExpression, stars, SpellsDeclared, SpellsTarget, SpellsArgument, SpellsCall, place_parts, SpellsSimple}
 use Rattle.clike_grammar.proofs.Beginnings.{clike_apart}
 

@@ -1,5 +1,5 @@
 -- The lexemes of the C-like statements without statements in them. What `int` and stars declare isn't checked.
-use Rattle.std.specs.Prelude.{◌≡◌, ◌⊎◌, ℕ, zero, suc, List, [], ◌∷◌, Option, Some, None}
+use Rattle.std.specs.Prelude.{◌≡◌, ◌⊎◌, ℕ, zero, suc, List, ◌∷◌, Option, Some, None}
 use Rattle.gil_lexer.specs.declared.signs.Sign.TheVariants as signs
 use Rattle.gil_lexer.specs.declared.words.Word.TheVariants.{Int, Input, Malloc, Free}
 use Rattle.gil_lexemes.specs.declared.standing.Lexeme.{Lexeme}

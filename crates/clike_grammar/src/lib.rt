@@ -1,2 +1,6 @@
 //! The grammar of C-like texts: which lexemes spell which program.
 #![tactic(auto)]
+
+mod laws;
+
+pub use laws::{one_text_has_one_reading, texts_name_what_sources_name};

@@ -2,6 +2,13 @@
 #![tactic(auto)]
 
 mod expressions;
+mod functions;
+mod laws;
 mod lists;
 mod names;
 mod simple;
+mod statements;
+mod texts;
+
+pub use laws::texts_compile_to_well_made_programs;
+pub use texts::read;

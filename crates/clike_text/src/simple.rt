@@ -92,7 +92,11 @@ fn variable_of(alloc: Global, expression: &Expression) -> Result<Option<Text>, A
 {
     match expression {
         Expression::Variable(name) => Ok(Some(name.copy(alloc)?)),
-        _ => Ok(None),
+        Expression::Constant(_) => Ok(None),
+        Expression::Brackets(_) => Ok(None),
+        Expression::Prefixed(_, _) => Ok(None),
+        Expression::Joined(_, _, _) => Ok(None),
+        Expression::Skipping(_, _, _) => Ok(None),
     }
 }
 
