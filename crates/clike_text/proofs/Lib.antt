@@ -1,1 +1,4 @@
+pub mod Reading
+pub mod SimpleMade
 pub mod Stars
+pub mod TextMade

@@ -1,9 +1,9 @@
 -- The names and constants of C-like expressions and simple statements are well made where proper lexemes spell them.
-use Rattle.std.proofs.Common.{◌≡◌, ◌≤◌, ℕ, zero, suc, List, [], ◌∷◌, Bool, true, false, cond, ◌&&◌, Option, Some, None, refl, sym, ap, subst, inl, inr}
+use Rattle.std.proofs.Common.{◌≡◌, ℕ, zero, suc, List, ◌∷◌, Bool, true, false, cond, ◌&&◌, Some, None, refl, sym, subst, inl, inr}
 use Rattle.std.specs.List.{list_all}
 use Rattle.std.proofs.lemmas.Bool.{and_from, and_parts}
 use Rattle.gil_values.specs.declared.kinds.Kind.TheVariants.{Null}
-use Rattle.gil_values.specs.Pure.{PureValue, integer, kind, text}
+use Rattle.gil_values.specs.Pure.{integer, kind}
 use Rattle.gil_lexer.specs.declared.words.Word.TheVariants.{NullPointer, Input, Malloc}
 use Rattle.gil_lexemes.specs.declared.standing.Lexeme.{Lexeme}
 use Rattle.gil_lexemes.specs.declared.standing.Lexeme.TheVariants as lexemes
@@ -23,7 +23,7 @@ use Rattle.clike_operators.specs.declared.trees.Prefix.TheVariants.{Minus, Not, 
 use Rattle.clike_operators.specs.declared.trees.Joint.TheVariants.{Operation, Cell, Address}
 use Rattle.clike_operators.specs.Pure.{PureExpression}
 use Rattle.clike_operators.specs.Ranges.{is_int}
-use Rattle.clike_lang.specs.Pure.{PureSimple, assign, input, malloc, call, free, store}
+use Rattle.clike_lang.specs.Pure.{assign, input, malloc, call, free, store}
 use Rattle.clike_compiler.proofs.WellMade.{is_made_simple}
 use Rattle.clike_grammar.specs.Signs.{clike_signs, leaf}
 use Rattle.clike_grammar.specs.Statements.{SpellsExpressionAt, SpellsExpression, stars, SpellsTarget, place_parts, SpellsSimple}
@@ -101,7 +101,7 @@ expressions_make es ls rest p h = separated_make SpellsExpression is_made_expres
 
 -- ---- statements
 
-behind_stars : (n : ℕ) (ls : List Lexeme) → AreProper (stars n ls) → AreProper ls
+pub behind_stars : (n : ℕ) (ls : List Lexeme) → AreProper (stars n ls) → AreProper ls
 behind_stars zero ls p = p
 behind_stars (suc n) ls p = behind_stars n ls p.1
 

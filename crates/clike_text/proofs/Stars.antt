@@ -1,5 +1,5 @@
 -- Stars at the front, one at a time.
-use Rattle.std.proofs.Common.{◌≡◌, ◌<◌, ℕ, List, [], ◌∷◌, length, true, false, cond, refl, ap, arith}
+use Rattle.std.proofs.Common.{◌≡◌, ◌<◌, List, [], ◌∷◌, length, true, false, cond, refl, ap, arith}
 use Rattle.gil_lexer.specs.declared.signs.Sign.TheVariants.{Star}
 use Rattle.gil_lexemes.specs.declared.standing.Lexeme.{Lexeme}
 use Rattle.gil_lexemes.specs.Reading.{first_form, behind, is_sign}

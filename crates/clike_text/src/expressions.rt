@@ -83,6 +83,7 @@ pub(crate) struct Expressions;
 
 impl OperatorLanguage for Expressions {
     type Prefix = Prefix;
+
     type Joint = Joint;
 
     ghost signs = { clike_signs };
@@ -111,10 +112,7 @@ impl OperatorLanguage for Expressions {
     }
 
     #[tactic(auto, using(clike_grammar::proofs::Leaves::leaf_same))]
-    fn leaf_at<'a>(
-        alloc: Global,
-        cursor: Cursor<'a>,
-    ) -> Result<(Expression, Cursor<'a>), Stop> {
+    fn leaf_at<'a>(alloc: Global, cursor: Cursor<'a>) -> Result<(Expression, Cursor<'a>), Stop> {
         leaf_at(alloc, cursor)
     }
 

@@ -14,10 +14,7 @@ use sequence::Sequence;
 use std::alloc::Global;
 
 /// The expressions up to the closing parenthesis, with commas between them.
-fn expressions_at<'a>(
-    alloc: Global,
-    cursor: Cursor<'a>,
-) -> Result<(Expressions, Cursor<'a>), Stop>
+fn expressions_at<'a>(alloc: Global, cursor: Cursor<'a>) -> Result<(Expressions, Cursor<'a>), Stop>
     ensures { Gives (λ found. (map expression_view found.0, found.1)) result
         (separated_at read.expression_at signs.RightParenthesis signs.Comma cursor.entry) }
 {

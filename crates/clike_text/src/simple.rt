@@ -76,10 +76,7 @@ fn malloc_at<'a>(
 }
 
 /// `(e);`, behind `free`.
-fn free_at<'a>(
-    alloc: Global,
-    cursor: Cursor<'a>,
-) -> Result<(SimpleStatement, Cursor<'a>), Stop>
+fn free_at<'a>(alloc: Global, cursor: Cursor<'a>) -> Result<(SimpleStatement, Cursor<'a>), Stop>
     ensures { Gives (λ found. (simple_view found.0, found.1)) result (read.free_at cursor.entry) }
 {
     let (pointer, cursor) = argument_at(alloc, cursor)?;
@@ -253,10 +250,7 @@ fn begun_by<'a>(
 }
 
 /// A statement that begins with an expression.
-fn begun_at<'a>(
-    alloc: Global,
-    cursor: Cursor<'a>,
-) -> Result<(SimpleStatement, Cursor<'a>), Stop>
+fn begun_at<'a>(alloc: Global, cursor: Cursor<'a>) -> Result<(SimpleStatement, Cursor<'a>), Stop>
     ensures { Gives (λ found. (simple_view found.0, found.1)) result (read.begun_at cursor.entry) }
 {
     let (expression, cursor) = expression_from(alloc, TIGHT, cursor)?;
@@ -264,10 +258,7 @@ fn begun_at<'a>(
 }
 
 /// A declaration, behind `int`.
-fn declared_at<'a>(
-    alloc: Global,
-    cursor: Cursor<'a>,
-) -> Result<(SimpleStatement, Cursor<'a>), Stop>
+fn declared_at<'a>(alloc: Global, cursor: Cursor<'a>) -> Result<(SimpleStatement, Cursor<'a>), Stop>
     ensures { Gives (λ found. (simple_view found.0, found.1)) result (read.declared_at cursor.entry) }
 {
     let (name, cursor) = declared_name_at(alloc, cursor)?;

@@ -17,6 +17,7 @@ pub(crate) struct Statements;
 
 impl StatementReader for Statements {
     type Expression = Expression;
+
     type Simple = SimpleStatement;
 
     ghost PureExpression = { expressions.PureExpression };

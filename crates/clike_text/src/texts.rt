@@ -8,12 +8,12 @@ ghost use Rattle.clike_compiler.specs.Valid.{IsValidSource};
 ghost use Rattle.clike_text.specs.Refusals.{IsRefused};
 
 use crate::functions::Clike;
+use clike_compiler::Source;
 use gil_syntax::InvalidKind;
 use gil_text::{Located, Refused, RefusedKind, place_at};
 use source_language::SourceParts;
 use source_text::{read_located, stopped_for_memory};
 use std::alloc::Global;
-use clike_compiler::Source;
 
 /// The source that the bytes spell. A refusal names the first kind that applies, and for `Invalid` the byte at which the item begins.
 /// Places have 32 bits: a text of 4 GiB or more may be answered as want of memory.

@@ -1,4 +1,4 @@
-use Rattle.std.proofs.Common.{◌≡◌, length, ◌-◌, map}
+use Rattle.std.proofs.Common.{◌≡◌, length, ◌-◌}
 use Rattle.gil_lexer.specs.declared.signs.Sign.TheVariants as signs
 use Rattle.gil_lexemes.specs.Lists.{more_at, with_front}
 use Rattle.clike_grammar.specs.Functions.{param_at}

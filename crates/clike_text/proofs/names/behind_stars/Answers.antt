@@ -1,6 +1,6 @@
-use Rattle.std.proofs.Common.{sym, ◌∙◌, ap, arith}
+use Rattle.std.proofs.Common.{sym, ◌∙◌, ap}
 use Rattle.clike_grammar.specs.Reading.{behind_stars}
-use Rattle.clike_text.proofs.Stars.{star_passed, no_star, star_shorter}
+use Rattle.clike_text.proofs.Stars.{star_passed, no_star}
 use Rattle.clike_text.proofs.names.behind_stars.Goals as goal
 
 pub loop-rest-preserved : goal.loop-rest-preserved

@@ -1,0 +1,5 @@
+use Rattle.clike_text.proofs.TextMade.{source_makes}
+use Rattle.clike_text.proofs.laws.texts_compile_to_well_made_programs.Goals as goal
+
+pub returns : goal.returns
+returns c = source_makes
