@@ -158,11 +158,10 @@ fn address_at<'a, L: OperatorLanguage>(
     ensures { Gives (λ found. (expression_view found.0, found.1)) result
         (read.address_at L.signs (read.expression_at L.signs inner) cursor.entry) }
 {
-    let left = cursor.left();
     let (expression, cursor) = expression_at::<L>(alloc, inner, TIGHT, cursor)?;
     match addressed::<L>(expression) {
         Some(expression) => Ok((expression, cursor)),
-        None => Err(Stop::Syntax(left)),
+        None => Err(Stop::Syntax(cursor.left())),
     }
 }
 
