@@ -1,22 +1,11 @@
 //! Lists of atoms that the search makes longer and cuts back.
-ghost use Rattle.std.specs.Prelude.{◌≡◌, ◌≤◌, List, [], ◌∷◌, ◌++◌, length, take, IsTrue, IfOk};
+ghost use Rattle.std.specs.Prelude.{◌≡◌, ◌≤◌, List, [], ◌∷◌, ◌++◌, length, take, IsTrue, IfOk, OnOk};
 ghost use Rattle.pure_terms.specs.declared.atoms.Atom.{Atom};
 ghost use Rattle.pure_terms.specs.View.{atom_view, atoms_view};
 ghost use Rattle.path_solver.specs.Standing.{AreSameAt};
 
 use pure_terms::{Atom, Atoms, VarTable};
 use std::alloc::{AllocError, Global};
-
-/// An equal list.
-pub(crate) fn copy_of(alloc: Global, atoms: &Atoms) -> Result<Atoms, AllocError>
-    ensures { IfOk result (λ list. atoms_view list ≡ atoms_view atoms.now) }
-{
-    let mut list = Atoms::new(alloc);
-    for atom in atoms.as_slice() {
-        list.push(atom.copy(alloc)?)?;
-    }
-    Ok(list)
-}
 
 /// Takes the last atom away.
 #[inline(never)]
@@ -93,4 +82,20 @@ fn are_same_at(left: &Atoms, right: &Atoms, place: usize) -> bool
         },
         None => false,
     }
+}
+
+/// Makes a list equal to another one, by cutting it back to what the two have in common and adding the rest.
+pub(crate) fn turn_to(alloc: Global, list: &mut Atoms, atoms: &Atoms) -> Result<(), AllocError>
+    ensures { OnOk result (atoms_view list.new ≡ atoms_view atoms.now) }
+{
+    let kept = common(list, atoms);
+    cut_to(list, kept);
+    for index in kept..atoms.len() {
+        let Some(atom) = atoms.get(index) else {
+            unreachable!()
+        };
+        let atom = atom.copy(alloc)?;
+        list.push(atom)?;
+    }
+    Ok(())
 }

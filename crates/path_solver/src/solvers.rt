@@ -83,6 +83,19 @@ impl PathSolver {
         decide_on(alloc, &self.vars, &self.list, &mut self.searched)
     }
 
+    /// A proof that closes the list that stands, and None only where it isn't in the fragment or some proper valuation makes every
+    /// atom true.
+    pub fn proof(&mut self, alloc: Global) -> Result<Option<Proof>, AllocError>
+        requires { AreOver (table_of self.old) (list_of self.old) }
+        ensures table { table_of self.new ≡ table_of self.old }
+        ensures list { list_of self.new ≡ list_of self.old }
+        ensures right { IfOk result (λ found. RefutesRightly (table_of self.old) (list_of self.old) (option_map proof_view found)) }
+    {
+        let none = RuleBook::new(alloc);
+        let solution = solve_on(alloc, &self.vars, &self.list, &none, &mut self.searched)?;
+        Ok(proof_of(&self.vars, &self.list, solution))
+    }
+
     /// Turns to another list, by cutting back to what the two have in common and adding the rest.
     fn turn_to(&mut self, alloc: Global, vars: &VarTable, atoms: &Atoms) -> Result<(), AllocError>
         ensures table { OnOk result (table_of self.new ≡ vars.now) }
@@ -124,9 +137,8 @@ impl Refuter for PathSolver {
         vars: &VarTable,
         atoms: &Atoms,
     ) -> Result<Option<Proof>, AllocError> {
-        let none = RuleBook::new(alloc);
-        let solution = solve_on(alloc, vars, atoms, &none, &mut self.searched)?;
-        Ok(proof_of(vars, atoms, solution))
+        self.turn_to(alloc, vars, atoms)?;
+        self.proof(alloc)
     }
 }
 

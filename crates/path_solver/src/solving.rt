@@ -8,7 +8,7 @@ ghost use Rattle.path_solver.specs.Outside.{AreAllPlain, IsKeptOut};
 ghost use Rattle.path_solver.specs.Searching.{IsFound, IsProperlyFound};
 ghost use Rattle.path_solver.specs.Solving.{IsSolved, solution_view};
 
-use crate::lists::copy_of;
+use crate::lists::turn_to;
 use crate::outside::{first_outside, plain_list};
 use crate::searching::{Found, search};
 use crate::solutions::Solution;
@@ -97,7 +97,7 @@ pub(crate) fn found_of(
     requires plain { AreAllPlain (atoms_view atoms.now) }
     ensures { IfOk result (IsFound vars.now (atoms_view atoms.now)) }
 {
-    *list = copy_of(alloc, atoms)?;
+    turn_to(alloc, list, atoms)?;
     search(alloc, vars, list)
 }
 
