@@ -1,0 +1,3 @@
+pub mod ConsumeLaws
+pub mod EntryLaws
+pub mod KeyLaws
