@@ -1,0 +1,15 @@
+pub mod Choosing
+pub mod ChunkFacts
+pub mod DeleteLaws
+pub mod FormLaws
+pub mod GetLaws
+pub mod HeapLaws
+pub mod Instance
+pub mod Law
+pub mod ListValues
+pub mod NameLists
+pub mod ObjectShapes
+pub mod PropertyLaws
+pub mod Right
+pub mod SetLaws
+pub mod Steps
