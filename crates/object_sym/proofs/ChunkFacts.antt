@@ -1,5 +1,5 @@
 -- What conditions on some chunk of a location say of the heap.
-use Rattle.std.proofs.Common.{◌≡◌, ℕ, List, Option, Some, IsTrue, slice_get, sym, ap, subst, ◌∙◌}
+use Rattle.std.proofs.Common.{◌≡◌, ℕ, List, Some, IsTrue, slice_get, sym, ap, ◌∙◌}
 use Rattle.gil_values.specs.Pure.{PureValue, symbol}
 use Rattle.mem_model.specs.declared.keys.Sub.{Sub}
 use Rattle.mem_model.specs.Heaps.{Heap}

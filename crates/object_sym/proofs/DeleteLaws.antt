@@ -1,5 +1,5 @@
 -- The cases of `delete` are right.
-use Rattle.std.proofs.Common.{◌≡◌, ⊎_elim, inl, inr, ℕ, zero, suc, ◌+◌, List, [], ◌∷◌, ◌++◌, Bool, true, false, Option, Some, None, IsTrue, slice_get, refl, sym, ap, subst, ◌∙◌, true≢false, arith}
+use Rattle.std.proofs.Common.{◌≡◌, ⊎_elim, inl, inr, ℕ, zero, suc, ◌+◌, List, [], ◌∷◌, ◌++◌, Bool, true, false, Option, Some, None, IsTrue, slice_get, refl, sym, ap, subst, ◌∙◌, arith}
 use Rattle.std.specs.FinMap.{get, insert, remove}
 use Rattle.std.specs.List.{remove as remove_at}
 use Rattle.std.proofs.lemmas.List.{append_assoc}
@@ -8,12 +8,10 @@ use Rattle.mem_model.specs.declared.keys.Key.{Key}
 use Rattle.mem_model.specs.declared.keys.Sub.TheVariants.{Name, Dom}
 use Rattle.mem_model.specs.declared.keys.MemoryName.TheVariants.{Object}
 use Rattle.mem_model.specs.Actions.{ActionResult}
-use Rattle.mem_model.specs.Heaps.{Heap, Holds, HasKey, IsHeapOf}
+use Rattle.mem_model.specs.Heaps.{Heap, Holds, IsHeapOf}
 use Rattle.mem_model.specs.Keys.{key}
 use Rattle.mem_model.specs.Names.{is_name_list, lists_name}
 use Rattle.mem_model.specs.Tables.{does, misses}
-use Rattle.mem_model.proofs.Holding.{held_inserted, inserted_keeps, has_inserted, different_keys}
-use Rattle.mem_model.proofs.Joins.{has_key, value_at}
 use Rattle.object_heap.specs.Table.{without_name, delete_property}
 use Rattle.object_sym.specs.Table.{missed_key, missed_name, taken_from, taken, relisted, taken_each, deleted_there, deleted_from, delete_cases}
 use Rattle.pure_terms.specs.declared.variables.Sort.{Sort}
@@ -24,24 +22,23 @@ use Rattle.sym_chunks.specs.Cases.{PureCase, case_of, true_term}
 use Rattle.sym_chunks.specs.Forms.{form_of}
 use Rattle.sym_chunks.specs.Keys.{other_sub, at_key}
 use Rattle.sym_chunks.specs.Laws.{IsLocation, IsKeyOf}
-use Rattle.sym_chunks.specs.NameTerms.{listed, unlisted}
+use Rattle.sym_chunks.specs.NameTerms.{unlisted}
 use Rattle.sym_conditions.specs.Alternatives.{Alternatives, Hold, both, any, same}
 use Rattle.sym_conditions.proofs.Combined.{both_from, both_parts}
 use Rattle.sym_conditions.proofs.Telling.{same_tells}
-use Rattle.sym_model.specs.Chunks.{IsEntry, IsUnion, StandFor, with_held}
+use Rattle.sym_model.specs.Chunks.{IsEntry, IsUnion, StandFor}
 use Rattle.sym_model.specs.Lists.{Each, OneOf}
 use Rattle.sym_model.specs.Meaning.{location_of, name_of, key_of}
 use Rattle.sym_model.specs.Pure.{PureSub, named, cell, shape, bound, dom, proto, gone, PureChunk, done}
 use Rattle.sym_model.specs.Terms.{is_list_term}
 use Rattle.sym_model.proofs.Asking.{both_parts as value_parts}
-use Rattle.sym_model.proofs.ChunkMeaning.{ChunkTerms, chunk_val}
-use Rattle.sym_model.proofs.ListLaws.{same_some, not_none, each_append, each_at, each_to, each_left, each_right, one_left, one_right, one_flat, one_flattened}
+use Rattle.sym_model.proofs.ListLaws.{same_some, not_none, each_append, each_at, each_right, one_left, one_right, one_flat, one_flattened}
 use Rattle.sym_model.proofs.Unions.{held_changes, taken_out, remove-insert_other, same_entry}
 use Rattle.sym_chunks.proofs.CaseLaws.{IsFor, IsExactCase, made_exact, made_comes, needed_open}
-use Rattle.sym_chunks.proofs.Facts.{Fact, each_fact, fact_loc, key_tells, loc_tells, same_texts}
+use Rattle.sym_chunks.proofs.Facts.{Fact, key_tells, loc_tells}
 use Rattle.sym_chunks.proofs.FoundLaws.{at_chunk, lacks_key, key_lacks}
 use Rattle.object_sym.proofs.ChunkFacts.{lies_at}
-use Rattle.object_sym.proofs.HeapLaws.{none_from, not_both, delete_absent, delete_taken, delete_missed, delete_nowhere}
+use Rattle.object_sym.proofs.HeapLaws.{delete_absent, delete_taken, delete_missed, delete_nowhere}
 use Rattle.object_sym.proofs.ListValues.{values_append, values_split, list_is, given_values, without_is, held_elsewhere}
 use Rattle.object_sym.proofs.NameLists.{elements_over, list_value, listed_holds, holds_listed, unlisted_holds, holds_unlisted}
 use Rattle.object_sym.proofs.PropertyLaws.{Comes, form_is_needed, val_over, val_is, dom_of, stands_now, dom_asked, dom_at, holds_at, names_at, name_asked}

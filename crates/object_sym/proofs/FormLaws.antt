@@ -1,13 +1,13 @@
 -- A branch needs the literal form of a term only where the action depends on it.
-use Rattle.std.proofs.Common.{◌≡◌, ⊎_elim, inl, inr, ℕ, List, [], ◌∷◌, ◌++◌, Option, Some, None, IsTrue, refl, sym, ap, subst, ◌∙◌}
+use Rattle.std.proofs.Common.{◌≡◌, ⊎_elim, inl, inr, ℕ, List, [], ◌∷◌, ◌++◌, Option, Some, None, IsTrue, refl, ap, ◌∙◌}
 use Rattle.std.specs.Prelude.{⊤}
 use Rattle.std.specs.FinMap.{get}
 use Rattle.gil_values.specs.declared.kinds.Kind.{Kind}
-use Rattle.gil_values.specs.Pure.{PureValue, symbol, text, kind_of}
+use Rattle.gil_values.specs.Pure.{PureValue, text, kind_of}
 use Rattle.mem_model.specs.declared.failures.Failure.{Failure}
 use Rattle.mem_model.specs.declared.keys.MemoryName.TheVariants.{Object}
 use Rattle.mem_model.specs.declared.keys.Sub.TheVariants.{Name}
-use Rattle.mem_model.specs.Heaps.{Heap, HasKey}
+use Rattle.mem_model.specs.Heaps.{Heap}
 use Rattle.mem_model.specs.Keys.{key}
 use Rattle.mem_model.proofs.Joins.{value_at}
 use Rattle.object_heap.specs.declared.actions.ObjectAction.{ObjectAction}
@@ -17,7 +17,7 @@ use Rattle.object_sym.specs.Table.{missed_name, get_cases, set_cases, delete_cas
 use Rattle.pure_terms.specs.declared.variables.Sort.{Sort}
 use Rattle.pure_terms.specs.declared.variables.Var.{Var}
 use Rattle.pure_terms.specs.Meaning.{value, values, all_true, IsProper, IsOver}
-use Rattle.pure_terms.specs.Pure.{PureTerm, from_list, PureAtom}
+use Rattle.pure_terms.specs.Pure.{PureTerm, from_list}
 use Rattle.sym_chunks.specs.ByPlace.{all_by_place}
 use Rattle.sym_chunks.specs.Cases.{PureCase, PureAccess, reads, writes, ChunkBranches, branches_of, case_of, choose, failure, true_term}
 use Rattle.sym_chunks.specs.Forms.{form_of}

@@ -29,14 +29,14 @@ use Rattle.sym_model.specs.Lists.{Each, OneOf}
 use Rattle.sym_model.specs.Meaning.{location_of, key_of}
 use Rattle.sym_model.specs.Pure.{PureSub, named, cell, shape, bound, dom, proto, gone, PureChunk, done}
 use Rattle.sym_model.specs.Terms.{is_list_term}
-use Rattle.sym_model.proofs.ListLaws.{same_some, each_append, each_at, one_left, one_right, one_at}
+use Rattle.sym_model.proofs.ListLaws.{each_append, each_at, one_left, one_right, one_at}
 use Rattle.sym_model.proofs.Unions.{held_changes, same_entry}
 use Rattle.sym_chunks.proofs.CaseLaws.{IsFor, IsExactCase, made_exact, made_comes}
-use Rattle.sym_chunks.proofs.Facts.{Fact, loc_tells}
+use Rattle.sym_chunks.proofs.Facts.{Fact}
 use Rattle.sym_chunks.proofs.FoundLaws.{at_chunk, by_place_parts, by_place_from, lacks_key, key_lacks, found_exact, found_comes, any_key, key_any}
 use Rattle.object_sym.proofs.ChunkFacts.{somewhere_parts, somewhere_from}
 use Rattle.object_sym.proofs.HeapLaws.{none_from, not_both, key_or_not, get_found, get_absent, get_missed, has_found, has_told, has_missed, proto_got, proto_unknown, proto_put, proto_missed}
-use Rattle.object_sym.proofs.PropertyLaws.{Comes, key_number, dom_of, lists_tells, tells_lists, lists_not_tells, tells_lists_not, stands_now, dom_asked, dom_at, holds_at, opened_here, opened_needs, name_asked, no_name_if, named_if, other_name, opened_from, absent_parts, absent_from, missed_for, without_exact, by_heap}
+use Rattle.object_sym.proofs.PropertyLaws.{Comes, dom_of, lists_tells, tells_lists, tells_lists_not, stands_now, dom_at, holds_at, opened_here, opened_needs, name_asked, no_name_if, other_name, opened_from, absent_parts, absent_from, missed_for, without_exact, by_heap}
 
 module _ (vars : List Sort) (v : List PureValue) (h : Heap) (proper : IsProper vars v) (cs : List PureChunk) (union : IsUnion v cs h) (facts : Each (Fact vars v h) cs) (is_heap : IsHeapOf Object h)
     (l : PureTerm) (a : ℕ) (asked : IsLocation vars v l a) where

@@ -6,15 +6,15 @@ use Rattle.gil_values.specs.Pure.{PureValue, boolean, kind, no_values, list}
 use Rattle.mem_model.specs.declared.keys.Key.{Key}
 use Rattle.mem_model.specs.declared.keys.Sub.TheVariants.{Name, Dom, Proto}
 use Rattle.mem_model.specs.Actions.{ActionResult}
-use Rattle.mem_model.specs.Heaps.{Heap, Holds, HasKey}
-use Rattle.mem_model.specs.Keys.{key, key_cmp}
+use Rattle.mem_model.specs.Heaps.{Heap, Holds}
+use Rattle.mem_model.specs.Keys.{key}
 use Rattle.mem_model.specs.KeyOrder.{key_cmp-total, key_eq}
 use Rattle.mem_model.specs.Names.{lists_name}
 use Rattle.mem_model.specs.Tables.{does, misses, found_or, at, unlisted_at, is_among, with_all, created}
 use Rattle.mem_model.proofs.Changes.{get-with_all}
 use Rattle.mem_model.proofs.Holding.{same_key, itself}
 use Rattle.mem_model.proofs.Joins.{same_heap}
-use Rattle.object_heap.specs.Table.{appended, without_name, new, get_property, set_property, delete_property, has_property, get_prototype, set_prototype}
+use Rattle.object_heap.specs.Table.{appended, without_name, get_property, set_property, delete_property, has_property, get_prototype, set_prototype}
 
 pub none_from : {X : Type 0} (o : Option X) → ¬ IsSome o → o ≡ None
 none_from None lacks_it = refl

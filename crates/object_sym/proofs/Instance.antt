@@ -1,7 +1,6 @@
 -- The laws, from the table to the branches of the code.
 use Rattle.std.proofs.Common.{◌≡◌, ℕ, List, [], ◌∷◌, map, Option, refl, sym, ap, subst, ◌∙◌}
 use Rattle.core_uses.specs.Kept.{AreKept}
-use Rattle.gil_values.specs.Pure.{PureValue}
 use Rattle.mem_model.specs.declared.keys.MemoryName.TheVariants.{Object}
 use Rattle.object_heap.specs.Names.{action_of}
 use Rattle.object_heap.specs.Table.{object_actions}
@@ -17,10 +16,9 @@ use Rattle.sym_model.specs.declared.branches.Branch.{Branch}
 use Rattle.sym_model.specs.Chunks.{StandFor, terms_of}
 use Rattle.sym_model.specs.Cores.{MissesItsOwn}
 use Rattle.sym_model.specs.Forms.{OpenWhatMatters}
-use Rattle.sym_model.specs.Laws.{MayBeAsked, Serves, ActLaw, ActsPlainly, ArePlain}
+use Rattle.sym_model.specs.Laws.{MayBeAsked, ActLaw, ActsPlainly}
 use Rattle.sym_model.specs.Lists.{Each}
-use Rattle.sym_model.specs.Plain.{IsPlainState}
-use Rattle.sym_model.specs.Pure.{PureChunk, PureBranch}
+use Rattle.sym_model.specs.Pure.{PureBranch}
 use Rattle.sym_model.specs.View.{branches_view}
 use Rattle.sym_chunks.proofs.CaseLaws.{Branch as ChunkBranch}
 use Rattle.sym_chunks.proofs.Opening.{Opens}

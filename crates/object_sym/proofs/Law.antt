@@ -1,7 +1,7 @@
 -- The branches of every action keep the laws of a symbolic memory.
-use Rattle.std.proofs.Common.{◌≡◌, ⊎_elim, inl, inr, ℕ, ℤ, ◌-ℤ◌, ◌+ℤ◌, List, [], ◌∷◌, ◌++◌, Bool, true, false, not, ◌&&◌, ◌||◌, Option, Some, None, refl, sym, ap, subst, ◌∙◌}
+use Rattle.std.proofs.Common.{◌≡◌, ⊎_elim, inr, ℕ, ℤ, ◌-ℤ◌, ◌+ℤ◌, List, [], ◌∷◌, ◌++◌, Bool, true, false, not, ◌||◌, Option, Some, None, refl, ap, subst}
 use Rattle.std.specs.Prelude.{⊤}
-use Rattle.std.proofs.lemmas.Bool.{and_parts, and_from}
+use Rattle.std.proofs.lemmas.Bool.{and_from}
 use Rattle.std.proofs.lemmas.List.Elements.{Contains-append_cases}
 use Rattle.core_uses.specs.Kept.{IsKept, AreKept}
 use Rattle.gil_values.proofs.OperatorSymbols.{none_contained}
@@ -21,15 +21,15 @@ use Rattle.pure_terms.specs.declared.variables.Sort.{Sort}
 use Rattle.pure_terms.specs.declared.variables.Var.{Var}
 use Rattle.pure_terms.specs.Fragment.{is_simple, are_simple, names_sort, name_sort, has_literals_between, have_literals_between}
 use Rattle.pure_terms.specs.Meaning.{IsOver}
-use Rattle.pure_terms.specs.Pure.{PureTerm, literal, variable, list_of, PureTerms, to_list, from_list, variables, variables_of_all, PureAtom, term_of}
-use Rattle.sym_model.specs.Chunks.{StandFor, value_where_described, terms_of}
+use Rattle.pure_terms.specs.Pure.{PureTerm, variable, list_of, PureTerms, to_list, from_list, variables, variables_of_all}
+use Rattle.sym_model.specs.Chunks.{StandFor, terms_of}
 use Rattle.sym_model.specs.Cores.{MissesItsOwn}
 use Rattle.sym_model.specs.Laws.{MayBeAsked, Serves, ActLaw, ActsPlainly, IsPlainWithin, IsDecidedWithin, growth}
 use Rattle.sym_model.specs.Lists.{Each, IsAmong}
 use Rattle.sym_model.specs.Meaning.{fresh_symbol}
-use Rattle.sym_model.specs.Plain.{is_plain_description, IsPlainState}
+use Rattle.sym_model.specs.Plain.{IsPlainState}
 use Rattle.sym_model.specs.Pure.{named, dom, proto, gone, PureChunk, result_terms}
-use Rattle.sym_model.specs.Terms.{all_of, AreEachOver, IsFreshOver, IsMadeOf, AreMadeOf, IsListed, is_given}
+use Rattle.sym_model.specs.Terms.{all_of, AreEachOver, IsFreshOver, IsMadeOf, AreMadeOf, is_given}
 use Rattle.sym_model.proofs.ChunkMeaning.{chunk_by_chunk}
 use Rattle.sym_model.proofs.Listed.{listed_itself}
 use Rattle.sym_model.proofs.ListLaws.{not_none, each_to, each_left, each_right, each_is_among}

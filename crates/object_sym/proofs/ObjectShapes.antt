@@ -1,37 +1,34 @@
 -- The forms of the conditions that the actions of objects ask, and what their states and results are made of, for every reading of
 -- conditions and terms.
-use Rattle.std.proofs.Common.{◌≡◌, ◌⊎◌, ⊎_elim, inl, inr, ℕ, zero, suc, ◌+◌, List, [], ◌∷◌, ◌++◌, Bool, true, false, not, ◌&&◌, ◌||◌, Option, Some, None, IsTrue, if◌then◌else◌, slice_get, refl, sym, ap, subst, ◌∙◌, true≢false, arith}
+use Rattle.std.proofs.Common.{◌≡◌, ◌⊎◌, ⊎_elim, inl, inr, ℕ, zero, suc, ◌+◌, List, [], ◌∷◌, ◌++◌, Bool, true, false, not, ◌&&◌, ◌||◌, Option, Some, None, if◌then◌else◌, slice_get, refl, sym, ap, subst, ◌∙◌, true≢false, arith}
 use Rattle.std.specs.List.{remove, list_any}
-use Rattle.std.specs.Prelude.{⊤}
 use Rattle.gil_values.specs.declared.kinds.Kind.{Kind}
-use Rattle.gil_values.specs.Equality.{same_kind}
 use Rattle.mem_model.specs.declared.failures.Failure.{Failure}
 use Rattle.mem_model.specs.Tables.{failure_text}
 use Rattle.object_heap.specs.declared.actions.ObjectAction.{ObjectAction}
 use Rattle.object_sym.specs.Places.{listed_there, lists, unlisted_there, lists_not, opened_there, opened_at, opened, untold_there, untold, unknown_there, knows_not, holds_name, unheld_name, unheld, tells_not, lacks}
 use Rattle.object_sym.specs.Table.{false_term, undef_term, no_names, missed_key, missed_name, is_prototype, is_no_prototype, created, new_cases, without_name, get_cases, with_name, added_there, added_from, set_cases, taken_from, taken, relisted, taken_each, deleted_there, deleted_from, delete_cases, told_cases, held_case, unknown_cases, has_cases, prototype_cases, wrong_number, checked, no_property, is_property, of_property, branches_by, unknown_action, table, may_be_symbol, may_be_property, may_be_prototype, asked_of_property, asked_by}
-use Rattle.pure_terms.specs.declared.literals.Literal.{Literal}
 use Rattle.pure_terms.specs.declared.variables.Var.{Var}
 use Rattle.pure_terms.specs.Equality.{same_term}
 use Rattle.pure_terms.specs.EqualityLaws.{same_term-same}
 use Rattle.pure_terms.specs.Kinds.{allows, known_kind}
-use Rattle.pure_terms.specs.Pure.{PureTerm, literal, variable, list_of, unary_of, binary_of, PureTerms, to_list, from_list, PureAtom, positive, negative, opening}
+use Rattle.pure_terms.specs.Pure.{PureTerm, literal, variable, list_of, unary_of, binary_of, PureTerms, to_list, from_list, positive, negative, opening}
 use Rattle.sym_chunks.specs.ByPlace.{all_by_place, any_at}
-use Rattle.sym_chunks.specs.Cases.{ChunkBranches, PureCase, PureAccess, reads, writes, case_of, branches_of, choose, found, failure, true_term, null_term}
+use Rattle.sym_chunks.specs.Cases.{PureCase, PureAccess, reads, writes, case_of, branches_of, choose, found, failure, true_term, null_term}
 use Rattle.sym_chunks.specs.Forms.{form_of}
 use Rattle.sym_chunks.specs.Keys.{same_sub, other_sub, at_key}
-use Rattle.sym_chunks.specs.NameTerms.{listed, unlisted}
+use Rattle.sym_chunks.specs.NameTerms.{unlisted}
 use Rattle.sym_conditions.specs.declared.comparing.Comparison.{Comparison}
 use Rattle.sym_conditions.specs.Comparing.{compared}
 use Rattle.sym_conditions.specs.Alternatives.{Alternatives, never, always, given, both, any, is_empty, equal, same, other, by_comparison, of_kind, not_of_kind}
 use Rattle.sym_model.specs.Chunks.{with_held, value_where_described}
 use Rattle.sym_model.specs.Lists.{Each}
-use Rattle.sym_model.specs.Pure.{PureSub, named, cell, shape, bound, dom, proto, gone, PureChunk, sub_terms, done, missed}
+use Rattle.sym_model.specs.Pure.{PureSub, named, cell, shape, bound, dom, proto, gone, PureChunk, sub_terms, done}
 use Rattle.sym_model.specs.Terms.{is_literal, is_list_term, are_other_kinds, are_apart}
 use Rattle.sym_model.proofs.ChunkMeaning.{chunk_val}
-use Rattle.sym_model.proofs.ListLaws.{same_some, each_append, each_left, each_right, each_to, each_at}
+use Rattle.sym_model.proofs.ListLaws.{each_append, each_to}
 use Rattle.sym_chunks.proofs.CaseLaws.{none_chosen}
-use Rattle.sym_chunks.proofs.Shapes.{EachAtom, Reading, ChunkSides, ChunkForms, IsFine, IsFineState, IsFineResult, Shaped, both_shaped, or_shaped, form_shaped, form_never, same_shaped, other_shaped, kind_shaped, not_kind_shaped, wrong_kind, any_shaped, both_never, ends_always, listed_shaped, unlisted_shaped, side_sub, loc_near_or_never, loc_same, where_same, key_shaped, by_place_shaped, any_at_shaped, IsFineCase, fine_case, branches_shaped, failure_shaped, surely_shaped, chosen_shaped, fine_chunk, fine_held, IsFineAccess, found_shaped}
+use Rattle.sym_chunks.proofs.Shapes.{EachAtom, Reading, ChunkSides, ChunkForms, IsFine, IsFineState, IsFineResult, Shaped, both_shaped, or_shaped, form_shaped, form_never, same_shaped, other_shaped, kind_shaped, not_kind_shaped, wrong_kind, any_shaped, both_never, ends_always, listed_shaped, unlisted_shaped, side_sub, loc_near_or_never, loc_same, where_same, key_shaped, by_place_shaped, any_at_shaped, IsFineCase, fine_case, failure_shaped, surely_shaped, chosen_shaped, fine_chunk, fine_held, IsFineAccess, found_shaped}
 
 each_removed : {A : Type 0} (P : A → Type 0) (xs : List A) (i : ℕ) → Each P xs → Each P (remove xs i)
 each_removed P [] zero all_hold = tt

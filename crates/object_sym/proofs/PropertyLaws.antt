@@ -1,7 +1,6 @@
 -- What the conditions of an action on a name of a location say of the heap.
-use Rattle.std.proofs.Common.{◌≡◌, ◌⊎◌, ⊎_elim, inl, inr, ℕ, List, [], ◌∷◌, ◌++◌, Bool, true, false, ◌&&◌, if◌then◌else◌, Option, Some, None, IsTrue, slice_get, refl, sym, ap, subst, ◌∙◌, true≢false, arith}
+use Rattle.std.proofs.Common.{◌≡◌, ◌⊎◌, ⊎_elim, inl, inr, ℕ, List, [], ◌∷◌, Bool, true, false, ◌&&◌, if◌then◌else◌, Option, Some, None, IsTrue, slice_get, refl, sym, ap, subst, ◌∙◌, true≢false, arith}
 use Rattle.std.specs.FinMap.{get}
-use Rattle.std.specs.List.{list_any}
 use Rattle.std.proofs.lemmas.Bool.{and_parts, or_cases}
 use Rattle.gil_values.specs.Pure.{PureValue, symbol, text}
 use Rattle.mem_model.specs.declared.keys.Key.{Key}
@@ -20,7 +19,7 @@ use Rattle.pure_terms.specs.declared.variables.Sort.{Sort}
 use Rattle.pure_terms.specs.Equality.{same_term}
 use Rattle.pure_terms.specs.EqualityLaws.{same_term-same}
 use Rattle.pure_terms.specs.Meaning.{literal_value, value, all_true, IsProper, IsOver}
-use Rattle.pure_terms.specs.Pure.{PureTerm, literal, variable, list_of, unary_of, binary_of, PureTerms, to_list}
+use Rattle.pure_terms.specs.Pure.{PureTerm, literal, variable, list_of, unary_of, binary_of, to_list}
 use Rattle.object_sym.specs.Places.{listed_there, lists, unlisted_there, lists_not, opened_there, opened_at, opened, is_name, holds_name, unheld_name, unheld, tells_not, lacks}
 use Rattle.object_sym.specs.Table.{missed_name, without_name}
 use Rattle.sym_chunks.specs.ByPlace.{all_by_place, any_at}
@@ -28,8 +27,8 @@ use Rattle.sym_chunks.specs.Cases.{PureCase, case_of}
 use Rattle.sym_chunks.specs.Forms.{form_of}
 use Rattle.sym_chunks.specs.Keys.{same_sub, other_sub}
 use Rattle.sym_chunks.specs.Laws.{IsLocation, IsKeyOf}
-use Rattle.sym_conditions.specs.Alternatives.{Alternatives, Hold, never, both, any, same}
-use Rattle.sym_conditions.proofs.Combined.{both_from, both_parts, always_true}
+use Rattle.sym_conditions.specs.Alternatives.{Alternatives, Hold, never, any, same}
+use Rattle.sym_conditions.proofs.Combined.{both_from, always_true}
 use Rattle.sym_model.specs.Chunks.{IsUnion, StandFor}
 use Rattle.sym_model.specs.Lists.{Each, OneOf}
 use Rattle.sym_model.specs.Meaning.{location_of, name_of, key_of}

@@ -10,10 +10,10 @@ use Rattle.mem_model.specs.declared.keys.Sub.TheVariants.{Dom, Proto}
 use Rattle.mem_model.specs.declared.keys.MemoryName.TheVariants.{Object}
 use Rattle.mem_model.specs.Actions.{ActionResult, MayAct}
 use Rattle.mem_model.specs.Arguments.{and_then, symbol_of, text_of, location_in, property_in, property_and_value_in}
-use Rattle.mem_model.specs.Heaps.{Heap, Holds, HasKey, IsHeapOf}
+use Rattle.mem_model.specs.Heaps.{Heap, HasKey, IsHeapOf}
 use Rattle.mem_model.specs.Keys.{key}
 use Rattle.mem_model.specs.KeyOrder.{variant_number}
-use Rattle.mem_model.specs.Tables.{does, fails, read_or_fail, created as created_heap}
+use Rattle.mem_model.specs.Tables.{fails, read_or_fail, created as created_heap}
 use Rattle.mem_model.proofs.Holding.{held_inserted}
 use Rattle.mem_model.proofs.Joins.{has_key, value_at}
 use Rattle.object_heap.specs.declared.actions.ObjectAction.{ObjectAction}
@@ -27,7 +27,7 @@ use Rattle.pure_terms.specs.declared.variables.Sort.{Sort}
 use Rattle.pure_terms.specs.declared.variables.Var.{Var}
 use Rattle.pure_terms.specs.Meaning.{value, values, all_true, IsProper, IsOver}
 use Rattle.pure_terms.specs.Pure.{PureTerm, variable, from_list}
-use Rattle.sym_chunks.specs.Cases.{ChunkBranches, PureCase, reads, writes, branches_of, choose, failure, null_term}
+use Rattle.sym_chunks.specs.Cases.{PureCase, reads, writes, branches_of, choose, failure, null_term}
 use Rattle.sym_chunks.specs.Laws.{IsLocation}
 use Rattle.sym_conditions.specs.Alternatives.{Alternatives, Hold, always, both, same, other, of_kind, not_of_kind}
 use Rattle.sym_conditions.specs.Laws.{HaveBoth}

@@ -1,29 +1,27 @@
 -- The cases of `set` are right.
-use Rattle.std.proofs.Common.{◌≡◌, ⊎_elim, inl, inr, ℕ, zero, suc, ◌+◌, List, [], ◌∷◌, ◌++◌, Bool, true, false, Some, slice_get, refl, sym, ap, subst, ◌∙◌, true≢false, arith}
+use Rattle.std.proofs.Common.{◌≡◌, ⊎_elim, inr, ℕ, zero, suc, ◌+◌, List, [], ◌∷◌, ◌++◌, true, false, Some, slice_get, refl, sym, ap, subst, ◌∙◌, true≢false, arith}
 use Rattle.std.specs.FinMap.{get, insert}
 use Rattle.gil_values.specs.Pure.{PureValue, text, list, from_list as list_values}
 use Rattle.mem_model.specs.declared.keys.Key.{Key}
-use Rattle.mem_model.specs.declared.keys.Sub.{Sub}
 use Rattle.mem_model.specs.declared.keys.Sub.TheVariants.{Name, Dom}
 use Rattle.mem_model.specs.declared.keys.MemoryName.TheVariants.{Object}
 use Rattle.mem_model.specs.Actions.{ActionResult}
 use Rattle.mem_model.specs.Heaps.{Heap, Holds, HasKey, IsHeapOf}
 use Rattle.mem_model.specs.Keys.{key}
-use Rattle.mem_model.specs.KeyOrder.{key_eq, variant_number}
+use Rattle.mem_model.specs.KeyOrder.{variant_number}
 use Rattle.mem_model.specs.Names.{lists_name}
 use Rattle.mem_model.specs.Tables.{does}
 use Rattle.mem_model.proofs.Holding.{held_inserted}
 use Rattle.mem_model.proofs.Joins.{value_at}
 use Rattle.object_heap.specs.Table.{appended, set_property}
-use Rattle.object_sym.specs.Places.{opened_at, lists_not}
 use Rattle.object_sym.specs.Table.{without_name, with_name, added_there, added_from, set_cases}
 use Rattle.pure_terms.specs.declared.variables.Sort.{Sort}
 use Rattle.pure_terms.specs.Meaning.{value, IsProper, IsOver}
 use Rattle.pure_terms.specs.Pure.{PureTerm, literal, variable, list_of, unary_of, binary_of, PureTerms, to_list, from_list}
-use Rattle.sym_chunks.specs.Cases.{PureCase, writes, case_of, found}
+use Rattle.sym_chunks.specs.Cases.{PureCase, writes, found}
 use Rattle.sym_chunks.specs.Laws.{IsLocation}
 use Rattle.sym_chunks.specs.NameTerms.{unlisted}
-use Rattle.sym_conditions.specs.Alternatives.{Hold, both, same}
+use Rattle.sym_conditions.specs.Alternatives.{both, same}
 use Rattle.sym_conditions.proofs.Combined.{both_from, both_parts}
 use Rattle.sym_model.specs.Chunks.{IsUnion, with_held}
 use Rattle.sym_model.specs.Lists.{Each, OneOf}
@@ -33,11 +31,11 @@ use Rattle.sym_model.specs.Terms.{is_list_term}
 use Rattle.sym_model.proofs.ListLaws.{same_some, not_none, each_append, each_at, one_left, one_right}
 use Rattle.sym_model.proofs.Unions.{held_changes, put_last}
 use Rattle.sym_chunks.proofs.CaseLaws.{IsFor, IsExactCase, made_exact, made_comes}
-use Rattle.sym_chunks.proofs.Facts.{Fact, fact_loc, loc_tells}
+use Rattle.sym_chunks.proofs.Facts.{Fact, loc_tells}
 use Rattle.sym_chunks.proofs.FoundLaws.{at_chunk, found_exact, found_comes}
 use Rattle.object_sym.proofs.ChunkFacts.{lies_at}
 use Rattle.object_sym.proofs.GetLaws.{changed_for}
-use Rattle.object_sym.proofs.HeapLaws.{insert_comm, none_from, not_both, set_found, set_absent, set_missed}
+use Rattle.object_sym.proofs.HeapLaws.{insert_comm, not_both, set_found, set_absent, set_missed}
 use Rattle.object_sym.proofs.ListValues.{values_append, one_value, list_is, given_values, appended_is}
 use Rattle.object_sym.proofs.NameLists.{list_value, unlisted_holds, holds_unlisted}
 use Rattle.object_sym.proofs.PropertyLaws.{Comes, Closed, val_over, val_is, dom_of, dom_at, holds_at, name_asked, no_name_if, without_exact, by_heap}

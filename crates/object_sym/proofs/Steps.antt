@@ -3,7 +3,6 @@ use Rattle.std.proofs.Common.{◌≡◌, ℕ, ◌+◌, ◌<◌, List, [], ◌∷
 use Rattle.std.proofs.lemmas.List.{append_assoc, map-append, take_more, drop_more}
 use Rattle.object_sym.specs.Table.{missed_name, taken_from, taken, relisted, taken_each}
 use Rattle.pure_terms.specs.declared.literals.Literal.{Literal}
-use Rattle.pure_terms.specs.declared.terms.Term
 use Rattle.pure_terms.specs.declared.terms.Term.{Term, the_lemmas}
 use Rattle.pure_terms.specs.Pure.{PureTerm, literal}
 use Rattle.pure_terms.specs.View.{term_view}

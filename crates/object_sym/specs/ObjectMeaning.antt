@@ -1,5 +1,5 @@
 -- The states of symbolic objects have a meaning, and their actions ask about their arguments.
-use Rattle.std.specs.Prelude.{◌≡◌, ◌⊎◌, ◌↔◌, ◌∷◌, ◌&&◌, ℤ, List, [], Bool, true, false, if◌then◌else◌, Option, Some, None, IsTrue}
+use Rattle.std.specs.Prelude.{◌⊎◌, ◌↔◌, ◌∷◌, ◌&&◌, ℤ, List, [], Option, Some, None, IsTrue}
 use Rattle.std.proofs.Common.{inl, inr, refl}
 use Rattle.mem_model.specs.declared.keys.MemoryName.TheVariants.{Object}
 use Rattle.object_heap.specs.declared.actions.ObjectAction.{ObjectAction}

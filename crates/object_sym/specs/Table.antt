@@ -1,5 +1,5 @@
 -- The branches of the actions of objects. Each case has the conditions under which it comes, the chunks after it and its result.
-use Rattle.std.specs.Prelude.{◌≡◌, ℕ, ◌+◌, List, [], ◌∷◌, ◌++◌, Bool, true, false, ◌&&◌, ◌||◌, if◌then◌else◌, Option, Some, None}
+use Rattle.std.specs.Prelude.{◌≡◌, ℕ, ◌+◌, List, [], ◌∷◌, ◌++◌, Bool, false, ◌&&◌, ◌||◌, if◌then◌else◌, Option, Some, None}
 use Rattle.std.specs.List.{remove}
 use Rattle.gil_values.specs.declared.kinds.Kind.{Kind}
 use Rattle.mem_model.specs.declared.failures.Failure.{Failure}

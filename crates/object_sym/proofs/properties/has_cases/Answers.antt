@@ -1,5 +1,4 @@
 use Rattle.std.proofs.Common.{◌++◌, sym, ap, ◌∙◌}
-use Rattle.std.proofs.lemmas.List.{append_assoc}
 use Rattle.object_sym.specs.Table.{told_cases, held_case, unknown_cases}
 use Rattle.pure_terms.specs.View.{term_view}
 use Rattle.sym_chunks.specs.View.{cases_view}
