@@ -19,7 +19,7 @@ use Rattle.clike_lang.specs.Pure as clike
 use Rattle.clike_lang.specs.Meaning as clike_meaning
 use Rattle.clike_compiler.specs.SameEnds as clike_ends
 use Rattle.gillian_words.specs.declared.tasks.Language.{Language}
-use Rattle.gillian_words.specs.declared.tasks.Language.TheVariants.{GilRecord, GilBlock, While, Clike}
+use Rattle.gillian_words.specs.declared.tasks.Language.TheVariants.{GilRecord, GilBlock, GilObject, While, Clike}
 use Rattle.gillian_core.specs.Ends.{end_answer}
 use Rattle.gillian_core.specs.Languages.{definition_of}
 use Rattle.gil_report.specs.Pure.{failed as failed_answer}
@@ -39,6 +39,7 @@ pub run_is_meant : (l : Language) (bytes : List ℕ) (p : PureParts) (f : List �
     → (definition_of l).IsMeant bytes f inputs (end_answer (held_run_of p (definition_of l).memory.actions f [] empty 0 inputs bound))
 run_is_meant GilRecord bytes p f inputs bound keeps entry = tt
 run_is_meant GilBlock bytes p f inputs bound keeps entry = tt
+run_is_meant GilObject bytes p f inputs bound keeps entry = tt
 run_is_meant While bytes p f inputs bound keeps entry = (
   keeps.0,
   keeps.1,
@@ -59,6 +60,7 @@ pub failure_is_meant : (l : Language) (bytes : List ℕ) (p : PureParts) (f : Li
     → (definition_of l).IsMeant bytes f inputs (failed_answer v place)
 failure_is_meant GilRecord bytes p f inputs bound v place keeps entry fails = tt
 failure_is_meant GilBlock bytes p f inputs bound v place keeps entry fails = tt
+failure_is_meant GilObject bytes p f inputs bound v place keeps entry fails = tt
 failure_is_meant While bytes p f inputs bound v place keeps entry fails = (
   keeps.0,
   keeps.1,

@@ -6,7 +6,7 @@ use Rattle.gil_grammar.specs.Texts.{SpellProgram}
 use Rattle.gil_text.specs.declared.refused.RefusedKind.TheVariants.{Memory}
 use Rattle.gil_text.specs.Refusals.{IsRefusedFor}
 use Rattle.gillian_core.specs.Definitions.{Definition, Memory}
-use Rattle.gillian_core.specs.Memories.{record_memory, block_memory}
+use Rattle.gillian_core.specs.Memories.{record_memory, block_memory, object_memory}
 
 -- the bytes are a text of this program, which is valid
 pub record IsTextOf (bytes : List ℕ) (p : PureParts) : Type 0 where
@@ -28,3 +28,6 @@ gil_record = gil_over record_memory
 
 abbrev pub gil_block : Definition
 gil_block = gil_over block_memory
+
+abbrev pub gil_object : Definition
+gil_object = gil_over object_memory

@@ -1,7 +1,9 @@
--- The memories of records and of blocks.
+-- The memories of records, of blocks and of objects.
 use Rattle.std.specs.Prelude.{⊤}
 use Rattle.block_heap.specs.Table.{block_actions}
 use Rattle.block_sym.specs.Plain.{block_stands, block_terms, block_asked, block_depends}
+use Rattle.object_heap.specs.Table.{object_actions}
+use Rattle.object_sym.specs.Plain.{object_stands, object_terms, object_asked, object_depends}
 use Rattle.record_heap.specs.Table.{record_actions}
 use Rattle.record_sym.specs.Plain.{record_stands, record_terms, record_asked, record_depends}
 use Rattle.gillian_core.specs.Definitions.{Memory, memory_of}
@@ -11,3 +13,6 @@ record_memory = memory_of record_actions record_stands record_terms record_asked
 
 abbrev pub block_memory : Memory
 block_memory = memory_of block_actions block_stands block_terms block_asked block_depends ⊤
+
+abbrev pub object_memory : Memory
+object_memory = memory_of object_actions object_stands object_terms object_asked object_depends ⊤

@@ -22,6 +22,8 @@ use gil_report::Answer;
 use gil_text::Refused;
 use gil_values::{Text, Values};
 use gillian_words::{Bound, Language};
+use object_heap::ObjectHeap;
+use object_sym::ObjectSym;
 use record_heap::RecordHeap;
 use record_sym::RecordSym;
 use rewrite_book::RuleBook;
@@ -36,6 +38,7 @@ pub fn program(alloc: Global, language: Language, bytes: &[u8]) -> Result<Prog, 
     match language {
         Language::GilRecord => gil::program(alloc, bytes),
         Language::GilBlock => gil::program(alloc, bytes),
+        Language::GilObject => gil::program(alloc, bytes),
         Language::While => while_language::program(alloc, bytes),
         Language::Clike => clike_language::program(alloc, bytes),
     }
@@ -57,6 +60,7 @@ pub fn run_in(
     match language {
         Language::GilRecord => run_answer::<RecordHeap>(alloc, prog, entry, bound, inputs),
         Language::GilBlock => run_answer::<BlockHeap>(alloc, prog, entry, bound, inputs),
+        Language::GilObject => run_answer::<ObjectHeap>(alloc, prog, entry, bound, inputs),
         Language::While => run_answer::<RecordHeap>(alloc, prog, entry, bound, inputs),
         Language::Clike => run_answer::<BlockHeap>(alloc, prog, entry, bound, inputs),
     }
@@ -78,6 +82,7 @@ pub fn verdict_in(
     match language {
         Language::GilRecord => verdict::<RecordSym>(alloc, prog, entry, bound, rules),
         Language::GilBlock => verdict::<BlockSym>(alloc, prog, entry, bound, rules),
+        Language::GilObject => verdict::<ObjectSym>(alloc, prog, entry, bound, rules),
         Language::While => verdict::<RecordSym>(alloc, prog, entry, bound, rules),
         Language::Clike => verdict::<BlockSym>(alloc, prog, entry, bound, rules),
     }

@@ -10,6 +10,8 @@ pub enum Language {
     GilRecord,
     /// GIL over blocks.
     GilBlock,
+    /// GIL over objects.
+    GilObject,
     /// While, over records.
     While,
     /// The C-like language, over blocks.
@@ -28,6 +30,7 @@ impl Language {
         match self {
             Language::GilRecord => "gil-record",
             Language::GilBlock => "gil-block",
+            Language::GilObject => "gil-object",
             Language::While => "while",
             Language::Clike => "clike",
         }
@@ -41,6 +44,7 @@ impl Language {
         match word {
             "gil-record" => Some(Language::GilRecord),
             "gil-block" => Some(Language::GilBlock),
+            "gil-object" => Some(Language::GilObject),
             "while" => Some(Language::While),
             "clike" => Some(Language::Clike),
             _ => None,

@@ -18,6 +18,15 @@ returns-in-GilBlock-clause-only c = rw c.in-GilBlock.is c.program-in-GilBlock.en
 pub returns-in-GilBlock-clause-none : goal.returns-in-GilBlock-clause-none
 returns-in-GilBlock-clause-none c = rw c.in-GilBlock.is c.program-in-GilBlock.ensures.none
 
+pub returns-in-GilObject-clause-program : goal.returns-in-GilObject-clause-program
+returns-in-GilObject-clause-program c = rw c.in-GilObject.is c.program-in-GilObject.ensures.program
+
+pub returns-in-GilObject-clause-only : goal.returns-in-GilObject-clause-only
+returns-in-GilObject-clause-only c = rw c.in-GilObject.is c.program-in-GilObject.ensures.only
+
+pub returns-in-GilObject-clause-none : goal.returns-in-GilObject-clause-none
+returns-in-GilObject-clause-none c = rw c.in-GilObject.is c.program-in-GilObject.ensures.none
+
 pub returns-in-While-clause-program : goal.returns-in-While-clause-program
 returns-in-While-clause-program c = rw c.in-While.is c.program-in-While.ensures.program
 

@@ -6,6 +6,9 @@ returns-in-GilRecord c = rw c.in-GilRecord.is c.run_answer.ensures
 pub returns-in-GilBlock : goal.returns-in-GilBlock
 returns-in-GilBlock c = rw c.in-GilBlock.is c.run_answer-in-GilBlock.ensures
 
+pub returns-in-GilObject : goal.returns-in-GilObject
+returns-in-GilObject c = rw c.in-GilObject.is c.run_answer-in-GilObject.ensures
+
 pub returns-in-While : goal.returns-in-While
 returns-in-While c = rw c.in-While.is c.run_answer-in-While.ensures
 

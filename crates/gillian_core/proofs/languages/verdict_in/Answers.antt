@@ -6,6 +6,9 @@ returns-in-GilRecord g c = rw c.in-GilRecord.is c.verdict.ensures
 pub returns-in-GilBlock : goal.returns-in-GilBlock
 returns-in-GilBlock g c = rw c.in-GilBlock.is c.verdict-in-GilBlock.ensures
 
+pub returns-in-GilObject : goal.returns-in-GilObject
+returns-in-GilObject g c = rw c.in-GilObject.is c.verdict-in-GilObject.ensures
+
 pub returns-in-While : goal.returns-in-While
 returns-in-While g c = rw c.in-While.is c.verdict-in-While.ensures
 
