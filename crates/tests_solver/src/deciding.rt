@@ -47,8 +47,14 @@ const SORTED: [(&str, Answer); 5] = [
         "(kind(a) = Int); (kind(c) = Int); (0 <= a); (a < c); not((0 <= (a + 1)));",
         Answer::Refuted,
     ),
-    ("(kind(a) = Str); ([a] = [\"b\"]); (a = \"c\");", Answer::Refuted),
-    ("(kind(a) = Int); (kind(c) = Int); (a < c); (c < (a + 2));", Answer::Sat),
+    (
+        "(kind(a) = Str); ([a] = [\"b\"]); (a = \"c\");",
+        Answer::Refuted,
+    ),
+    (
+        "(kind(a) = Int); (kind(c) = Int); (a < c); (c < (a + 2));",
+        Answer::Sat,
+    ),
     ("(kind(a) = Int); ((a * a) = 2);", Answer::Unknown(1)),
 ];
 
@@ -60,6 +66,36 @@ fn lists_are_decided_with_the_sorts_that_they_say(rt: HostRuntime) -> Result<(),
         let text = list(alloc, stated)?;
         let answer = named(solver.decide(alloc, &text.vars, &text.atoms)?);
         assert!(rt; answer == wanted, "{stated}");
+    }
+    Ok(())
+}
+
+/// Lists that begin alike.
+const TURNED: [&str; 9] = [
+    "(x < y);",
+    "(x < y); (y < z);",
+    "(x < y); (y < z); (z < x);",
+    "(x < y); (y < z); (z < x); (w < x);",
+    "(x < y); (y < z); (w < x); not((w = 0));",
+    "(x < y); (y < x);",
+    "(x < y); (a = x); (c = y); not((a = c));",
+    "(x < y); (a = x); (c = y); (a = c);",
+    "(x < y); ((x * x) = 2);",
+];
+
+#[test]
+fn what_stands_is_answered_as_it_is_anew(rt: HostRuntime) -> Result<(), Fail> {
+    let alloc = rt.alloc();
+    let mut solver = PathSolver::new(alloc);
+    let mut pick: usize = 1;
+    for _ in 0..100 {
+        pick = (pick * 21 + 17) % 64;
+        let stated = TURNED[pick % TURNED.len()];
+        let text = list(alloc, stated)?;
+        let kept = named(solver.decide(alloc, &text.vars, &text.atoms)?);
+        let mut other = PathSolver::new(alloc);
+        let anew = named(other.decide(alloc, &text.vars, &text.atoms)?);
+        assert!(rt; kept == anew, "{stated}");
     }
     Ok(())
 }
