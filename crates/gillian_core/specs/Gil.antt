@@ -3,7 +3,7 @@ use Rattle.std.specs.Prelude.{◌≢◌, ℕ, List}
 use Rattle.gil_syntax.specs.Pure.{PureParts}
 use Rattle.gil_syntax.specs.Valid.{IsValid}
 use Rattle.gil_grammar.specs.Texts.{SpellProgram}
-use Rattle.gil_text.specs.declared.refused.RefusedKind.TheVariants.{Memory}
+use Rattle.gil_text.specs.declared.refused.RefusedKind.TheVariants as kinds
 use Rattle.gil_text.specs.Refusals.{IsRefusedFor}
 use Rattle.gillian_core.specs.Definitions.{Definition, Memory}
 use Rattle.gillian_core.specs.Memories.{record_memory, block_memory, object_memory}
@@ -17,7 +17,7 @@ pub record IsTextOf (bytes : List ℕ) (p : PureParts) : Type 0 where
 abbrev pub gil_over : Memory → Definition
 gil_over m = record {
   IsText = IsTextOf;
-  IsFault = λ bytes at kind. (kind ≢ Memory) × IsRefusedFor bytes at kind;
+  IsFault = λ bytes at kind. (kind ≢ kinds.Memory) × IsRefusedFor bytes at kind;
   KeepsEnds = λ bytes p. Unit {0};
   IsMeant = λ bytes entry inputs answer. Unit {0};
   memory = m;
