@@ -1,10 +1,14 @@
 //! Tests of symbolic memories, evaluation, paths and exploration; the library is empty. `chunks` tests `sym_model`, `notes` tests
-//! `least_memory`, `records` tests `record_sym`, `evaluation` tests `sym_evaluation`, `paths` tests `sym_paths`, and `exploration` tests
-//! `sym_explore`.
+//! `least_memory`, `consuming` tests `core_changes`, `blocks` tests `block_sym`, `records` tests `record_sym`, `evaluation` tests
+//! `sym_evaluation`, `paths` tests `sym_paths`, and `exploration` tests `sym_explore`.
 #![tactic(auto)]
 
 #[cfg(test)]
+mod blocks;
+#[cfg(test)]
 mod chunks;
+#[cfg(test)]
+mod consuming;
 #[cfg(test)]
 mod evaluation;
 #[cfg(test)]
