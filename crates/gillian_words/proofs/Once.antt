@@ -6,7 +6,7 @@ use Rattle.gil_lexer.specs.Bytes.{quote}
 use Rattle.gil_lexer.specs.Spelling.{SpellsText}
 use Rattle.gil_lexer.proofs.LiteralLaws.{literal_once}
 use Rattle.gillian_words.specs.declared.tasks.Language.{Language}
-use Rattle.gillian_words.specs.declared.tasks.Language.TheVariants.{GilRecord, GilBlock, GilObject, While, Clike}
+use Rattle.gillian_words.specs.declared.tasks.Language.TheVariants.{GilRecord, GilBlock, GilObject, While, Clike, Object}
 use Rattle.gillian_words.specs.declared.scan.Scan.TheVariants.{Outside}
 use Rattle.gillian_words.specs.Asked.{AskFor, Asks, AsksTask, Given, IsOption, SpellsBound, SpellsEntry}
 use Rattle.gillian_words.specs.Tasks.{PureTask, run, test, compile, solve, PureRequest, mode_word, language_word}
@@ -116,26 +116,37 @@ one_language GilRecord GilBlock e = cc
 one_language GilRecord GilObject e = absurd (let fifth : 114 ≡ 111 = ap (λ bytes. get_or bytes 4 0) e in omega arith)
 one_language GilRecord While e = cc
 one_language GilRecord Clike e = cc
+one_language GilRecord Object e = cc
 one_language GilBlock GilRecord e = cc
 one_language GilBlock GilBlock e = refl
 one_language GilBlock GilObject e = cc
 one_language GilBlock While e = cc
 one_language GilBlock Clike e = cc
+one_language GilBlock Object e = cc
 one_language GilObject GilRecord e = absurd (let fifth : 111 ≡ 114 = ap (λ bytes. get_or bytes 4 0) e in omega arith)
 one_language GilObject GilBlock e = cc
 one_language GilObject GilObject e = refl
 one_language GilObject While e = cc
 one_language GilObject Clike e = cc
+one_language GilObject Object e = cc
 one_language While GilRecord e = cc
 one_language While GilBlock e = cc
 one_language While GilObject e = cc
 one_language While While e = refl
 one_language While Clike e = absurd (let first : 119 ≡ 99 = ap (λ bytes. get_or bytes 0 0) e in omega arith)
+one_language While Object e = cc
 one_language Clike GilRecord e = cc
 one_language Clike GilBlock e = cc
 one_language Clike GilObject e = cc
 one_language Clike While e = absurd (let first : 99 ≡ 119 = ap (λ bytes. get_or bytes 0 0) e in omega arith)
 one_language Clike Clike e = refl
+one_language Clike Object e = cc
+one_language Object GilRecord e = cc
+one_language Object GilBlock e = cc
+one_language Object GilObject e = cc
+one_language Object While e = cc
+one_language Object Clike e = cc
+one_language Object Object e = refl
 
 same_word : (given : Option (List ℕ)) (word other : List ℕ) → given ≡ Some word → given ≡ Some other → word ≡ other
 same_word given word other e f = cc

@@ -2,7 +2,7 @@
 use Rattle.std.specs.Prelude.{ℕ, List, Bool, true, false, codes}
 use Rattle.gil_values.specs.Pure.{PureValue}
 use Rattle.gillian_words.specs.declared.tasks.Language.{Language}
-use Rattle.gillian_words.specs.declared.tasks.Language.TheVariants.{GilRecord, GilBlock, GilObject, While, Clike}
+use Rattle.gillian_words.specs.declared.tasks.Language.TheVariants.{GilRecord, GilBlock, GilObject, While, Clike, Object}
 
 -- A run of an entry within a bound on inputs, a test of an entry within a bound, the program of a text, and the solution of a list
 -- of atoms.
@@ -30,6 +30,7 @@ language_word GilBlock = codes "gil-block"
 language_word GilObject = codes "gil-object"
 language_word While = codes "while"
 language_word Clike = codes "clike"
+language_word Object = codes "object"
 
 -- the first word
 abbrev pub mode_word : PureTask → List ℕ

@@ -16,6 +16,8 @@ pub enum Language {
     While,
     /// The C-like language, over blocks.
     Clike,
+    /// The object language, over objects.
+    Object,
 }
 
 impl Language {
@@ -33,6 +35,7 @@ impl Language {
             Language::GilObject => "gil-object",
             Language::While => "while",
             Language::Clike => "clike",
+            Language::Object => "object",
         }
     }
 
@@ -47,6 +50,7 @@ impl Language {
             "gil-object" => Some(Language::GilObject),
             "while" => Some(Language::While),
             "clike" => Some(Language::Clike),
+            "object" => Some(Language::Object),
             _ => None,
         }
     }
