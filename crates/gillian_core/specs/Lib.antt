@@ -9,6 +9,7 @@ pub mod Finishing
 pub mod Gil
 pub mod Languages
 pub mod Memories
+pub mod ObjectLanguage
 pub mod Outcomes
 pub mod Outputs
 pub mod Refusals

@@ -14,7 +14,7 @@ ghost use Rattle.gillian_core.specs.Right.{IsProgramOf, IsRightVerdict};
 
 use crate::running::run_answer;
 use crate::testing::verdict;
-use crate::{clike_language, gil, while_language};
+use crate::{clike_language, gil, object_language, while_language};
 use block_heap::BlockHeap;
 use block_sym::BlockSym;
 use gil_program::Prog;
@@ -41,6 +41,7 @@ pub fn program(alloc: Global, language: Language, bytes: &[u8]) -> Result<Prog, 
         Language::GilObject => gil::program(alloc, bytes),
         Language::While => while_language::program(alloc, bytes),
         Language::Clike => clike_language::program(alloc, bytes),
+        Language::Object => object_language::program(alloc, bytes),
     }
 }
 
@@ -63,6 +64,7 @@ pub fn run_in(
         Language::GilObject => run_answer::<ObjectHeap>(alloc, prog, entry, bound, inputs),
         Language::While => run_answer::<RecordHeap>(alloc, prog, entry, bound, inputs),
         Language::Clike => run_answer::<BlockHeap>(alloc, prog, entry, bound, inputs),
+        Language::Object => run_answer::<ObjectHeap>(alloc, prog, entry, bound, inputs),
     }
 }
 
@@ -85,5 +87,6 @@ pub fn verdict_in(
         Language::GilObject => verdict::<ObjectSym>(alloc, prog, entry, bound, rules),
         Language::While => verdict::<RecordSym>(alloc, prog, entry, bound, rules),
         Language::Clike => verdict::<BlockSym>(alloc, prog, entry, bound, rules),
+        Language::Object => verdict::<ObjectSym>(alloc, prog, entry, bound, rules),
     }
 }

@@ -4,8 +4,10 @@
 mod clike_language;
 mod entries;
 mod gil;
+mod in_memory;
 mod languages;
 mod limits;
+mod object_language;
 mod outputs;
 mod refusals;
 mod rendering;
@@ -17,5 +19,6 @@ mod top;
 mod while_language;
 mod working;
 
+pub use in_memory::gillian_in_memory;
 pub use status::Status;
 pub use top::gillian;

@@ -1,4 +1,5 @@
 //! What a file of cases holds: calls of the program with what each must answer, as TOML spells them.
+use crate::many::{Borders, Failing, Prefixes};
 use serde::Deserialize;
 use std::alloc::{AllocError, Global};
 use std::fmt;
@@ -11,7 +12,30 @@ const MOST_BYTES: usize = 1_048_600;
 #[derive(Debug, Drop, Deserialize)]
 #[serde(deny_unknown_fields)]
 pub struct Cases {
+    #[serde(default)]
     pub case: Vec<Case>,
+    #[serde(default)]
+    pub prefixes: Vec<Prefixes>,
+    #[serde(default)]
+    pub failing: Vec<Failing>,
+    #[serde(default)]
+    pub borders: Vec<Borders>,
+}
+
+impl Cases {
+    /// Adds the cases for which other entries stand.
+    pub fn with_many(mut self, alloc: Global) -> Result<Vec<Case>, AllocError> {
+        for text in &self.prefixes {
+            self.case.append(&mut text.cases(alloc)?)?;
+        }
+        for call in &self.failing {
+            self.case.append(&mut call.cases(alloc)?)?;
+        }
+        for text in &self.borders {
+            self.case.append(&mut text.cases(alloc)?)?;
+        }
+        Ok(self.case)
+    }
 }
 
 /// One call of the program.

@@ -4,6 +4,7 @@
 
 mod calling;
 mod cases;
+mod many;
 
 use calling::{agrees, call};
 use cases::{Case, Cases};
@@ -55,7 +56,7 @@ fn compare_file(rt: &HostRuntime, path: &str) -> io::Result<Count> {
     let title = title(path);
     match fs::read_to_string(rt, path) {
         Ok(text) => match toml::from_str::<Cases>(rt.alloc(), text.as_str()) {
-            Ok(cases) => compare_all(rt, title, &cases.case),
+            Ok(cases) => compare_all(rt, title, &cases.with_many(rt.alloc())?),
             Err(fault) => {
                 println!(rt; "{title}: malformed: {fault}")?;
                 Ok(Count::ONE_DIFFERS)

@@ -44,3 +44,12 @@ returns-in-Clike-clause-only c = rw c.in-Clike.is c.program-in-Clike.ensures.onl
 
 pub returns-in-Clike-clause-none : goal.returns-in-Clike-clause-none
 returns-in-Clike-clause-none c = rw c.in-Clike.is c.program-in-Clike.ensures.none
+
+pub returns-in-Object-clause-program : goal.returns-in-Object-clause-program
+returns-in-Object-clause-program c = rw c.in-Object.is c.program-in-Object.ensures.program
+
+pub returns-in-Object-clause-only : goal.returns-in-Object-clause-only
+returns-in-Object-clause-only c = rw c.in-Object.is c.program-in-Object.ensures.only
+
+pub returns-in-Object-clause-none : goal.returns-in-Object-clause-none
+returns-in-Object-clause-none c = rw c.in-Object.is c.program-in-Object.ensures.none

@@ -14,3 +14,6 @@ returns-in-While c = rw c.in-While.is c.run_answer-in-While.ensures
 
 pub returns-in-Clike : goal.returns-in-Clike
 returns-in-Clike c = rw c.in-Clike.is c.run_answer-in-Clike.ensures
+
+pub returns-in-Object : goal.returns-in-Object
+returns-in-Object c = rw c.in-Object.is c.run_answer-in-Object.ensures

@@ -14,3 +14,6 @@ returns-in-While g c = rw c.in-While.is c.verdict-in-While.ensures
 
 pub returns-in-Clike : goal.returns-in-Clike
 returns-in-Clike g c = rw c.in-Clike.is c.verdict-in-Clike.ensures
+
+pub returns-in-Object : goal.returns-in-Object
+returns-in-Object g c = rw c.in-Object.is c.verdict-in-Object.ensures
