@@ -98,12 +98,12 @@ module _ (p : PureParts) (m : Actions) (inputs : List PureValue) (f : List ℕ) 
         ends = omega (arith, length-append off (jump at truth (pc + 1 + length off + 1 + length on) ∷ on))
 
     -- what only proofs look at in front of a test is passed
-    pub invariant_leads : (pc at written : ℕ) (invariant : Option PureInvariant) (store : Store) (s : Situation)
-        → HasAt q.body pc (invariant_code at written invariant)
-        → Leads (run p m inputs) (state_at f pc callers store s) (goes_on (state_at f (pc + length (invariant_code at written invariant)) callers store s))
-    invariant_leads pc at written None store s has = let e : pc ≡ pc + 0 = omega arith in subst
+    pub invariant_leads : (pc at : ℕ) (added : List (List ℕ)) (invariant : Option PureInvariant) (store : Store) (s : Situation)
+        → HasAt q.body pc (invariant_code at added invariant)
+        → Leads (run p m inputs) (state_at f pc callers store s) (goes_on (state_at f (pc + length (invariant_code at added invariant)) callers store s))
+    invariant_leads pc at added None store s has = let e : pc ≡ pc + 0 = omega arith in subst
         (λ k. Leads (run p m inputs) (state_at f pc callers store s) (goes_on (state_at f k callers store s))) e (stays (run p m inputs) _)
-    invariant_leads pc at written (Some i) store s has = leads _ _ _ (one_step p m inputs f q found callers catcher _ _
+    invariant_leads pc at added (Some i) store s has = leads _ _ _ (one_step p m inputs f q found callers catcher _ _
         (steps p m inputs f q found callers catcher pc _ store s has.0))
 
     -- The commands from a place on, and a jump at the expression behind them, do what a test does: where the test goes on with a

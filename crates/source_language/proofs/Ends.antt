@@ -1,4 +1,5 @@
--- A program and its compiled program have the same ends, where the commands of each body follow what its statements come to.
+-- A program and its compiled program have the same ends, whatever the procedures of its functions are, where the machine finishes each as
+-- its body says.
 use Rattle.std.proofs.Common.{◌≡◌, ⊎_elim, ℕ, zero, suc, ◌+◌, ◌-◌, ◌≤◌, List, [], ◌∷◌, Bool, true, false, cond, Option, Some, None, length, map, is_some, refl, sym, ap, subst, ◌∙◌, true≢false, arith}
 use Rattle.std.specs.Option.{option_map}
 use Rattle.std.specs.List.{list_all}
@@ -6,9 +7,8 @@ use Rattle.std.specs.Str.{bytes_eq}
 use Rattle.std.proofs.lemmas.Bool.{and_parts, cases_lt}
 use Rattle.std.proofs.lemmas.Slice.Eq.{bytes_eq-Decides}
 use Rattle.gil_values.specs.Pure.{PureValue}
-use Rattle.gil_syntax.specs.Pure.{PureNumberedCommand, PureProc, PureParts}
+use Rattle.gil_syntax.specs.Pure.{PureProc, PureParts}
 use Rattle.gil_syntax.specs.Programs.{find_proc}
-use Rattle.gil_syntax.specs.Evaluation.{Store}
 use Rattle.mem_model.specs.declared.keys.MemoryName.{MemoryName}
 use Rattle.mem_model.specs.Heaps.{Heap}
 use Rattle.mem_model.specs.Actions.{Actions}
@@ -18,12 +18,9 @@ use Rattle.gil_machine.specs.Run.{run, params_of, start, run_of, IsProperStart a
 use Rattle.gil_machine.proofs.Runs.{stays_over}
 use Rattle.source_language.specs.Calls.{Calls, Bodies, at_entry, calls_within, entered, source_end, IsProperStart}
 use Rattle.source_language.specs.Completions.{Situation, Completion, normal, returns, throws, over, unfinished, after_body, returned_from_entry, thrown_from_entry, end_if_over}
-use Rattle.source_language.specs.Names.{IsExtendedBy}
-use Rattle.source_language.specs.Procedures.{compiled_function}
 use Rattle.source_language.specs.Pure.{PureFunction, PureSource, find_function}
 use Rattle.source_language.specs.SameEnds.{AreSameEnds}
-use Rattle.source_language.proofs.Following.{state_at, Leads, Runs, Finishes, procedure_finishes, entry_runs}
-use Rattle.source_language.proofs.Stretches.{HasAt}
+use Rattle.source_language.proofs.Following.{state_at, Leads, Finishes, entry_runs}
 
 -- ---- functions by name
 
@@ -66,10 +63,12 @@ CallsFollow {B} p m inputs functions calls least = (g : List ℕ) (h : PureFunct
     → find_function functions g ≡ Some h
     → Finishes (run p m inputs) least callers (state_at h.name 0 callers (bind_all h.params args) s) (calls h args s)
 
-module _ {B : Type 0} (temporaries : PureFunction B → ℕ) (code : PureFunction B → ℕ → List PureNumberedCommand) where
-  abbrev procedure : PureFunction B → PureProc
-  procedure f = compiled_function temporaries code f
+-- the procedure of a function has its name and its parameters
+pub record KeepsHead {B : Type 0} (procedure : PureFunction B → PureProc) : Type 0 where
+  pub name : (f : PureFunction B) → (procedure f).name ≡ f.name
+  pub params : (f : PureFunction B) → (procedure f).params ≡ f.params
 
+module _ {B : Type 0} (procedure : PureFunction B → PureProc) (keeps : KeepsHead procedure) where
   found_choice : (b : Bool) (g : PureFunction B) (o : Option (PureFunction B))
       → cond b (Some (procedure g)) (option_map procedure o) ≡ option_map procedure (cond b (Some g) o)
   found_choice true g o = refl
@@ -78,14 +77,15 @@ module _ {B : Type 0} (temporaries : PureFunction B → ℕ) (code : PureFunctio
   pub same_found : (functions : List (PureFunction B)) (f : List ℕ)
       → find_proc (map procedure functions) f ≡ option_map procedure (find_function functions f)
   same_found [] f = refl
-  same_found (g ∷ gs) f = ap (λ o. cond (bytes_eq g.name f) (Some (procedure g)) o) (same_found gs f)
+  same_found (g ∷ gs) f = ap (λ o. cond (bytes_eq (procedure g).name f) (Some (procedure g)) o) (same_found gs f)
+      ∙ ap (λ x. cond (bytes_eq x f) (Some (procedure g)) (option_map procedure (find_function gs f))) (keeps.name g)
       ∙ found_choice (bytes_eq g.name f) g (find_function gs f)
 
   some_compiled : (o : Option (PureFunction B)) (q : PureProc) (args : List PureValue) → option_map procedure o ≡ Some q
       → length q.params ≡ length args → (g : PureFunction B) × ((o ≡ Some g) × (length g.params ≡ length args))
   some_compiled None q args is same = absurd (cc)
   some_compiled (Some g) q args is same = let this : procedure g ≡ q = cc in
-      (g, (refl, ap (λ (r : PureProc). length r.params) this ∙ same))
+      (g, (refl, ap length (sym (keeps.params g)) ∙ ap (λ (r : PureProc). length r.params) this ∙ same))
 
   -- a program whose procedures are those of the functions
   module _ (source : PureSource (PureFunction B)) (p : PureParts)
@@ -98,7 +98,7 @@ module _ {B : Type 0} (temporaries : PureFunction B → ℕ) (code : PureFunctio
     module _ (memory : MemoryName) (f : List ℕ) (args : List PureValue) (h : Heap) (counter : ℕ) where
       pub to_run : IsProperStart memory source f args h counter → IsProperStartOfRun p memory f args h counter
       to_run s = record {
-        procedure = (procedure s.function.0, (same f ∙ ap (λ o. option_map procedure o) s.function.1.0, s.function.1.1));
+        procedure = (procedure s.function.0, (same f ∙ ap (λ o. option_map procedure o) s.function.1.0, ap length (keeps.params s.function.0) ∙ s.function.1.1));
         heap = s.heap;
         arguments_below = s.arguments_below;
         heap_below = s.heap_below;
@@ -115,28 +115,21 @@ module _ {B : Type 0} (temporaries : PureFunction B → ℕ) (code : PureFunctio
   -- a program that has the procedures of the functions, and perhaps others
   module _ (p : PureParts) (m : Actions) (inputs : List PureValue) (source : PureSource (PureFunction B))
       (found : (g : List ℕ) (h : PureFunction B) → find_function source.functions g ≡ Some h → find_proc p.procs h.name ≡ Some (procedure h)) where
-    -- the commands of each body follow what its statements come to, where calls do
-    abbrev pub CodeFollows : Bodies B → Type 0
-    CodeFollows body = (loops least : ℕ) (calls : Calls B) → least ≤ loops → CallsFollow p m inputs source.functions calls (least - 1)
+    -- from the first command of each procedure the machine finishes as its body says, where calls do
+    abbrev pub BodiesFinish : Bodies B → Type 0
+    BodiesFinish body = (loops least : ℕ) (calls : Calls B) → least ≤ loops → CallsFollow p m inputs source.functions calls (least - 1)
         → (g : List ℕ) (h : PureFunction B) → find_function source.functions g ≡ Some h
-        → (callers : List Frame) (store : Store) (s : Situation) → IsExtendedBy s.store store
-        → HasAt (procedure h).body (temporaries h) (code h (temporaries h))
-        → Runs (run p m inputs) None least h.name callers (temporaries h + length (code h (temporaries h)))
-        (state_at h.name (temporaries h) callers store s) (body loops calls h.name h.body s)
+        → (args : List PureValue) (callers : List Frame) (s : Situation)
+        → Finishes (run p m inputs) least callers (state_at h.name 0 callers (bind_all h.params args) s)
+        (body loops calls h.name h.body (record s { store = bind_all h.params args }))
 
-    module _ (body : Bodies B) (follows : CodeFollows body) where
+    module _ (body : Bodies B) (finish : BodiesFinish body) where
       -- calls that nest at most so deep
       calls_follow : (loops depth least : ℕ) → least ≤ loops → least ≤ depth
           → CallsFollow p m inputs source.functions (calls_within body loops depth) least
       calls_follow loops zero least le le' g h args callers s is = (0, le', refl)
       calls_follow loops (suc depth) least le le' g h args callers s is =
-          procedure_finishes p m inputs h.name (procedure h) (found g h is) callers h.at (temporaries h) least (code h) (bind_all h.params args)
-          inside (body loops (calls_within body loops depth) h.name h.body inside) refl
-          (λ store ext has. follows loops least (calls_within body loops depth) le
-          (calls_follow loops depth (least - 1) (omega arith) (omega arith)) g h is callers store inside ext has)
-        where
-          inside : Situation
-          inside = record s { store = bind_all h.params args }
+          finish loops least (calls_within body loops depth) le (calls_follow loops depth (least - 1) (omega arith) (omega arith)) g h is args callers s
 
       module _ (f : List ℕ) (args : List PureValue) (h : Heap) (counter : ℕ) (g : PureFunction B)
           (is : find_function source.functions f ≡ Some g) where
@@ -146,6 +139,7 @@ module _ {B : Type 0} (temporaries : PureFunction B → ℕ) (code : PureFunctio
         began : start p f args h counter ≡ state_at g.name 0 [] (bind_all g.params args) (at_entry h counter)
         began =
             ap (λ o. record { current = first_frame f (params_of o) args; callers = []; heap = h; counter = counter; draws = 0 }) there
+            ∙ ap (λ ps. state_at f 0 [] (bind_all ps args) (at_entry h counter)) (keeps.params g)
             ∙ ap (λ x. state_at x 0 [] (bind_all g.params args) (at_entry h counter)) (sym (found_name source.functions f g is))
 
         source_is : (n : ℕ) → source_end body source f args h counter n ≡ end_if_over

@@ -1,6 +1,8 @@
 -- The machine follows the statements of a source program: where a stretch of commands leads that stands for a statement, by
 -- what the statement comes to.
 use Rattle.std.proofs.Common.{◌≡◌, ℕ, zero, suc, ◌+◌, ◌<◌, ◌≤◌, List, [], ◌∷◌, ◌++◌, pos, Bool, true, false, cond, Option, Some, None, Ok, Err, length, slice_get, refl, sym, ap, subst, ◌∙◌, arith}
+use Rattle.std.specs.List.{list_any}
+use Rattle.std.proofs.lemmas.Bool.{or_parts}
 use Rattle.gil_values.specs.declared.kinds.Kind.TheVariants.{Null}
 use Rattle.gil_values.specs.declared.places.Place.{Place}
 use Rattle.gil_values.specs.declared.kinds.Kind.{Kind}
@@ -16,10 +18,10 @@ use Rattle.gil_machine.specs.State.{Frame, State, Step, goes_on, ends, End, cut,
 use Rattle.gil_machine.specs.Step as machine
 use Rattle.gil_machine.specs.Run.{after, run}
 use Rattle.source_language.specs.Completions.{Situation, Completion, normal, returns, throws, over, unfinished, then_do, handled_by, end_of, sets, with_value, with_values, choose, with_outcome, input_of, after_body, back_in, thrown_in, returned_from_entry, thrown_from_entry, end_if_over}
-use Rattle.source_language.specs.Names.{is_source_name, temporary, temporaries_from, IsExtendedBy}
+use Rattle.source_language.specs.Names.{is_source_name, IsExtendedBy}
 use Rattle.source_language.specs.Procedures.{null, placed, nulls, body_of}
-use Rattle.source_language.proofs.NumberedNames.{nulls_length}
-use Rattle.source_language.proofs.Stores.{bound_value, extended_itself, extended_both, extended_aside, extended_more}
+use Rattle.source_language.proofs.NumberedNames.{AreAside, nulls_length}
+use Rattle.source_language.proofs.Stores.{bound_value, extended_itself, extended_both, extended_aside}
 use Rattle.source_language.proofs.Stretches.{HasAt, has_front, has_back, has_all}
 
 -- the state in which the machine stands at a command of a procedure
@@ -384,21 +386,21 @@ module _ (p : PureParts) (m : Actions) (inputs : List PureValue) (f : List ℕ) 
 
 module _ (p : PureParts) (m : Actions) (inputs : List PureValue) (f : List ℕ) (q : PureProc) (found : find_proc p.procs f ≡ Some q)
     (callers : List Frame) where
-  nulls_run : (at i n pc : ℕ) (first store : Store) (s : Situation) → IsExtendedBy first store
-      → HasAt q.body pc (nulls at (temporaries_from i n)) → (more : Store) × IsExtendedBy first more × Leads (run p m inputs)
-      (state_at f pc callers store s) (goes_on (state_at f (pc + length (nulls at (temporaries_from i n))) callers more s))
-  nulls_run at i zero pc first store s more has =
+  nulls_run : (at : ℕ) (xs : List (List ℕ)) (pc : ℕ) (first store : Store) (s : Situation) → AreAside xs → IsExtendedBy first store
+      → HasAt q.body pc (nulls at xs) → (more : Store) × IsExtendedBy first more × Leads (run p m inputs)
+      (state_at f pc callers store s) (goes_on (state_at f (pc + length (nulls at xs)) callers more s))
+  nulls_run at [] pc first store s aside more has =
       let e : pc ≡ pc + 0 = omega arith in (
         store,
         more,
         subst (λ k. Leads (run p m inputs) (state_at f pc callers store s) (goes_on (state_at f k callers store s))) e
             (stays (run p m inputs) _),
       )
-  nulls_run at i (suc n) pc first store s more has =
-      let rest = nulls_run at (i + 1) n (pc + 1) first (bind (temporary i) (kind Null) store) s
-      (extended_more i (kind Null) first store more) has.1 in
+  nulls_run at (x ∷ xs) pc first store s aside more has =
+      let parts = or_parts (is_source_name x) (list_any is_source_name xs) aside in
+      let rest = nulls_run at xs (pc + 1) first (bind x (kind Null) store) s parts.1 (extended_aside x (kind Null) first store parts.0 more) has.1 in
       let here = one_step p m inputs f q found callers None _ _ (steps p m inputs f q found callers None pc _ store s has.0) in
-      let e : pc + 1 + length (nulls at (temporaries_from (i + 1) n)) ≡ pc + length (nulls at (temporaries_from i (suc n))) = omega arith in (
+      let e : pc + 1 + length (nulls at xs) ≡ pc + length (nulls at (x ∷ xs)) = omega arith in (
         rest.0,
         rest.1,
         subst (λ k. Leads (run p m inputs) (state_at f pc callers store s) (goes_on (state_at f k callers rest.0 s))) e
@@ -406,15 +408,19 @@ module _ (p : PureParts) (m : Actions) (inputs : List PureValue) (f : List ℕ) 
       )
 
   -- where the commands of its statements run as a completion says, so does the procedure
-  pub procedure_finishes : (at count least : ℕ) (code : ℕ → List PureNumberedCommand) (first : Store) (s : Situation) (c : Completion)
-      → q.body ≡ body_of at count code → ((store : Store) → IsExtendedBy first store → HasAt q.body count (code count)
-      → Runs (run p m inputs) None least f callers (count + length (code count)) (state_at f count callers store s) c)
+  pub procedure_finishes : (at : ℕ) (names : List (List ℕ)) (least : ℕ) (code : ℕ → List PureNumberedCommand) (first : Store) (s : Situation)
+      (c : Completion) → AreAside names → q.body ≡ body_of at names code
+      → ((store : Store) → IsExtendedBy first store → HasAt q.body (length names) (code (length names))
+      → Runs (run p m inputs) None least f callers (length names + length (code (length names))) (state_at f (length names) callers store s) c)
       → Finishes (run p m inputs) least callers (state_at f 0 callers first s) c
-  procedure_finishes at count least code first s c is runs = finishes_after _ least callers _ _ c begun.2
+  procedure_finishes at names least code first s c aside is runs = finishes_after _ least callers _ _ c begun.2
       (finishes _ least f callers _ _ c (runs begun.0 begun.1 at_code) last)
     where
+      count : ℕ
+      count = length names
+
       front : List PureNumberedCommand
-      front = nulls at (temporaries_from 0 count)
+      front = nulls at names
 
       back : List PureNumberedCommand
       back = code count ++ placed at (return null) ∷ []
@@ -423,12 +429,12 @@ module _ (p : PureParts) (m : Actions) (inputs : List PureValue) (f : List ℕ) 
       all = subst (λ b. HasAt b 0 (front ++ back)) (sym is) (has_all (front ++ back) [])
 
       there : 0 + length front ≡ count
-      there = omega (arith, nulls_length at 0 count)
+      there = omega (arith, nulls_length at names)
 
       begun : (more : Store) × IsExtendedBy first more × Leads (run p m inputs) (state_at f 0 callers first s)
           (goes_on (state_at f count callers more s))
       begun =
-          let r = nulls_run at 0 count 0 first first s (extended_itself first) (has_front q.body 0 front back all) in
+          let r = nulls_run at names 0 first first s aside (extended_itself first) (has_front q.body 0 front back all) in
           (r.0, r.1, subst (λ n. Leads (run p m inputs) (state_at f 0 callers first s) (goes_on (state_at f n callers r.0 s))) there r.2)
 
       at_back : HasAt q.body count back

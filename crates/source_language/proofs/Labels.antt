@@ -9,7 +9,6 @@ use Rattle.gil_syntax.specs.Pure.{PureExpr, literal, fail, vanish, return, PureN
 use Rattle.gil_syntax.specs.Valid.{a_proc, is_bad_jump, has_bad_label, last_ends_body, has_no_end}
 use Rattle.source_language.specs.Code.{jump, truth}
 use Rattle.source_language.specs.Compiled.{if_code, while_code, assert_code, assume_code, invariant_code, logic_command}
-use Rattle.source_language.specs.Names.{temporaries_from}
 use Rattle.source_language.specs.Procedures.{placed, null, nulls, body_of, procedure_of}
 use Rattle.source_language.specs.Pure.{PureLogic, fold_use, unfold_use, assert_that, PureInvariant}
 use Rattle.source_language.proofs.NumberedNames.{nulls_length}
@@ -36,9 +35,9 @@ fits_jump n at label e cs le f =
     (neither (int_lt (pos label) (pos 0)) (int_le (pos (suc n)) (pos label)) (lt-leb (suc label) 0 (omega arith))
     (lt-leb (suc n) label (omega arith))) f
 
-pub fits_invariant : (n at written : ℕ) (i : Option PureInvariant) → Fits n (invariant_code at written i)
-fits_invariant n at written None = refl
-fits_invariant n at written (Some i) = refl
+pub fits_invariant : (n at : ℕ) (more : List (List ℕ)) (i : Option PureInvariant) → Fits n (invariant_code at more i)
+fits_invariant n at more None = refl
+fits_invariant n at more (Some i) = refl
 
 pub fits_logic : (n at : ℕ) (c : PureLogic) → Fits n (placed at (logic_command c) ∷ [])
 fits_logic n at (fold_use u) = refl
@@ -98,29 +97,27 @@ last_append [] c = refl
 last_append (d ∷ []) c = refl
 last_append (d ∷ e ∷ cs) c = last_append (e ∷ cs) c
 
-module _ (f : List ℕ) (params : List (List ℕ)) (at count : ℕ) (code : ℕ → List PureNumberedCommand) where
+module _ (f : List ℕ) (params : List (List ℕ)) (at : ℕ) (names : List (List ℕ)) (code : ℕ → List PureNumberedCommand) where
   abbrev front : List PureNumberedCommand
-  front = nulls at (temporaries_from 0 count)
+  front = nulls at names
+
+  abbrev inside : List PureNumberedCommand
+  inside = code (length names)
 
   -- its labels are within, where those of its statements fit
-  pub no_bad_label : ((n : ℕ) → count + length (code count) ≤ n → Fits n (code count))
-      → has_bad_label (a_proc (procedure_of f params at count code)) ≡ false
-  no_bad_label fits = subst (λ n. list_any (bad n) (body_of at count code) ≡ false) (sym size)
-      (fits_append end front (code count ++ placed at (return null) ∷ []) (nulls_fit end at (temporaries_from 0 count))
-      (fits_append end (code count) (placed at (return null) ∷ []) (fits end (omega (arith, nulls_length at 0 count))) refl))
+  pub no_bad_label : ((n : ℕ) → length names + length inside ≤ n → Fits n inside) → has_bad_label (a_proc (procedure_of f params at names code)) ≡ false
+  no_bad_label fits = subst (λ n. list_any (bad n) (body_of at names code) ≡ false) (sym size)
+      (fits_append end front (inside ++ placed at (return null) ∷ []) (nulls_fit end at names)
+      (fits_append end inside (placed at (return null) ∷ []) (fits end (omega (arith, nulls_length at names))) refl))
     where
       end : ℕ
-      end = length front + length (code count)
+      end = length front + length inside
 
-      size : length (body_of at count code) ≡ suc end
-      size = omega (
-        arith,
-        length-append front (code count ++ placed at (return null) ∷ []),
-        length-append (code count) (placed at (return null) ∷ []),
-      )
+      size : length (body_of at names code) ≡ suc end
+      size = omega (arith, length-append front (inside ++ placed at (return null) ∷ []), length-append inside (placed at (return null) ∷ []))
 
   -- it ends with a return
-  pub has_end : has_no_end (a_proc (procedure_of f params at count code)) ≡ false
+  pub has_end : has_no_end (a_proc (procedure_of f params at names code)) ≡ false
   has_end =
-      ap (λ cs. not (last_ends_body cs)) (sym (append_assoc front (code count) (placed at (return null) ∷ [])))
-      ∙ ap not (last_append (front ++ code count) (placed at (return null)))
+      ap (λ cs. not (last_ends_body cs)) (sym (append_assoc front inside (placed at (return null) ∷ [])))
+      ∙ ap not (last_append (front ++ inside) (placed at (return null)))

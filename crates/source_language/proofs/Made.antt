@@ -1,7 +1,7 @@
 -- Well made commands: those of invariants and procedures in every source language, and those of choices, loops, assertions and
 -- assumptions in languages whose conditions are booleans, from the expressions and names in them. The names of temporaries begin with no
 -- `#`.
-use Rattle.std.proofs.Common.{◌≡◌, ℕ, zero, suc, ◌+◌, pos, true, ◌&&◌, List, [], ◌∷◌, ◌++◌, length, refl, ◌∙◌}
+use Rattle.std.proofs.Common.{◌≡◌, ℕ, zero, suc, ◌+◌, pos, Bool, true, false, cond, ◌&&◌, List, [], ◌∷◌, ◌++◌, length, refl, ◌∙◌}
 use Rattle.std.specs.List.{list_all}
 use Rattle.std.proofs.lemmas.Bool.{and_from, and_parts}
 use Rattle.std.proofs.lemmas.List.Folds.{list_all-append}
@@ -12,7 +12,7 @@ use Rattle.gil_syntax.specs.Pure.{PureExpr, literal, PureItem, PureCommand, ifgo
 use Rattle.gil_syntax.specs.WellMade.{is_program_name, is_well_made_expr, are_logical, is_well_made_command, is_well_made_proc}
 use Rattle.source_language.specs.Code.{truth, jump}
 use Rattle.source_language.specs.Compiled.{if_code, while_code, assert_code, assume_code}
-use Rattle.source_language.specs.Names.{temporaries_from}
+use Rattle.source_language.specs.Names.{temporaries_from, caught, own_names}
 use Rattle.source_language.specs.Procedures.{placed, null, nulls, procedure_of}
 
 abbrev pub AreMade : List PureNumberedCommand → Type 0
@@ -30,13 +30,26 @@ made_append cs ds a b = list_all-append (λ (c : PureNumberedCommand). is_well_m
 pub made_jump : (at label : ℕ) (e : PureExpr) (cs : List PureNumberedCommand) → is_well_made_expr e ≡ true → AreMade cs → AreMade (jump at e label ∷ cs)
 made_jump at label e cs h a = and_from (is_well_made_command (ifgoto e (pos label))) _ (one_expr e h) a
 
-made_temporaries : (i n : ℕ) → list_all is_program_name (temporaries_from i n) ≡ true
-made_temporaries i zero = refl
-made_temporaries i (suc n) = made_temporaries (i + 1) n
+made_from : (i n : ℕ) → list_all is_program_name (temporaries_from i n) ≡ true
+made_from i zero = refl
+made_from i (suc n) = made_from (i + 1) n
 
-made_nulls : (at i n : ℕ) → AreMade (nulls at (temporaries_from i n))
-made_nulls at i zero = refl
-made_nulls at i (suc n) = made_nulls at (i + 1) n
+pub made_temporaries : (n : ℕ) → list_all is_program_name (temporaries_from 0 n) ≡ true
+made_temporaries n = made_from 0 n
+
+pub made_own : (n : ℕ) (catches : Bool) → list_all is_program_name (own_names n catches) ≡ true
+made_own n catches = list_all-append is_program_name (temporaries_from 0 n) (cond catches (caught ∷ []) [])
+    ∙ and_from _ _ (made_from 0 n) (of catches)
+  where
+    of : (b : Bool) → list_all is_program_name (cond b (caught ∷ []) []) ≡ true
+    of true = refl
+    of false = refl
+
+made_nulls : (at : ℕ) (xs : List (List ℕ)) → list_all is_program_name xs ≡ true → AreMade (nulls at xs)
+made_nulls at [] h = refl
+made_nulls at (x ∷ xs) h =
+    let parts = and_parts (is_program_name x) (list_all is_program_name xs) h in
+    and_from _ _ (and_from _ true parts.0 refl) (made_nulls at xs parts.1)
 
 pub made_assert : (pc at : ℕ) (e : PureExpr) → is_well_made_expr e ≡ true → AreMade (assert_code pc at e)
 made_assert pc at e h = made_jump at (pc + 2) e (placed at (fail (literal (text (codes "assert")))) ∷ []) h refl
@@ -61,19 +74,20 @@ made_while pc at e front body h a b = made_append front (jump at e (pc + length 
     second : List PureNumberedCommand
     second = jump at truth (pc + length front + 1 + 1 + length body + 1) ∷ (body ++ jump at truth pc ∷ [])
 
--- the invariant of a loop lists temporaries too
-pub made_invariant : (at : ℕ) (xs : List (List ℕ)) (n : ℕ) (ps : List Param) (items : List PureItem) → is_well_made_command (loop_invariant xs ps items) ≡ true
-    → AreMade (placed at (loop_invariant (xs ++ temporaries_from 0 n) ps items) ∷ [])
-made_invariant at xs n ps items h =
+-- the invariant of a loop lists more names
+pub made_invariant : (at : ℕ) (xs more : List (List ℕ)) (ps : List Param) (items : List PureItem) → list_all is_program_name more ≡ true
+    → is_well_made_command (loop_invariant xs ps items) ≡ true → AreMade (placed at (loop_invariant (xs ++ more) ps items) ∷ [])
+made_invariant at xs more ps items made h =
     let outer = and_parts (list_all is_program_name xs && are_logical ps) _ h in
     let inner = and_parts (list_all is_program_name xs) _ outer.0 in
-    let names = list_all-append is_program_name xs (temporaries_from 0 n) ∙ and_from _ _ inner.0 (made_temporaries 0 n) in
-    made_one at (loop_invariant (xs ++ temporaries_from 0 n) ps items) (and_from _ _ (and_from _ _ names inner.1) outer.1)
+    let names = list_all-append is_program_name xs more ∙ and_from _ _ inner.0 made in
+    made_one at (loop_invariant (xs ++ more) ps items) (and_from _ _ (and_from _ _ names inner.1) outer.1)
 
 -- the procedure of a function
-pub made_procedure : (f : List ℕ) (params : List (List ℕ)) (at count : ℕ) (code : ℕ → List PureNumberedCommand)
-    → list_all is_program_name params ≡ true → AreMade (code count) → is_well_made_proc (procedure_of f params at count code) ≡ true
-made_procedure f params at count code names made =
-    and_from _ _ names
-    (made_append (nulls at (temporaries_from 0 count)) (code count ++ placed at (return null) ∷ []) (made_nulls at 0 count)
-    (made_append (code count) (placed at (return null) ∷ []) made refl))
+pub made_procedure : (f : List ℕ) (params : List (List ℕ)) (at : ℕ) (names : List (List ℕ)) (code : ℕ → List PureNumberedCommand)
+    → list_all is_program_name params ≡ true → list_all is_program_name names ≡ true → AreMade (code (length names))
+    → is_well_made_proc (procedure_of f params at names code) ≡ true
+made_procedure f params at names code heads own made =
+    and_from _ _ heads
+    (made_append (nulls at names) (code (length names) ++ placed at (return null) ∷ []) (made_nulls at names own)
+    (made_append (code (length names)) (placed at (return null) ∷ []) made refl))

@@ -1,11 +1,14 @@
--- The names of temporaries.
-use Rattle.std.proofs.Common.{◌≡◌, ℕ, zero, suc, ◌+◌, List, [], ◌∷◌, ◌++◌, map, length, refl, ap, ◌∙◌, inl, arith}
+-- The names of temporaries, and the others that only compiled programs have.
+use Rattle.std.proofs.Common.{◌≡◌, ℕ, zero, suc, ◌+◌, List, [], ◌∷◌, ◌++◌, map, length, Bool, true, false, cond, refl, ap, ◌∙◌, inl, arith}
+use Rattle.std.specs.Prelude.{◌||◌}
+use Rattle.std.specs.List.{list_any}
+use Rattle.std.proofs.lemmas.List.Folds.{list_any-append}
 use Rattle.std.specs.Int.Digits.{digits_of, AllBelowBase}
 use Rattle.std.proofs.lemmas.Int.Digits.{all_below_base_digits_of}
 use Rattle.std.proofs.lemmas.List.Elements.{All-nil, All-cons}
 use Rattle.gil_values.specs.Characters.{IsTextCharacter, IsText}
 use Rattle.gil_values.specs.Printed.{numeral}
-use Rattle.source_language.specs.Names.{temporary, temporaries_from}
+use Rattle.source_language.specs.Names.{is_source_name, temporary, temporaries_from, caught, own_names}
 use Rattle.source_language.specs.Procedures.{nulls, placed, null}
 use Rattle.gil_syntax.specs.Pure.{assign}
 
@@ -35,10 +38,27 @@ nulls-append : (at : ℕ) (xs : List (List ℕ)) (x : List ℕ) → nulls at (xs
 nulls-append at [] x = refl
 nulls-append at (y ∷ xs) x = ap (λ cs. placed at (assign y null) ∷ cs) (nulls-append at xs x)
 
-pub one_more_null : (at n : ℕ) → nulls at (temporaries_from 0 (n + 1)) ≡ nulls at (temporaries_from 0 n) ++ placed at
-    (assign (temporary n) null) ∷ []
-one_more_null at n = ap (nulls at) (one_more n) ∙ nulls-append at (temporaries_from 0 n) (temporary n)
+pub nulls_length : (at : ℕ) (xs : List (List ℕ)) → length (nulls at xs) ≡ length xs
+nulls_length at [] = refl
+nulls_length at (x ∷ xs) = ap suc (nulls_length at xs)
 
-pub nulls_length : (at i n : ℕ) → length (nulls at (temporaries_from i n)) ≡ n
-nulls_length at i zero = refl
-nulls_length at i (suc n) = ap suc (nulls_length at (i + 1) n)
+pub temporaries_length : (i n : ℕ) → length (temporaries_from i n) ≡ n
+temporaries_length i zero = refl
+temporaries_length i (suc n) = ap suc (temporaries_length (i + 1) n)
+
+-- ---- none of them is a name of a source
+
+abbrev pub AreAside : List (List ℕ) → Type 0
+AreAside xs = list_any is_source_name xs ≡ false
+
+pub temporaries_aside : (i n : ℕ) → AreAside (temporaries_from i n)
+temporaries_aside i zero = refl
+temporaries_aside i (suc n) = temporaries_aside (i + 1) n
+
+pub own_aside : (n : ℕ) (catches : Bool) → AreAside (own_names n catches)
+own_aside n catches = list_any-append is_source_name (temporaries_from 0 n) (cond catches (caught ∷ []) [])
+    ∙ (λ k. temporaries_aside 0 n k || of catches k)
+  where
+    of : (b : Bool) → AreAside (cond b (caught ∷ []) [])
+    of true = refl
+    of false = refl

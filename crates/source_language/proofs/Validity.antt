@@ -1,7 +1,8 @@
 -- A compiled program is valid, but for the number of its commands, where its source is.
 use Rattle.std.proofs.Common.{◌≡◌, ◌≢◌, ℕ, zero, suc, List, [], ◌∷◌, ◌++◌, map, take, Bool, true, false, cond, Option, Some, None, slice_get, is_some, IsTrue, refl, sym, ap, subst, ◌∙◌, true≢false}
 use Rattle.std.specs.Prelude.{◌||◌}
-use Rattle.std.specs.List.{list_any}
+use Rattle.std.specs.List.{list_any, list_all}
+use Rattle.std.proofs.lemmas.Bool.{and_parts}
 use Rattle.std.proofs.lemmas.List.Folds.{list_any-append}
 use Rattle.gil_syntax.specs.declared.validity.InvalidKind.{InvalidKind}
 use Rattle.gil_syntax.specs.declared.validity.InvalidKind.TheVariants.{Duplicate, BadLabel, NoEnd, UnknownName, Arity, TooMany, Memory}
@@ -49,6 +50,14 @@ module _ {F : Type 0} (compiled : F → PureProc) where
       → list_any test (map a_proc (map compiled functions)) ≡ false
   no_function test [] fails = refl
   no_function test (f ∷ fs) fails = neither _ _ (fails f) (no_function test fs fails)
+
+  -- the same of functions that all pass
+  pub no_passing_function : (test : ProgramItem → Bool) (passes : F → Bool) (functions : List F) → list_all passes functions ≡ true
+      → ((f : F) → passes f ≡ true → test (a_proc (compiled f)) ≡ false) → list_any test (map a_proc (map compiled functions)) ≡ false
+  no_passing_function test passes [] pass fails = refl
+  no_passing_function test passes (f ∷ fs) pass fails =
+      let parts = and_parts (passes f) (list_all passes fs) pass in
+      neither _ _ (fails f parts.0) (no_passing_function test passes fs parts.1 fails)
 
   module _ (begins : F → ℕ) where
     short_choice : (b : Bool) (f : F) (o : Option ℕ) → cond b (Some (begins f)) o ≡ None → (b ≡ false) × (o ≡ None)

@@ -5,7 +5,6 @@ use Rattle.std.specs.Prelude.{ℕ, ◌+◌, List, [], ◌∷◌, ◌++◌, lengt
 use Rattle.gil_values.specs.Pure.{text}
 use Rattle.gil_syntax.specs.Pure.{PureExpr, literal, PureCommand, fail, vanish, fold_use, unfold_use, assert_that, loop_invariant, PureNumberedCommand}
 use Rattle.source_language.specs.Code.{truth, jump}
-use Rattle.source_language.specs.Names.{temporaries_from}
 use Rattle.source_language.specs.Procedures.{placed}
 use Rattle.source_language.specs.Pure as trees
 use Rattle.source_language.specs.Pure.{PureLogic, PureInvariant}
@@ -31,10 +30,10 @@ assert_code pc at e = jump at e (pc + 2) ∷ placed at (fail (literal (text (cod
 abbrev pub assume_code : ℕ → ℕ → PureExpr → List PureNumberedCommand
 assume_code pc at e = jump at e (pc + 2) ∷ placed at vanish ∷ []
 
--- the invariant of a loop, which may change the temporaries that are assigned in the loop too
-abbrev pub invariant_code : ℕ → ℕ → Option PureInvariant → List PureNumberedCommand
-invariant_code at temporaries None = []
-invariant_code at temporaries (Some i) = placed at (loop_invariant (i.names ++ temporaries_from 0 temporaries) i.logicals i.items) ∷ []
+-- the invariant of a loop, which may change the names too that are none of the source and are assigned in the loop
+abbrev pub invariant_code : ℕ → List (List ℕ) → Option PureInvariant → List PureNumberedCommand
+invariant_code at more None = []
+invariant_code at more (Some i) = placed at (loop_invariant (i.names ++ more) i.logicals i.items) ∷ []
 
 abbrev pub logic_command : PureLogic → PureCommand
 logic_command (trees.fold_use u) = fold_use u

@@ -1,5 +1,5 @@
 -- Names of source programs, and names that only compiled programs have. A name of a source program has no '$'.
-use Rattle.std.specs.Prelude.{◌≡◌, ℕ, zero, suc, ◌+◌, List, [], ◌∷◌, ◌++◌, Bool, true, false, not, ◌&&◌, nat_eq, Option, Some, None, IsTrue, codes}
+use Rattle.std.specs.Prelude.{◌≡◌, ℕ, zero, suc, ◌+◌, List, [], ◌∷◌, ◌++◌, Bool, true, false, not, ◌&&◌, nat_eq, if◌then◌else◌, Option, Some, None, IsTrue, codes}
 use Rattle.std.specs.List.{list_all, list_any}
 use Rattle.gil_values.specs.Printed.{numeral}
 use Rattle.gil_syntax.specs.Pure.{PureExpr, literal, name, logical, list_of, unary_of, binary_of, PureExprs, no_exprs, expr_and}
@@ -40,6 +40,14 @@ temporary i = codes "t$" ++ numeral i
 abbrev pub temporaries_from : ℕ → ℕ → List (List ℕ)
 temporaries_from i zero = []
 temporaries_from i (suc n) = temporary i ∷ temporaries_from (i + 1) n
+
+-- the variable in which a value that is thrown is handled
+abbrev pub caught : List ℕ
+caught = codes "e$"
+
+-- the names that the commands of statements assign besides those of the source: so many temporaries, and then the other one where they do
+abbrev pub own_names : ℕ → Bool → List (List ℕ)
+own_names n catches = temporaries_from 0 n ++ (if catches then caught ∷ [] else [])
 
 -- the second store gives each name of a source program the value that the first one gives it
 abbrev pub IsExtendedBy : Store → Store → Type 0

@@ -6,9 +6,9 @@ ghost use Rattle.source_language.specs.Procedures.{placed};
 ghost use Rattle.source_language.specs.View.{invariants_view, logic_view};
 
 use crate::pieces::{one, put};
-use crate::temporaries::push_temporaries;
+use crate::temporaries::append_names;
 use crate::trees::{Invariant, Logic};
-use gil_syntax::{Body, Command};
+use gil_syntax::{Body, Command, Texts};
 use std::alloc::{AllocError, Global};
 use syntax_copy::{copy_assertion, copy_params, copy_texts, copy_use};
 
@@ -26,19 +26,19 @@ pub fn logic_code(alloc: Global, at: u32, logic: &Logic) -> Result<Body, AllocEr
     }
 }
 
-/// The invariant of a loop that assigns so many temporaries.
+/// The invariant of a loop that assigns more names, which are none of the source.
 pub fn invariant_code(
     alloc: Global,
     at: u32,
-    temporaries: usize,
+    more: Texts,
     invariant: &Option<Invariant>,
 ) -> Result<Body, AllocError>
-    ensures { IfOk result (λ code. code_view code ≡ compiled.invariant_code at temporaries (invariants_view invariant.now)) }
+    ensures { IfOk result (λ code. code_view code ≡ compiled.invariant_code at more (invariants_view invariant.now)) }
 {
     let mut code = Body::new(alloc);
     if let Some(invariant) = invariant {
         let mut names = copy_texts(alloc, &invariant.names)?;
-        push_temporaries(alloc, &mut names, temporaries)?;
+        append_names(&mut names, more)?;
         let logicals = copy_params(alloc, &invariant.logicals)?;
         let assertion = copy_assertion(alloc, &invariant.assertion)?;
         put(

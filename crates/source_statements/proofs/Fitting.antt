@@ -1,29 +1,32 @@
 -- The labels of compiled statements are within their procedures, and bodies end, so a compiled program is valid, but for the number of its
 -- commands, where its source is.
-use Rattle.std.proofs.Common.{◌≡◌, ℕ, ◌+◌, ◌≤◌, List, [], ◌∷◌, ◌++◌, Bool, true, false, not, map, None, length, refl, arith, length-append}
+use Rattle.std.proofs.Common.{◌≡◌, ℕ, ◌+◌, ◌≤◌, List, [], ◌∷◌, ◌++◌, Bool, true, false, not, ◌&&◌, map, Option, Some, None, is_some, length, refl, arith, length-append}
 use Rattle.std.specs.Prelude.{codes, max}
 use Rattle.std.specs.List.{list_any}
-use Rattle.std.proofs.lemmas.List.{length-map}
+use Rattle.std.specs.List.{list_all}
+use Rattle.std.proofs.lemmas.Bool.{and_parts}
 use Rattle.gil_values.specs.Pure.{text}
 use Rattle.gil_syntax.specs.declared.validity.InvalidKind.{InvalidKind}
-use Rattle.gil_syntax.specs.Pure.{PureExpr, literal, fail, vanish, return, PureNumberedCommand}
+use Rattle.gil_syntax.specs.Pure.{PureExpr, literal, name, assign, fail, vanish, return, PureNumberedCommand}
 use Rattle.gil_syntax.specs.Valid.{a_proc, has_bad_label, has_no_end, IsNamedFault}
 use Rattle.gil_program.specs.Uncounted.{IsValidButLength}
 use Rattle.source_language.specs.Code.{truth, jump}
+use Rattle.source_language.specs.Names.{is_source_name, has_source_invariant, caught, own_names}
 use Rattle.source_language.specs.Procedures.{placed}
 use Rattle.source_language.specs.Pure.{PureFunction, PureSource}
 use Rattle.source_language.specs.Valid.{HasNoSourceFault}
 use Rattle.source_language.proofs.Labels as labels
 use Rattle.source_language.proofs.Labels.{Fits, fits_append, fits_jump, fits_invariant, fits_logic}
 use Rattle.source_language.proofs.Validity as validity
-use Rattle.source_language.proofs.Validity.{no_function, short_functions}
+use Rattle.source_language.proofs.Validity.{no_function, no_passing_function, short_functions}
 use Rattle.source_statements.specs.Codes.{Codes, jumps_to, behind, inside_label, guarded_code, far_label, choice_code, if_code}
-use Rattle.source_statements.specs.Compiled.{head_code, loop_code, statement_code, block_code, block_temporaries, compiled_function, compiled, first_too_long}
+use Rattle.source_statements.specs.Compiled.{head_code, loop_code, handler_label, statement_code, block_code, block_temporaries, block_throws, function_names, compiled_function, compiled, first_too_long}
+use Rattle.source_statements.specs.Lengths.{block_length}
+use Rattle.source_statements.specs.Names.{is_source_statement, is_source_block, is_source_function}
 use Rattle.source_statements.specs.Pure as tree
 use Rattle.source_statements.specs.Pure.{PureStatement, PureBlock, no_statements, statement_and}
-
-jumps_length : (at label : ℕ) (es : List PureExpr) → length (jumps_to at es label) ≡ length es
-jumps_length at label es = length-map es (λ e. jump at e label)
+use Rattle.source_statements.proofs.Following.{IsHandled}
+use Rattle.source_statements.proofs.Lengths.{SameLengths, jumps_length, block-long}
 
 pub fits_jumps : (n at label : ℕ) (es : List PureExpr) → label ≤ n → Fits n (jumps_to at es label)
 fits_jumps n at label [] le = refl
@@ -95,32 +98,50 @@ fits_if false n pc at front es on off le fits_front fits_on fits_off = fits_choi
 
 -- ---- statements
 
--- what is to be shown of the expressions and simple statements of a language
-pub record LanguageFits {E S : Type 0} (c : Codes E S) : Type 0 where
-  pub fronts : (e : E) (n pc at : ℕ) → pc + length (c.front e pc at) ≤ n → Fits n (c.front e pc at)
-  pub simples : (x : S) (n pc at : ℕ) → pc + length (c.simple_code pc at x) ≤ n → Fits n (c.simple_code pc at x)
+-- the label of a handler goes not past a place
+abbrev pub IsWithin : ℕ → Option ℕ → Type 0
+IsWithin n (Some label) = label ≤ n
+IsWithin n None = Unit {0}
 
-module _ {E S : Type 0} (c : Codes E S) (fits : LanguageFits c) where
+-- what is to be shown of the expressions and simple statements of a language
+pub record LanguageFits {E S : Type 0} (c : Codes E S) (has_try : Bool) : Type 0 where
+  pub lengths : has_try ≡ true → SameLengths c
+  pub fronts : (e : E) (n pc at : ℕ) → pc + length (c.front e pc at) ≤ n → Fits n (c.front e pc at)
+  pub simples : (h : Option ℕ) → IsHandled has_try h → (x : S) (n pc at : ℕ) → IsWithin n h → pc + length (c.simple_code h pc at x) ≤ n
+      → Fits n (c.simple_code h pc at x)
+
+module _ {E S : Type 0} (c : Codes E S) (has_try : Bool) (is_source_expression : E → Bool) (is_source_simple : S → Bool)
+    (fits : LanguageFits c has_try) where
+  abbrev Named : PureBlock E S → Type 0
+  Named b = is_source_block has_try is_source_expression is_source_simple b ≡ true
+
   mutual
-    statement-fits : (x : PureStatement E S) (n pc at : ℕ) → pc + length (statement_code c pc at x) ≤ n → Fits n (statement_code c pc at x)
-    statement-fits (tree.simple x) n pc at le = fits.simples x n pc at le
-    statement-fits (tree.assert e) n pc at le =
+    statement-fits : (h : Option ℕ) → IsHandled has_try h → (x : PureStatement E S) (n pc at : ℕ) → is_source_statement has_try is_source_expression is_source_simple x ≡ true
+        → IsWithin n h → pc + length (statement_code c h pc at x) ≤ n → Fits n (statement_code c h pc at x)
+    statement-fits h handled (tree.simple x) n pc at names within le = fits.simples h handled x n pc at within le
+    statement-fits h handled (tree.assert e) n pc at names within le =
         fits_guarded (not c.where_true) n pc at (c.front e pc at) (c.jumps (c.operand e)) (placed at (fail (literal (text (codes "assert")))) ∷ []) le
         (fits.fronts e n pc at) (λ le'. refl)
-    statement-fits (tree.assume e) n pc at le =
+    statement-fits h handled (tree.assume e) n pc at names within le =
         fits_guarded (not c.where_true) n pc at (c.front e pc at) (c.jumps (c.operand e)) (placed at vanish ∷ []) le (fits.fronts e n pc at) (λ le'. refl)
-    statement-fits (tree.if_else e on off) n pc at le =
-        fits_if c.where_true n pc at (c.front e pc at) (c.jumps (c.operand e)) (λ k. block_code c k on) (λ k. block_code c k off) le (fits.fronts e n pc at)
-        (λ k le'. block-fits on n k le') (λ k le'. block-fits off n k le')
-    statement-fits (tree.while e invariant body) n pc at le =
-        fits_append n head whole (fits_invariant n at (max (c.uses e) (block_temporaries c body)) invariant)
+    statement-fits h handled (tree.if_else e on off) n pc at names within le =
+        fits_if c.where_true n pc at (c.front e pc at) (c.jumps (c.operand e)) (λ k. block_code c h k on) (λ k. block_code c h k off) le (fits.fronts e n pc at)
+        (λ k le'. block-fits h handled on n k sides.0 within le') (λ k le'. block-fits h handled off n k sides.1 within le')
+      where
+        sides : Named on × Named off
+        sides = and_parts _ _ (and_parts (is_source_expression e) _ names).1
+    statement-fits h handled (tree.while e invariant body) n pc at names within le =
+        fits_append n head whole (fits_invariant n at (own_names (max (c.uses e) (block_temporaries c body)) (block_throws c (is_some h) body)) invariant)
         (fits_guarded c.where_true n start at (c.front e start at) (c.jumps (c.operand e)) (code ++ back) (omega (arith, le, length-append head whole))
         (fits.fronts e n start at)
-        (λ le'. fits_append n code back (block-fits body n inside (omega (arith, le', length-append code back)))
+        (λ le'. fits_append n code back (block-fits h handled body n inside named within (omega (arith, le', length-append code back)))
         (fits_jump n at pc truth [] (omega (arith, le)) refl)))
       where
+        named : Named body
+        named = (and_parts (has_source_invariant invariant) _ (and_parts (is_source_expression e) _ names).1).1
+
         head : List PureNumberedCommand
-        head = head_code c at e invariant body
+        head = head_code c h at e invariant body
 
         start : ℕ
         start = pc + length head
@@ -129,35 +150,67 @@ module _ {E S : Type 0} (c : Codes E S) (fits : LanguageFits c) where
         inside = inside_label c.where_true start (c.front e start at) (c.jumps (c.operand e))
 
         code : List PureNumberedCommand
-        code = block_code c inside body
+        code = block_code c h inside body
 
         back : List PureNumberedCommand
         back = jump at truth pc ∷ []
 
         whole : List PureNumberedCommand
-        whole = loop_code c pc at start e (λ k. block_code c k body)
-    statement-fits (tree.return e) n pc at le =
+        whole = loop_code c pc at start e (λ k. block_code c h k body)
+    statement-fits h handled (tree.return e) n pc at names within le =
         let last = placed at (return (c.operand e)) ∷ [] in
         fits_append n (c.front e pc at) last (fits.fronts e n pc at (omega (arith, le, length-append (c.front e pc at) last))) refl
-    statement-fits (tree.logic l) n pc at le = fits_logic n at l
+    statement-fits h handled (tree.logic l) n pc at names within le = fits_logic n at l
+    statement-fits h handled (tree.try_catch body y handler) n pc at names within le =
+        fits_append n inside _ (block-fits (Some start) parts.0 body n pc sides.0 (omega (arith, le, long, whole)) (omega (arith, le, whole)))
+        (fits_jump n at (start + 1 + length rest) truth behind (omega (arith, le, long, whole))
+        (fits_append n (placed at (assign y (name caught)) ∷ []) rest refl
+        (block-fits h handled handler n (start + 1) sides.1 within (omega (arith, le, long, whole)))))
+      where
+        start : ℕ
+        start = handler_label c pc body
 
-    pub block-fits : (b : PureBlock E S) (n pc : ℕ) → pc + length (block_code c pc b) ≤ n → Fits n (block_code c pc b)
-    block-fits no_statements n pc le = refl
-    block-fits (statement_and at x rest) n pc le =
-        let code = statement_code c pc at x in
-        let later = block_code c (pc + length code) rest in
+        inside : List PureNumberedCommand
+        inside = block_code c (Some start) pc body
+
+        rest : List PureNumberedCommand
+        rest = block_code c h (start + 1) handler
+
+        behind : List PureNumberedCommand
+        behind = placed at (assign y (name caught)) ∷ rest
+
+        parts : (has_try ≡ true) × ((is_source_name y && (is_source_block has_try is_source_expression is_source_simple body && is_source_block has_try is_source_expression is_source_simple handler)) ≡ true)
+        parts = and_parts _ _ names
+
+        sides : Named body × Named handler
+        sides = and_parts _ _ (and_parts (is_source_name y) _ parts.1).1
+
+        long : length inside ≡ block_length c body
+        long = block-long c (fits.lengths parts.0) body start pc
+
+        whole : length (statement_code c h pc at (tree.try_catch body y handler)) ≡ length inside + 2 + length rest
+        whole = omega (arith, length-append inside (jump at truth (start + 1 + length rest) ∷ behind))
+
+    pub block-fits : (h : Option ℕ) → IsHandled has_try h → (b : PureBlock E S) (n pc : ℕ) → Named b → IsWithin n h → pc + length (block_code c h pc b) ≤ n → Fits n (block_code c h pc b)
+    block-fits h handled no_statements n pc names within le = refl
+    block-fits h handled (statement_and at x rest) n pc names within le =
+        let code = statement_code c h pc at x in
+        let later = block_code c h (pc + length code) rest in
         let long = length-append code later in
-        fits_append n code later (statement-fits x n pc at (omega (arith, le, long))) (block-fits rest n (pc + length code) (omega (arith, le, long)))
+        let parts = and_parts (is_source_statement has_try is_source_expression is_source_simple x) (is_source_block has_try is_source_expression is_source_simple rest) names in
+        fits_append n code later (statement-fits h handled x n pc at parts.0 within (omega (arith, le, long)))
+        (block-fits h handled rest n (pc + length code) parts.1 within (omega (arith, le, long)))
 
-  module _ (source : PureSource (PureFunction (PureBlock E S))) where
+  module _ (source : PureSource (PureFunction (PureBlock E S)))
+      (named : list_all (λ f. is_source_function has_try is_source_expression is_source_simple f) source.functions ≡ true) where
     labels_within : list_any has_bad_label (map a_proc (compiled c source).procs) ≡ false
-    labels_within = no_function (compiled_function c) has_bad_label source.functions
-        (λ f. labels.no_bad_label f.name f.params f.at (block_temporaries c f.body) (λ pc. block_code c pc f.body)
-        (λ n le. block-fits f.body n (block_temporaries c f.body) le))
+    labels_within = no_passing_function (compiled_function c) has_bad_label (λ f. is_source_function has_try is_source_expression is_source_simple f) source.functions named
+        (λ f names. labels.no_bad_label f.name f.params f.at (function_names c f) (λ pc. block_code c None pc f.body)
+        (λ n le. block-fits None tt f.body n (length (function_names c f)) (and_parts (list_all is_source_name f.params) _ names).1 tt le))
 
     bodies_end : list_any has_no_end (map a_proc (compiled c source).procs) ≡ false
     bodies_end = no_function (compiled_function c) has_no_end source.functions
-        (λ f. labels.has_end f.name f.params f.at (block_temporaries c f.body) (λ pc. block_code c pc f.body))
+        (λ f. labels.has_end f.name f.params f.at (function_names c f) (λ pc. block_code c None pc f.body))
 
     -- no fault of a short program of a source without a fault is named
     pub none_named : HasNoSourceFault (compiled c source) → first_too_long c source.functions ≡ None → (kind : InvalidKind) (i : ℕ)

@@ -3,6 +3,7 @@ pub mod Ends
 pub mod Fitting
 pub mod Following
 pub mod Functions
+pub mod Lengths
 pub mod Longer
 pub mod Making
 pub mod Tests

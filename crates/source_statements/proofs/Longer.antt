@@ -2,10 +2,10 @@
 use Rattle.std.proofs.Common.{ℕ, zero, suc, ◌≤◌, List, refl, arith}
 use Rattle.gil_values.specs.declared.places.Place.{Place}
 use Rattle.gil_values.specs.Pure.{PureValue}
-use Rattle.source_language.specs.Completions.{Situation, Completion}
-use Rattle.source_language.proofs.Longer.{Extends, then-extends}
+use Rattle.source_language.specs.Completions.{Situation, Completion, sets}
+use Rattle.source_language.proofs.Longer.{Extends, then-extends, handled-extends}
 use Rattle.source_statements.specs.Meaning.{Meanings, statement, block}
-use Rattle.source_statements.specs.Pure.{PureStatement, simple, assert, assume, if_else, while, return, logic, PureBlock, no_statements, statement_and}
+use Rattle.source_statements.specs.Pure.{PureStatement, simple, assert, assume, if_else, while, return, logic, try_catch, PureBlock, no_statements, statement_and}
 use Rattle.source_statements.specs.Tests.{Test, turns}
 use Rattle.source_statements.specs.Values.{Continuation}
 
@@ -43,6 +43,8 @@ module _ {E S : Type 0} (k k' : Meanings E S) (extend : MeaningsExtend k k') (n 
         turns-extend (k.test e here) (k'.test e here) _ _ (extend.test e here) (λ t. block-extends here.proc body t) n n' le s
     statement-extends (return e) here s = extend.value e here s _ _ (λ v t. refl)
     statement-extends (logic c) here s = refl
+    statement-extends (try_catch body y handler) here s =
+        handled-extends _ _ _ _ (block-extends here.proc body s) (λ v t. block-extends here.proc handler (sets y v t))
 
     pub block-extends : (f : List ℕ) (b : PureBlock E S) (s : Situation) → Extends (block k n f b s) (block k' n' f b s)
     block-extends f no_statements s = refl

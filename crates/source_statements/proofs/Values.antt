@@ -19,75 +19,75 @@ use Rattle.source_language.specs.Completions.{Situation, Completion, normal, ret
 use Rattle.source_language.specs.Names.{IsExtendedBy}
 use Rattle.source_language.specs.Procedures.{placed}
 use Rattle.source_language.specs.Pure.{PureFunction, find_function}
-use Rattle.source_language.proofs.Ends.{CallsFollow}
-use Rattle.source_language.proofs.Following.{state_at, Here, leads, Runs, runs_after, call_then_runs, steps, one_step}
+use Rattle.source_language.proofs.Ends.{CallsFollow, KeepsHead}
+use Rattle.source_language.proofs.Following.{state_at, Here, Catcher, handler_of, Catches, leads, Runs, runs_after, call_then_runs, steps, one_step}
 use Rattle.source_language.proofs.Longer.{Extends, extends_itself}
 use Rattle.source_language.proofs.MoreTurns.{CallsExtend}
 use Rattle.source_statements.specs.Values.{Continuation, input_value, draws_value, call_function}
 
 module _ (p : PureParts) (m : Actions) (inputs : List PureValue) (f : List ℕ) (q : PureProc) (found : find_proc p.procs f ≡ Some q)
-    (callers : List Frame) (some end : ℕ) where
+    (callers : List Frame) (catcher : Catcher) (some end : ℕ) where
   -- the next input, which a variable of the machine gets
   pub draw_runs : (pc at : ℕ) (x : List ℕ) (k : Kind) (store : Store) (s : Situation) (go : Continuation)
       → slice_get q.body pc ≡ Some (placed at (isym x k))
-      → ((v : PureValue) → Runs (run p m inputs) None some f callers end
+      → ((v : PureValue) → Runs (run p m inputs) catcher some f callers end
       (state_at f (pc + 1) callers (bind x v store) (record s { draws = s.draws + 1 })) (go v (record s { draws = s.draws + 1 })))
-      → Runs (run p m inputs) None some f callers end (state_at f pc callers store s) (draws_value inputs k s go)
-  draw_runs pc at x k store s go has next = drawn (slice_get inputs s.draws) (steps p m inputs f q found callers None pc _ store s has)
+      → Runs (run p m inputs) catcher some f callers end (state_at f pc callers store s) (draws_value inputs k s go)
+  draw_runs pc at x k store s go has next = drawn (slice_get inputs s.draws) (steps p m inputs f q found callers catcher pc _ store s has)
     where
       then : Situation
       then = record s { draws = s.draws + 1 }
 
       by_kind : (b : Bool) (v : PureValue) → machine.step p m inputs (state_at f pc callers store s) ≡ cond b
           (machine.assigned x v (state_at f pc callers store then)) (ends (end_of (bad_input then.draws) then))
-          → Runs (run p m inputs) None some f callers end (state_at f pc callers store s) (cond b (go v then) (over (end_of (bad_input then.draws) then)))
-      by_kind true v is = runs_after (run p m inputs) None some f callers end _ _ (go v then) (leads _ _ _ (one_step p m inputs f q found callers None _ _ is)) (next v)
-      by_kind false v is = (leads _ _ _ (one_step p m inputs f q found callers None _ _ is), tt)
+          → Runs (run p m inputs) catcher some f callers end (state_at f pc callers store s) (cond b (go v then) (over (end_of (bad_input then.draws) then)))
+      by_kind true v is = runs_after (run p m inputs) catcher some f callers end _ _ (go v then) (leads _ _ _ (one_step p m inputs f q found callers catcher _ _ is)) (next v)
+      by_kind false v is = (leads _ _ _ (one_step p m inputs f q found callers catcher _ _ is), tt)
 
       drawn : (o : Option PureValue) → machine.step p m inputs (state_at f pc callers store s) ≡ machine.draw o x k (state_at f pc callers store then)
-          → Runs (run p m inputs) None some f callers end (state_at f pc callers store s) (input_value o k then go)
-      drawn None is = (leads _ _ _ (one_step p m inputs f q found callers None _ _ is), tt)
+          → Runs (run p m inputs) catcher some f callers end (state_at f pc callers store s) (input_value o k then go)
+      drawn None is = (leads _ _ _ (one_step p m inputs f q found callers catcher _ _ is), tt)
       drawn (Some v) is = by_kind (same_kind (kind_of v) k) v is
 
-module _ {B : Type 0} (procedure_of : PureFunction B → PureProc) (params : (h : PureFunction B) → (procedure_of h).params ≡ h.params)
-    (name : (h : PureFunction B) → (procedure_of h).name ≡ h.name)
+module _ {B : Type 0} (procedure : PureFunction B → PureProc) (keeps : KeepsHead procedure)
     (p : PureParts) (m : Actions) (inputs : List PureValue) (functions : List (PureFunction B)) (calls : Calls B) (least : ℕ)
     (calls_follow : CallsFollow p m inputs functions calls (least - 1)) (f : List ℕ) (q : PureProc) (found : find_proc p.procs f ≡ Some q)
-    (callers : List Frame) (end : ℕ) where
-  -- a call of a function, of none, or with another number of arguments, whose result a variable of the machine gets
+    (callers : List Frame) (catcher : Catcher) (end : ℕ) where
+  -- a call of a function, of none, or with another number of arguments, whose result a variable of the machine gets; what it throws goes to
+  -- the handler of the place
   pub call_runs : (pc at : ℕ) (x g : List ℕ) (o : Option (PureFunction B)) (args : List PureValue) (store : Store) (s : Situation) (go : Continuation)
-      → find_function functions g ≡ o → IsExtendedBy s.store store
-      → machine.step p m inputs (state_at f pc callers store s) ≡ machine.enter_found (option_map procedure_of o) x None args (Here f at)
+      → find_function functions g ≡ o → IsExtendedBy s.store store → Catches catcher x
+      → machine.step p m inputs (state_at f pc callers store s) ≡ machine.enter_found (option_map procedure o) x (handler_of catcher) args (Here f at)
       (state_at f pc callers store s)
-      → ((v : PureValue) (t : Situation) → Runs (run p m inputs) None least f callers end
+      → ((v : PureValue) (t : Situation) → Runs (run p m inputs) catcher least f callers end
       (state_at f (pc + 1) callers (bind x v store) t) (go v (record t { store = s.store })))
-      → Runs (run p m inputs) None least f callers end (state_at f pc callers store s) (call_function calls o args (Here f at) s go)
-  call_runs pc at x g None args store s go there ext is next = (leads _ _ _ (one_step p m inputs f q found callers None _ _ is), tt)
-  call_runs pc at x g (Some h) args store s go there ext is next = by_arity (length args == length h.params)
-      (is ∙ ap (λ ps. cond (length args == length ps) (machine.enter (procedure_of h) x None args (state_at f pc callers store s))
-      (machine.fails_with (text (codes "arity")) (Here f at) (state_at f pc callers store s))) (params h))
+      → Runs (run p m inputs) catcher least f callers end (state_at f pc callers store s) (call_function calls o args (Here f at) s go)
+  call_runs pc at x g None args store s go there ext catches is next = (leads _ _ _ (one_step p m inputs f q found callers catcher _ _ is), tt)
+  call_runs pc at x g (Some h) args store s go there ext catches is next = by_arity (length args == length h.params)
+      (is ∙ ap (λ ps. cond (length args == length ps) (machine.enter (procedure h) x (handler_of catcher) args (state_at f pc callers store s))
+      (machine.fails_with (text (codes "arity")) (Here f at) (state_at f pc callers store s))) (keeps.params h))
     where
       caller : Frame
-      caller = record { procedure = f; next = pc + 1; store = store; waits = Some x; handler = None }
+      caller = record { procedure = f; next = pc + 1; store = store; waits = Some x; handler = handler_of catcher }
 
       first : State
       first = state_at h.name 0 (caller ∷ callers) (machine.bind_all h.params args) s
 
-      entered : machine.enter (procedure_of h) x None args (state_at f pc callers store s) ≡ goes_on first
+      entered : machine.enter (procedure h) x (handler_of catcher) args (state_at f pc callers store s) ≡ goes_on first
       entered =
-          ap (λ ps. goes_on (state_at (procedure_of h).name 0 (caller ∷ callers) (machine.bind_all ps args) s)) (params h)
-          ∙ ap (λ n. goes_on (state_at n 0 (caller ∷ callers) (machine.bind_all h.params args) s)) (name h)
+          ap (λ ps. goes_on (state_at (procedure h).name 0 (caller ∷ callers) (machine.bind_all ps args) s)) (keeps.params h)
+          ∙ ap (λ n. goes_on (state_at n 0 (caller ∷ callers) (machine.bind_all h.params args) s)) (keeps.name h)
 
       by_arity : (b : Bool) → machine.step p m inputs (state_at f pc callers store s) ≡ cond b
-          (machine.enter (procedure_of h) x None args (state_at f pc callers store s))
+          (machine.enter (procedure h) x (handler_of catcher) args (state_at f pc callers store s))
           (machine.fails_with (text (codes "arity")) (Here f at) (state_at f pc callers store s))
-          → Runs (run p m inputs) None least f callers end (state_at f pc callers store s)
+          → Runs (run p m inputs) catcher least f callers end (state_at f pc callers store s)
           (cond b (after_body (calls h args s) (λ v t. go v (record t { store = s.store })) (thrown_in s)) (fails (text (codes "arity")) (Here f at) s))
       by_arity true goes =
-          call_then_runs (run p m inputs) None (least - 1) least f x callers (pc + 1) end store s (state_at f pc callers store s) first (calls h args s)
-          (λ v t. go v (record t { store = s.store })) (omega arith) ext tt (one_step p m inputs f q found callers None _ _ (goes ∙ entered))
+          call_then_runs (run p m inputs) catcher (least - 1) least f x callers (pc + 1) end store s (state_at f pc callers store s) first (calls h args s)
+          (λ v t. go v (record t { store = s.store })) (omega arith) ext catches (one_step p m inputs f q found callers catcher _ _ (goes ∙ entered))
           (calls_follow g h args (caller ∷ callers) s there) next
-      by_arity false goes = (leads _ _ _ (one_step p m inputs f q found callers None _ _ goes), tt)
+      by_arity false goes = (leads _ _ _ (one_step p m inputs f q found callers catcher _ _ goes), tt)
 
 -- ---- more turns
 

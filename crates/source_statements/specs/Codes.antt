@@ -1,11 +1,13 @@
 -- The commands of conditions: jumps that are all taken to one label, and what stands behind them.
-use Rattle.std.specs.Prelude.{ℕ, ◌+◌, List, [], ◌∷◌, ◌++◌, map, length, Bool, true, false}
+use Rattle.std.specs.Prelude.{ℕ, ◌+◌, List, [], ◌∷◌, ◌++◌, map, length, Bool, true, false, Option}
 use Rattle.gil_syntax.specs.Pure.{PureExpr, PureNumberedCommand}
 use Rattle.source_language.specs.Code.{truth, jump}
 
 -- What a language says of the commands of its expressions and simple statements. The front of an expression are the commands before it
 -- can be named by its operand, with the index of the first of them and the byte of the statement. Where it is a condition there are jumps
--- behind them at what is made of the operand, which are all taken to one label: where the condition holds, or else where it doesn't.
+-- behind them at what is made of the operand, which are all taken to one label: where the condition holds, or else where it doesn't. The
+-- commands of a simple statement also have the label of the handler of the block around it, where there is one; whether it may throw is
+-- whether they assign the variable of thrown values there.
 pub record Codes (E S : Type 0) : Type 0 where
   pub uses : E → ℕ
   pub front : E → ℕ → ℕ → List PureNumberedCommand
@@ -13,7 +15,8 @@ pub record Codes (E S : Type 0) : Type 0 where
   pub jumps : PureExpr → List PureExpr
   pub where_true : Bool
   pub simple_uses : S → ℕ
-  pub simple_code : ℕ → ℕ → S → List PureNumberedCommand
+  pub may_throw : S → Bool
+  pub simple_code : Option ℕ → ℕ → ℕ → S → List PureNumberedCommand
 
 abbrev pub jumps_to : ℕ → List PureExpr → ℕ → List PureNumberedCommand
 jumps_to at es label = map (λ e. jump at e label) es

@@ -1,6 +1,7 @@
 pub mod Codes
 pub mod Compiled
 pub mod Items
+pub mod Lengths
 pub mod Meaning
 pub mod Names
 pub mod Pure

@@ -4,8 +4,8 @@ use Rattle.std.specs.Prelude.{ℕ, List, codes}
 use Rattle.gil_values.specs.declared.places.Place.{Place}
 use Rattle.gil_values.specs.Pure.{text}
 use Rattle.gil_machine.specs.State.{vanished}
-use Rattle.source_language.specs.Completions.{Situation, Completion, normal, returns, over, then_do, end_of, fails}
-use Rattle.source_statements.specs.Pure.{PureStatement, simple, assert, assume, if_else, while, return, logic, PureBlock, no_statements, statement_and}
+use Rattle.source_language.specs.Completions.{Situation, Completion, normal, returns, over, then_do, handled_by, end_of, sets, fails}
+use Rattle.source_statements.specs.Pure.{PureStatement, simple, assert, assume, if_else, while, return, logic, try_catch, PureBlock, no_statements, statement_and}
 use Rattle.source_statements.specs.Tests.{Test, turns}
 use Rattle.source_statements.specs.Values.{Continuation}
 
@@ -26,6 +26,7 @@ module _ {E S : Type 0} (k : Meanings E S) (loops : ℕ) where
     statement (while e invariant body) here s = turns loops (k.test e here) (block here.proc body) s
     statement (return e) here s = k.value e here s (λ v t. returns v t)
     statement (logic c) here s = normal s
+    statement (try_catch body y handler) here s = handled_by (block here.proc body s) (λ v t. block here.proc handler (sets y v t))
 
     -- what the statements of a block in the function f come to
     pub block : List ℕ → PureBlock E S → Situation → Completion

@@ -11,6 +11,7 @@ mutual
     while : E → Option PureInvariant → PureBlock E S → PureStatement E S
     return : E → PureStatement E S
     logic : PureLogic → PureStatement E S
+    try_catch : PureBlock E S → List ℕ → PureBlock E S → PureStatement E S
 
   -- statements in order, each with the byte at which it begins
   pub data PureBlock (E S : Type 0) : Type 0 where

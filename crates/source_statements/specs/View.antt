@@ -1,7 +1,7 @@
 -- The pure data of statements, where that of expressions is seen by e and that of simple statements by s.
 use Rattle.std.specs.Prelude.{List}
 use Rattle.source_language.specs.View.{logic_view, invariants_view}
-use Rattle.source_statements.specs.Pure.{PureStatement, simple, assert, assume, if_else, while, return, logic, PureBlock, PurePlacedStatement, from_placed}
+use Rattle.source_statements.specs.Pure.{PureStatement, simple, assert, assume, if_else, while, return, logic, try_catch, PureBlock, PurePlacedStatement, from_placed}
 use Rattle.source_statements.specs.declared.tree.Statement.{Statement, fold-Statement}
 use Rattle.source_statements.specs.declared.tree.Block.{Block, fold-Block}
 use Rattle.source_statements.specs.declared.tree.PlacedStatement.{PlacedStatement, fold-PlacedStatement}
@@ -17,6 +17,7 @@ module _ {E S PE PS : Type 0} (e : E → PE) (s : S → PS) where
   statement_step (Statement-F.While x invariant body) = while (e x) (invariants_view invariant) (from_placed body)
   statement_step (Statement-F.Return x) = return (e x)
   statement_step (Statement-F.Logic c) = logic (logic_view c)
+  statement_step (Statement-F.Try body name handler) = try_catch (from_placed body) name (from_placed handler)
 
   abbrev pub placed_step : PlacedStatement-F E S (PureStatement PE PS) (List (PurePlacedStatement PE PS)) (PurePlacedStatement PE PS) → PurePlacedStatement PE PS
   placed_step p = record { at = p.at; statement = p.statement }

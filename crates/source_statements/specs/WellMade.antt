@@ -5,7 +5,7 @@ use Rattle.gil_syntax.specs.Pure.{loop_invariant}
 use Rattle.gil_syntax.specs.WellMade.{is_program_name, is_well_made_command}
 use Rattle.source_language.specs.Compiled.{logic_command}
 use Rattle.source_language.specs.Pure.{PureFunction, PureLogic, PureInvariant}
-use Rattle.source_statements.specs.Pure.{PureStatement, simple, assert, assume, if_else, while, return, logic, PureBlock, no_statements, statement_and}
+use Rattle.source_statements.specs.Pure.{PureStatement, simple, assert, assume, if_else, while, return, logic, try_catch, PureBlock, no_statements, statement_and}
 
 abbrev pub is_well_made_logic : PureLogic → Bool
 is_well_made_logic l = is_well_made_command (logic_command l)
@@ -24,6 +24,7 @@ module _ {E S : Type 0} (is_well_made_expression : E → Bool) (is_well_made_sim
     is_well_made_statement (while e invariant body) = is_well_made_expression e && (is_well_made_invariant invariant && is_well_made_block body)
     is_well_made_statement (return e) = is_well_made_expression e
     is_well_made_statement (logic l) = is_well_made_logic l
+    is_well_made_statement (try_catch body y handler) = is_program_name y && (is_well_made_block body && is_well_made_block handler)
 
     pub is_well_made_block : PureBlock E S → Bool
     is_well_made_block no_statements = true

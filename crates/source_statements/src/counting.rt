@@ -1,4 +1,4 @@
-//! How many temporaries statements use.
+//! Which names statements assign besides those of the source.
 ghost use Rattle.std.specs.Prelude.{◌≡◌, IfOk};
 ghost use Rattle.source_statements.specs.Compiled as compiled;
 ghost use Rattle.source_statements.specs.View.{block_view, statement_view};
@@ -26,6 +26,9 @@ fn statement_temporaries<L: Language>(
         }
         Statement::Return(value) => L::uses(value),
         Statement::Logic(_) => Ok(0),
+        Statement::Try(body, _, handler) => {
+            Ok(block_temporaries::<L>(body)?.max(block_temporaries::<L>(handler)?))
+        }
     }
 }
 

@@ -59,12 +59,17 @@ pub trait Language {
     fn simple_uses(simple: &Self::Simple) -> Result<usize, AllocError>
         ensures { IfOk result (λ n. n ≡ codes.simple_uses (simple_view simple.now)) };
 
-    /// The commands of a simple statement, from a label on.
+    /// Whether a simple statement may throw: where throws are handled, its commands assign the variable of thrown values.
+    fn may_throw(simple: &Self::Simple) -> bool
+        ensures { result ≡ codes.may_throw (simple_view simple.now) };
+
+    /// The commands of a simple statement, from a label on, where throws are handled at another label or leave the procedure.
     fn simple_code(
         alloc: Global,
+        handler: Option<usize>,
         label: usize,
         at: u32,
         simple: &Self::Simple,
     ) -> Result<Body, AllocError>
-        ensures { IfOk result (λ code. code_view code ≡ codes.simple_code label at (simple_view simple.now)) };
+        ensures { IfOk result (λ code. code_view code ≡ codes.simple_code handler label at (simple_view simple.now)) };
 }

@@ -6,8 +6,10 @@
 mod control;
 mod counting;
 mod language;
+mod lengths;
 mod programs;
 mod statements;
+mod throwing;
 mod tree;
 
 pub use language::{Front, Language};

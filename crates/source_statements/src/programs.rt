@@ -10,14 +10,15 @@ ghost use Rattle.source_statements.specs.View.{block_view};
 use crate::counting::block_temporaries;
 use crate::language::Language;
 use crate::statements::block_code;
+use crate::throwing::block_tries;
 use crate::tree::Block;
 use gil_syntax::{Body, Command, Parts, Proc, Procs};
 use sequence::Sequence;
-use source_language::{Function, SourceParts, TooMany, append, first_long, null, nulls, put};
+use source_language::{Function, SourceParts, TooMany, append, first_long, null, nulls, own_names, put};
 use std::alloc::{AllocError, Global};
 use syntax_copy::{copy_preds, copy_specs, copy_texts};
 
-/// The commands of a function: its temporaries begin with Null, and at its end it returns Null.
+/// The commands of a function: the names that are none of the source begin with Null, and at its end it returns Null.
 fn body_code<L: Language>(
     alloc: Global,
     function: &Function<Block<L::Expression, L::Simple>>,
@@ -27,8 +28,12 @@ fn body_code<L: Language>(
         ≡ (compiled.compiled_function L.codes (function_view (block_view L.expression_view L.simple_view) function.now)).body) }
 {
     let count = block_temporaries::<L>(&function.body)?;
-    let mut code = nulls(alloc, function.at, count)?;
-    append(&mut code, block_code::<L>(alloc, count, &function.body)?)?;
+    let names = own_names(alloc, count, block_tries::<L>(&function.body))?;
+    let mut code = nulls(alloc, function.at, &names)?;
+    append(
+        &mut code,
+        block_code::<L>(alloc, None, names.len(), &function.body)?,
+    )?;
     put(&mut code, function.at, Command::Return(null()))?;
     Ok(code)
 }

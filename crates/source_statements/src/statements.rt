@@ -1,22 +1,27 @@
 //! The commands of statements and blocks.
 ghost use Rattle.std.specs.Prelude.{◌≡◌, ◌+◌, ◌++◌, not, [], ◌∷◌, codes as characters, IfOk};
 ghost use Rattle.gil_values.specs.Pure.{text as text_value};
-ghost use Rattle.gil_syntax.specs.Pure.{literal, fail, return};
+ghost use Rattle.gil_syntax.specs.Pure.{literal, name as pure_name, assign, fail, return};
 ghost use Rattle.gil_syntax.specs.View.{command_view};
 ghost use Rattle.source_language.specs.Code.{code_view};
+ghost use Rattle.source_language.specs.Names.{caught as caught_name};
 ghost use Rattle.source_language.specs.Procedures.{placed};
+ghost use Rattle.source_language.specs.View.{invariants_view};
 ghost use Rattle.source_statements.specs.Codes as codes;
 ghost use Rattle.source_statements.specs.Compiled as compiled;
+ghost use Rattle.source_statements.specs.Pure.{try_catch};
 ghost use Rattle.source_statements.specs.View.{block_view, statement_view};
 
 use crate::control::{behind, choice_code, far_label, guarded_code, inside_label};
 use crate::counting::block_temporaries;
+use crate::lengths::block_len;
+use crate::throwing::block_throws;
 use crate::language::{Front, Language};
 use crate::tree::{Block, Statement};
 use gil_syntax::{Body, Command, Expr};
-use gil_values::Value;
+use gil_values::{Text, Value};
 use source_language::{
-    append, code_len, invariant_code, jump, logic_code, one, put, sum, text, truth,
+    Invariant, append, caught, code_len, invariant_code, jump, logic_code, one, own_names, put, sum, text, truth,
 };
 use std::alloc::{AllocError, Global};
 
@@ -69,6 +74,7 @@ fn return_code<L: Language>(
 #[cycle(code)]
 fn choose_code<L: Language>(
     alloc: Global,
+    handler: Option<usize>,
     label: usize,
     at: u32,
     condition: &L::Expression,
@@ -79,8 +85,8 @@ fn choose_code<L: Language>(
         (λ code. code_view code
         ≡ codes.if_code L.codes.where_true label at (L.codes.front (L.expression_view condition.now) label at)
         (L.codes.jumps (L.codes.operand (L.expression_view condition.now)))
-        (λ n. compiled.block_code L.codes n (block_view L.expression_view L.simple_view body.now))
-        (λ n. compiled.block_code L.codes n (block_view L.expression_view L.simple_view other.now))) }
+        (λ n. compiled.block_code L.codes handler n (block_view L.expression_view L.simple_view body.now))
+        (λ n. compiled.block_code L.codes handler n (block_view L.expression_view L.simple_view other.now))) }
 {
     let Front {
         code: front,
@@ -89,20 +95,40 @@ fn choose_code<L: Language>(
     let conditions = L::jumps(alloc, &operand)?;
     let start = behind(label, &front, &conditions)?;
     if L::jumps_where_true() {
-        let near = block_code::<L>(alloc, start, other)?;
-        let far = block_code::<L>(alloc, far_label(label, &front, &conditions, &near)?, body)?;
+        let near = block_code::<L>(alloc, handler, start, other)?;
+        let far = block_code::<L>(alloc, handler, far_label(label, &front, &conditions, &near)?, body)?;
         choice_code(label, at, front, conditions, near, far)
     } else {
-        let near = block_code::<L>(alloc, start, body)?;
-        let far = block_code::<L>(alloc, far_label(label, &front, &conditions, &near)?, other)?;
+        let near = block_code::<L>(alloc, handler, start, body)?;
+        let far = block_code::<L>(alloc, handler, far_label(label, &front, &conditions, &near)?, other)?;
         choice_code(label, at, front, conditions, near, far)
     }
+}
+
+/// The invariant of a loop, with the names that its test and its body assign besides those of the source.
+fn head_code<L: Language>(
+    alloc: Global,
+    handler: Option<usize>,
+    at: u32,
+    condition: &L::Expression,
+    invariant: &Option<Invariant>,
+    body: &Block<L::Expression, L::Simple>,
+) -> Result<Body, AllocError>
+    ensures { IfOk result
+        (λ code. code_view code
+        ≡ compiled.head_code L.codes handler at (L.expression_view condition.now) (invariants_view invariant.now)
+        (block_view L.expression_view L.simple_view body.now)) }
+{
+    let most = L::uses(condition)?.max(block_temporaries::<L>(body)?);
+    let names = own_names(alloc, most, block_throws::<L>(handler.is_some(), body))?;
+    invariant_code(alloc, at, names, invariant)
 }
 
 /// The test of a loop at a label, its body, and the jump back.
 #[cycle(code)]
 fn loop_code<L: Language>(
     alloc: Global,
+    handler: Option<usize>,
     back: usize,
     at: u32,
     label: usize,
@@ -112,7 +138,7 @@ fn loop_code<L: Language>(
     ensures { IfOk result
         (λ code. code_view code
         ≡ compiled.loop_code L.codes back at label (L.expression_view condition.now)
-        (λ n. compiled.block_code L.codes n (block_view L.expression_view L.simple_view body.now))) }
+        (λ n. compiled.block_code L.codes handler n (block_view L.expression_view L.simple_view body.now))) }
 {
     let Front {
         code: front,
@@ -121,24 +147,74 @@ fn loop_code<L: Language>(
     let conditions = L::jumps(alloc, &operand)?;
     let into = L::jumps_where_true();
     let start = inside_label(into, label, &front, &conditions)?;
-    let mut inside = block_code::<L>(alloc, start, body)?;
+    let mut inside = block_code::<L>(alloc, handler, start, body)?;
     jump(&mut inside, at, truth(), back)?;
     guarded_code(into, label, at, front, conditions, inside)
+}
+
+/// The commands of a handler, at a label: the variable gets what was thrown.
+#[cycle(code)]
+fn catch_code<L: Language>(
+    alloc: Global,
+    handler: Option<usize>,
+    label: usize,
+    at: u32,
+    name: &Text,
+    catch: &Block<L::Expression, L::Simple>,
+) -> Result<Body, AllocError>
+    ensures { IfOk result
+        (λ code. code_view code
+        ≡ placed at (assign name.now (pure_name caught_name))
+        ∷ compiled.block_code L.codes handler (label + 1) (block_view L.expression_view L.simple_view catch.now)) }
+{
+    let value = Expr::Name(caught(alloc)?);
+    let mut code = one(alloc, at, Command::Assign(name.copy(alloc)?, value))?;
+    append(
+        &mut code,
+        block_code::<L>(alloc, handler, sum(label, 1)?, catch)?,
+    )?;
+    Ok(code)
+}
+
+/// A block at a label whose throws are handled, and the handler behind it.
+#[cycle(code)]
+fn try_code<L: Language>(
+    alloc: Global,
+    handler: Option<usize>,
+    label: usize,
+    at: u32,
+    body: &Block<L::Expression, L::Simple>,
+    name: &Text,
+    catch: &Block<L::Expression, L::Simple>,
+) -> Result<Body, AllocError>
+    ensures { IfOk result
+        (λ code. code_view code
+        ≡ compiled.statement_code L.codes handler label at
+        (try_catch (block_view L.expression_view L.simple_view body.now) name.now (block_view L.expression_view L.simple_view catch.now))) }
+{
+    let start = sum(sum(label, block_len::<L>(alloc, body)?)?, 1)?;
+    let handling = catch_code::<L>(alloc, handler, start, at, name, catch)?;
+    let end = sum(start, code_len(&handling))?;
+    let mut code = block_code::<L>(alloc, Some(start), label, body)?;
+    jump(&mut code, at, truth(), end)?;
+    append(&mut code, handling)?;
+    Ok(code)
 }
 
 /// The commands of a statement, at a label.
 #[cycle(code)]
 fn statement_code<L: Language>(
     alloc: Global,
+    handler: Option<usize>,
     label: usize,
     at: u32,
     statement: &Statement<L::Expression, L::Simple>,
 ) -> Result<Body, AllocError>
     ensures { IfOk result
-        (λ code. code_view code ≡ compiled.statement_code L.codes label at (statement_view L.expression_view L.simple_view statement.now)) }
+        (λ code. code_view code ≡ compiled.statement_code L.codes handler label at (statement_view L.expression_view L.simple_view statement.now)) }
 {
     match statement {
-        Statement::Simple(simple) => L::simple_code(alloc, label, at, simple),
+        Statement::Simple(simple) => L::simple_code(alloc, handler, label, at, simple),
         Statement::Assert(condition) => {
             check_code::<L>(alloc, label, at, condition, assertion_fails(alloc)?)
         }
@@ -146,20 +222,22 @@ fn statement_code<L: Language>(
             check_code::<L>(alloc, label, at, condition, Command::Vanish)
         }
         Statement::If(condition, body, other) => {
-            choose_code::<L>(alloc, label, at, condition, body, other)
+            choose_code::<L>(alloc, handler, label, at, condition, body, other)
         }
         Statement::While(condition, invariant, body) => {
-            let most = L::uses(condition)?.max(block_temporaries::<L>(body)?);
-            let mut code = invariant_code(alloc, at, most, invariant)?;
+            let mut code = head_code::<L>(alloc, handler, at, condition, invariant, body)?;
             let start = sum(label, code_len(&code))?;
             append(
                 &mut code,
-                loop_code::<L>(alloc, label, at, start, condition, body)?,
+                loop_code::<L>(alloc, handler, label, at, start, condition, body)?,
             )?;
             Ok(code)
         }
         Statement::Return(value) => return_code::<L>(alloc, label, at, value),
         Statement::Logic(logic) => logic_code(alloc, at, logic),
+        Statement::Try(body, name, catch) => {
+            try_code::<L>(alloc, handler, label, at, body, name, catch)
+        }
     }
 }
 
@@ -167,16 +245,17 @@ fn statement_code<L: Language>(
 #[cycle(code)]
 pub(crate) fn block_code<L: Language>(
     alloc: Global,
+    handler: Option<usize>,
     label: usize,
     block: &Block<L::Expression, L::Simple>,
 ) -> Result<Body, AllocError>
     ensures { IfOk result
-        (λ code. code_view code ≡ compiled.block_code L.codes label (block_view L.expression_view L.simple_view block.now)) }
+        (λ code. code_view code ≡ compiled.block_code L.codes handler label (block_view L.expression_view L.simple_view block.now)) }
 {
     let mut code = Body::new(alloc);
     for placed in block.as_slice() {
         let start = sum(label, code_len(&code))?;
-        let more = statement_code::<L>(alloc, start, placed.at, &placed.statement)?;
+        let more = statement_code::<L>(alloc, handler, start, placed.at, &placed.statement)?;
         append(&mut code, more)?;
     }
     Ok(code)

@@ -2,6 +2,7 @@
 ghost use Rattle.std.specs.Prelude.{◌≡◌, [], ◌∷◌, ◌++◌, OnOk, OnErr};
 ghost use Rattle.source_statements.specs.Items.{statements};
 
+use gil_values::Text;
 use source_language::{Invariant, Logic};
 use std::alloc::{AllocError, Global};
 
@@ -18,6 +19,8 @@ pub enum Statement<E: Drop, S: Drop> {
     While(E, Option<Invariant>, Block<E, S>),
     Return(E),
     Logic(Logic),
+    /// The first block, and where a value is thrown in it, the second with the value in the variable.
+    Try(Block<E, S>, Text, Block<E, S>),
 }
 
 /// A statement, and the byte at which it begins.
