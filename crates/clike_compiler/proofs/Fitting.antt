@@ -1,6 +1,7 @@
 -- The labels of compiled C-like statements are within their procedures, so a compiled program is valid, but for the number of its commands,
 -- where its source is.
-use Rattle.std.proofs.Common.{◌≡◌, ℕ, ◌+◌, ◌≤◌, List, [], ◌∷◌, ◌++◌, None, length, refl, arith, length-append}
+use Rattle.std.proofs.Common.{◌≡◌, ℕ, ◌+◌, ◌≤◌, List, [], ◌∷◌, ◌++◌, true, None, length, refl, sym, true≢false, arith, length-append}
+use Rattle.std.specs.List.{list_all}
 use Rattle.std.specs.Prelude.{codes}
 use Rattle.gil_values.specs.declared.kinds.Kind.TheVariants.{Int}
 use Rattle.gil_values.specs.declared.operators.BinOp.TheVariants.{Equal}
@@ -12,6 +13,7 @@ use Rattle.gil_program.specs.Uncounted.{IsValidButLength}
 use Rattle.source_language.specs.Names.{temporary}
 use Rattle.source_language.specs.Procedures.{null, placed}
 use Rattle.source_language.proofs.Labels.{Fits, fits_append, fits_jump}
+use Rattle.source_operators.specs.Names.{is_source_expression}
 use Rattle.source_operators.specs.Codes.{result, code, all_uses, results, all_code}
 use Rattle.source_operators.proofs.Fitting.{operand_fits, operands_fit}
 use Rattle.source_statements.proofs.Fitting as statements
@@ -19,6 +21,7 @@ use Rattle.source_statements.proofs.Fitting.{LanguageFits}
 use Rattle.clike_operators.specs.declared.pieces.Beyond.TheVariants.{Vanishes}
 use Rattle.clike_operators.specs.Codes.{codes_of_operators, range_code, cell_code, address_expr}
 use Rattle.clike_operators.proofs.Fitting.{operators_fit, range_fits, cell_fits}
+use Rattle.clike_lang.specs.Names.{is_source_simple, is_source_function}
 use Rattle.clike_lang.specs.Pure as clike
 use Rattle.clike_lang.specs.Pure.{PureSimple, PureSource}
 use Rattle.clike_compiler.specs.Compiled.{clike_codes, compiled, expression_uses, target, first_code, free_code, store_code, simple_code}
@@ -87,18 +90,19 @@ simple-fits (clike.store a b c) n pc at le =
     long : length (first ++ (second ++ (third ++ back))) ≡ length first + length second + length third + length back
     long = omega (arith, length-append first (second ++ (third ++ back)), length-append second (third ++ back), length-append third back)
 
-language_fits : LanguageFits clike_codes
+language_fits : LanguageFits clike_codes false
 language_fits = record {
+  lengths = λ tries. absurd (true≢false (sym tries));
   fronts = λ e n pc at le. operand_fits codes_of_operators operators_fit e n pc at 0 le;
-  simples = simple-fits;
+  simples = λ handler handled x n pc at within le. simple-fits x n pc at le;
 }
 
-module _ (source : PureSource) where
+module _ (source : PureSource) (named : list_all (λ f. is_source_function f) source.functions ≡ true) where
   -- no fault of a short program of a source without a fault is named
   pub none_named : IsValidSource source → first_too_long source.functions ≡ None → (kind : InvalidKind) (i : ℕ)
       → IsNamedFault (compiled source) kind i → ⊥
-  none_named valid short = statements.none_named clike_codes language_fits source valid short
+  none_named valid short = statements.none_named clike_codes false is_source_expression is_source_simple language_fits source named valid short
 
   -- a source without a fault has a program without one, but for the number of commands
   pub program_is_valid : IsValidSource source → IsValidButLength (compiled source)
-  program_is_valid valid = statements.program_is_valid clike_codes language_fits source valid
+  program_is_valid valid = statements.program_is_valid clike_codes false is_source_expression is_source_simple language_fits source named valid

@@ -1,5 +1,5 @@
 -- The commands of C-like expressions and simple statements do what these mean.
-use Rattle.std.proofs.Common.{◌≡◌, ℕ, ◌+◌, ◌-◌, List, [], ◌∷◌, ◌++◌, true, Option, Some, None, Ok, length, slice_get, refl, sym, ap, subst, ◌∙◌, arith, length-append}
+use Rattle.std.proofs.Common.{◌≡◌, ℕ, ◌+◌, ◌-◌, List, [], ◌∷◌, ◌++◌, true, false, Option, Some, None, Ok, length, slice_get, refl, sym, ap, subst, true≢false, ◌∙◌, arith, length-append}
 use Rattle.std.specs.Prelude.{codes, ◌&&◌}
 use Rattle.std.specs.List.{list_all}
 use Rattle.std.specs.Option.{option_map}
@@ -18,7 +18,7 @@ use Rattle.source_language.specs.Names.{is_source_name, temporary, IsExtendedBy}
 use Rattle.source_language.specs.Procedures.{placed}
 use Rattle.source_language.specs.Pure.{find_function}
 use Rattle.source_language.proofs.Ends.{CallsFollow}
-use Rattle.source_language.proofs.Following.{state_at, Here, Runs, at_place, value_matches, steps, matched, values_run, stays}
+use Rattle.source_language.proofs.Following.{state_at, Here, Catcher, Runs, at_place, value_matches, steps, matched, values_run, stays}
 use Rattle.source_language.proofs.Stores.{bound_value, extended_both, extended_more}
 use Rattle.source_language.proofs.Stretches.{HasAt, has_front, has_back}
 use Rattle.source_operators.specs.Codes.{uses, result, code, all_uses, results, all_code}
@@ -26,7 +26,8 @@ use Rattle.source_operators.specs.Names.{is_source_expression}
 use Rattle.source_operators.specs.Operands.{read, read_all}
 use Rattle.source_operators.proofs.Leaving.{OperatorsRun, keeps_itself, stands_for, stands_on, all_stand_for, operand_leaves, operands_leave}
 use Rattle.source_operators.proofs.Steps.{at_label}
-use Rattle.source_statements.proofs.Following.{LanguageRuns}
+use Rattle.source_statements.proofs.Ends.{keeps_head}
+use Rattle.source_statements.proofs.Following.{catcher_of, IsHandled, LanguageRuns}
 use Rattle.source_statements.proofs.Values.{draw_runs, call_runs}
 use Rattle.clike_operators.specs.declared.pieces.Beyond.TheVariants.{Vanishes}
 use Rattle.clike_operators.specs.Codes.{codes_of_operators, range_code}
@@ -43,7 +44,7 @@ module _ (p : PureParts) (m : Actions) (takes : TakesForBlocks m) (inputs : List
     (programs : (g : List ℕ) → find_proc p.procs g ≡ option_map compiled_function (find_function functions g)) (least : ℕ)
     (calls_follow : CallsFollow p m inputs functions calls (least - 1)) (f : List ℕ) (q : PureProc) (found : find_proc p.procs f ≡ Some q)
     (callers : List Frame)
-    (operators : (some end : ℕ) → OperatorsRun p m inputs f q callers None some end (meanings m) codes_of_operators) where
+    (operators : (catcher : Catcher) (some end : ℕ) → OperatorsRun p m inputs f q callers catcher some end (meanings m) codes_of_operators) where
   -- behind one more command
   behind_one : (pc : ℕ) (front : List PureNumberedCommand) (c : PureNumberedCommand) → pc + length front + 1 ≡ pc + length (front ++ c ∷ [])
   behind_one pc front c = omega (arith, length-append front (c ∷ []))
@@ -74,7 +75,7 @@ module _ (p : PureParts) (m : Actions) (takes : TakesForBlocks m) (inputs : List
       → Runs (run p m inputs) None least f callers (pc + length (simple_code pc at c)) (state_at f pc callers store s)
       (simple functions m inputs calls c (Here f at) s)
   simple_runs (assign x e) pc at store s ext names has =
-      operand_leaves p m inputs f q callers None least end (meanings m) codes_of_operators (operators least end) e pc at 0
+      operand_leaves p m inputs f q callers None least end (meanings m) codes_of_operators (operators None least end) e pc at 0
       (and_parts (is_source_name x) (is_source_expression e) names).1 (has_front q.body pc front _ has) store s _ ext
       (λ a more t ext' keeps stands. assigns (pc + length front) end at x (result codes_of_operators e 0) (read a t.store) more t
       (behind_one pc front last) ext' (stands_for a (result codes_of_operators e 0) (0 + uses codes_of_operators e) t.store more ext' stands)
@@ -89,7 +90,7 @@ module _ (p : PureParts) (m : Actions) (takes : TakesForBlocks m) (inputs : List
       end : ℕ
       end = pc + length (front ++ last ∷ [])
   simple_runs (input x) pc at store s ext names has =
-      draw_runs p m inputs f q found callers least end pc at (temporary 0) Int store s go has.0
+      draw_runs p m inputs f q found callers None least end pc at (temporary 0) Int store s go has.0
       (λ v. range_runs p m inputs f q found callers None least end (pc + 1) at (name (temporary 0)) v Vanishes (bind (temporary 0) v store) then
       (λ w u. normal (sets x w u)) (ap set_or_fault (bound_value (temporary 0) v store)) (has_front q.body (pc + 1) range last has.1)
       (at_label p m inputs f q found callers None least end (pc + 1 + length range) (pc + 1 + 4) (bind (temporary 0) v store) then
@@ -115,7 +116,7 @@ module _ (p : PureParts) (m : Actions) (takes : TakesForBlocks m) (inputs : List
       ends : pc + 1 + length range + 1 ≡ end
       ends = omega (arith, length-append range last)
   simple_runs (malloc x e) pc at store s ext names has =
-      operand_leaves p m inputs f q callers None least end (meanings m) codes_of_operators (operators least end) e pc at 0
+      operand_leaves p m inputs f q callers None least end (meanings m) codes_of_operators (operators None least end) e pc at 0
       (and_parts (is_source_name x) (is_source_expression e) names).1 (has_front q.body pc front _ has) store s _ ext
       (λ a more t ext' keeps stands. alloc_runs p m takes inputs f q found callers least end (pc + length front) at (0 + uses codes_of_operators e) x a
       (result codes_of_operators e 0) more t (λ l u. normal (sets x l u)) ext' stands (has_back q.body pc front _ has).0
@@ -131,7 +132,7 @@ module _ (p : PureParts) (m : Actions) (takes : TakesForBlocks m) (inputs : List
       end : ℕ
       end = pc + length (front ++ last ∷ [])
   simple_runs (call x g es) pc at store s ext names has =
-      operands_leave p m inputs f q callers None least end (meanings m) codes_of_operators (operators least end) es pc at 0
+      operands_leave p m inputs f q callers None least end (meanings m) codes_of_operators (operators None least end) es pc at 0
       (and_parts (is_source_target x) (list_all is_source_expression es) names).1 (has_front q.body pc front _ has) store s _ ext
       (λ all more t ext' keeps stand.
       values_run p m inputs f q found callers None least n end more t (Here f at) (read_all all t.store) _ _
@@ -139,8 +140,8 @@ module _ (p : PureParts) (m : Actions) (takes : TakesForBlocks m) (inputs : List
       ∙ ap (λ o. machine.with_values o (Here f at) (state_at f n callers more t)
       (λ args. machine.enter_found (find_proc p.procs g) to None args (Here f at) (state_at f n callers more t)))
       (all_stand_for all (results codes_of_operators es 0) (0 + all_uses codes_of_operators es) t.store more ext' stand))
-      (λ args is. call_runs compiled_function (λ h. refl) (λ h. refl) p m inputs functions calls least calls_follow f q found callers end n at to g
-      (find_function functions g) args more t (gets x) refl ext'
+      (λ args is. call_runs compiled_function (keeps_head clike_codes) p m inputs functions calls least calls_follow f q found callers None end n at to g
+      (find_function functions g) args more t (gets x) refl ext' tt
       (is ∙ ap (λ o. machine.enter_found o to None args (Here f at) (state_at f n callers more t)) (programs g))
       (λ v u. got (n + 1) end (all_uses codes_of_operators es) x v more t u (behind_one pc front last) ext')))
     where
@@ -159,7 +160,7 @@ module _ (p : PureParts) (m : Actions) (takes : TakesForBlocks m) (inputs : List
       end : ℕ
       end = pc + length (front ++ last ∷ [])
   simple_runs (free e) pc at store s ext names has =
-      operand_leaves p m inputs f q callers None least end (meanings m) codes_of_operators (operators least end) e pc at 0
+      operand_leaves p m inputs f q callers None least end (meanings m) codes_of_operators (operators None least end) e pc at 0
       names (has_front q.body pc front _ has) store s _ ext
       (λ a more t ext' keeps stands. free_runs p m takes inputs f q found callers least end (pc + length front) at (uses codes_of_operators e) a
       (result codes_of_operators e 0) more t (omega (arith, length-append front back)) ext'
@@ -175,13 +176,13 @@ module _ (p : PureParts) (m : Actions) (takes : TakesForBlocks m) (inputs : List
       end : ℕ
       end = pc + length (front ++ back)
   simple_runs (store_in a b c) pc at store s ext names has =
-      operand_leaves p m inputs f q callers None least end (meanings m) codes_of_operators (operators least end) a pc at 0 parts.0
+      operand_leaves p m inputs f q callers None least end (meanings m) codes_of_operators (operators None least end) a pc at 0 parts.0
       (has_front q.body pc first _ has) store s _ ext
       (λ x more t ext1 keeps1 stands1.
-      operand_leaves p m inputs f q callers None least end (meanings m) codes_of_operators (operators least end) b pc1 at i1 sides.0
+      operand_leaves p m inputs f q callers None least end (meanings m) codes_of_operators (operators None least end) b pc1 at i1 sides.0
       (has_front q.body pc1 second _ has1) more t _ ext1
       (λ y over u ext2 keeps2 stands2.
-      operand_leaves p m inputs f q callers None least end (meanings m) codes_of_operators (operators least end) c pc2 at i2 sides.1
+      operand_leaves p m inputs f q callers None least end (meanings m) codes_of_operators (operators None least end) c pc2 at i2 sides.1
       (has_front q.body pc2 third _ has2) over u _ ext2
       (λ z last r ext3 keeps3 stands3.
       store_runs p m takes inputs f q found callers least end pc3 at i3 x y z (result codes_of_operators a 0) (result codes_of_operators b i1)
@@ -241,16 +242,25 @@ module _ (p : PureParts) (m : Actions) (takes : TakesForBlocks m) (inputs : List
       ends : pc3 + length back ≡ end
       ends = omega (arith, length-append first (second ++ (third ++ back)), length-append second (third ++ back), length-append third back)
 
-  pub language_runs : LanguageRuns p m inputs f q found callers least (clike_meanings functions m inputs calls) clike_codes is_source_expression is_source_simple
+  -- no statement has a handler around it
+  of_handler : (h : Option ℕ) → IsHandled false h → (c : PureSimple) (pc at : ℕ) (store : Store) (s : Situation) → IsExtendedBy s.store store
+      → is_source_simple c ≡ true → HasAt q.body pc (simple_code pc at c)
+      → Runs (run p m inputs) (catcher_of h) least f callers (pc + length (simple_code pc at c)) (state_at f pc callers store s)
+      (simple functions m inputs calls c (Here f at) s)
+  of_handler (Some label) handled c pc at store s ext names has = absurd (true≢false (sym handled))
+  of_handler None handled c pc at store s ext names has = simple_runs c pc at store s ext names has
+
+  pub language_runs : LanguageRuns p m inputs f q found callers least (clike_meanings functions m inputs calls) clike_codes false is_source_expression is_source_simple
   language_runs = record {
-    tests = λ some end le e pc at names label has_front has_jumps store s holds fails ext on off.
-        operand_leaves p m inputs f q callers None some end (meanings m) codes_of_operators (operators some end) e pc at 0 names has_front store s _ ext
+    lengths = λ tries. absurd (true≢false (sym tries));
+    tests = λ catcher some end le e pc at names label has_front has_jumps store s holds fails ext on off.
+        operand_leaves p m inputs f q callers catcher some end (meanings m) codes_of_operators (operators catcher some end) e pc at 0 names has_front store s _ ext
         (λ a more t ext' keeps stands.
-        tested_runs p m inputs f q found callers None some end (pc + length (first_code pc at e)) at (0 + uses codes_of_operators e) label a
+        tested_runs p m inputs f q found callers catcher some end (pc + length (first_code pc at e)) at (0 + uses codes_of_operators e) label a
         (result codes_of_operators e 0) more t (fails t) (holds t) ext' stands has_jumps (off more t ext') (on more t ext'));
-    values = λ end e pc at names has_front store s go ext next.
-        operand_leaves p m inputs f q callers None least end (meanings m) codes_of_operators (operators least end) e pc at 0 names has_front store s _ ext
+    values = λ catcher end e pc at names has_front store s go ext next.
+        operand_leaves p m inputs f q callers catcher least end (meanings m) codes_of_operators (operators catcher least end) e pc at 0 names has_front store s _ ext
         (λ a more t ext' keeps stands.
         next (read a t.store) more t ext' (stands_for a (result codes_of_operators e 0) (0 + uses codes_of_operators e) t.store more ext' stands));
-    simples = simple_runs;
+    simples = of_handler;
   }

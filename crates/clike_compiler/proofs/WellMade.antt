@@ -120,7 +120,7 @@ language_makes = record {
   fronts = λ e pc at h. operand_made codes_of_operators operators_made e pc at 0 h;
   operands = λ e h. result_made codes_of_operators operators_made e 0 h;
   jumps = conditions_made;
-  simples = simple-makes;
+  simples = λ x handler pc at h. simple-makes x pc at h;
 }
 
 -- a function of which this holds is compiled to a well made procedure

@@ -81,7 +81,7 @@ module _ (pc at : ℕ) where
   simple_code (clike.store a b c) =
       first_code a ++ indexed_code (pc + length (first_code a)) at (expression_uses a) (result codes_of_operators a 0) b c
 
--- the jumps of a condition are taken where it is false
+-- the jumps of a condition are taken where it is false; no statement has a handler
 abbrev pub clike_codes : Codes PureExpression PureSimple
 clike_codes = record {
   uses = expression_uses;
@@ -90,7 +90,8 @@ clike_codes = record {
   jumps = false_conditions;
   where_true = false;
   simple_uses = simple_uses;
-  simple_code = simple_code;
+  may_throw = λ x. false;
+  simple_code = λ handler pc at x. simple_code pc at x;
 }
 
 abbrev pub compiled_function : PureFunction → PureProc

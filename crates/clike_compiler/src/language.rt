@@ -60,8 +60,13 @@ impl Language for ClikeCodes {
         simple::simple_uses(simple)
     }
 
+    fn may_throw(_simple: &SimpleStatement) -> bool {
+        false
+    }
+
     fn simple_code(
         alloc: Global,
+        _handler: Option<usize>,
         label: usize,
         at: u32,
         simple: &SimpleStatement,

@@ -1,5 +1,5 @@
--- Whether a tree names only what a source text can name: no name has a '$'.
-use Rattle.std.specs.Prelude.{ℕ, List, Bool, true, ◌&&◌, Option, Some, None}
+-- Whether a tree is such as a source text can spell: no name has a '$', and throws are handled nowhere.
+use Rattle.std.specs.Prelude.{ℕ, List, Bool, true, false, ◌&&◌, Option, Some, None}
 use Rattle.std.specs.List.{list_all}
 use Rattle.source_language.specs.Names.{is_source_name}
 use Rattle.source_operators.specs.Names.{is_source_expression}
@@ -19,4 +19,4 @@ is_source_simple (free e) = is_source_expression e
 is_source_simple (store a b c) = is_source_expression a && (is_source_expression b && is_source_expression c)
 
 abbrev pub is_source_function : PureFunction → Bool
-is_source_function f = statements.is_source_function is_source_expression is_source_simple f
+is_source_function f = statements.is_source_function false is_source_expression is_source_simple f

@@ -28,7 +28,7 @@ pub fn caught(alloc: Global) -> Result<Text, AllocError>
 }
 
 /// The first temporaries.
-fn temporaries(alloc: Global, count: usize) -> Result<Texts, AllocError>
+pub fn temporaries(alloc: Global, count: usize) -> Result<Texts, AllocError>
     ensures { IfOk result (λ list. list ≡ temporaries_from 0 count) }
 {
     let mut list = Texts::new(alloc);

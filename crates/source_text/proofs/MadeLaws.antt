@@ -5,7 +5,7 @@ use Rattle.std.proofs.lemmas.Bool.{and_from, and_parts}
 use Rattle.gil_lexemes.specs.declared.standing.Lexeme.{Lexeme}
 use Rattle.gil_syntax.specs.Pure as gil
 use Rattle.gil_syntax.specs.Pure.{PureProc, PureSpec, PurePredDef}
-use Rattle.gil_syntax.specs.WellMade.{is_well_made_proc, is_well_made_spec, is_well_made_pred}
+use Rattle.gil_syntax.specs.WellMade.{is_program_name, is_well_made_proc, is_well_made_spec, is_well_made_pred}
 use Rattle.gil_grammar.specs.Texts.{byte_before}
 use Rattle.gil_grammar.proofs.MadeLaws.{AreProper, Makes, command_makes, spec_makes, pred_makes, tokens_proper}
 use Rattle.source_language.specs.Compiled.{invariant_code, logic_command}
@@ -21,11 +21,11 @@ pub record Spelled (Fact : Type 0) (rest : List Lexeme) : Type 0 where
   pub proper : AreProper rest
 
 pub invariant_makes : (i : Option PureInvariant) (ls rest : List Lexeme) → AreProper ls → SpellsInvariant i ls rest
-    → Spelled ((at written : ℕ) → AreMade (invariant_code at written i)) rest
-invariant_makes None ls rest p is = record { is = λ at written. refl; proper = subst AreProper is p }
+    → Spelled ((at : ℕ) (more : List (List ℕ)) → list_all is_program_name more ≡ true → AreMade (invariant_code at more i)) rest
+invariant_makes None ls rest p is = record { is = λ at more made. refl; proper = subst AreProper is p }
 invariant_makes (Some i) ls rest p h =
     let read = command_makes (gil.loop_invariant i.names i.logicals i.items) ls rest p h in
-    record { is = λ at written. made_invariant at i.names written i.logicals i.items read.is; proper = read.proper }
+    record { is = λ at more made. made_invariant at i.names more i.logicals i.items made read.is; proper = read.proper }
 
 pub logic_makes : (c : PureLogic) (ls rest : List Lexeme) → AreProper ls → SpellsLogic c ls rest → Spelled ((at : ℕ) → AreMade (placed at (logic_command c) ∷ [])) rest
 logic_makes c ls rest p h =

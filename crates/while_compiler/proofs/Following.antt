@@ -14,7 +14,7 @@ use Rattle.gil_machine.specs.State.{Frame, State, Step}
 use Rattle.gil_machine.specs.Step as machine
 use Rattle.gil_machine.specs.Run.{run}
 use Rattle.source_language.specs.Code.{truth, jump}
-use Rattle.source_language.specs.Compiled.{while_code, invariant_code}
+use Rattle.source_language.specs.Compiled.{while_code}
 use Rattle.source_language.specs.Calls.{call_found}
 use Rattle.source_language.specs.Completions.{Situation, Completion, normal, fails, sets, with_value, after_action, draws_input, new_symbol, value_test, after_body, back_in, thrown_in}
 use Rattle.source_language.specs.Names.{is_source_expr, is_source_name, has_source_invariant, temporary, IsExtendedBy}
@@ -27,7 +27,7 @@ use Rattle.source_language.proofs.Following.{state_at, Here, leaves, leads, Runs
 use Rattle.while_lang.specs.Pure.{PureStatement, assign, input, symbol as new_symbol_in, new, lookup, call, mutate, dispose, assert, assume, if_else, while, return, fail, logic, PureBlock, no_statements, statement_and, PureFunction}
 use Rattle.while_lang.specs.Meaning.{Calls, statement, block}
 use Rattle.while_lang.specs.Names.{is_source_statement, is_source_block}
-use Rattle.while_compiler.specs.Compiled.{block_temporaries, statement_code, block_code, compiled_function}
+use Rattle.while_compiler.specs.Compiled.{block_temporaries, head_code, statement_code, block_code, compiled_function}
 use Rattle.while_compiler.proofs.NewRecords.{TakesForNew, new_runs}
 
 -- one value, and a first and a third one with a text between
@@ -185,12 +185,12 @@ module _ (p : PureParts) (m : Actions) (takes : TakesForNew m) (inputs : List Pu
           loop_runs p m inputs f q found callers None least pc at e front code (value_test (λ t. evaluate e t.store) (Here f at))
           (block functions m inputs loops calls f body) has
           (value_tests p m inputs f q found callers None least pc (pc + length front) start (pc + length (while_code pc at e front code)) at e parts.0 at_test.0
-          (λ more t. invariant_leads p m inputs f q found callers None least pc at (block_temporaries body) invariant more t (has_front q.body pc front _ has)))
+          (λ more t. invariant_leads p m inputs f q found callers None least pc at (temporaries_from 0 (block_temporaries body)) invariant more t (has_front q.body pc front _ has)))
           (λ more t ext'. block_runs body start more t ext' (and_parts (has_source_invariant invariant) _ parts.1).1 at_body)
           loops least enough (omega arith) store s ext
         where
           front : List PureNumberedCommand
-          front = invariant_code at (block_temporaries body) invariant
+          front = head_code at invariant body
 
           start : ℕ
           start = pc + length front + 1 + 1

@@ -6,7 +6,7 @@ use Rattle.gil_syntax.specs.declared.validity.InvalidKind.{InvalidKind}
 use Rattle.gil_syntax.specs.Pure.{name, assign, act, list_of, from_list, PureNumberedCommand}
 use Rattle.gil_syntax.specs.Valid.{a_proc, has_bad_label, has_no_end, IsNamedFault}
 use Rattle.gil_program.specs.Uncounted.{IsValidButLength}
-use Rattle.source_language.specs.Compiled.{invariant_code}
+use Rattle.source_language.specs.Names.{temporaries_from}
 use Rattle.source_language.specs.Names.{temporary}
 use Rattle.source_language.specs.Procedures.{placed}
 use Rattle.source_language.proofs.Labels as labels
@@ -15,7 +15,7 @@ use Rattle.source_language.proofs.Validity as validity
 use Rattle.source_language.proofs.Validity.{no_function, short_functions}
 use Rattle.while_lang.specs.Pure as while
 use Rattle.while_lang.specs.Pure.{PureField, PureStatement, PureBlock, no_statements, statement_and, PureFunction, PureSource}
-use Rattle.while_compiler.specs.Compiled.{name_literals, field_values_code, fill_code, statement_code, block_code, block_temporaries, compiled_function, compiled}
+use Rattle.while_compiler.specs.Compiled.{name_literals, field_values_code, fill_code, head_code, statement_code, block_code, block_temporaries, function_names, compiled_function, compiled}
 use Rattle.while_compiler.specs.Valid.{IsValidSource, first_too_long}
 
 fits-values : (n at i : ℕ) (fields : List PureField) → Fits n (field_values_code at i fields)
@@ -54,9 +54,9 @@ mutual
       fits_if n pc at e off (block_code (pc + 1 + length off + 1) body) le (block-fits other n (pc + 1))
       (block-fits body n (pc + 1 + length off + 1))
   statement-fits (while.while e invariant body) n pc at le =
-      let front = invariant_code at (block_temporaries body) invariant in
+      let front = head_code at invariant body in
       fits_while n pc at e front (block_code (pc + length front + 1 + 1) body) le
-      (fits_invariant n at (block_temporaries body) invariant) (block-fits body n (pc + length front + 1 + 1))
+      (fits_invariant n at (temporaries_from 0 (block_temporaries body)) invariant) (block-fits body n (pc + length front + 1 + 1))
   statement-fits (while.return e) n pc at le = refl
   statement-fits (while.fail e) n pc at le = refl
   statement-fits (while.logic c) n pc at le = fits_logic n at c
@@ -73,12 +73,12 @@ mutual
 module _ (source : PureSource) where
   labels_within : list_any has_bad_label (map a_proc (compiled source).procs) ≡ false
   labels_within = no_function compiled_function has_bad_label source.functions
-      (λ f. labels.no_bad_label f.name f.params f.at (block_temporaries f.body) (λ pc. block_code pc f.body)
-      (λ n le. block-fits f.body n (block_temporaries f.body) le))
+      (λ f. labels.no_bad_label f.name f.params f.at (function_names f) (λ pc. block_code pc f.body)
+      (λ n le. block-fits f.body n (length (function_names f)) le))
 
   bodies_end : list_any has_no_end (map a_proc (compiled source).procs) ≡ false
   bodies_end = no_function compiled_function has_no_end source.functions
-      (λ f. labels.has_end f.name f.params f.at (block_temporaries f.body) (λ pc. block_code pc f.body))
+      (λ f. labels.has_end f.name f.params f.at (function_names f) (λ pc. block_code pc f.body))
 
   -- no fault of a short program of a source without a fault is named
   pub none_named : IsValidSource source → first_too_long source.functions ≡ None → (kind : InvalidKind) (i : ℕ)

@@ -1,13 +1,14 @@
 -- The GIL program that a While program is compiled to. The commands of a statement have the byte at which it begins as their
 -- place; labels are indices of the procedure's commands. Temporaries are numbered anew in each statement, in the order in which
 -- they are assigned.
-use Rattle.std.specs.Prelude.{ℕ, suc, ◌+◌, List, [], ◌∷◌, ◌++◌, map, length, codes, max, None}
+use Rattle.std.specs.Prelude.{ℕ, suc, ◌+◌, List, [], ◌∷◌, ◌++◌, map, length, codes, max, Option, None}
 use Rattle.gil_values.specs.Pure.{text, procedure}
 use Rattle.gil_syntax.specs.Pure.{PureExpr, literal, name, list_of, from_list, assign, call, act, usym, isym, return, fail, PureNumberedCommand, PureProc, PureParts}
 use Rattle.source_language.specs.Compiled.{if_code, while_code, assert_code, assume_code, invariant_code, logic_command}
-use Rattle.source_language.specs.Names.{temporary}
+use Rattle.source_language.specs.Names.{temporary, temporaries_from}
 use Rattle.source_language.specs.Procedures as procedures
 use Rattle.source_language.specs.Procedures.{placed}
+use Rattle.source_language.specs.Pure.{PureInvariant}
 use Rattle.while_lang.specs.Pure as while
 use Rattle.while_lang.specs.Pure.{PureField, PureStatement, PureBlock, no_statements, statement_and, PureFunction, PureSource}
 
@@ -59,6 +60,10 @@ new_code at x fields =
 abbrev pub property : List ℕ → PureExpr
 property p = literal (text p)
 
+-- the commands before the test of a loop: its invariant, with the temporaries that its body assigns
+abbrev pub head_code : ℕ → Option PureInvariant → PureBlock → List PureNumberedCommand
+head_code at invariant body = invariant_code at (temporaries_from 0 (block_temporaries body)) invariant
+
 abbrev mutual
   -- the commands of a statement that stand in their procedure from a place on
   pub statement_code : ℕ → ℕ → PureStatement → List PureNumberedCommand
@@ -75,8 +80,7 @@ abbrev mutual
   statement_code pc at (while.if_else e on off) =
       if_code pc at e (block_code (pc + 1) off) (block_code (pc + 1 + length (block_code (pc + 1) off) + 1) on)
   statement_code pc at (while.while e invariant body) =
-      while_code pc at e (invariant_code at (block_temporaries body) invariant)
-      (block_code (pc + length (invariant_code at (block_temporaries body) invariant) + 1 + 1) body)
+      while_code pc at e (head_code at invariant body) (block_code (pc + length (head_code at invariant body) + 1 + 1) body)
   statement_code pc at (while.return e) = placed at (return e) ∷ []
   statement_code pc at (while.fail e) = placed at (fail e) ∷ []
   statement_code pc at (while.logic c) = placed at (logic_command c) ∷ []
@@ -87,14 +91,14 @@ abbrev mutual
 
 -- ---- programs
 
-abbrev pub function_temporaries : PureFunction → ℕ
-function_temporaries f = block_temporaries f.body
+abbrev pub function_names : PureFunction → List (List ℕ)
+function_names f = temporaries_from 0 (block_temporaries f.body)
 
 abbrev pub function_code : PureFunction → ℕ → List PureNumberedCommand
 function_code f pc = block_code pc f.body
 
 abbrev pub compiled_function : PureFunction → PureProc
-compiled_function f = procedures.compiled_function function_temporaries function_code f
+compiled_function f = procedures.compiled_function function_names function_code f
 
 abbrev pub compiled : PureSource → PureParts
 compiled source = record { procs = map compiled_function source.functions; specs = source.specs; preds = source.preds }

@@ -10,7 +10,7 @@ ghost use Rattle.while_compiler.specs.Valid as valid;
 use crate::statements::block_code;
 use crate::temporaries::block_temporaries;
 use gil_syntax::{Body, Command, Parts, Proc, Procs};
-use source_language::{SourceParts, TooMany, append, first_long, null, nulls, put};
+use source_language::{SourceParts, TooMany, append, first_long, null, nulls, put, temporaries};
 use std::alloc::{AllocError, Global};
 use syntax_copy::{copy_preds, copy_specs, copy_texts};
 use while_lang::{Function, Functions};
@@ -20,8 +20,9 @@ fn body_code(alloc: Global, function: &Function) -> Result<Body, AllocError>
     ensures { IfOk result (λ code. code_view code ≡ (compiled.compiled_function (function_view function.now)).body) }
 {
     let count = block_temporaries(&function.body)?;
-    let mut code = nulls(alloc, function.at, count)?;
-    append(&mut code, block_code(alloc, count, &function.body)?)?;
+    let names = temporaries(alloc, count)?;
+    let mut code = nulls(alloc, function.at, &names)?;
+    append(&mut code, block_code(alloc, names.len(), &function.body)?)?;
     put(&mut code, function.at, Command::Return(null()))?;
     Ok(code)
 }

@@ -13,7 +13,7 @@ use crate::temporaries::block_temporaries;
 use gil_syntax::Body;
 use source_language::{
     append, assert_code, assume_code, body_label, code_len, if_code, invariant_code, logic_code,
-    sum, then_label, while_code,
+    sum, temporaries, then_label, while_code,
 };
 use std::alloc::{AllocError, Global};
 use while_lang::{Block, Statement};
@@ -47,7 +47,8 @@ fn statement_code(
             if_code(alloc, label, at, condition, off, on)
         }
         Statement::While(condition, invariant, body) => {
-            let invariant = invariant_code(alloc, at, block_temporaries(body)?, invariant)?;
+            let names = temporaries(alloc, block_temporaries(body)?)?;
+            let invariant = invariant_code(alloc, at, names, invariant)?;
             let body = block_code(alloc, body_label(label, &invariant)?, body)?;
             while_code(alloc, label, at, condition, invariant, body)
         }

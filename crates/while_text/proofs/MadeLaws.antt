@@ -14,16 +14,16 @@ use Rattle.gil_grammar.specs.Commands.{SpellsName}
 use Rattle.gil_grammar.specs.Nesting.{IsNested}
 use Rattle.gil_grammar.specs.Vocabulary.{comma}
 use Rattle.gil_grammar.proofs.MadeLaws.{AreProper, Makes, after, separated_make, program_name, expr_makes, exprs_make, input_makes, name_makes}
-use Rattle.source_language.specs.Compiled.{invariant_code}
+use Rattle.source_language.specs.Names.{temporaries_from}
 use Rattle.source_language.specs.Names.{temporary}
 use Rattle.source_language.specs.Procedures.{placed}
-use Rattle.source_language.proofs.Made.{AreMade, one_expr, made_one, made_append, made_assert, made_assume, made_if, made_while, made_procedure}
+use Rattle.source_language.proofs.Made.{AreMade, one_expr, made_one, made_append, made_assert, made_assume, made_if, made_while, made_temporaries, made_procedure}
 use Rattle.source_text.proofs.MadeLaws.{Spelled, invariant_makes, logic_makes, text_makes}
 use Rattle.while_lang.specs.Pure as while
 use Rattle.while_lang.specs.Pure.{PureField, PureStatement, PureBlock, no_statements, statement_and, PureSource}
 use Rattle.while_grammar.specs.Statements.{SpellsField, SpellsStatement, SpellsElse, SpellsStatements, SpellsFunction}
 use Rattle.while_grammar.specs.Texts.{SpellSource}
-use Rattle.while_compiler.specs.Compiled.{block_temporaries, name_literals, field_values_code, fill_code, new_code, property, statement_code, block_code, compiled_function, compiled}
+use Rattle.while_compiler.specs.Compiled.{block_temporaries, function_names, head_code, name_literals, field_values_code, fill_code, new_code, property, statement_code, block_code, compiled_function, compiled}
 
 -- ---- the commands of a statement
 
@@ -136,9 +136,9 @@ module _ (place : ℕ → ℕ) where
         let second = invariant_makes i behind block first.proper.1 a in
         let third = statements_make body inner _ (after _ block inner opens second.proper) b in
         record {
-          is = λ pc at. made_while pc at e (invariant_code at (block_temporaries body) i)
-              (block_code (pc + length (invariant_code at (block_temporaries body) i) + 1 + 1) body) first.is
-              (second.is at (block_temporaries body)) (third.is (pc + length (invariant_code at (block_temporaries body) i) + 1 + 1));
+          is = λ pc at. made_while pc at e (head_code at i body) (block_code (pc + length (head_code at i body) + 1 + 1) body) first.is
+              (second.is at (temporaries_from 0 (block_temporaries body)) (made_temporaries (block_temporaries body)))
+              (third.is (pc + length (head_code at i body) + 1 + 1));
           proper = third.proper.1;
         }
     statement_makes (while.return e) ls rest p (value, is, h) =
@@ -181,7 +181,8 @@ module _ (place : ℕ → ℕ) where
       let names = separated_make SpellsName is_program_name name_makes comma f.params params _ (subst AreProper is p).1.1.1 a in
       let body = statements_make f.body inner _ (after _ block inner opens names.proper.1) b in
       record {
-        is = made_procedure f.name f.params f.at (block_temporaries f.body) (λ pc. block_code pc f.body) names.is (body.is (block_temporaries f.body));
+        is = made_procedure f.name f.params f.at (function_names f) (λ pc. block_code pc f.body) names.is (made_temporaries (block_temporaries f.body))
+            (body.is (length (function_names f)));
         proper = body.proper.1;
       }
 

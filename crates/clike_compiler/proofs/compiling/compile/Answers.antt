@@ -8,7 +8,7 @@ use Rattle.clike_compiler.proofs.compiling.compile.Goals as goal
 
 pub unreachable-requires : goal.unreachable-requires
 unreachable-requires c =
-    none_named (source_view c.args.source.now) c.args.source.now.valid c.in_ok-parts.ensures.short c.in-Err.invalid.kind
+    none_named (source_view c.args.source.now) c.args.source.now.named c.args.source.now.valid c.in_ok-parts.ensures.short c.in-Err.invalid.kind
     c.in-Err.invalid.item
     (subst (λ p. IsNamedFault p c.in-Err.invalid.kind c.in-Err.invalid.item) c.in_ok-parts.ensures.parts
     (c.in-Err.ensures.invalid c.in_default.not-Memory))
