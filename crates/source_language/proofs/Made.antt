@@ -1,7 +1,7 @@
 -- Well made commands: those of invariants and procedures in every source language, and those of choices, loops, assertions and
 -- assumptions in languages whose conditions are booleans, from the expressions and names in them. The names of temporaries begin with no
 -- `#`.
-use Rattle.std.proofs.Common.{◌≡◌, ℕ, zero, suc, ◌+◌, pos, Bool, true, false, cond, ◌&&◌, List, [], ◌∷◌, ◌++◌, length, refl, ◌∙◌}
+use Rattle.std.proofs.Common.{◌≡◌, ℕ, zero, suc, ◌+◌, pos, Bool, true, false, ◌&&◌, List, [], ◌∷◌, ◌++◌, length, refl, ◌∙◌}
 use Rattle.std.specs.List.{list_all}
 use Rattle.std.proofs.lemmas.Bool.{and_from, and_parts}
 use Rattle.std.proofs.lemmas.List.Folds.{list_all-append}
@@ -38,12 +38,8 @@ pub made_temporaries : (n : ℕ) → list_all is_program_name (temporaries_from 
 made_temporaries n = made_from 0 n
 
 pub made_own : (n : ℕ) (catches : Bool) → list_all is_program_name (own_names n catches) ≡ true
-made_own n catches = list_all-append is_program_name (temporaries_from 0 n) (cond catches (caught ∷ []) [])
-    ∙ and_from _ _ (made_from 0 n) (of catches)
-  where
-    of : (b : Bool) → list_all is_program_name (cond b (caught ∷ []) []) ≡ true
-    of true = refl
-    of false = refl
+made_own n true = list_all-append is_program_name (temporaries_from 0 n) (caught ∷ []) ∙ and_from _ _ (made_from 0 n) refl
+made_own n false = made_from 0 n
 
 made_nulls : (at : ℕ) (xs : List (List ℕ)) → list_all is_program_name xs ≡ true → AreMade (nulls at xs)
 made_nulls at [] h = refl

@@ -1,5 +1,5 @@
 -- The names of temporaries, and the others that only compiled programs have.
-use Rattle.std.proofs.Common.{◌≡◌, ℕ, zero, suc, ◌+◌, List, [], ◌∷◌, ◌++◌, map, length, Bool, true, false, cond, refl, ap, ◌∙◌, inl, arith}
+use Rattle.std.proofs.Common.{◌≡◌, ℕ, zero, suc, ◌+◌, List, [], ◌∷◌, ◌++◌, map, length, Bool, true, false, refl, ap, ◌∙◌, inl, arith}
 use Rattle.std.specs.Prelude.{◌||◌}
 use Rattle.std.specs.List.{list_any}
 use Rattle.std.proofs.lemmas.List.Folds.{list_any-append}
@@ -56,9 +56,5 @@ temporaries_aside i zero = refl
 temporaries_aside i (suc n) = temporaries_aside (i + 1) n
 
 pub own_aside : (n : ℕ) (catches : Bool) → AreAside (own_names n catches)
-own_aside n catches = list_any-append is_source_name (temporaries_from 0 n) (cond catches (caught ∷ []) [])
-    ∙ (λ k. temporaries_aside 0 n k || of catches k)
-  where
-    of : (b : Bool) → AreAside (cond b (caught ∷ []) [])
-    of true = refl
-    of false = refl
+own_aside n true = list_any-append is_source_name (temporaries_from 0 n) (caught ∷ []) ∙ ap (λ b. b || false) (temporaries_aside 0 n)
+own_aside n false = temporaries_aside 0 n

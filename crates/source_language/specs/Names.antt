@@ -47,7 +47,7 @@ caught = codes "e$"
 
 -- the names that the commands of statements assign besides those of the source: so many temporaries, and then the other one where they do
 abbrev pub own_names : ℕ → Bool → List (List ℕ)
-own_names n catches = temporaries_from 0 n ++ (if catches then caught ∷ [] else [])
+own_names n catches = if catches then temporaries_from 0 n ++ caught ∷ [] else temporaries_from 0 n
 
 -- the second store gives each name of a source program the value that the first one gives it
 abbrev pub IsExtendedBy : Store → Store → Type 0

@@ -11,7 +11,7 @@ use Rattle.mem_model.specs.Actions.{Actions}
 use Rattle.gil_machine.specs.State.{Frame, goes_on, vanished}
 use Rattle.gil_machine.specs.Step as machine
 use Rattle.gil_machine.specs.Run.{run}
-use Rattle.source_language.specs.Completions.{Situation, Completion, normal, returns, over, handled_by, end_of, sets, fails, with_value}
+use Rattle.source_language.specs.Completions.{Situation, Completion, normal, returns, over, end_of, sets, fails, with_value}
 use Rattle.source_language.specs.Code.{truth, jump}
 use Rattle.source_language.specs.Procedures.{placed}
 use Rattle.source_language.specs.Names.{is_source_name, has_source_invariant, caught, own_names, IsExtendedBy}

@@ -1,7 +1,9 @@
 -- The commands of conditions: jumps that are all taken to one label, and what stands behind them.
 use Rattle.std.specs.Prelude.{ℕ, ◌+◌, List, [], ◌∷◌, ◌++◌, map, length, Bool, true, false, Option}
-use Rattle.gil_syntax.specs.Pure.{PureExpr, PureNumberedCommand}
+use Rattle.gil_syntax.specs.Pure.{PureExpr, name, assign, PureNumberedCommand}
 use Rattle.source_language.specs.Code.{truth, jump}
+use Rattle.source_language.specs.Names.{caught}
+use Rattle.source_language.specs.Procedures.{placed}
 
 -- What a language says of the commands of its expressions and simple statements. The front of an expression are the commands before it
 -- can be named by its operand, with the index of the first of them and the byte of the statement. Where it is a condition there are jumps
@@ -57,3 +59,7 @@ if_code true pc at front es on off =
     choice_code pc at front es (off (behind pc front es)) (on (far_label pc front es (off (behind pc front es))))
 if_code false pc at front es on off =
     choice_code pc at front es (on (behind pc front es)) (off (far_label pc front es (on (behind pc front es))))
+
+-- the commands of a block, the jump to the end, and the handler, in which a variable gets what is thrown
+abbrev pub try_code : ℕ → ℕ → List ℕ → List PureNumberedCommand → List PureNumberedCommand → List PureNumberedCommand
+try_code end at y body handler = body ++ (jump at truth end ∷ (placed at (assign y (name caught)) ∷ handler))

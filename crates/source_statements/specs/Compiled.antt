@@ -1,17 +1,18 @@
 -- The commands of statements, and the program that a source is compiled to, over what a language says of the commands of its expressions and
 -- simple statements. The commands of a statement have the byte at which it begins as their place; labels are indices of the procedure's
 -- commands. Temporaries are numbered anew in each statement.
-use Rattle.std.specs.Prelude.{ℕ, ◌+◌, List, [], ◌∷◌, ◌++◌, map, length, Bool, true, false, not, ◌&&◌, ◌||◌, max, is_some, codes, Option, Some, None}
+use Rattle.std.specs.Prelude.{ℕ, ◌+◌, List, [], ◌∷◌, ◌++◌, map, length, Bool, true, false, not, ◌&&◌, ◌||◌, max, codes, Option, Some, None}
+use Rattle.std.specs.Option.{is_some}
 use Rattle.gil_values.specs.Pure.{text}
-use Rattle.gil_syntax.specs.Pure.{literal, name, assign, fail, vanish, return, PureNumberedCommand, PureProc, PureParts}
+use Rattle.gil_syntax.specs.Pure.{literal, fail, vanish, return, PureNumberedCommand, PureProc, PureParts}
 use Rattle.source_language.specs.Code.{truth, jump}
 use Rattle.source_language.specs.Compiled.{invariant_code, logic_command}
 use Rattle.source_language.specs.Limits as limits
-use Rattle.source_language.specs.Names.{caught, own_names}
+use Rattle.source_language.specs.Names.{own_names}
 use Rattle.source_language.specs.Procedures as procedures
 use Rattle.source_language.specs.Procedures.{placed}
 use Rattle.source_language.specs.Pure.{PureFunction, PureSource, PureInvariant}
-use Rattle.source_statements.specs.Codes.{Codes, inside_label, guarded_code, if_code}
+use Rattle.source_statements.specs.Codes.{Codes, inside_label, guarded_code, if_code, try_code}
 use Rattle.source_statements.specs.Lengths.{block_length}
 use Rattle.source_statements.specs.Pure as tree
 use Rattle.source_statements.specs.Pure.{PureStatement, PureBlock, no_statements, statement_and}
@@ -72,10 +73,6 @@ module _ {E S : Type 0} (c : Codes E S) where
   -- where a block whose throws are handled stands from a place on, its handler begins behind the jump that follows the block
   abbrev pub handler_label : ℕ → PureBlock E S → ℕ
   handler_label pc body = pc + block_length c body + 1
-
-  -- the commands of the block, the jump to the end, and the handler, in which a variable gets what is thrown
-  abbrev pub try_code : ℕ → ℕ → List ℕ → List PureNumberedCommand → List PureNumberedCommand → List PureNumberedCommand
-  try_code end at y body handler = body ++ (jump at truth end ∷ (placed at (assign y (name caught)) ∷ handler))
 
   abbrev mutual
     -- the commands of a statement that stand in their procedure from a place on, where throws are handled at a label or leave the procedure

@@ -4,10 +4,11 @@ ghost use Rattle.gil_syntax.specs.View.{expr_view};
 ghost use Rattle.source_language.specs.Code.{code_view};
 ghost use Rattle.source_statements.specs.Codes as codes;
 
-use gil_syntax::{Body, Expr};
+use gil_syntax::{Body, Command, Expr};
+use gil_values::Text;
 use sequence::Sequence;
-use source_language::{append, code_len, jump, sum, truth};
-use std::alloc::AllocError;
+use source_language::{append, caught, code_len, jump, put, sum, truth};
+use std::alloc::{AllocError, Global};
 
 /// Jumps to a label, at conditions, after the other commands.
 fn jumps_to(
@@ -121,5 +122,26 @@ pub(crate) fn choice_code(
     append(&mut code, near)?;
     jump(&mut code, at, truth(), end)?;
     append(&mut code, far)?;
+    Ok(code)
+}
+
+/// A block, a jump over its handler, and the handler, in which a variable gets what is thrown.
+pub(crate) fn try_code(
+    alloc: Global,
+    end: usize,
+    at: u32,
+    name: &Text,
+    body: Body,
+    handler: Body,
+) -> Result<Body, AllocError>
+    ensures { IfOk result
+        (λ code. code_view code ≡ codes.try_code end at name.now (code_view body) (code_view handler)) }
+{
+    let name = name.copy(alloc)?;
+    let value = Expr::Name(caught(alloc)?);
+    let mut code = body;
+    jump(&mut code, at, truth(), end)?;
+    put(&mut code, at, Command::Assign(name, value))?;
+    append(&mut code, handler)?;
     Ok(code)
 }

@@ -10,20 +10,14 @@ use source_language::{Invariant, code_len, sum};
 use std::alloc::{AllocError, Global};
 
 /// The commands that find the value of an expression.
-fn front_len<L: Language>(
-    alloc: Global,
-    expression: &L::Expression,
-) -> Result<usize, AllocError>
+fn front_len<L: Language>(alloc: Global, expression: &L::Expression) -> Result<usize, AllocError>
     ensures { IfOk result (λ n. n ≡ length (L.codes.front (L.expression_view expression.now) 0 0)) }
 {
     Ok(code_len(&L::front(alloc, 0, 0, expression)?.code))
 }
 
 /// A condition and its jumps.
-fn condition_len<L: Language>(
-    alloc: Global,
-    condition: &L::Expression,
-) -> Result<usize, AllocError>
+fn condition_len<L: Language>(alloc: Global, condition: &L::Expression) -> Result<usize, AllocError>
     ensures { IfOk result (λ n. n ≡ lengths.condition_length L.codes (L.expression_view condition.now)) }
 {
     let front = L::front(alloc, 0, 0, condition)?;
@@ -89,7 +83,10 @@ fn statement_len<L: Language>(
         Statement::Return(value) => sum(front_len::<L>(alloc, value)?, 1),
         Statement::Logic(_) => Ok(1),
         Statement::Try(body, _, handler) => {
-            let blocks = sum(block_len::<L>(alloc, body)?, block_len::<L>(alloc, handler)?)?;
+            let blocks = sum(
+                block_len::<L>(alloc, body)?,
+                block_len::<L>(alloc, handler)?,
+            )?;
             sum(blocks, 2)
         }
     }

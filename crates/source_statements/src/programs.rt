@@ -14,7 +14,9 @@ use crate::throwing::block_tries;
 use crate::tree::Block;
 use gil_syntax::{Body, Command, Parts, Proc, Procs};
 use sequence::Sequence;
-use source_language::{Function, SourceParts, TooMany, append, first_long, null, nulls, own_names, put};
+use source_language::{
+    Function, SourceParts, TooMany, append, first_long, null, nulls, own_names, put,
+};
 use std::alloc::{AllocError, Global};
 use syntax_copy::{copy_preds, copy_specs, copy_texts};
 

@@ -1,10 +1,9 @@
 //! The commands of statements and blocks.
 ghost use Rattle.std.specs.Prelude.{◌≡◌, ◌+◌, ◌++◌, not, [], ◌∷◌, codes as characters, IfOk};
 ghost use Rattle.gil_values.specs.Pure.{text as text_value};
-ghost use Rattle.gil_syntax.specs.Pure.{literal, name as pure_name, assign, fail, return};
+ghost use Rattle.gil_syntax.specs.Pure.{literal, fail, return};
 ghost use Rattle.gil_syntax.specs.View.{command_view};
 ghost use Rattle.source_language.specs.Code.{code_view};
-ghost use Rattle.source_language.specs.Names.{caught as caught_name};
 ghost use Rattle.source_language.specs.Procedures.{placed};
 ghost use Rattle.source_language.specs.View.{invariants_view};
 ghost use Rattle.source_statements.specs.Codes as codes;
@@ -12,16 +11,17 @@ ghost use Rattle.source_statements.specs.Compiled as compiled;
 ghost use Rattle.source_statements.specs.Pure.{try_catch};
 ghost use Rattle.source_statements.specs.View.{block_view, statement_view};
 
-use crate::control::{behind, choice_code, far_label, guarded_code, inside_label};
+use crate::control::{behind, choice_code, far_label, guarded_code, inside_label, try_code};
 use crate::counting::block_temporaries;
+use crate::language::{Front, Language};
 use crate::lengths::block_len;
 use crate::throwing::block_throws;
-use crate::language::{Front, Language};
 use crate::tree::{Block, Statement};
 use gil_syntax::{Body, Command, Expr};
 use gil_values::{Text, Value};
 use source_language::{
-    Invariant, append, caught, code_len, invariant_code, jump, logic_code, one, own_names, put, sum, text, truth,
+    Invariant, append, code_len, invariant_code, jump, logic_code, one, own_names, put, sum, text,
+    truth,
 };
 use std::alloc::{AllocError, Global};
 
@@ -96,11 +96,21 @@ fn choose_code<L: Language>(
     let start = behind(label, &front, &conditions)?;
     if L::jumps_where_true() {
         let near = block_code::<L>(alloc, handler, start, other)?;
-        let far = block_code::<L>(alloc, handler, far_label(label, &front, &conditions, &near)?, body)?;
+        let far = block_code::<L>(
+            alloc,
+            handler,
+            far_label(label, &front, &conditions, &near)?,
+            body,
+        )?;
         choice_code(label, at, front, conditions, near, far)
     } else {
         let near = block_code::<L>(alloc, handler, start, body)?;
-        let far = block_code::<L>(alloc, handler, far_label(label, &front, &conditions, &near)?, other)?;
+        let far = block_code::<L>(
+            alloc,
+            handler,
+            far_label(label, &front, &conditions, &near)?,
+            other,
+        )?;
         choice_code(label, at, front, conditions, near, far)
     }
 }
@@ -152,33 +162,20 @@ fn loop_code<L: Language>(
     guarded_code(into, label, at, front, conditions, inside)
 }
 
-/// The commands of a handler, at a label: the variable gets what was thrown.
-#[cycle(code)]
-fn catch_code<L: Language>(
+/// Where the handler begins of a block that stands at a label.
+fn handler_label<L: Language>(
     alloc: Global,
-    handler: Option<usize>,
     label: usize,
-    at: u32,
-    name: &Text,
-    catch: &Block<L::Expression, L::Simple>,
-) -> Result<Body, AllocError>
-    ensures { IfOk result
-        (λ code. code_view code
-        ≡ placed at (assign name.now (pure_name caught_name))
-        ∷ compiled.block_code L.codes handler (label + 1) (block_view L.expression_view L.simple_view catch.now)) }
+    body: &Block<L::Expression, L::Simple>,
+) -> Result<usize, AllocError>
+    ensures { IfOk result (λ n. n ≡ compiled.handler_label L.codes label (block_view L.expression_view L.simple_view body.now)) }
 {
-    let value = Expr::Name(caught(alloc)?);
-    let mut code = one(alloc, at, Command::Assign(name.copy(alloc)?, value))?;
-    append(
-        &mut code,
-        block_code::<L>(alloc, handler, sum(label, 1)?, catch)?,
-    )?;
-    Ok(code)
+    sum(sum(label, block_len::<L>(alloc, body)?)?, 1)
 }
 
 /// A block at a label whose throws are handled, and the handler behind it.
 #[cycle(code)]
-fn try_code<L: Language>(
+fn handled_code<L: Language>(
     alloc: Global,
     handler: Option<usize>,
     label: usize,
@@ -192,13 +189,12 @@ fn try_code<L: Language>(
         ≡ compiled.statement_code L.codes handler label at
         (try_catch (block_view L.expression_view L.simple_view body.now) name.now (block_view L.expression_view L.simple_view catch.now))) }
 {
-    let start = sum(sum(label, block_len::<L>(alloc, body)?)?, 1)?;
-    let handling = catch_code::<L>(alloc, handler, start, at, name, catch)?;
-    let end = sum(start, code_len(&handling))?;
-    let mut code = block_code::<L>(alloc, Some(start), label, body)?;
-    jump(&mut code, at, truth(), end)?;
-    append(&mut code, handling)?;
-    Ok(code)
+    let start = handler_label::<L>(alloc, label, body)?;
+    let behind = sum(start, 1)?;
+    let inside = block_code::<L>(alloc, Some(start), label, body)?;
+    let rest = block_code::<L>(alloc, handler, behind, catch)?;
+    let end = sum(behind, code_len(&rest))?;
+    try_code(alloc, end, at, name, inside, rest)
 }
 
 /// The commands of a statement, at a label.
@@ -236,7 +232,7 @@ fn statement_code<L: Language>(
         Statement::Return(value) => return_code::<L>(alloc, label, at, value),
         Statement::Logic(logic) => logic_code(alloc, at, logic),
         Statement::Try(body, name, catch) => {
-            try_code::<L>(alloc, handler, label, at, body, name, catch)
+            handled_code::<L>(alloc, handler, label, at, body, name, catch)
         }
     }
 }

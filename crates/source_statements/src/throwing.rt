@@ -1,10 +1,17 @@
 //! Where statements read and assign the variable of thrown values.
-ghost use Rattle.std.specs.Prelude.{◌≡◌};
+ghost use Rattle.std.specs.Prelude.{◌≡◌, ◌||◌};
 ghost use Rattle.source_statements.specs.Compiled as compiled;
 ghost use Rattle.source_statements.specs.View.{block_view, statement_view};
 
 use crate::language::Language;
 use crate::tree::{Block, Statement};
+
+/// Whether one of two tests holds.
+fn either(first: bool, second: bool) -> bool
+    ensures { result ≡ (first || second) }
+{
+    first || second
+}
 
 /// Whether there is a block in a statement whose throws are handled.
 #[cycle(trying)]
@@ -24,12 +31,11 @@ fn statement_tries<L: Language>(statement: &Statement<L::Expression, L::Simple>)
 pub(crate) fn block_tries<L: Language>(block: &Block<L::Expression, L::Simple>) -> bool
     ensures { result ≡ compiled.block_tries L.codes (block_view L.expression_view L.simple_view block.now) }
 {
+    let mut tries = false;
     for placed in block.as_slice() {
-        if statement_tries::<L>(&placed.statement) {
-            return true;
-        }
+        tries = either(tries, statement_tries::<L>(&placed.statement));
     }
-    false
+    tries
 }
 
 /// Whether a statement assigns the variable of thrown values, where throws are handled around it or not.
@@ -61,10 +67,9 @@ pub(crate) fn block_throws<L: Language>(
 ) -> bool
     ensures { result ≡ compiled.block_throws L.codes handled (block_view L.expression_view L.simple_view block.now) }
 {
+    let mut throws = false;
     for placed in block.as_slice() {
-        if statement_throws::<L>(handled, &placed.statement) {
-            return true;
-        }
+        throws = either(throws, statement_throws::<L>(handled, &placed.statement));
     }
-    false
+    throws
 }
