@@ -16,5 +16,5 @@ pub use expressions::{null, procedure_literal, temporary_variable, text_literal,
 pub use limits::{TooMany, first_long};
 pub use logic::{invariant_code, logic_code};
 pub use pieces::{append, code_len, jump, one, put, sum, text};
-pub use temporaries::{caught, nulls, own_names, temporaries, temporary};
+pub use temporaries::{caught, first_temporaries, nulls, own_names, temporary};
 pub use trees::{Function, Invariant, Logic, SourceParts};

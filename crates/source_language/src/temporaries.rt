@@ -28,7 +28,7 @@ pub fn caught(alloc: Global) -> Result<Text, AllocError>
 }
 
 /// The first temporaries.
-pub fn temporaries(alloc: Global, count: usize) -> Result<Texts, AllocError>
+pub fn first_temporaries(alloc: Global, count: usize) -> Result<Texts, AllocError>
     ensures { IfOk result (λ list. list ≡ temporaries_from 0 count) }
 {
     let mut list = Texts::new(alloc);
@@ -43,7 +43,7 @@ pub fn temporaries(alloc: Global, count: usize) -> Result<Texts, AllocError>
 pub fn own_names(alloc: Global, count: usize, catches: bool) -> Result<Texts, AllocError>
     ensures { IfOk result (λ list. list ≡ names.own_names count catches) }
 {
-    let mut list = temporaries(alloc, count)?;
+    let mut list = first_temporaries(alloc, count)?;
     if catches {
         list.push(caught(alloc)?)?;
     }

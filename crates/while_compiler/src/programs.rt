@@ -10,7 +10,9 @@ ghost use Rattle.while_compiler.specs.Valid as valid;
 use crate::statements::block_code;
 use crate::temporaries::block_temporaries;
 use gil_syntax::{Body, Command, Parts, Proc, Procs};
-use source_language::{SourceParts, TooMany, append, first_long, null, nulls, put, temporaries};
+use source_language::{
+    SourceParts, TooMany, append, first_long, first_temporaries, null, nulls, put,
+};
 use std::alloc::{AllocError, Global};
 use syntax_copy::{copy_preds, copy_specs, copy_texts};
 use while_lang::{Function, Functions};
@@ -20,7 +22,7 @@ fn body_code(alloc: Global, function: &Function) -> Result<Body, AllocError>
     ensures { IfOk result (λ code. code_view code ≡ (compiled.compiled_function (function_view function.now)).body) }
 {
     let count = block_temporaries(&function.body)?;
-    let names = temporaries(alloc, count)?;
+    let names = first_temporaries(alloc, count)?;
     let mut code = nulls(alloc, function.at, &names)?;
     append(&mut code, block_code(alloc, names.len(), &function.body)?)?;
     put(&mut code, function.at, Command::Return(null()))?;

@@ -12,8 +12,8 @@ use crate::simple::{
 use crate::temporaries::block_temporaries;
 use gil_syntax::Body;
 use source_language::{
-    append, assert_code, assume_code, body_label, code_len, if_code, invariant_code, logic_code,
-    sum, temporaries, then_label, while_code,
+    append, assert_code, assume_code, body_label, code_len, first_temporaries, if_code,
+    invariant_code, logic_code, sum, then_label, while_code,
 };
 use std::alloc::{AllocError, Global};
 use while_lang::{Block, Statement};
@@ -47,7 +47,7 @@ fn statement_code(
             if_code(alloc, label, at, condition, off, on)
         }
         Statement::While(condition, invariant, body) => {
-            let names = temporaries(alloc, block_temporaries(body)?)?;
+            let names = first_temporaries(alloc, block_temporaries(body)?)?;
             let invariant = invariant_code(alloc, at, names, invariant)?;
             let body = block_code(alloc, body_label(label, &invariant)?, body)?;
             while_code(alloc, label, at, condition, invariant, body)

@@ -1,7 +1,7 @@
 use Rattle.std.proofs.Common.{◌++◌, [], ◌∷◌, sym, ap, ◌∙◌}
 use Rattle.source_language.specs.Names.{temporaries_from}
 use Rattle.source_language.proofs.NumberedNames.{one_more}
-use Rattle.source_language.proofs.temporaries.temporaries.Goals as goal
+use Rattle.source_language.proofs.temporaries.first_temporaries.Goals as goal
 
 pub loop-number-preserved : goal.loop-number-preserved
 loop-number-preserved c =
