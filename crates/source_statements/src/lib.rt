@@ -6,8 +6,8 @@
 mod control;
 mod counting;
 mod language;
-mod lengths;
 mod programs;
+mod sizes;
 mod statements;
 mod throwing;
 mod tree;

@@ -14,7 +14,7 @@ ghost use Rattle.source_statements.specs.View.{block_view, statement_view};
 use crate::control::{behind, choice_code, far_label, guarded_code, inside_label, try_code};
 use crate::counting::block_temporaries;
 use crate::language::{Front, Language};
-use crate::lengths::block_len;
+use crate::sizes::block_len;
 use crate::throwing::block_throws;
 use crate::tree::{Block, Statement};
 use gil_syntax::{Body, Command, Expr};

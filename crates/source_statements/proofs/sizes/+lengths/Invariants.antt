@@ -3,7 +3,7 @@ use Rattle.source_statements.specs.Lengths.{block_length}
 use Rattle.source_statements.specs.Pure.{from_placed}
 use Rattle.source_statements.specs.View.{statement_view, block_view, placed_view}
 use Rattle.source_statements.proofs.Counts.{statement_count, block_count}
-use Rattle.source_statements.proofs.lengths.+lengths.Given as goal
+use Rattle.source_statements.proofs.sizes.+lengths.Given as goal
 
 abbrev pub decreases-statement_len : goal.decreases-statement_len
 decreases-statement_len g l = 2 * statement_count (statement_view g.L.Language.expression_view g.L.Language.simple_view l.statement.now)

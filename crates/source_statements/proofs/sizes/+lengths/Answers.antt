@@ -3,7 +3,7 @@ use Rattle.source_statements.specs.Lengths.{block_length}
 use Rattle.source_statements.specs.Pure.{from_placed}
 use Rattle.source_statements.specs.View.{placed_view}
 use Rattle.source_statements.proofs.Counts.{count-read, length-next, statements-seen, take_all}
-use Rattle.source_statements.proofs.lengths.+lengths.Goals as goal
+use Rattle.source_statements.proofs.sizes.+lengths.Goals as goal
 
 pub block_len-statement_len-requires : goal.block_len-statement_len-requires
 block_len-statement_len-requires g t c κs within =
