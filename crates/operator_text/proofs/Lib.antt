@@ -1,5 +1,10 @@
+pub mod Beginnings
 pub mod CountingLoop
 pub mod ExpressionReads
 pub mod ExpressionTakes
+pub mod Making
 pub mod MoreLoop
+pub mod PieceReads
+pub mod PieceTakes
+pub mod Rests
 pub mod TwoFaults

@@ -16,7 +16,10 @@ use source_operators::Expression;
 use std::alloc::{AllocError, Global};
 
 /// An expression of a language.
-type Tree<L> = Expression<<L as OperatorLanguage>::Prefix, <L as OperatorLanguage>::Joint>;
+pub(crate) type Tree<L> = Expression<
+    <L as OperatorLanguage>::Prefix,
+    <L as OperatorLanguage>::Joint,
+>;
 
 /// What a token at the front begins behind an expression.
 fn after_at<L: OperatorLanguage>(cursor: &Cursor<'_>) -> Option<After>

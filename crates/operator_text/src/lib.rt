@@ -5,9 +5,13 @@
 mod expressions;
 mod few;
 mod language;
+mod lists;
+mod pieces;
 mod strengths;
 
 pub use expressions::expression_at;
 pub use few::nesting_fault;
 pub use language::OperatorLanguage;
+pub use lists::arguments_at;
+pub use pieces::{argument_at, expression_from, pair_at, value_at, whole_at};
 pub use strengths::{After, TIGHT};
