@@ -111,10 +111,10 @@ module _ (v : List PureValue) where
   pair : {k q : Key} {w : PureValue} → k ≡ q → ◌≡◌ {A = Option (Key × PureValue)} (Some (k, w)) (Some (q, w))
   pair {w = w} e = ap (λ r. Some (r, w)) e
 
-  abbrev UseAt : PureTerm → PureSub → PureTerm → Key → PureValue → Type 0
+  abbrev pub UseAt : PureTerm → PureSub → PureTerm → Key → PureValue → Type 0
   UseAt loc s val k w = IsUse v (use_of (record { loc = loc; sub = s; val = val })) k w
 
-  entry_use : (loc : PureTerm) (s : PureSub) (val : PureTerm) (k : Key) (w : PureValue) → KeyParts (value v loc) (sub_value v s) k → value v val ≡ Some w → (s ≡ gone → w ≡ boolean true) → UseAt loc s val k w
+  pub entry_use : (loc : PureTerm) (s : PureSub) (val : PureTerm) (k : Key) (w : PureValue) → KeyParts (value v loc) (sub_value v s) k → value v val ≡ Some w → (s ≡ gone → w ≡ boolean true) → UseAt loc s val k w
   entry_use loc (named p) val k w parts holds true_there =
       let (n, (is, sub)) = name_is (value v p) k.sub parts.sub in
       record { ws = symbol k.loc ∷ text n ∷ w ∷ []; have = three_values v loc p val (symbol k.loc) (text n) w parts.at is holds; entry = by_name Core.Prop (symbol k.loc ∷ text n ∷ w ∷ []) ∙ pair (ap (key k.loc) sub) }
@@ -175,7 +175,7 @@ module _ (v : List PureValue) where
   gone_by (symbol l) k w is = (ap Some (first_of is), second_of is)
   gone_by a k w is = no_pair is
 
-  abbrev EntryAt : PureTerm → PureSub → PureTerm → Key → PureValue → Type 0
+  abbrev pub EntryAt : PureTerm → PureSub → PureTerm → Key → PureValue → Type 0
   EntryAt loc s val k w = IsEntry v (record { loc = loc; sub = s; val = val }) k w
 
   described : (core : Core) (s : PureSub) (t : Sub) (loc val : PureTerm) (k : Key) (w : PureValue) → sub_value v s ≡ Some t → ((a c : PureValue) → entry_of core (a ∷ c ∷ []) ≡ Some (k, w) → Found (Some a) (Some t) c k w)
@@ -185,7 +185,7 @@ module _ (v : List PureValue) where
       let r = by p.a p.b (sym (ap (entry_of core) p.whole) ∙ entry) in
       record { at = (λ i. key_of (location_of (p.is_a i)) (sub_is i)) ∙ r.0; holds = p.is_b ∙ ap Some r.1 }
 
-  use_entry : (loc : PureTerm) (s : PureSub) (val : PureTerm) (k : Key) (w : PureValue) → (s ≡ gone → val ≡ literal (Literal.Bool true)) → UseAt loc s val k w → EntryAt loc s val k w
+  pub use_entry : (loc : PureTerm) (s : PureSub) (val : PureTerm) (k : Key) (w : PureValue) → (s ≡ gone → val ≡ literal (Literal.Bool true)) → UseAt loc s val k w → EntryAt loc s val k w
   use_entry loc (named n) val k w true_there u =
       let p = three_of v loc n val u.ws u.have in
       let r = prop_by p.a p.b p.c k w (sym (ap (entry_of Core.Prop) p.whole) ∙ sym (by_name Core.Prop u.ws) ∙ u.entry) in
@@ -225,7 +225,7 @@ module _ (v : List PureValue) where
 
 -- ---- numbers and terms
 
-numbers : (s : PureSub) (loc val : PureTerm) → (length (loc ∷ sub_terms s) ≡ ins_of (core_of_sub s)) × (length (outs_at s val) ≡ outs_of (core_of_sub s))
+pub numbers : (s : PureSub) (loc val : PureTerm) → (length (loc ∷ sub_terms s) ≡ ins_of (core_of_sub s)) × (length (outs_at s val) ≡ outs_of (core_of_sub s))
 numbers (named p) loc val = (refl, refl)
 numbers (cell i) loc val = (refl, refl)
 numbers shape loc val = (refl, refl)

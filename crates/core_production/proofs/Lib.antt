@@ -1,0 +1,4 @@
+pub mod FitLaws
+pub mod NameLists
+pub mod ProduceLaws
+pub mod ProduceShapes
