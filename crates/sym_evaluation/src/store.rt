@@ -4,17 +4,17 @@ ghost use Rattle.std.specs.Option.{option_map};
 ghost use Rattle.std.specs.Str.{bytes_eq};
 ghost use Rattle.pure_terms.specs.View.{term_view};
 ghost use Rattle.sym_evaluation.specs.Pure.{term_at, place_at};
-ghost use Rattle.sym_evaluation.specs.View.{store_view};
+ghost use Rattle.sym_evaluation.specs.View.{bindings_view, store_view};
 
 use gil_values::Text;
 use pure_terms::Term;
 use std::alloc::{AllocError, Global};
 
-/// A name and its term.
+/// A name and its term. Contracts see it as its pure data, by `binding_view`.
 #[derive(Debug, Drop)]
 pub struct Binding {
-    name: Text,
-    term: Term,
+    pub name: Text,
+    pub term: Term,
 }
 
 /// The terms of names, each name once. Contracts see it as a list of names with their terms, by `store_view`.
@@ -43,6 +43,13 @@ impl SymStore {
             }
         }
         None
+    }
+
+    /// The names with their terms, in the order in which they were first given.
+    pub fn bindings(&self) -> &[Binding]
+        ensures { bindings_view result.now ≡ store_view self.now }
+    {
+        self.bindings.as_slice()
     }
 
     /// Where the name stands in the list.
