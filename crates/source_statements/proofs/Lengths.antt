@@ -4,13 +4,15 @@ use Rattle.std.proofs.Common.{◌≡◌, ℕ, ◌+◌, List, [], ◌∷◌, ◌+
 use Rattle.std.specs.Prelude.{codes, max}
 use Rattle.std.proofs.lemmas.List.{length-map}
 use Rattle.gil_values.specs.Pure.{text}
+use Rattle.gil_syntax.specs.Pure as gil
 use Rattle.gil_syntax.specs.Pure.{PureExpr, literal, fail, vanish, PureNumberedCommand}
 use Rattle.source_language.specs.Code.{truth, jump}
 use Rattle.source_language.specs.Compiled.{invariant_code}
+use Rattle.source_language.specs.Names.{caught, own_names}
 use Rattle.source_language.specs.Procedures.{placed}
 use Rattle.source_language.specs.Pure.{PureInvariant}
 use Rattle.source_statements.specs.Codes.{Codes, jumps_to, behind, inside_label, guarded_code, far_label, choice_code, if_code}
-use Rattle.source_statements.specs.Compiled.{head_code, loop_code, handler_label, statement_code, block_code}
+use Rattle.source_statements.specs.Compiled.{block_temporaries, block_throws, head_code, loop_code, handler_label, statement_code, block_code}
 use Rattle.source_statements.specs.Lengths.{invariant_length, guard_length, statement_length, block_length}
 use Rattle.source_statements.specs.Pure.{PureStatement, simple, assert, assume, if_else, while, return, logic, try_catch, PureBlock, no_statements, statement_and}
 
@@ -89,7 +91,7 @@ module _ {E S : Type 0} (c : Codes E S) (same : SameLengths c) where
         omega (
           arith,
           length-append head (loop_code c pc at start e (λ n. block_code c (Some label) n body)),
-          invariant-long at _ invariant,
+          heads,
           guarded-same c.where_true e start at (code ++ jump at truth pc ∷ []),
           length-append code (jump at truth pc ∷ []),
           block-long body label inside,
@@ -97,6 +99,9 @@ module _ {E S : Type 0} (c : Codes E S) (same : SameLengths c) where
       where
         head : List PureNumberedCommand
         head = head_code c (Some label) at e invariant body
+
+        heads : length head ≡ invariant_length invariant
+        heads = invariant-long at (own_names (max (c.uses e) (block_temporaries c body)) (block_throws c true body)) invariant
 
         start : ℕ
         start = pc + length head
@@ -106,13 +111,16 @@ module _ {E S : Type 0} (c : Codes E S) (same : SameLengths c) where
 
         code : List PureNumberedCommand
         code = block_code c (Some label) inside body
-    statement-long (return e) label pc at = omega (arith, length-append (c.front e pc at) _, same.fronts e pc at)
+    statement-long (return e) label pc at =
+        omega (arith, length-append (c.front e pc at) (placed at (gil.return (c.operand e)) ∷ []), same.fronts e pc at)
     statement-long (logic l) label pc at = refl
     statement-long (try_catch body y handler) label pc at =
         let start = handler_label c pc body in
+        let rest = block_code c (Some label) (start + 1) handler in
         omega (
           arith,
-          length-append (block_code c (Some start) pc body) _,
+          length-append (block_code c (Some start) pc body)
+              (jump at truth (start + 1 + length rest) ∷ (placed at (gil.assign y (gil.name caught)) ∷ rest)),
           block-long body start pc,
           block-long handler label (start + 1),
         )

@@ -1,7 +1,7 @@
 use Rattle.std.proofs.Common.{ap, sym, ◌||◌, ◌∙◌, arith, map}
-use Rattle.source_statements.specs.Compiled.{statement_throws, block_throws}
+use Rattle.source_statements.specs.Compiled.{block_throws}
 use Rattle.source_statements.specs.Pure.{from_placed}
-use Rattle.source_statements.specs.View.{statement_view, placed_view}
+use Rattle.source_statements.specs.View.{placed_view}
 use Rattle.source_statements.proofs.Counts.{count-read, throws-next, statements-seen, take_all}
 use Rattle.source_statements.proofs.throwing.+throwing.Goals as goal
 
@@ -15,7 +15,7 @@ pub block_throws-loop-placed-preserved : goal.block_throws-loop-placed-preserved
 block_throws-loop-placed-preserved g t c =
     let next = throws-next g.L.Language.expression_view g.L.Language.simple_view c.as_slice-placed-items.result.now c.loop-placed.placed-index
     c.placed-item.result c.loop-placed-test.true c.placed-item.is g.L.Language.codes c.args.handled in
-    c.either.ensures ∙ (λ k. c.loop-placed.invariant k || c.statement_throws.ensures k) ∙ sym next
+    c.either-throws.ensures ∙ (λ k. c.loop-placed.invariant k || c.statement_throws.ensures k) ∙ sym next
 
 pub block_throws-returns : goal.block_throws-returns
 block_throws-returns g t c =

@@ -1,7 +1,7 @@
 use Rattle.std.proofs.Common.{ap, sym, ◌||◌, ◌∙◌, arith, map}
-use Rattle.source_statements.specs.Compiled.{statement_tries, block_tries}
+use Rattle.source_statements.specs.Compiled.{block_tries}
 use Rattle.source_statements.specs.Pure.{from_placed}
-use Rattle.source_statements.specs.View.{statement_view, placed_view}
+use Rattle.source_statements.specs.View.{placed_view}
 use Rattle.source_statements.proofs.Counts.{count-read, tries-next, statements-seen, take_all}
 use Rattle.source_statements.proofs.throwing.+trying.Goals as goal
 
@@ -15,7 +15,7 @@ pub block_tries-loop-placed-preserved : goal.block_tries-loop-placed-preserved
 block_tries-loop-placed-preserved g t c =
     let next = tries-next g.L.Language.expression_view g.L.Language.simple_view c.as_slice-placed-items.result.now c.loop-placed.placed-index
     c.placed-item.result c.loop-placed-test.true c.placed-item.is g.L.Language.codes in
-    c.either.ensures ∙ (λ k. c.loop-placed.invariant k || c.statement_tries.ensures k) ∙ sym next
+    c.either-tries.ensures ∙ (λ k. c.loop-placed.invariant k || c.statement_tries.ensures k) ∙ sym next
 
 pub block_tries-returns : goal.block_tries-returns
 block_tries-returns g t c =
