@@ -17,7 +17,7 @@ use Rattle.source_language.specs.Code.{truth, jump}
 use Rattle.source_language.specs.Compiled.{while_code}
 use Rattle.source_language.specs.Calls.{call_found}
 use Rattle.source_language.specs.Completions.{Situation, Completion, normal, fails, sets, with_value, after_action, draws_input, new_symbol, value_test, after_body, back_in, thrown_in}
-use Rattle.source_language.specs.Names.{is_source_expr, is_source_name, has_source_invariant, temporary, IsExtendedBy}
+use Rattle.source_language.specs.Names.{is_source_expr, is_source_name, has_source_invariant, temporary, temporaries_from, IsExtendedBy}
 use Rattle.source_language.specs.Pure.{find_function}
 use Rattle.source_language.proofs.Branches.{is_there, assert_runs, assume_runs, if_runs, invariant_leads, value_tests, loop_runs, logic_runs}
 use Rattle.source_language.proofs.Ends.{CallsFollow}

@@ -14,8 +14,7 @@ use Rattle.gil_grammar.specs.Commands.{SpellsName}
 use Rattle.gil_grammar.specs.Nesting.{IsNested}
 use Rattle.gil_grammar.specs.Vocabulary.{comma}
 use Rattle.gil_grammar.proofs.MadeLaws.{AreProper, Makes, after, separated_make, program_name, expr_makes, exprs_make, input_makes, name_makes}
-use Rattle.source_language.specs.Names.{temporaries_from}
-use Rattle.source_language.specs.Names.{temporary}
+use Rattle.source_language.specs.Names.{temporary, temporaries_from}
 use Rattle.source_language.specs.Procedures.{placed}
 use Rattle.source_language.proofs.Made.{AreMade, one_expr, made_one, made_append, made_assert, made_assume, made_if, made_while, made_temporaries, made_procedure}
 use Rattle.source_text.proofs.MadeLaws.{Spelled, invariant_makes, logic_makes, text_makes}
