@@ -28,6 +28,38 @@ module _ {P J : Type 0} (c : Codes P J) where
           same start,
         )
 
+    -- the same of two operands, from what they have each
+    abbrev AreLong : PureExpression P J → ℕ → Type 0
+    AreLong e i = (pc at : ℕ) → length (code c e pc at i) ≡ length (code c e 0 0 i)
+
+    joined-long : (j : J) (d e : PureExpression P J) (i : ℕ) → AreLong d i → AreLong e (i + uses c d) → (pc at : ℕ)
+        → length (code c (joined j d e) pc at i)
+        ≡ length (code c d 0 0 i) + length (code c e 0 0 (i + uses c d)) + length (c.join j 0 0 (i + uses c d + uses c e) (result c d i) (result c e (i + uses c d)))
+    joined-long j d e i first second pc at =
+        let left = code c d pc at i in
+        let right = code c e (pc + length left) at (i + uses c d) in
+        let back = c.join j (pc + length left + length right) at (i + uses c d + uses c e) (result c d i) (result c e (i + uses c d)) in
+        omega (
+          arith,
+          length-append left (right ++ back),
+          length-append right back,
+          first pc at,
+          second (pc + length left) at,
+          long.joins j (pc + length left + length right) at (i + uses c d + uses c e) (result c d i) (result c e (i + uses c d)),
+        )
+
+    skipping-long : (o : Connective) (d e : PureExpression P J) (i from t : ℕ) → AreLong d i → AreLong e from → (pc at : ℕ)
+        → length (code c d pc at i ++ skip_code c o (pc + length (code c d pc at i)) at t (result c d i) (result c e from) (λ n. code c e n at from))
+        ≡ length (code c d 0 0 i) + (c.decide_size o + length (code c e 0 0 from) + length (c.conclude o 0 0 t (result c e from)))
+    skipping-long o d e i from t first second pc at =
+        let left = code c d pc at i in
+        omega (
+          arith,
+          length-append left (skip_code c o (pc + length left) at t (result c d i) (result c e from) (λ n. code c e n at from)),
+          first pc at,
+          skip-long o (pc + length left) at t (result c d i) (result c e from) (λ n. code c e n at from) (length (code c e 0 0 from)) (λ n. second n at),
+        )
+
     pub operand-long : (e : PureExpression P J) (pc at i : ℕ) → length (code c e pc at i) ≡ length (code c e 0 0 i)
     operand-long (constant v) pc at i = refl
     operand-long (variable x) pc at i = refl
@@ -41,41 +73,13 @@ module _ {P J : Type 0} (c : Codes P J) where
           long.applies u (pc + length (code c e pc at i)) at (i + uses c e) (result c e i),
           long.applies u (0 + length (code c e 0 0 i)) 0 (i + uses c e) (result c e i),
         )
-    operand-long (joined j d e) pc at i = omega (arith, parts pc at, parts 0 0)
-      where
-        parts : (pc at : ℕ) → length (code c (joined j d e) pc at i)
-            ≡ length (code c d 0 0 i) + length (code c e 0 0 (i + uses c d)) + length (c.join j 0 0 (i + uses c d + uses c e) (result c d i) (result c e (i + uses c d)))
-        parts pc at =
-            let left = code c d pc at i in
-            let right = code c e (pc + length left) at (i + uses c d) in
-            let back = c.join j (pc + length left + length right) at (i + uses c d + uses c e) (result c d i) (result c e (i + uses c d)) in
-            omega (
-              arith,
-              length-append left (right ++ back),
-              length-append right back,
-              operand-long d pc at i,
-              operand-long e (pc + length left) at (i + uses c d),
-              long.joins j (pc + length left + length right) at (i + uses c d + uses c e) (result c d i) (result c e (i + uses c d)),
-            )
-    operand-long (skipping o d e) pc at i = omega (arith, parts pc at, parts 0 0)
-      where
-        from : ℕ
-        from = right_from c.early (i + uses c d)
-
-        t : ℕ
-        t = taken c.early (i + uses c d) (from + uses c e)
-
-        parts : (pc at : ℕ) → length (code c (skipping o d e) pc at i)
-            ≡ length (code c d 0 0 i) + (c.decide_size o + length (code c e 0 0 from) + length (c.conclude o 0 0 t (result c e from)))
-        parts pc at =
-            let left = code c d pc at i in
-            omega (
-              arith,
-              length-append left (skip_code c o (pc + length left) at t (result c d i) (result c e from) (λ n. code c e n at from)),
-              operand-long d pc at i,
-              skip-long o (pc + length left) at t (result c d i) (result c e from) (λ n. code c e n at from) (length (code c e 0 0 from))
-                  (λ n. operand-long e n at from),
-            )
+    operand-long (joined j d e) pc at i =
+        let whole = joined-long j d e i (λ n k. operand-long d n k i) (λ n k. operand-long e n k (i + uses c d)) in
+        omega (arith, whole pc at, whole 0 0)
+    operand-long (skipping o d e) pc at i =
+        let from = right_from c.early (i + uses c d) in
+        let whole = skipping-long o d e i from (taken c.early (i + uses c d) (from + uses c e)) (λ n k. operand-long d n k i) (λ n k. operand-long e n k from) in
+        omega (arith, whole pc at, whole 0 0)
 
     pub operands-long : (es : List (PureExpression P J)) (pc at i : ℕ) → length (all_code c es pc at i) ≡ length (all_code c es 0 0 i)
     operands-long [] pc at i = refl
