@@ -2,12 +2,14 @@
 use Rattle.std.proofs.Common.{ℕ, List, ◌∷◌, Bool, refl, subst, inl, inr}
 use Rattle.std.specs.Prelude.{◌&&◌, IsTrue}
 use Rattle.std.proofs.lemmas.Bool.{and_from}
+use Rattle.gil_lexer.specs.declared.words.Word.TheVariants as words
 use Rattle.gil_lexemes.specs.declared.standing.Lexeme.{Lexeme}
-use Rattle.gil_grammar.specs.Vocabulary.{closing_parenthesis, closing_brace, semicolon}
-use Rattle.source_language.specs.Names.{has_source_invariant}
-use Rattle.source_text.proofs.NameLaws.{Kept, logic_kept, invariant_named}
+use Rattle.gil_lexemes.specs.declared.standing.Lexeme.TheVariants as lexemes
+use Rattle.gil_grammar.specs.Vocabulary.{opening_parenthesis, closing_parenthesis, closing_brace, semicolon}
+use Rattle.source_language.specs.Names.{is_source_name, has_source_invariant}
+use Rattle.source_text.proofs.NameLaws.{Kept, named, past, logic_kept, invariant_named}
 use Rattle.source_statements.specs.Names.{is_source_statement, is_source_block}
-use Rattle.source_statements.specs.Pure.{PureStatement, simple, assert, assume, if_else, while, return, logic, PureBlock, no_statements, statement_and}
+use Rattle.source_statements.specs.Pure.{PureStatement, simple, assert, assume, if_else, while, return, logic, try_catch, PureBlock, no_statements, statement_and}
 use Rattle.statement_text.specs.Grammar.{Spelling, Spellings, SpellsStatement, SpellsElse, SpellsStatements}
 
 -- what is spelled passes a test where its lexemes are those of a source text, and so are those behind it
@@ -17,10 +19,10 @@ AreNamed {X} spells test = (x : X) (ls rest : List Lexeme) → spells x ls rest 
 module _ {E S : Type 0} (g : Spellings E S) (is_source_expression : E → Bool) (is_source_simple : S → Bool)
     (expressions : AreNamed g.expression is_source_expression) (simples : AreNamed g.simple is_source_simple) (place : ℕ → ℕ) where
   abbrev is_named_block : PureBlock E S → Bool
-  is_named_block b = is_source_block is_source_expression is_source_simple b
+  is_named_block b = is_source_block g.has_try is_source_expression is_source_simple b
 
   abbrev is_named : PureStatement E S → Bool
-  is_named c = is_source_statement is_source_expression is_source_simple c
+  is_named c = is_source_statement g.has_try is_source_expression is_source_simple c
 
   mutual
     statement_named : (c : PureStatement E S) (ls rest : List Lexeme) → SpellsStatement g place c ls rest → Kept ls → IsTrue (is_named c) × Kept rest
@@ -39,6 +41,15 @@ module _ {E S : Type 0} (g : Spellings E S) (is_source_expression : E → Bool) 
         (and_from (is_source_expression e) (has_source_invariant i && is_named_block body) p.0 (and_from (has_source_invariant i) (is_named_block body) q.0 r.0), r.1)
     statement_named (return e) ls rest (value, is, h) k = expressions e value (semicolon ∷ rest) h (subst Kept is k)
     statement_named (logic c) ls rest h k = (refl, logic_kept c ls rest h k)
+    statement_named (try_catch body x handler) ls rest (block, other, has, is, (inner, opens, a), (inner', opens', b)) k =
+        let p = statements_named body inner (closing_brace ∷ lexemes.Word words.Catch ∷ opening_parenthesis ∷ lexemes.Name x ∷ closing_parenthesis ∷ other) a
+        (subst Kept opens (subst Kept is k)) in
+        let q = statements_named handler inner' (closing_brace ∷ rest) b (subst Kept opens' (past x (closing_parenthesis ∷ other) p.1)) in (
+          and_from g.has_try (is_source_name x && (is_named_block body && is_named_block handler)) has
+              (and_from (is_source_name x) (is_named_block body && is_named_block handler) (named x (closing_parenthesis ∷ other) p.1)
+              (and_from (is_named_block body) (is_named_block handler) p.0 q.0)),
+          q.1,
+        )
 
     otherwise_named : (off : PureBlock E S) (ls rest : List Lexeme) → SpellsElse g place off ls rest → Kept ls → IsTrue (is_named_block off) × Kept rest
     otherwise_named no_statements ls rest (inl (none, is, ends)) k = (refl, subst Kept is k)

@@ -1,5 +1,5 @@
 -- What is spelled as statements and blocks is read so, where no more brackets are open than may be.
-use Rattle.std.proofs.Common.{◌≡◌, ◌⊎◌, ◌≤◌, ℕ, zero, suc, false, List, [], ◌∷◌, length, Option, Some, None, refl, sym, ap, ◌∙◌, subst, arith, inl, inr}
+use Rattle.std.proofs.Common.{◌≡◌, ◌⊎◌, ◌≤◌, ℕ, zero, suc, true, false, List, [], ◌∷◌, length, Option, Some, None, refl, sym, ap, ◌∙◌, subst, arith, inl, inr}
 use Rattle.gil_lexer.specs.declared.forms.Form.{Form}
 use Rattle.gil_lexer.specs.declared.forms.Form.TheVariants as forms
 use Rattle.gil_lexer.specs.declared.words.Word.{Word}
@@ -10,21 +10,22 @@ use Rattle.gil_lexemes.specs.declared.standing.Lexeme.TheVariants as lexemes
 use Rattle.gil_lexemes.specs.Reading.{Reading, first_form, same_sign, is_sign}
 use Rattle.gil_lexemes.proofs.ReadingLaws.{same_sign-refl, same_word-refl}
 use Rattle.gil_grammar.specs.Lists.{SpellsEach}
-use Rattle.gil_grammar.specs.Vocabulary.{closing_parenthesis, closing_brace, semicolon}
+use Rattle.gil_grammar.specs.Vocabulary.{opening_parenthesis, closing_parenthesis, closing_brace, semicolon}
 use Rattle.gil_grammar.proofs.ListLaws.{Again, Reads, ReadsList, NeverBegins, Takes, each_again}
 use Rattle.gil_grammar.proofs.NestingLaws.{Nested, nested_tail}
 use Rattle.source_language.specs.Pure.{PureLogic, fold_use, unfold_use, assert_that, PureInvariant}
 use Rattle.source_text.specs.Logic as logics
 use Rattle.source_text.proofs.LogicLaws as laws
 use Rattle.source_text.proofs.LogicLaws.{invariant_again}
-use Rattle.source_statements.specs.Pure.{PureStatement, simple, assert, assume, if_else, while, return, logic, PureBlock, no_statements, statement_and, PurePlacedStatement, from_placed}
+use Rattle.source_statements.specs.Pure.{PureStatement, simple, assert, assume, if_else, while, return, logic, try_catch, PureBlock, no_statements, statement_and, PurePlacedStatement, from_placed}
 use Rattle.statement_text.specs.Grammar.{Spellings, SpellsStatement, SpellsElse, SpellsBlock, SpellsStatements}
-use Rattle.statement_text.specs.Reading.{Readers, is_shared_word, is_shared, value_at, condition_at, claim_at, plain_at, asserted_at, else_at, if_at, while_at, of_word_at, statement_by, statement_at, placed_at, block_by, block_at}
+use Rattle.statement_text.specs.Reading.{Readers, is_shared_word, is_shared, value_at, condition_at, claim_at, plain_at, asserted_at, else_at, if_at, while_at, caught_at, try_at, tried_at, of_word_at, statement_by, statement_at, placed_at, block_by, block_at}
 use Rattle.statement_text.proofs.StatementTakes.{SpellsValue, SpellsCondition, SpellsClaim, SpellsPlaced}
 
 -- What is to be shown of the expressions and simple statements of a language: what is read is spelled, and what is spelled is read, an
 -- expression before `;` and before `)`. No simple statement begins with a word of the shared ones, or with `}`.
 pub record PiecesRead {E S : Type 0} (g : Spellings E S) (r : Readers E S) : Type 0 where
+  pub same_try : g.has_try ≡ r.has_try
   pub expression_takes : Takes g.expression r.expression_at
   pub expression_again : (e : E) (ls rest : List Lexeme) (l : Lexeme) → (l ≡ semicolon) ⊎ (l ≡ closing_parenthesis) → Nested ls
       → g.expression e ls (l ∷ rest) → Reads Nested r.expression_at e ls (l ∷ rest)
@@ -89,6 +90,7 @@ module _ {E S : Type 0} (g : Spellings E S) (r : Readers E S) (pieces : PiecesRe
       of_other_word words.Return ls apart = absurd (cc)
       of_other_word words.Fold ls apart = absurd (cc)
       of_other_word words.Unfold ls apart = absurd (cc)
+      of_other_word words.Try ls apart = absurd (cc)
       of_other_word _ ls apart = refl
 
       of_other : (form : Option Form) (ls : List Lexeme) → is_shared form ≡ false → statement_by r blocks form ls ≡ plain_at r ls
@@ -173,6 +175,25 @@ module _ {E S : Type 0} (g : Spellings E S) (r : Readers E S) (pieces : PiecesRe
             shorter = omega (arith, ap length is, cond.shorter, inv.shorter, read.shorter);
           }
 
+      try_again : (body : PureBlock E S) (x : List ℕ) (handler : PureBlock E S) (ls rest : List Lexeme) → Room n ls → Spells (try_catch body x handler) ls rest → Reads (Room n) (statement_at r blocks) (try_catch body x handler) ls rest
+      unfolding statement_at tried_at try_at caught_at
+      try_again body x handler ls rest p (block, other, has, is, a, b) =
+          let tried : r.has_try ≡ true = sym pieces.same_try ∙ has in
+          let first = again body block (caught_lexemes x other) (room_tail n _ block (subst (Room n) is p)) a in
+          let room : Room n other = four_tails _ _ _ _ other first.under in
+          let second = again handler other rest room b in
+          record {
+            is = rw (is, tried, first.is, same_word-refl words.Catch, same_sign-refl signs.LeftParenthesis, same_sign-refl signs.RightParenthesis, second.is) refl;
+            under = second.under;
+            shorter = omega (arith, ap length is, first.shorter, second.shorter);
+          }
+        where
+          caught_lexemes : List ℕ → List Lexeme → List Lexeme
+          caught_lexemes y ls = lexemes.Word words.Catch ∷ opening_parenthesis ∷ lexemes.Name y ∷ closing_parenthesis ∷ ls
+
+          four_tails : (k l m o : Lexeme) (ls : List Lexeme) → Room n (k ∷ l ∷ m ∷ o ∷ ls) → Room n ls
+          four_tails k l m o ls q = room_tail n o ls (room_tail n m _ (room_tail n l _ (room_tail n k _ q)))
+
       plain : (c : PureStatement E S) (ls rest : List Lexeme) → Room n ls → ReadsPlain c ls rest → Reads (Room n) (statement_at r blocks) c ls rest
       plain c ls rest p h = in_room n (statement_at r blocks) c ls rest p h
 
@@ -184,6 +205,7 @@ module _ {E S : Type 0} (g : Spellings E S) (r : Readers E S) (pieces : PiecesRe
       statement_again (while e i body) ls rest p h = while_again e i body ls rest p h
       statement_again (return e) ls rest p h = plain _ ls rest p (return_again e ls rest p.nested h)
       statement_again (logic c) ls rest p h = plain _ ls rest p (logic_again c ls rest p.nested h)
+      statement_again (try_catch body x handler) ls rest p h = try_again body x handler ls rest p h
 
       placed_again : Again (Room n) (SpellsPlaced g place) (placed_at r place (statement_at r blocks))
       unfolding placed_at
@@ -202,6 +224,7 @@ module _ {E S : Type 0} (g : Spellings E S) (r : Readers E S) (pieces : PiecesRe
     statement_never (logic (fold_use u)) ls rest h = rw (h.1) refl
     statement_never (logic (unfold_use u)) ls rest h = rw (h.1) refl
     statement_never (logic (assert_that items)) ls rest h = rw (h.1) refl
+    statement_never (try_catch body x handler) ls rest h = rw (h.3) refl
 
     placed_never : NeverBegins (SpellsPlaced g place) signs.RightBrace
     placed_never q ls rest (at, h) = statement_never q.statement ls rest h

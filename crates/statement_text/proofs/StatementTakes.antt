@@ -1,13 +1,13 @@
 -- What is read as statements and blocks is spelled so.
-use Rattle.std.proofs.Common.{◌≡◌, ℕ, zero, suc, List, [], ◌∷◌, length, Some, refl, ap, subst, inl, inr}
+use Rattle.std.proofs.Common.{◌≡◌, ℕ, zero, suc, true, List, [], ◌∷◌, length, Some, refl, ap, subst, ◌∙◌, inl, inr}
 use Rattle.gil_lexer.specs.declared.words.Word.{Word}
 use Rattle.gil_lexer.specs.declared.words.Word.TheVariants as words
 use Rattle.gil_lexer.specs.declared.signs.Sign.TheVariants as signs
 use Rattle.gil_lexemes.specs.declared.standing.Lexeme.{Lexeme}
 use Rattle.gil_lexemes.specs.declared.standing.Lexeme.TheVariants as lexemes
 use Rattle.gil_lexemes.specs.Lists.{each_until}
-use Rattle.gil_lexemes.specs.Reading.{Reading, ◌>>=◌, behind, first_form, is_sign, is_word, sign_at}
-use Rattle.gil_lexemes.proofs.ReadingLaws.{bind_some, sign_takes, at_word_is}
+use Rattle.gil_lexemes.specs.Reading.{Reading, ◌>>=◌, behind, first_form, is_sign, is_word, sign_at, word_at, name_at}
+use Rattle.gil_lexemes.proofs.ReadingLaws.{bind_some, sign_takes, word_takes, name_takes, at_word_is}
 use Rattle.gil_grammar.specs.Lists.{SpellsEach}
 use Rattle.gil_grammar.specs.Vocabulary.{opening_parenthesis, closing_parenthesis, semicolon}
 use Rattle.gil_grammar.proofs.ListLaws.{Takes, cond_cases, each_takes}
@@ -15,9 +15,9 @@ use Rattle.gil_grammar.proofs.AssertionLaws.{in_place}
 use Rattle.source_text.specs.Logic as logics
 use Rattle.source_text.specs.Logic.{invariant_at}
 use Rattle.source_text.proofs.LogicLaws.{invariant_takes, logic_takes}
-use Rattle.source_statements.specs.Pure.{PureStatement, simple, assert, assume, if_else, while, return, logic, PureBlock, no_statements, PurePlacedStatement, from_placed}
+use Rattle.source_statements.specs.Pure.{PureStatement, simple, assert, assume, if_else, while, return, logic, try_catch, PureBlock, no_statements, PurePlacedStatement, from_placed}
 use Rattle.statement_text.specs.Grammar.{Spellings, SpellsStatement, SpellsElse, SpellsBlock, SpellsStatements}
-use Rattle.statement_text.specs.Reading.{Readers, value_at, condition_at, claim_at, plain_at, logic_at, asserted_at, else_at, if_at, while_at, of_word_at, statement_at, placed_at, block_by, block_at}
+use Rattle.statement_text.specs.Reading.{Readers, value_at, condition_at, claim_at, plain_at, logic_at, asserted_at, else_at, if_at, while_at, caught_at, try_at, tried_at, of_word_at, statement_at, placed_at, block_by, block_at}
 
 module _ {E S : Type 0} (g : Spellings E S) where
   -- e;
@@ -35,7 +35,8 @@ module _ {E S : Type 0} (g : Spellings E S) where
   abbrev pub SpellsPlaced : (ℕ → ℕ) → PurePlacedStatement E S → List Lexeme → List Lexeme → Type 0
   SpellsPlaced place p ls rest = (p.at ≡ place (length ls)) × SpellsStatement g place p.statement ls rest
 
-module _ {E S : Type 0} (g : Spellings E S) (r : Readers E S) (expression_takes : Takes g.expression r.expression_at) (simple_takes : Takes g.simple r.simple_at) where
+module _ {E S : Type 0} (g : Spellings E S) (r : Readers E S) (same_try : g.has_try ≡ r.has_try)
+    (expression_takes : Takes g.expression r.expression_at) (simple_takes : Takes g.simple r.simple_at) where
   value_takes : Takes (SpellsValue g) (value_at r)
   unfolding value_at
   value_takes ls found e =
@@ -149,6 +150,39 @@ module _ {E S : Type 0} (g : Spellings E S) (r : Readers E S) (expression_takes 
             sound i.0.1 body.0 body.1,
           )
 
+      caught_takes : (ls : List Lexeme) (found : List ℕ × List Lexeme) → caught_at ls ≡ Some found
+          → ls ≡ opening_parenthesis ∷ lexemes.Name found.0 ∷ closing_parenthesis ∷ found.1
+      unfolding caught_at
+      caught_takes ls found e =
+          let a = bind_some (sign_at signs.LeftParenthesis ls) _ found e in
+          let x = bind_some (name_at a.0) _ found a.2 in
+          let b = bind_some (sign_at signs.RightParenthesis x.0.1) _ found x.2 in
+          in_place (λ y l rest. l ≡ opening_parenthesis ∷ lexemes.Name y ∷ closing_parenthesis ∷ rest) ls x.0.0 b.0 found b.2
+          (sign_takes signs.LeftParenthesis ls a.0 a.1
+          ∙ ap (λ (l : List Lexeme). opening_parenthesis ∷ l) (name_takes a.0 x.0 x.1)
+          ∙ ap (λ (l : List Lexeme). opening_parenthesis ∷ lexemes.Name x.0.0 ∷ l) (sign_takes signs.RightParenthesis x.0.1 b.0 b.1))
+
+      try_takes : r.has_try ≡ true → (ls : List Lexeme) (found : PureStatement E S × List Lexeme) → try_at r blocks ls ≡ Some found → Worded words.Try found.0 ls found.1
+      unfolding try_at
+      try_takes has ls found e =
+          let body = bind_some (blocks ls) _ found e in
+          let w = bind_some (word_at words.Catch body.0.1) _ found body.2 in
+          let x = bind_some (caught_at w.0) _ found w.2 in
+          let handler = bind_some (blocks x.0.1) _ found x.2 in
+          let rest = word_takes words.Catch body.0.1 w.0 w.1 ∙ ap (λ (l : List Lexeme). lexemes.Word words.Catch ∷ l) (caught_takes w.0 x.0 x.1) in
+          in_place (Worded words.Try) ls (try_catch body.0.0 x.0.0 handler.0.0) handler.0.1 found handler.2 (
+            ls,
+            x.0.1,
+            same_try ∙ has,
+            refl,
+            subst (SpellsBlock g place body.0.0 ls) rest (sound ls body.0 body.1),
+            sound x.0.1 handler.0 handler.1,
+          )
+
+      tried_takes : (ls : List Lexeme) (found : PureStatement E S × List Lexeme) → tried_at r blocks (lexemes.Word words.Try ∷ ls) ≡ Some found → Worded words.Try found.0 ls found.1
+      unfolding tried_at
+      tried_takes ls found e = cond_cases r.has_try _ _ found e (λ has read. try_takes has ls found read) (λ has none. absurd (cc none))
+
       of_word_takes : (word : Word) (ls : List Lexeme) (found : PureStatement E S × List Lexeme) → of_word_at r blocks word (lexemes.Word word ∷ ls) ≡ Some found → Worded word found.0 ls found.1
       of_word_takes words.Assert ls found e = asserted_takes ls found e
       of_word_takes words.Assume ls found e = assume_takes ls found e
@@ -157,6 +191,7 @@ module _ {E S : Type 0} (g : Spellings E S) (r : Readers E S) (expression_takes 
       of_word_takes words.Return ls found e = return_takes ls found e
       of_word_takes words.Fold ls found e = logic_takes_all words.Fold ls found e
       of_word_takes words.Unfold ls found e = logic_takes_all words.Unfold ls found e
+      of_word_takes words.Try ls found e = tried_takes ls found e
       of_word_takes word ls found e = plain_takes (lexemes.Word word ∷ ls) found e
 
       statement_takes : Takes Spells (statement_at r blocks)

@@ -3,10 +3,11 @@ use Rattle.std.proofs.Common.{ℕ, List, Bool, ◌&&◌, Some, None, refl, subst
 use Rattle.std.proofs.lemmas.Bool.{and_from}
 use Rattle.gil_lexemes.specs.declared.standing.Lexeme.{Lexeme}
 use Rattle.gil_syntax.specs.Pure as gil
-use Rattle.gil_grammar.proofs.MadeLaws.{AreProper, Made, Makes, after, command_makes}
+use Rattle.gil_syntax.specs.WellMade.{is_program_name}
+use Rattle.gil_grammar.proofs.MadeLaws.{AreProper, Made, Makes, after, command_makes, program_name}
 use Rattle.source_language.specs.Compiled.{logic_command}
 use Rattle.source_text.specs.Logic.{SpellsLogic, SpellsInvariant}
-use Rattle.source_statements.specs.Pure.{PureStatement, simple, assert, assume, if_else, while, return, logic, PureBlock, no_statements, statement_and}
+use Rattle.source_statements.specs.Pure.{PureStatement, simple, assert, assume, if_else, while, return, logic, try_catch, PureBlock, no_statements, statement_and}
 use Rattle.source_statements.specs.WellMade.{is_well_made_logic, is_well_made_invariant, is_well_made_statement, is_well_made_block}
 use Rattle.statement_text.specs.Grammar.{Spellings, SpellsStatement, SpellsElse, SpellsStatements}
 
@@ -54,6 +55,15 @@ module _ {E S : Type 0} (g : Spellings E S) (is_made_expression : E → Bool) (i
         let read = expressions e value _ (after _ ls value is p) h in
         record { is = read.is; proper = read.proper.1 }
     statement_made (logic c) ls rest p h = logic_made c ls rest p h
+    statement_made (try_catch body x handler) ls rest p (block, other, has, is, (inner, opens, a), (inner', opens', b)) =
+        let first = statements_made body inner _ (after _ block inner opens (after _ ls block is p)) a in
+        let behind_brace = first.proper.1 in
+        let second = statements_made handler inner' _ (after _ other inner' opens' behind_brace.1.1.1.1) b in
+        record {
+          is = and_from (is_program_name x) (is_made_block body && is_made_block handler) (program_name x behind_brace.1.1.0)
+              (and_from (is_made_block body) (is_made_block handler) first.is second.is);
+          proper = second.proper.1;
+        }
 
     otherwise_made : (off : PureBlock E S) (ls rest : List Lexeme) → AreProper ls → SpellsElse g place off ls rest → Made (is_made_block off) rest
     otherwise_made no_statements ls rest p (inl (none, is, ends)) = record { is = refl; proper = subst AreProper is p }

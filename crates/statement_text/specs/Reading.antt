@@ -7,17 +7,18 @@ use Rattle.gil_lexer.specs.declared.words.Word.TheVariants as words
 use Rattle.gil_lexer.specs.declared.signs.Sign.TheVariants.{LeftParenthesis, RightParenthesis, LeftBrace, RightBrace, Semicolon}
 use Rattle.gil_lexemes.specs.declared.standing.Lexeme.{Lexeme}
 use Rattle.gil_lexemes.specs.Lists.{each_until}
-use Rattle.gil_lexemes.specs.Reading.{Reading, ◌>>=◌, first_form, behind, is_sign, is_word, sign_at}
+use Rattle.gil_lexemes.specs.Reading.{Reading, ◌>>=◌, first_form, behind, is_sign, is_word, sign_at, word_at, name_at}
 use Rattle.source_text.specs.Logic as logics
 use Rattle.source_text.specs.Logic.{invariant_at}
-use Rattle.source_statements.specs.Pure.{PureStatement, simple, assert, assume, if_else, while, return, logic, PureBlock, no_statements, PurePlacedStatement, from_placed}
+use Rattle.source_statements.specs.Pure.{PureStatement, simple, assert, assume, if_else, while, return, logic, try_catch, PureBlock, no_statements, PurePlacedStatement, from_placed}
 
--- how a language reads its expressions, and its simple statements, to their last `;`
+-- how a language reads its expressions, and its simple statements, to their last `;`; whether it has `try`
 pub record Readers (E S : Type 0) : Type 0 where
   pub expression_at : List Lexeme → Reading E
   pub simple_at : List Lexeme → Reading S
+  pub has_try : Bool
 
--- a statement that every source language has begins with one of these words
+-- a statement that every source language has begins with one of these words, or with `try`, with which no other does
 abbrev pub is_shared_word : Word → Bool
 is_shared_word words.Assert = true
 is_shared_word words.Assume = true
@@ -26,11 +27,20 @@ is_shared_word words.While = true
 is_shared_word words.Return = true
 is_shared_word words.Fold = true
 is_shared_word words.Unfold = true
+is_shared_word words.Try = true
 is_shared_word _ = false
 
 abbrev pub is_shared : Option Form → Bool
 is_shared (Some (forms.Word word)) = is_shared_word word
 is_shared _ = false
+
+-- (x)   behind `catch`
+unfoldable pub caught_at : List Lexeme → Reading (List ℕ)
+caught_at ls = do
+  inner ← sign_at LeftParenthesis ls
+  x ← name_at inner
+  rest ← sign_at RightParenthesis x.1
+  Some (x.0, rest)
 
 module _ {E S : Type 0} (r : Readers E S) where
   -- e;
@@ -98,6 +108,18 @@ module _ {E S : Type 0} (r : Readers E S) where
       body ← blocks i.1
       Some (while e.0 i.0 body.0, body.1)
 
+    unfoldable pub try_at : List Lexeme → Reading (PureStatement E S)
+    try_at ls = do
+      body ← blocks ls
+      behind_catch ← word_at words.Catch body.1
+      x ← caught_at behind_catch
+      handler ← blocks x.1
+      Some (try_catch body.0 x.0 handler.0, handler.1)
+
+    -- from the word `try` on
+    unfoldable pub tried_at : List Lexeme → Reading (PureStatement E S)
+    tried_at ls = if r.has_try then try_at (behind ls) else None
+
     abbrev pub of_word_at : Word → List Lexeme → Reading (PureStatement E S)
     of_word_at words.Assert ls = asserted_at ls
     of_word_at words.Assume ls = assume_at (behind ls)
@@ -106,6 +128,7 @@ module _ {E S : Type 0} (r : Readers E S) where
     of_word_at words.Return ls = return_at (behind ls)
     of_word_at words.Fold ls = logic_at words.Fold ls
     of_word_at words.Unfold ls = logic_at words.Unfold ls
+    of_word_at words.Try ls = tried_at ls
     of_word_at _ ls = plain_at ls
 
     abbrev pub statement_by : Option Form → List Lexeme → Reading (PureStatement E S)

@@ -8,7 +8,9 @@ ghost use Rattle.source_statements.specs.View.{block_view, placed_statements_vie
 ghost use Rattle.statement_text.specs.Reading as read;
 
 use crate::language::StatementReader;
-use crate::pieces::{asserted_at, assume_at, condition_at, logic_at, plain_at, return_at};
+use crate::pieces::{
+    asserted_at, assume_at, caught_at, condition_at, logic_at, plain_at, return_at,
+};
 use gil_lexemes::{Cursor, Stop};
 use gil_lexer::{Form, Sign, Token, Word};
 use source_statements::{Block, PlacedStatement, Statement};
@@ -135,6 +137,7 @@ fn of_word_at<'a, L: StatementReader>(
         Word::Return => return_at::<L>(alloc, cursor.behind()),
         Word::Fold => logic_at::<L>(alloc, Word::Fold, cursor),
         Word::Unfold => logic_at::<L>(alloc, Word::Unfold, cursor),
+        Word::Try => tried_at::<L>(alloc, tokens, inner, cursor),
         _ => plain_at::<L>(alloc, cursor),
     }
 }
@@ -191,4 +194,41 @@ fn while_at<'a, L: StatementReader>(
     let (invariant, cursor) = invariant_at(alloc, cursor)?;
     let (body, cursor) = block_at::<L>(alloc, tokens, inner, cursor)?;
     Ok((Statement::While(condition, invariant, body), cursor))
+}
+
+/// The statement at the front, which begins with `try`, in a language that has it.
+#[cycle(statement)]
+#[tactic(auto, unfolding(crate::specs::Reading::tried_at))]
+fn tried_at<'a, L: StatementReader>(
+    alloc: Global,
+    tokens: &[Token],
+    inner: usize,
+    cursor: Cursor<'a>,
+) -> Result<(Statement<L::Expression, L::Simple>, Cursor<'a>), Stop>
+    ensures { Gives (λ found. (statement_view L.expression_view L.simple_view found.0, found.1)) result
+        (read.tried_at L.readers (read.block_at L.readers (byte_before tokens.now) inner) cursor.entry) }
+{
+    if !L::has_try() {
+        return Err(Stop::Syntax(cursor.left()));
+    }
+    try_at::<L>(alloc, tokens, inner, cursor.behind())
+}
+
+/// `block catch (x) block`, behind `try`.
+#[cycle(statement)]
+#[tactic(auto, unfolding(crate::specs::Reading::try_at))]
+fn try_at<'a, L: StatementReader>(
+    alloc: Global,
+    tokens: &[Token],
+    inner: usize,
+    cursor: Cursor<'a>,
+) -> Result<(Statement<L::Expression, L::Simple>, Cursor<'a>), Stop>
+    ensures { Gives (λ found. (statement_view L.expression_view L.simple_view found.0, found.1)) result
+        (read.try_at L.readers (read.block_at L.readers (byte_before tokens.now) inner) cursor.entry) }
+{
+    let (body, cursor) = block_at::<L>(alloc, tokens, inner, cursor)?;
+    let cursor = cursor.word(Word::Catch)?;
+    let (name, cursor) = caught_at(alloc, cursor)?;
+    let (handler, cursor) = block_at::<L>(alloc, tokens, inner, cursor)?;
+    Ok((Statement::Try(body, name, handler), cursor))
 }

@@ -1,4 +1,5 @@
 //! What a reader of statements has to give.
+ghost use Rattle.std.specs.Prelude.{◌≡◌};
 ghost use Rattle.gil_lexemes.specs.Reading.{Gives};
 ghost use Rattle.statement_text.specs.Reading.{Readers};
 
@@ -22,6 +23,10 @@ pub trait StatementReader {
     ghost simple_view: { Self.Simple → PureSimple };
 
     ghost readers: { Readers PureExpression PureSimple };
+
+    /// Whether it has `try`.
+    fn has_try() -> bool
+        ensures { result ≡ readers.has_try };
 
     /// The expression at the front.
     fn expression_at<'a>(

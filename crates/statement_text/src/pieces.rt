@@ -7,6 +7,7 @@ ghost use Rattle.statement_text.specs.Reading as read;
 use crate::language::StatementReader;
 use gil_lexemes::{Cursor, Stop};
 use gil_lexer::{Sign, Word};
+use gil_values::Text;
 use source_statements::Statement;
 use std::alloc::Global;
 
@@ -118,4 +119,15 @@ pub(crate) fn asserted_at<'a, L: StatementReader>(
         return logic_at::<L>(alloc, Word::Assert, cursor);
     }
     assert_at::<L>(alloc, cursor.behind())
+}
+
+/// `(x)`, behind `catch`.
+#[tactic(auto, unfolding(crate::specs::Reading::caught_at))]
+pub(crate) fn caught_at<'a>(alloc: Global, cursor: Cursor<'a>) -> Result<(Text, Cursor<'a>), Stop>
+    ensures { Gives (λ found. (found.0, found.1)) result (read.caught_at cursor.entry) }
+{
+    let cursor = cursor.sign(Sign::LeftParenthesis)?;
+    let (name, cursor) = cursor.name(alloc)?;
+    let cursor = cursor.sign(Sign::RightParenthesis)?;
+    Ok((name, cursor))
 }

@@ -30,6 +30,12 @@ decreases-if_at g l = 8 * l.inner + 2
 abbrev pub decreases-while_at : goal.decreases-while_at
 decreases-while_at g l = 8 * l.inner + 2
 
+abbrev pub decreases-tried_at : goal.decreases-tried_at
+decreases-tried_at g l = 8 * l.inner + 2
+
+abbrev pub decreases-try_at : goal.decreases-try_at
+decreases-try_at g l = 8 * l.inner + 1
+
 abbrev pub decreases-else_at : goal.decreases-else_at
 decreases-else_at g l = 8 * l.inner + 1
 
