@@ -8,7 +8,9 @@ pub mod FormLaws
 pub mod Instance
 pub mod Keeping
 pub mod Law
+pub mod Listing
 pub mod LookupLaws
+pub mod Missing
 pub mod NameLists
 pub mod NewLaws
 pub mod PropertyLaws

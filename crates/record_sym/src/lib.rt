@@ -5,6 +5,7 @@ mod building;
 mod disposing;
 mod folds;
 mod laws;
+mod listed;
 mod making;
 mod memory;
 mod places;
