@@ -2,10 +2,11 @@
 use Rattle.std.proofs.Common.{◌≡◌, ℕ, zero, suc, ◌+◌, ◌<◌, List, [], ◌∷◌, ◌++◌, map, take, drop, get_or, length, Bool, true, false, if◌then◌else◌, Option, Some, None, refl, sym, ap, subst, ◌∙◌, arith}
 use Rattle.std.specs.List.{flat_map, list_any}
 use Rattle.std.proofs.lemmas.List.{append_assoc, drop_more}
+use Rattle.pure_terms.specs.declared.atoms.Atom.{Atom}
 use Rattle.pure_terms.specs.Pure.{PureTerm}
 use Rattle.sym_chunks.specs.Keys.{at_key}
 use Rattle.sym_chunks.specs.Walking.{sure_place}
-use Rattle.sym_conditions.specs.Alternatives.{is_empty}
+use Rattle.sym_conditions.specs.Alternatives.{Alternatives, alternatives_view, never, both, is_empty}
 use Rattle.sym_conditions.proofs.Stepping.{flat_step}
 use Rattle.sym_model.specs.Pure.{PureSub, PureChunk}
 use Rattle.sym_model.proofs.ListLaws.{same_some, not_none}
@@ -26,6 +27,15 @@ module _ {X A B : Type 0} (view : X → A) where
       ∙ ap (λ y. out ++ y) (sym (step i (view x) (map view (drop (i + 1) items))))
       ∙ ap (λ xs. out ++ rest i (map view xs)) (ap (λ y. y ∷ drop (i + 1) items) is ∙ sym (drop_more items i x below))
       ∙ so_far
+
+-- no alternative is left
+pub nothing_left : (x : Alternatives) → both x never ≡ never
+nothing_left [] = refl
+nothing_left (conds ∷ x) = nothing_left x
+
+pub nothing : (x : List (List Atom)) → length x ≡ 0 → alternatives_view x ≡ never
+nothing [] is = refl
+nothing (a ∷ x) is = absurd (omega (arith, is))
 
 -- a place that is found is one of the list
 sure_if : (l : PureTerm) (s : PureSub) (i j : ℕ) (cs : List PureChunk) (b : Bool) → (sure_place l s (i + 1) cs ≡ Some j → j < (i + 1) + length cs) → (if b then Some i else sure_place l s (i + 1) cs) ≡ Some j → j < i + suc (length cs)

@@ -93,3 +93,19 @@ module _ (v : List PureValue) (D : PureTerm → Type 0) where
 
     pub chosen_open : (cases : List PureCase) → (Hold v when → Each (λ c. OpenFor c.when) cases) → Each Opens (choose when cases)
     chosen_open cases is = open_by cases is (sure_case cases)
+
+-- where the alternatives hold, D gives D'
+pub open_to : (v : List PureValue) (D D' : PureTerm → Type 0) (x : Alternatives) → (Hold v x → (t : PureTerm) → D t → D' t) → OpenFor v D x → OpenFor v D' x
+open_to v D D' [] f opens = tt
+open_to v D D' (conds ∷ x) f opens = (
+  (λ taken. each_to (OpensOnly D) (OpensOnly D') conds (λ a only t e. f (inl taken) t (only t e)) (opens.0 taken)),
+  open_to v D D' x (λ holds. f (inr holds)) opens.1,
+)
+
+pub each_own : {A B : Type 0} (F : A → B → Type 0) (xs : List A) → Each (λ x. (t : B) → F x t → OneOf (λ y. F y t) xs) xs
+each_own F [] = tt
+each_own F (x ∷ xs) = ((λ t is. inl is), each_to _ _ xs (λ y f t is. inr (f t is)) (each_own F xs))
+
+pub one_with_each : {A : Type 0} (P Q R : A → Type 0) (xs : List A) → Each P xs → OneOf Q xs → ((x : A) → P x → Q x → R x) → OneOf R xs
+one_with_each P Q R [] every one f = absurd one
+one_with_each P Q R (x ∷ xs) every one f = ⊎_elim (λ here. inl (f x every.0 here)) (λ later. inr (one_with_each P Q R xs every.1 later f)) one

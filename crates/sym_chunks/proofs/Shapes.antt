@@ -16,7 +16,7 @@ use Rattle.sym_chunks.specs.ByPlace.{elsewhere_or, places_of, all_at, all_there,
 use Rattle.sym_chunks.specs.Cases.{ChunkBranches, failure, true_term, PureCase, case_of, branches_of, case_branches, sure_case, choose_by, choose, PureAccess, reads, writes, takes, accessed, outs_listed, given_back, found_from, found}
 use Rattle.sym_chunks.specs.Forms.{form_of}
 use Rattle.sym_chunks.specs.Keys.{same_sub, other_sub, at_key}
-use Rattle.sym_chunks.specs.NameTerms.{listed, unlisted, distinct_from}
+use Rattle.sym_chunks.specs.NameTerms.{listed, unlisted, distinct_from, holds_name, unheld_name, unheld}
 use Rattle.sym_chunks.specs.Ordering.{less_than, not_above, literals_less, literals_at_most, less, at_most, outside, inside}
 use Rattle.sym_chunks.specs.Walking.{PureWay, way_of, sure_place, ways_from, ways_by, next_ways, missing_key, all_taken, walk}
 use Rattle.sym_conditions.specs.declared.comparing.Comparison.{Comparison}
@@ -256,6 +256,16 @@ module _ (g : Reading) where
   pub unlisted_shaped : (p t : PureTerm) → g.Side p → g.Side t → EachQ (unlisted p t)
   unlisted_shaped p (list_of ts) side_p side = other_each always p (to_list ts) always_shaped side_p (g.side_elements ts side)
   unlisted_shaped p t side_p side = tt
+
+  unless_shaped : (b : Bool) (x : Alternatives) → EachQ x → EachQ (if b then never else x)
+  unless_shaped true x shaped = tt
+  unless_shaped false x shaped = shaped
+
+  pub unheld_shaped : (p m : PureTerm) (cs : List PureChunk) (t : PureTerm) → g.Side p → g.Side t → EachQ (unheld p m cs t)
+  unheld_shaped p m cs (list_of ts) side_p side =
+      any_shaped (unheld_name p m cs) (to_list ts)
+      (each_to g.Side (λ e. EachQ (unheld_name p m cs e)) (to_list ts) (λ e side_e. unless_shaped (holds_name m cs e) (same p e) (same_shaped p e (g.sides p e side_p side_e))) (g.side_elements ts side))
+  unheld_shaped p m cs t side_p side = tt
 
   pub distinct_shaped : (x : Alternatives) (ds : List PureTerm) → EachQ x → Each g.Given ds → EachQ (distinct_from x ds)
   distinct_shaped x [] first all_given = first

@@ -1,5 +1,5 @@
 -- Cases of actions: the conditions under which each comes, the chunks after it and its result.
-use Rattle.std.specs.Prelude.{ℕ, ◌+◌, List, [], ◌∷◌, ◌++◌, map, true, if◌then◌else◌, Option, Some, None}
+use Rattle.std.specs.Prelude.{◌≡◌, ℕ, ◌+◌, List, [], ◌∷◌, ◌++◌, map, true, if◌then◌else◌, Option, Some, None}
 use Rattle.std.specs.List.{flat_map, list_any, remove}
 use Rattle.gil_values.specs.declared.kinds.Kind.{Kind}
 use Rattle.mem_model.specs.declared.failures.Failure.{Failure}
@@ -7,9 +7,9 @@ use Rattle.mem_model.specs.Tables.{failure_text}
 use Rattle.pure_terms.specs.declared.literals.Literal.{Literal}
 use Rattle.pure_terms.specs.Pure.{PureTerm, literal, list_of, from_list}
 use Rattle.sym_chunks.specs.Keys.{at_key}
-use Rattle.sym_conditions.specs.Alternatives.{Alternatives, both, settled, is_empty}
+use Rattle.sym_conditions.specs.Alternatives.{Alternatives, both, any, settled, is_empty}
 use Rattle.sym_model.specs.Chunks.{with_held}
-use Rattle.sym_model.specs.Pure.{PureSub, gone, PureChunk, PureResult, done, failed, PureBranch}
+use Rattle.sym_model.specs.Pure.{PureSub, named, gone, PureChunk, PureResult, done, failed, missed, PureBranch}
 
 abbrev pub ChunkBranches : Type 0
 ChunkBranches = List (PureBranch (List PureChunk))
@@ -24,6 +24,12 @@ true_term = literal (Literal.Bool true)
 
 abbrev pub null_term : PureTerm
 null_term = literal (Literal.Kind Kind.Null)
+
+abbrev pub missed_key : PureTerm → PureSub → PureResult
+missed_key l s = missed (record { loc = l; sub = s })
+
+abbrev pub missed_name : PureTerm → PureTerm → PureResult
+missed_name l p = missed_key l (named p)
 
 -- ---- cases
 
@@ -56,6 +62,10 @@ choose_by when cases None = flat_map (case_branches when) cases
 -- where `when` holds, the branches of a case that surely comes alone, and else those of every case
 abbrev pub choose : Alternatives → List PureCase → ChunkBranches
 choose when cases = choose_by when cases (sure_case cases)
+
+-- the branches of the cases are those of these
+abbrev pub AreChosenAs : List PureCase → List PureCase → Type 0
+AreChosenAs cases others = (when : Alternatives) → choose when cases ≡ choose when others
 
 -- ---- chunks that are found
 
@@ -90,3 +100,7 @@ found_from a l s cs i (c ∷ rest) = case_of (at_key l s c) (accessed a cs i) (g
 
 abbrev pub found : PureAccess → PureTerm → PureSub → List PureChunk → List PureCase
 found a l s cs = found_from a l s cs 0 cs
+
+-- l is gone, where an action fails
+abbrev pub gone_case : PureTerm → List PureChunk → List PureCase
+gone_case l cs = case_of (any (at_key l gone) cs) cs (failure Failure.Gone)

@@ -1,3 +1,4 @@
+pub mod Arguments
 pub mod ByPlace
 pub mod Cases
 pub mod Forms

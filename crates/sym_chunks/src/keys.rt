@@ -51,6 +51,10 @@ pub fn key_here(
 ) -> Result<Alternatives, AllocError>
     ensures { IfOk result (λ x. alternatives_view x ≡ at_key (term_view l.now) (sub_view s.now) (chunk_view chunk.now)) }
 {
+    let subkey = subkeys_equal(alloc, s, &chunk.sub)?;
+    if subkey.len() == 0 {
+        return Ok(never(alloc));
+    }
     let location = terms_equal(alloc, l, &chunk.loc)?;
-    both(alloc, &location, &subkeys_equal(alloc, s, &chunk.sub)?)
+    both(alloc, &location, &subkey)
 }

@@ -3,7 +3,8 @@ ghost use Rattle.std.specs.Prelude.{◌≡◌, [], ◌∷◌, ◌++◌, ◌<◌,
 ghost use Rattle.std.specs.List.{flat_map};
 ghost use Rattle.pure_terms.specs.View.{term_view};
 ghost use Rattle.sym_chunks.specs.ByPlace.{all_by_place as all_by_place_of};
-ghost use Rattle.sym_chunks.specs.Cases.{true_term};
+ghost use Rattle.mem_model.specs.declared.failures.Failure.{Failure};
+ghost use Rattle.sym_chunks.specs.Cases.{true_term, gone_case};
 ghost use Rattle.sym_chunks.specs.Keys.{same_sub, other_sub, at_key};
 ghost use Rattle.sym_chunks.specs.View.{cases_view, way_view, ways_view};
 ghost use Rattle.sym_chunks.specs.Walking.{
@@ -18,9 +19,10 @@ ghost use Rattle.sym_conditions.specs.Alternatives.{alternatives_view, any, both
 ghost use Rattle.sym_model.specs.Pure.{gone, missed};
 ghost use Rattle.sym_model.specs.View.{frag_view, chunk_view, chunks_view, result_view, sub_view};
 
-use crate::cases::{Case, Cases, is_sure, with_case};
+use crate::cases::{Cases, is_sure, with_case, with_failure_case};
 use crate::keys::{key_here, subkeys_differ, subkeys_equal};
 use crate::places::{ChunkTest, all_by_place, any_at};
+use mem_model::Failure;
 use pure_terms::{Literal, Term};
 use sequence::Sequence;
 use std::alloc::{AllocError, Global};
@@ -76,6 +78,19 @@ pub fn any_key(
     ensures { IfOk result (λ x. alternatives_view x ≡ any (at_key (term_view l.now) (sub_view s.now)) (chunks_view chunks.now)) }
 {
     any_at(alloc, l, &SameSub { sub: s }, chunks)
+}
+
+/// The cases, and that in which the location is gone.
+pub fn with_gone(
+    alloc: Global,
+    cases: Cases,
+    l: &Term,
+    chunks: &SymFrag,
+) -> Result<Cases, AllocError>
+    ensures { IfOk result (λ cs. cases_view cs ≡ cases_view cases ++ gone_case (term_view l.now) (frag_view chunks.now)) }
+{
+    let gone = any_key(alloc, l, &SymSub::Gone, chunks.as_slice())?;
+    with_failure_case(alloc, cases, gone, chunks, Failure::Gone)
 }
 
 /// No chunk of the location has this subkey.
@@ -186,32 +201,33 @@ fn sure_place(
 }
 
 /// The ways, and those of one more key after another way.
-fn take_key(alloc: Global, ways: Ways, way: &Way, l: &Term, s: &SymSub) -> Result<Ways, AllocError>
-    ensures { IfOk result (λ ws. ways_view ws ≡ ways_view ways ++ next_ways_of (term_view l.now) (sub_view s.now) (way_view way.now)) }
+fn take_key(alloc: Global, ways: Ways, way: Way, l: &Term, s: &SymSub) -> Result<Ways, AllocError>
+    ensures { IfOk result (λ ws. ways_view ws ≡ ways_view ways ++ next_ways_of (term_view l.now) (sub_view s.now) (way_view way)) }
 {
-    match sure_place(alloc, l, s, way.left.as_slice())? {
+    let place = sure_place(alloc, l, s, way.left.as_slice())?;
+    match place {
         Some(index) => {
-            let when = copy_alternatives(alloc, &way.when)?;
-            let left = without_chunk(alloc, &way.left, index)?;
+            let Way { when, mut left } = way;
+            left.remove(index);
             with_way(ways, when, left)
         }
-        None => take_somewhere(alloc, ways, way, l, s),
+        None => take_somewhere(alloc, ways, &way, l, s),
     }
 }
 
 /// The ways of one more key after each of these.
-fn next_ways(alloc: Global, before: &Ways, l: &Term, s: &SymSub) -> Result<Ways, AllocError>
-    ensures { IfOk result (λ ws. ways_view ws ≡ flat_map (next_ways_of (term_view l.now) (sub_view s.now)) (ways_view before.now)) }
+fn next_ways(alloc: Global, before: Ways, l: &Term, s: &SymSub) -> Result<Ways, AllocError>
+    ensures { IfOk result (λ ws. ways_view ws ≡ flat_map (next_ways_of (term_view l.now) (sub_view s.now)) (ways_view before)) }
 {
     let mut ways = Sequence::new(alloc);
-    for way in before.as_slice() {
+    for way in before.into_vec() {
         ways = take_key(alloc, ways, way, l, s)?;
     }
     Ok(ways)
 }
 
-/// The cases, and that in which the key is missing from what a way leaves.
-fn with_missing_after(
+/// The cases, and that in which the key is missing from what a way leaves, where no chunk surely is its own.
+fn with_maybe_missing(
     alloc: Global,
     cases: Cases,
     chunks: &SymFrag,
@@ -226,6 +242,25 @@ fn with_missing_after(
     let missing = combine(alloc, &way.when, &others)?;
     let outcome = missed_key(alloc, l, s)?;
     with_case(alloc, cases, missing, chunks, &outcome)
+}
+
+/// The cases, and that in which the key is missing from what a way leaves.
+fn with_missing_after(
+    alloc: Global,
+    cases: Cases,
+    chunks: &SymFrag,
+    l: &Term,
+    s: &SymSub,
+    way: &Way,
+) -> Result<Cases, AllocError>
+    ensures { IfOk result (λ cs. cases_view cs ≡ cases_view cases ++ missing_key (frag_view chunks.now) (term_view l.now)
+        (sub_view s.now) (way_view way.now)) }
+{
+    let place = sure_place(alloc, l, s, way.left.as_slice())?;
+    match place {
+        Some(_) => Ok(cases),
+        None => with_maybe_missing(alloc, cases, chunks, l, s, way),
+    }
 }
 
 /// The cases, and those in which the key is missing.
@@ -304,6 +339,6 @@ pub fn walk_on(
 {
     let Walk { cases, ways } = walk;
     let cases = with_missing(alloc, cases, chunks, l, s, &ways)?;
-    let ways = next_ways(alloc, &ways, l, s)?;
+    let ways = next_ways(alloc, ways, l, s)?;
     Ok(Walk { cases, ways })
 }

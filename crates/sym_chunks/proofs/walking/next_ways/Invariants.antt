@@ -1,12 +1,10 @@
-use Rattle.std.proofs.Common.{◌≡◌, ◌++◌, take, drop, map, false}
-use Rattle.sym_chunks.specs.View.{case_view, cases_view, way_view, ways_view, access_view, chunk_branches_view}
-use Rattle.sym_conditions.specs.Alternatives.{alternatives_view, any, all, all_from, same, other, always, is_empty}
-use Rattle.pure_terms.specs.View.{term_view, terms_view}
-use Rattle.sym_model.specs.View.{frag_view, chunk_view, sub_view, result_view}
-use Rattle.std.specs.List.{flat_map, list_any}
-use Rattle.pure_terms.specs.Equality.{same_term}
-use Rattle.sym_chunks.specs.Walking.{ways_from, sure_place, next_ways, missing_key, all_taken}
+use Rattle.std.proofs.Common.{◌≡◌, map}
+use Rattle.std.specs.List.{flat_map}
+use Rattle.pure_terms.specs.View.{term_view}
+use Rattle.sym_chunks.specs.View.{way_view, ways_view}
+use Rattle.sym_chunks.specs.Walking.{next_ways}
+use Rattle.sym_model.specs.View.{sub_view}
 use Rattle.sym_chunks.proofs.walking.next_ways.Given as goal
 
 abbrev pub invariant-loop-way : goal.invariant-loop-way
-invariant-loop-way l = ways_view l.ways ≡ flat_map (next_ways (term_view l.l) (sub_view l.s)) (map way_view (take l.way-index l.way-items))
+invariant-loop-way l = ways_view l.ways ≡ flat_map (next_ways (term_view l.l) (sub_view l.s)) (ways_view l.yielded)
