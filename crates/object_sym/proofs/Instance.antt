@@ -27,7 +27,7 @@ use Rattle.object_sym.proofs.FormLaws.{table_depends}
 use Rattle.object_sym.proofs.Law.{table_law, table_plain, table_keeps, table_misses}
 
 -- the branches over states, seen as those over lists of chunks
-as_seen : (ds : List (Branch ObjectSym)) → map (seen state_view) (branches_view ds) ≡ object_branches_view ds
+pub as_seen : (ds : List (Branch ObjectSym)) → map (seen state_view) (branches_view ds) ≡ object_branches_view ds
 as_seen [] = refl
 as_seen (d ∷ ds) = ap (λ rest. object_branch_view d ∷ rest) (as_seen ds)
 

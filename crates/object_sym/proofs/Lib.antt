@@ -7,6 +7,8 @@ pub mod HeapLaws
 pub mod Instance
 pub mod Law
 pub mod ListValues
+pub mod Listing
+pub mod Missing
 pub mod NameLists
 pub mod ObjectShapes
 pub mod PropertyLaws

@@ -1,3 +1,4 @@
+pub mod Fixes
 pub mod Forms
 pub mod Laws
 pub mod ObjectMeaning

@@ -3,6 +3,7 @@
 
 mod deleting;
 mod laws;
+mod listed;
 mod memory;
 mod names;
 mod places;

@@ -30,7 +30,7 @@ fn with_state(branch: Branch<SymFrag>) -> Branch<ObjectSym>
 }
 
 /// The branches, whose states are those of objects.
-fn with_states(
+pub(crate) fn with_states(
     alloc: Global,
     branches: Branches<SymFrag>,
 ) -> Result<Branches<ObjectSym>, AllocError>
