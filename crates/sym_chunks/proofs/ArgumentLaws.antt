@@ -1,5 +1,5 @@
 -- The branches that come of arguments of wrong kinds, and of those of the right ones.
-use Rattle.std.proofs.Common.{◌≡◌, ◌⊎◌, ⊎_elim, inl, inr, ℕ, List, [], ◌∷◌, ◌++◌, Some, IsTrue, Err, refl, sym, ap, subst, ◌∙◌}
+use Rattle.std.proofs.Common.{◌≡◌, ◌⊎◌, ⊎_elim, inl, inr, ℕ, List, [], ◌∷◌, Some, IsTrue, Err, refl, sym, ap, subst, ◌∙◌}
 use Rattle.gil_values.specs.declared.kinds.Kind.{Kind}
 use Rattle.gil_values.specs.Pure.{PureValue, integer, boolean, text, symbol, kind, procedure, list, kind_of}
 use Rattle.mem_model.specs.declared.failures.Failure.{Failure}
@@ -14,7 +14,7 @@ use Rattle.pure_terms.specs.Pure.{PureTerm, from_list}
 use Rattle.sym_chunks.specs.Arguments.{checked, no_property, is_property}
 use Rattle.sym_chunks.specs.Cases.{PureCase, branches_of, choose, failure}
 use Rattle.sym_chunks.specs.Laws.{IsLocation}
-use Rattle.sym_conditions.specs.Alternatives.{Alternatives, Hold, always, both, of_kind, not_of_kind}
+use Rattle.sym_conditions.specs.Alternatives.{Alternatives, Hold, always, of_kind, not_of_kind}
 use Rattle.sym_conditions.proofs.Combined.{both_from, both_parts, always_true}
 use Rattle.sym_conditions.proofs.Telling.{of_kind_tells, not_of_kind_tells}
 use Rattle.sym_model.specs.Chunks.{StandFor}

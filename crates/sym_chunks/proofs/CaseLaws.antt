@@ -16,8 +16,8 @@ use Rattle.sym_conditions.proofs.Combined.{settled_parts, settled_from, both_fro
 use Rattle.sym_model.specs.Chunks.{StandFor}
 use Rattle.sym_model.specs.Lists.{Each, OneOf, IsAmong}
 use Rattle.sym_model.specs.Meaning.{IsOutcome, is_open, has_open, IsBranchFor}
-use Rattle.sym_model.specs.Pure.{PureChunk, PureResult, PureBranch, result_terms}
-use Rattle.sym_model.proofs.ListLaws.{same_some, not_none, each_map, each_to, each_append, each_flat, one_map, one_to, one_flat, one_with, each_is_among}
+use Rattle.sym_model.specs.Pure.{PureChunk, PureResult, PureBranch}
+use Rattle.sym_model.proofs.ListLaws.{same_some, not_none, each_map, each_to, each_append, one_map, one_to, one_flat, one_with, each_is_among}
 
 abbrev pub Branch : Type 0
 Branch = PureBranch (List PureChunk)

@@ -1,5 +1,5 @@
 -- What the conditions on a chunk say of its key, under a valuation that serves.
-use Rattle.std.proofs.Common.{◌≡◌, ◌↔◌, ℕ, ℤ, List, ◌++◌, Option, Some, None, refl, sym, ap, ◌∙◌, arith}
+use Rattle.std.proofs.Common.{◌≡◌, ◌↔◌, ℕ, ℤ, List, Option, Some, None, refl, sym, ap, ◌∙◌, arith}
 use Rattle.gil_values.specs.Pure.{PureValue, symbol, text, integer}
 use Rattle.mem_model.specs.declared.keys.Key.{Key}
 use Rattle.mem_model.specs.declared.keys.Sub.{Sub}
@@ -18,7 +18,7 @@ use Rattle.sym_conditions.proofs.Combined.{both_from, both_parts, always_true}
 use Rattle.sym_conditions.proofs.Telling.{same_tells, other_tells}
 use Rattle.sym_model.specs.Chunks.{IsEntry, IsUnion}
 use Rattle.sym_model.specs.Lists.{Each}
-use Rattle.sym_model.specs.Meaning.{location_of, name_of, cell_of, sub_value, key_of, key_value}
+use Rattle.sym_model.specs.Meaning.{location_of, name_of, cell_of, sub_value, key_of}
 use Rattle.sym_model.specs.Pure.{PureSub, named, cell, shape, bound, dom, proto, gone, PureChunk, sub_terms}
 use Rattle.sym_model.proofs.ListLaws.{same_some, not_none, each_by_place, each_at}
 use Rattle.sym_model.proofs.ChunkMeaning.{ChunkTerms, loc_value}

@@ -1,11 +1,11 @@
 -- The chunks of a list that are found by a key, and those of a location, where the list stands for a heap.
-use Rattle.std.proofs.Common.{◌≡◌, ◌↔◌, ◌⊎◌, ⊎_elim, inl, inr, ℕ, zero, suc, ◌+◌, List, [], ◌∷◌, ◌++◌, Option, Some, None, IsSome, IsTrue, is_some, slice_get, refl, sym, ap, subst, ◌∙◌, true≢false, arith}
+use Rattle.std.proofs.Common.{◌≡◌, inr, ℕ, zero, suc, ◌+◌, List, [], ◌∷◌, Option, Some, None, IsSome, IsTrue, is_some, slice_get, refl, sym, ap, subst, ◌∙◌, true≢false, arith}
 use Rattle.std.specs.FinMap.{get}
 use Rattle.gil_values.specs.Pure.{PureValue, symbol}
 use Rattle.mem_model.specs.declared.keys.Key.{Key}
 use Rattle.mem_model.specs.declared.keys.MemoryName.{MemoryName}
 use Rattle.mem_model.specs.Actions.{ActionResult}
-use Rattle.mem_model.specs.Heaps.{Heap, Holds, HasKey}
+use Rattle.mem_model.specs.Heaps.{Heap, Holds}
 use Rattle.mem_model.proofs.Joins.{value_at}
 use Rattle.pure_terms.specs.declared.variables.Sort.{Sort}
 use Rattle.pure_terms.specs.Meaning.{value, all_true, IsProper}

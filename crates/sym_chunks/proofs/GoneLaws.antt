@@ -1,5 +1,5 @@
 -- A location that is gone.
-use Rattle.std.proofs.Common.{◌≡◌, ⊎_elim, inr, ℕ, List, Option, Some, None, refl, sym, ap, subst, ◌∙◌}
+use Rattle.std.proofs.Common.{◌≡◌, inr, ℕ, List, Some, None, refl, sym, ap, subst}
 use Rattle.std.specs.FinMap.{get}
 use Rattle.gil_values.specs.Pure.{PureValue}
 use Rattle.mem_model.specs.declared.failures.Failure.{Failure}
@@ -14,7 +14,7 @@ use Rattle.mem_model.specs.Tables.{fails, failure_text}
 use Rattle.pure_terms.specs.declared.variables.Sort.{Sort}
 use Rattle.pure_terms.specs.Meaning.{IsProper}
 use Rattle.pure_terms.specs.Pure.{PureTerm}
-use Rattle.sym_chunks.specs.Cases.{PureCase, failure, gone_case}
+use Rattle.sym_chunks.specs.Cases.{failure, gone_case}
 use Rattle.sym_chunks.specs.Keys.{at_key}
 use Rattle.sym_chunks.specs.Laws.{IsLocation, IsKeyOf}
 use Rattle.sym_conditions.specs.Alternatives.{Hold, any}

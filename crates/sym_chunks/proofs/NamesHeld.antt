@@ -2,7 +2,6 @@
 use Rattle.std.proofs.Common.{◌≡◌, ⊎_elim, inl, inr, ℕ, List, [], ◌∷◌, Bool, true, false, ◌&&◌, if◌then◌else◌, Some, IsTrue, refl, sym, ap, subst, ◌∙◌, true≢false}
 use Rattle.std.proofs.lemmas.Bool.{and_parts, or_cases}
 use Rattle.gil_values.specs.Pure.{PureValue, symbol, text}
-use Rattle.mem_model.specs.declared.keys.Key.{Key}
 use Rattle.mem_model.specs.declared.keys.Sub.TheVariants.{Name}
 use Rattle.mem_model.specs.Heaps.{Heap, Holds, HasKey}
 use Rattle.mem_model.specs.Keys.{key}

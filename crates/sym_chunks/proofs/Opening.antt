@@ -1,5 +1,5 @@
 -- Branches that need the literal form of a term only where D holds of it.
-use Rattle.std.proofs.Common.{◌≡◌, ⊎_elim, inl, inr, List, [], ◌∷◌, ◌++◌, map, Bool, true, false, if◌then◌else◌, Option, Some, None, IsTrue, refl, sym, ap, subst, ◌∙◌}
+use Rattle.std.proofs.Common.{◌≡◌, ⊎_elim, inl, inr, List, [], ◌∷◌, ◌++◌, map, Bool, true, false, if◌then◌else◌, Option, Some, None, IsTrue, sym, subst, ◌∙◌}
 use Rattle.std.specs.List.{list_any, flat_map}
 use Rattle.std.proofs.lemmas.Bool.{and_parts}
 use Rattle.std.proofs.lemmas.List.Folds.{list_all-append}
@@ -9,11 +9,10 @@ use Rattle.pure_terms.specs.Pure.{PureTerm, literal, variable, list_of, unary_of
 use Rattle.sym_chunks.specs.Cases.{PureCase, case_of, branches_of, case_branches, sure_case, choose_by, choose}
 use Rattle.sym_chunks.specs.Forms.{form_of}
 use Rattle.sym_conditions.specs.Alternatives.{Alternatives, Hold, always, both, is_empty, settled, with_form}
-use Rattle.sym_conditions.proofs.Combined.{both_parts}
 use Rattle.sym_model.specs.Forms.{OpensOnly}
-use Rattle.sym_model.specs.Lists.{Each, OneOf, IsAmong}
+use Rattle.sym_model.specs.Lists.{Each, OneOf}
 use Rattle.sym_model.specs.Pure.{PureChunk, PureResult}
-use Rattle.sym_model.proofs.ListLaws.{each_append, each_map, each_to, each_flat, one_to, each_is_among}
+use Rattle.sym_model.proofs.ListLaws.{each_append, each_map, each_to}
 use Rattle.sym_chunks.proofs.CaseLaws.{Branch}
 use Rattle.sym_chunks.proofs.Readings.{NoOpen}
 use Rattle.sym_chunks.proofs.Shapes.{EachAtom}

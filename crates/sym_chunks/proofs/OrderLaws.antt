@@ -1,5 +1,5 @@
 -- Two numbers are ordered exactly where the conditions hold that are asked for it.
-use Rattle.std.proofs.Common.{◌≡◌, ◌↔◌, ◌⊎◌, ⊎_elim, inl, inr, ℤ, ◌≤ℤ◌, ◌<ℤ◌, int_lt, int_le, List, [], ◌∷◌, Bool, true, false, not, ◌&&◌, ◌||◌, if◌then◌else◌, Option, Some, None, IsTrue, refl, sym, ap, subst, ◌∙◌, true≢false, arith}
+use Rattle.std.proofs.Common.{◌≡◌, ◌↔◌, ◌⊎◌, ⊎_elim, inl, inr, ℤ, ◌≤ℤ◌, ◌<ℤ◌, int_lt, int_le, List, Bool, true, false, not, ◌&&◌, ◌||◌, if◌then◌else◌, Option, Some, None, refl, sym, ap, subst, ◌∙◌, arith}
 use Rattle.std.specs.Option.{option_and_then}
 use Rattle.std.specs.Result.{result_ok}
 use Rattle.std.proofs.lemmas.Bool.{and_parts, and_from, or_cases, false≢true}
@@ -14,14 +14,14 @@ use Rattle.pure_terms.specs.declared.literals.Literal.{Literal}
 use Rattle.pure_terms.specs.declared.variables.Sort.{Sort}
 use Rattle.pure_terms.specs.EqualityLaws.{same_sorts}
 use Rattle.pure_terms.specs.Kinds.{same_sort, kind_of_sort, allows, known_kind}
-use Rattle.pure_terms.specs.Meaning.{value, truth, is_that_boolean, IsProper, IsOver}
+use Rattle.pure_terms.specs.Meaning.{value, truth, is_that_boolean, IsOver}
 use Rattle.pure_terms.specs.Naming.{names_only_below}
 use Rattle.pure_terms.specs.Pure.{PureTerm, literal, variable, list_of, unary_of, binary_of, PureAtom, positive}
 use Rattle.pure_terms.proofs.KindLaws.{same_kinds, known_kinds_are_right}
 use Rattle.sym_chunks.specs.Laws.{NumbersAreOrdered}
 use Rattle.sym_chunks.specs.Ordering.{less_than, not_above, literals_less, literals_at_most, less, at_most}
 use Rattle.sym_conditions.specs.declared.comparing.Comparison.{Comparison}
-use Rattle.sym_conditions.specs.Alternatives.{Alternatives, Hold, never, always, given, by_comparison}
+use Rattle.sym_conditions.specs.Alternatives.{Hold, never, always, given, by_comparison}
 use Rattle.sym_conditions.specs.Comparing.{are_other_kinds, is_fresh_above, are_apart, compared}
 use Rattle.sym_conditions.specs.Laws.{HaveBoth}
 use Rattle.sym_conditions.proofs.Telling.{Compared, are_same, are_different, are_unsure, comparison_of}

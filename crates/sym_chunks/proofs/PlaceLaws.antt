@@ -1,5 +1,5 @@
 -- A condition on each chunk of a location holds exactly where it holds of each chunk that lies there.
-use Rattle.std.proofs.Common.{◌≡◌, ◌↔◌, ◌⊎◌, ⊎_elim, inl, inr, ℕ, nat_eq, List, [], ◌∷◌, ◌++◌, Bool, true, false, ◌||◌, if◌then◌else◌, Some, IsTrue, refl, sym, ap, subst, ◌∙◌, true≢false}
+use Rattle.std.proofs.Common.{◌≡◌, ◌↔◌, ⊎_elim, inl, inr, ℕ, nat_eq, List, [], ◌∷◌, ◌++◌, Bool, true, false, if◌then◌else◌, Some, IsTrue, refl, sym, ap, subst, ◌∙◌, true≢false}
 use Rattle.std.specs.List.{list_any}
 use Rattle.std.proofs.lemmas.Bool.{or_cases}
 use Rattle.std.proofs.lemmas.Bool.Decides.{Decides-eqb}
@@ -11,13 +11,13 @@ use Rattle.pure_terms.specs.Meaning.{value, all_true, IsProper}
 use Rattle.pure_terms.specs.Pure.{PureTerm}
 use Rattle.sym_chunks.specs.ByPlace.{elsewhere_or, places_from, places_of, all_at, all_there, all_by_place}
 use Rattle.sym_chunks.specs.Laws.{IsLocation, ChunksAreToldByPlace}
-use Rattle.sym_conditions.specs.Alternatives.{Alternatives, Hold, always, both, all, is_empty, same, other}
+use Rattle.sym_conditions.specs.Alternatives.{Alternatives, Hold, always, both, is_empty, same, other}
 use Rattle.sym_conditions.specs.Laws.{HaveBoth}
 use Rattle.sym_conditions.proofs.Combined.{both_from, both_parts, all_from_from, all_from_parts, always_true}
 use Rattle.sym_conditions.proofs.Telling.{same_tells, other_tells}
-use Rattle.sym_model.specs.Lists.{Each, OneOf, IsAmong}
+use Rattle.sym_model.specs.Lists.{Each, IsAmong}
 use Rattle.sym_model.specs.Pure.{PureChunk}
-use Rattle.sym_model.proofs.ListLaws.{same_some, each_append, each_to, each_left, one_left, one_right, one_parts, one_with, each_is_among}
+use Rattle.sym_model.proofs.ListLaws.{same_some, each_append, each_to, one_left, one_right, one_parts, one_with, each_is_among}
 use Rattle.sym_chunks.proofs.CaseLaws.{sure_true}
 use Rattle.sym_chunks.proofs.Facts.{same_symbols}
 

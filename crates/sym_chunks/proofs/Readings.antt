@@ -1,6 +1,6 @@
 -- The readings of conditions and terms from which the laws on them follow: they are own and made of what is given; they name no
 -- other variables; they are plain; they are kept; no form is needed.
-use Rattle.std.proofs.Common.{◌≡◌, ◌⊎◌, ⊎_elim, inl, inr, ℕ, ℤ, pos, ◌-ℤ◌, ◌+ℤ◌, ◌≤ℤ◌, List, [], ◌∷◌, ◌++◌, map, Bool, true, false, not, ◌&&◌, ◌||◌, Option, Some, None, IsTrue, is_some, slice_get, refl, sym, ap, subst, ◌∙◌, true≢false}
+use Rattle.std.proofs.Common.{◌≡◌, ⊎_elim, inl, inr, ℤ, List, [], ◌∷◌, ◌++◌, map, Bool, true, false, not, ◌&&◌, ◌||◌, Option, Some, None, IsTrue, is_some, refl, sym, ap, subst, ◌∙◌, true≢false}
 use Rattle.std.specs.Prelude.{⊤}
 use Rattle.std.proofs.lemmas.Bool.{and_parts, and_from, false≢true}
 use Rattle.std.proofs.lemmas.List.Elements.{Contains-append_cases}
@@ -35,9 +35,9 @@ use Rattle.sym_model.specs.Pure.{PureSub, named, cell, shape, bound, dom, proto,
 use Rattle.sym_model.specs.Terms.{is_literal, is_list_term, may_be_ordered, are_apart, all_of, LocatedTerms, Asked, asked_of, compared_terms, IsMadeOf, IsListed, IsNear, is_asked, is_next, IsSide, IsLimit, AreOrdered, AreSides, StandsNear, IsOwnCondition}
 use Rattle.sym_model.proofs.ChunkMeaning.{ChunkTerms, chunk_val, chunk_by_chunk, from_chunks}
 use Rattle.sym_model.proofs.Listed.{listed_itself, listed_elements, side_elements, asked_side}
-use Rattle.sym_model.proofs.ListLaws.{each_to, each_at, each_by_place, each_left, each_right, each_append, each_flat, each_flattened, each_is_among, one_at, one_left, one_right}
+use Rattle.sym_model.proofs.ListLaws.{each_to, each_at, each_by_place, each_left, each_right, each_flat, each_flattened, each_is_among, one_at, one_left, one_right}
 use Rattle.sym_model.proofs.MadeLaws.{made_of_given}
-use Rattle.sym_chunks.proofs.CaseLaws.{Branch, each_every}
+use Rattle.sym_chunks.proofs.CaseLaws.{each_every}
 use Rattle.sym_chunks.proofs.Shapes.{Reading, ChunkSides, ChunkForms, IsFine, IsFineState, IsFineResult, Shaped, fine_terms, limits_of, number}
 
 -- ---- comparisons that aren't sure

@@ -1,6 +1,6 @@
 -- The forms of the conditions that are asked, and what states and results are made of: what holds of each, for every reading of
 -- conditions and terms.
-use Rattle.std.proofs.Common.{◌≡◌, ◌⊎◌, ⊎_elim, inl, inr, ℕ, zero, suc, ◌+◌, ℤ, List, [], ◌∷◌, ◌++◌, map, Bool, true, false, not, ◌&&◌, ◌||◌, Option, Some, None, IsTrue, if◌then◌else◌, slice_get, refl, sym, ap, subst, ◌∙◌, true≢false, arith}
+use Rattle.std.proofs.Common.{◌≡◌, ◌⊎◌, ⊎_elim, inl, inr, ℕ, zero, suc, ◌+◌, ℤ, List, [], ◌∷◌, ◌++◌, map, Bool, true, false, not, ◌||◌, Option, Some, None, IsTrue, if◌then◌else◌, slice_get, refl, sym, ap, subst, ◌∙◌, true≢false, arith}
 use Rattle.std.specs.List.{flat_map, remove, list_any}
 use Rattle.std.specs.Prelude.{⊤}
 use Rattle.gil_values.specs.declared.kinds.Kind.{Kind}
@@ -13,7 +13,7 @@ use Rattle.pure_terms.specs.EqualityLaws.{same_term-same}
 use Rattle.pure_terms.specs.Kinds.{allows, known_kind}
 use Rattle.pure_terms.specs.Pure.{PureTerm, literal, variable, list_of, unary_of, binary_of, PureTerms, to_list, PureAtom, positive, negative, opening}
 use Rattle.sym_chunks.specs.ByPlace.{elsewhere_or, places_of, all_at, all_there, all_by_place, any_at}
-use Rattle.sym_chunks.specs.Cases.{ChunkBranches, failure, true_term, PureCase, case_of, branches_of, case_branches, sure_case, choose_by, choose, PureAccess, reads, writes, takes, accessed, outs_listed, given_back, found_from, found}
+use Rattle.sym_chunks.specs.Cases.{failure, true_term, PureCase, case_of, branches_of, case_branches, sure_case, choose_by, choose, PureAccess, reads, writes, takes, accessed, outs_listed, given_back, found_from, found}
 use Rattle.sym_chunks.specs.Forms.{form_of}
 use Rattle.sym_chunks.specs.Keys.{same_sub, other_sub, at_key}
 use Rattle.sym_chunks.specs.NameTerms.{listed, unlisted, distinct_from, holds_name, unheld_name, unheld}
@@ -28,7 +28,7 @@ use Rattle.sym_model.specs.Lists.{Each}
 use Rattle.sym_model.specs.Pure.{PureSub, named, cell, shape, bound, dom, proto, gone, PureChunk, PureResult, sub_terms, done, failed, missed, result_terms}
 use Rattle.sym_model.specs.Terms.{is_literal, is_list_term, are_apart, may_be_same, may_be_ordered, is_asked_kind}
 use Rattle.sym_model.proofs.ChunkMeaning.{ChunkTerms, chunk_val}
-use Rattle.sym_model.proofs.ListLaws.{same_some, not_none, each_append, each_flat, each_to, each_map, each_at}
+use Rattle.sym_model.proofs.ListLaws.{same_some, not_none, each_append, each_flat, each_to, each_map}
 use Rattle.sym_chunks.proofs.CaseLaws.{Branch}
 use Rattle.sym_chunks.proofs.PlaceLaws.{each_place}
 

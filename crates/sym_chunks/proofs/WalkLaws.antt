@@ -1,6 +1,6 @@
 -- Taking the keys of a location one after another comes to what disposing of the location as a whole comes to.
 use Rattle.std.proofs.Common.{◌≡◌, ◌⊎◌, ⊎_elim, inl, inr, ℕ, zero, suc, ◌+◌, nat_eq, List, [], ◌∷◌, ◌++◌, Bool, true, false, not, ◌||◌, cond, if◌then◌else◌, Option, Some, None, IsSome, IsTrue, is_some, slice_get, refl, sym, ap, subst, ◌∙◌, true≢false, arith}
-use Rattle.std.specs.FinMap.{get, insert, remove, get-remove}
+use Rattle.std.specs.FinMap.{get, remove, get-remove}
 use Rattle.std.specs.List.{flat_map, list_any, remove as remove_at}
 use Rattle.std.specs.Prelude.{⊤}
 use Rattle.std.proofs.lemmas.Bool.Decides.{Decides-eqb}
@@ -22,7 +22,7 @@ use Rattle.pure_terms.specs.declared.variables.Sort.{Sort}
 use Rattle.pure_terms.specs.Meaning.{IsProper, IsOver}
 use Rattle.pure_terms.specs.Pure.{PureTerm}
 use Rattle.sym_chunks.specs.ByPlace.{all_by_place}
-use Rattle.sym_chunks.specs.Cases.{true_term, case_of}
+use Rattle.sym_chunks.specs.Cases.{true_term}
 use Rattle.sym_chunks.specs.Keys.{other_sub, at_key}
 use Rattle.sym_chunks.specs.Laws.{IsLocation, IsKeyOf}
 use Rattle.sym_chunks.specs.Walking.{PureWay, way_of, sure_place, ways_from, ways_by, next_ways, missing_key, all_taken, walk}

@@ -1,5 +1,5 @@
 -- The laws of lists of chunks, for states that are such lists.
-use Rattle.std.proofs.Common.{◌≡◌, ⊎_elim, inl, inr, ℕ, List, [], ◌∷◌, map, Option, None}
+use Rattle.std.proofs.Common.{⊎_elim, inl, inr, ℕ, List, [], ◌∷◌, map, Option}
 use Rattle.gil_values.specs.Pure.{PureValue}
 use Rattle.mem_model.specs.declared.keys.MemoryName.{MemoryName}
 use Rattle.mem_model.specs.Actions.{Actions}
@@ -7,12 +7,11 @@ use Rattle.mem_model.specs.Heaps.{Heap}
 use Rattle.pure_terms.specs.declared.variables.Sort.{Sort}
 use Rattle.pure_terms.specs.declared.variables.Var.{Var}
 use Rattle.pure_terms.specs.Pure.{PureTerm}
-use Rattle.sym_chunks.specs.Wrapped.{chunks_stand, chunks_terms, chunks_plain, seen}
+use Rattle.sym_chunks.specs.Wrapped.{chunks_stand, chunks_terms, seen}
 use Rattle.sym_model.specs.Chunks.{StandFor, terms_of}
 use Rattle.sym_model.specs.Forms.{OpenWhatMatters}
-use Rattle.sym_model.specs.Laws.{IsMeaning, Serves, ActLaw, ActsPlainly, ArePlain}
+use Rattle.sym_model.specs.Laws.{IsMeaning, Serves, ActLaw}
 use Rattle.sym_model.specs.Lists.{Each, OneOf}
-use Rattle.sym_model.specs.Plain.{IsPlainState}
 use Rattle.sym_model.specs.Pure.{PureChunk, PureBranch}
 use Rattle.sym_model.proofs.ChunkMeaning.{chunks_have_meaning}
 use Rattle.sym_chunks.proofs.CaseLaws.{Branch}

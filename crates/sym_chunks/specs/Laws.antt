@@ -1,5 +1,5 @@
 -- What the words say, under a valuation.
-use Rattle.std.specs.Prelude.{◌≡◌, ◌↔◌, ◌⊎◌, ℕ, ℤ, ◌≤ℤ◌, ◌<ℤ◌, List, Some, IsTrue}
+use Rattle.std.specs.Prelude.{◌≡◌, ◌↔◌, ℕ, ℤ, ◌≤ℤ◌, ◌<ℤ◌, List, Some, IsTrue}
 use Rattle.gil_values.specs.Pure.{PureValue, integer, symbol}
 use Rattle.mem_model.specs.declared.keys.Key.{Key}
 use Rattle.pure_terms.specs.declared.variables.Sort.{Sort}

@@ -1,5 +1,5 @@
 -- Lists of names that terms give.
-use Rattle.std.specs.Prelude.{List, [], ◌∷◌, ◌++◌, Bool, false, ◌&&◌, if◌then◌else◌}
+use Rattle.std.specs.Prelude.{List, [], ◌∷◌, Bool, false, ◌&&◌, if◌then◌else◌}
 use Rattle.std.specs.List.{list_any}
 use Rattle.gil_values.specs.declared.kinds.Kind.{Kind}
 use Rattle.pure_terms.specs.Equality.{same_term}

@@ -1,5 +1,5 @@
 -- Comparing numbers: the conditions under which one term's value is less than another's, or at most it.
-use Rattle.std.specs.Prelude.{ℤ, pos, int_lt, int_le, ◌++◌, if◌then◌else◌}
+use Rattle.std.specs.Prelude.{int_lt, int_le, ◌++◌, if◌then◌else◌}
 use Rattle.gil_values.specs.declared.operators.BinOp.{BinOp}
 use Rattle.pure_terms.specs.declared.literals.Literal.{Literal}
 use Rattle.pure_terms.specs.Pure.{PureTerm, literal, binary_of, positive}

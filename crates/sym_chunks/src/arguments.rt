@@ -84,4 +84,3 @@ pub fn unknown_action(alloc: Global, chunks: &SymFrag) -> Result<Branches<SymFra
     let when = always(alloc)?;
     with_failure(alloc, Sequence::new(alloc), when, chunks, Failure::Action)
 }
-

@@ -1,4 +1,4 @@
-use Rattle.std.proofs.Common.{◌≡◌, length, sym, ap, ◌∙◌}
+use Rattle.std.proofs.Common.{sym, ap, ◌∙◌}
 use Rattle.std.specs.List.{list_any}
 use Rattle.sym_conditions.specs.Alternatives.{alternatives_view, is_empty}
 use Rattle.sym_conditions.proofs.Stepping.{found_empty}

@@ -1,10 +1,7 @@
-use Rattle.std.proofs.Common.{◌≡◌, ◌++◌, take, drop, map, false}
-use Rattle.sym_chunks.specs.View.{case_view, cases_view, way_view, ways_view, access_view, chunk_branches_view}
-use Rattle.sym_conditions.specs.Alternatives.{alternatives_view, any, all, all_from, same, other, always, is_empty}
-use Rattle.pure_terms.specs.View.{term_view, terms_view}
-use Rattle.sym_model.specs.View.{frag_view, chunk_view, sub_view, result_view}
-use Rattle.std.specs.List.{flat_map, list_any}
-use Rattle.pure_terms.specs.Equality.{same_term}
+use Rattle.std.proofs.Common.{◌≡◌, drop, map}
+use Rattle.sym_conditions.specs.Alternatives.{alternatives_view, always}
+use Rattle.pure_terms.specs.View.{term_view}
+use Rattle.sym_model.specs.View.{chunk_view}
 use Rattle.sym_chunks.specs.ByPlace.{all_at}
 use Rattle.sym_chunks.proofs.places.all_at.Given as goal
 

@@ -1,7 +1,7 @@
-use Rattle.std.proofs.Common.{◌≡◌, map}
+use Rattle.std.proofs.Common.{◌≡◌}
 use Rattle.std.specs.List.{flat_map}
 use Rattle.pure_terms.specs.View.{term_view}
-use Rattle.sym_chunks.specs.View.{way_view, ways_view}
+use Rattle.sym_chunks.specs.View.{ways_view}
 use Rattle.sym_chunks.specs.Walking.{next_ways}
 use Rattle.sym_model.specs.View.{sub_view}
 use Rattle.sym_chunks.proofs.walking.next_ways.Given as goal

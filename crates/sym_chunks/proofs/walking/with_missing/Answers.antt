@@ -1,4 +1,3 @@
-use Rattle.std.proofs.Common.{◌++◌}
 use Rattle.pure_terms.specs.View.{term_view}
 use Rattle.sym_chunks.specs.View.{cases_view, way_view}
 use Rattle.sym_chunks.specs.Walking.{missing_key}
