@@ -1,5 +1,7 @@
 pub mod Assuming
+pub mod Beginning
 pub mod Binding
+pub mod Calling
 pub mod Closed
 pub mod Drawing
 pub mod FirstFrame

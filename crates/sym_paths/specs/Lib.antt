@@ -1,3 +1,5 @@
+pub mod Beginning
+pub mod Calling
 pub mod Forms
 pub mod Frames
 pub mod Laws

@@ -26,7 +26,8 @@ pub enum PathEnd {
     Unknown(Place, Reason),
 }
 
-fn copy_place(alloc: Global, place: &Place) -> Result<Place, AllocError>
+/// An equal place.
+pub fn copy_place(alloc: Global, place: &Place) -> Result<Place, AllocError>
     ensures { IfOk result (λ p. p ≡ place.now) }
 {
     let proc = place.proc.copy(alloc)?;

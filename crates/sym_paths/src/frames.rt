@@ -1,9 +1,16 @@
 //! Calls in progress.
-ghost use Rattle.std.specs.Prelude.{◌≡◌, List, [], ◌∷◌, IfOk, MatchOption};
+ghost use Rattle.std.specs.Prelude.{◌≡◌, List, [], ◌∷◌, length, map, IfOk, MatchOption};
+ghost use Rattle.gil_syntax.specs.View.{proc_view};
+ghost use Rattle.pure_terms.specs.View.{term_view};
+ghost use Rattle.sym_evaluation.specs.Pure.{PureStore};
+ghost use Rattle.sym_evaluation.specs.View.{store_view};
+ghost use Rattle.sym_paths.specs.Frames.{IsFirstStore, called_frame};
 ghost use Rattle.sym_paths.specs.Pure.{entry_frame, PureFrame};
 ghost use Rattle.sym_paths.specs.View.{frame_view, frames_view};
 
+use gil_syntax::Proc;
 use gil_values::Text;
+use pure_terms::Term;
 use sequence::Sequence;
 use std::alloc::{AllocError, Global};
 use sym_evaluation::SymStore;
@@ -26,6 +33,22 @@ pub struct Frame {
 pub type Frames = Sequence<Frame>;
 
 impl Frame {
+    /// The frame of a procedure that begins with arguments for its parameters.
+    pub fn begin(alloc: Global, proc: &Proc, args: &[Term]) -> Result<Frame, AllocError>
+        requires { length args.now ≡ length (proc_view proc.now).params }
+        ensures { IfOk result (λ f. (bs : PureStore) × (IsFirstStore (proc_view proc.now).params (map term_view args.now) bs
+            × (frame_view f ≡ called_frame (proc_view proc.now) bs))) }
+    {
+        let next = 0;
+        Ok(Frame {
+            proc: proc.name.copy(alloc)?,
+            next,
+            store: first_store(alloc, proc.params.as_slice(), args)?,
+            waits: None,
+            handler: None,
+        })
+    }
+
     /// An equal frame.
     pub fn copy(&self, alloc: Global) -> Result<Frame, AllocError>
         ensures { IfOk result (λ f. frame_view f ≡ frame_view self.now) }
@@ -41,6 +64,19 @@ impl Frame {
             handler: self.handler,
         })
     }
+}
+
+/// The store of a call that begins.
+fn first_store(alloc: Global, params: &[Text], args: &[Term]) -> Result<SymStore, AllocError>
+    requires { length args.now ≡ length params.now }
+    ensures { IfOk result (λ s. IsFirstStore params.now (map term_view args.now) (store_view s)) }
+{
+    let mut store = SymStore::new(alloc);
+    for place in (0..args.len()).rev() {
+        let term = args[place].copy(alloc)?;
+        store.set(params[place].copy(alloc)?, term)?;
+    }
+    Ok(store)
 }
 
 fn copy_name(alloc: Global, name: &Option<Text>) -> Result<Option<Text>, AllocError>
@@ -75,6 +111,21 @@ pub(crate) fn first_frames(alloc: Global, proc: &Text) -> Result<Frames, AllocEr
         waits: None,
         handler: None,
     })?;
+    Ok(frames)
+}
+
+/// The frame of a procedure that begins with arguments.
+pub(crate) fn beginning_frames(
+    alloc: Global,
+    proc: &Proc,
+    args: &[Term],
+) -> Result<Frames, AllocError>
+    requires { length args.now ≡ length (proc_view proc.now).params }
+    ensures { IfOk result (λ fs. (bs : PureStore) × (IsFirstStore (proc_view proc.now).params (map term_view args.now) bs
+        × (frames_view fs ≡ called_frame (proc_view proc.now) bs ∷ []))) }
+{
+    let mut frames = Sequence::new(alloc);
+    frames.push(Frame::begin(alloc, proc, args)?)?;
     Ok(frames)
 }
 

@@ -1,10 +1,17 @@
 //! What holds of every path: laws of the definitions, which no code is needed for.
+ghost use Rattle.sym_paths.specs.Beginning.{BeginningsStand};
+ghost use Rattle.sym_paths.specs.Calling.{CallsLead};
 ghost use Rattle.sym_paths.specs.Valued.{ValuedCandidates};
 ghost use Rattle.sym_paths.specs.Moves.{AskNothing};
 ghost use Rattle.sym_paths.specs.Settling.{CandidatesSettle};
 ghost use Rattle.sym_paths.specs.Laws.{PathsMayGrow, PathsStandAtCommands, BindingsKeepStores, LaterVariablesAreProper, VariablesFollowInTurn};
 
 use sym_model::SymMemory;
+
+/// A path on which a procedure begins stands for exactly the states in which it begins so.
+pub fn beginnings_stand<M: SymMemory>()
+    ensures { BeginningsStand M.stands M.terms M.plain }
+{}
 
 /// What a path stands for stays where the table and the valuation grow, and the counter rises.
 pub fn paths_may_grow<M: SymMemory>()
@@ -39,6 +46,11 @@ pub fn some_commands_ask_nothing<M: SymMemory>()
 /// Where the laws hold of the candidates of a step, they hold of what a decider makes of them.
 pub fn candidates_settle<M: SymMemory>()
     ensures { CandidatesSettle M.stands M.terms }
+{}
+
+/// At a call a next path goes on in a procedure, fails with a text or is unknown.
+pub fn calls_lead<M: SymMemory>()
+    ensures { CallsLead M.Local.actions M.stands M.terms }
 {}
 
 /// The candidates of an assignment and of `fail`, one for each fault of the expression and one for its result, keep the laws.

@@ -7,11 +7,11 @@ mod frames;
 mod laws;
 mod path;
 
-pub use ends::PathEnd;
+pub use ends::{PathEnd, copy_place};
 pub use frames::{Frame, Frames, running};
 pub use laws::{
-    bindings_keep_stores, candidates_settle, later_variables_are_proper, paths_may_grow,
-    paths_stand_at_commands, some_commands_ask_nothing, valued_candidates_keep_the_laws,
-    variables_follow_in_turn,
+    beginnings_stand, bindings_keep_stores, calls_lead, candidates_settle,
+    later_variables_are_proper, paths_may_grow, paths_stand_at_commands, some_commands_ask_nothing,
+    valued_candidates_keep_the_laws, variables_follow_in_turn,
 };
 pub use path::{Ended, Path, Paths};

@@ -1,11 +1,14 @@
 //! Paths: what symbolic execution has come to.
-ghost use Rattle.std.specs.Prelude.{◌≡◌, ℕ, [], Some, IfOk};
+ghost use Rattle.std.specs.Prelude.{◌≡◌, ℕ, [], length, Some, IfOk};
 ghost use Rattle.std.specs.FinMap.{empty};
 ghost use Rattle.std.specs.Option.{option_map};
 ghost use Rattle.gil_machine.specs.Run.{start as start_state};
 ghost use Rattle.gil_syntax.specs.Pure.{PureParts};
-ghost use Rattle.pure_terms.specs.View.{atoms_view};
+ghost use Rattle.gil_syntax.specs.View.{proc_view};
+ghost use Rattle.pure_terms.specs.View.{atoms_view, terms_view};
 ghost use Rattle.sym_model.specs.Laws.{IsCopy};
+ghost use Rattle.sym_model.specs.View.{path_view as conditions_view};
+ghost use Rattle.sym_paths.specs.Beginning.{Begins};
 ghost use Rattle.sym_paths.specs.Meaning.{Stands, IsOverTable, IsFirstPath};
 ghost use Rattle.sym_paths.specs.Pure.{PurePath};
 ghost use Rattle.sym_paths.specs.Steps.{IsPlainPath};
@@ -13,7 +16,8 @@ ghost use Rattle.sym_paths.specs.View.{end_view, path_view};
 
 use crate::copying::{copy_choices, copy_path_condition, copy_table};
 use crate::ends::{PathEnd, copy_end};
-use crate::frames::{Frames, copy_frames, first_frames};
+use crate::frames::{Frames, beginning_frames, copy_frames, first_frames};
+use gil_syntax::Proc;
 use gil_values::Text;
 use pure_terms::{Atoms, Choices, Terms, VarTable};
 use sequence::Sequence;
@@ -69,6 +73,33 @@ pub struct Ended {
 }
 
 impl<M: Drop> Path<M> {
+    /// The path on which a procedure begins with terms for its parameters, over a table, under conditions and with a memory.
+    pub fn begin(
+        alloc: Global,
+        proc: &Proc,
+        args: &Terms,
+        vars: VarTable,
+        conds: PathCond,
+        memory: M,
+    ) -> Result<Path<M>, AllocError>
+        requires { length (terms_view args.now) ≡ length (proc_view proc.now).params }
+        ensures { IfOk result (λ path. Begins (proc_view proc.now) (terms_view args.now) vars (conditions_view conds) memory
+            (path_view path)) }
+    {
+        let stack = beginning_frames(alloc, proc, args.as_slice())?;
+        Ok(Path {
+            vars,
+            conds,
+            given: Sequence::new(alloc),
+            choices: Sequence::new(alloc),
+            stack,
+            memory,
+            drawn: Terms::new(alloc),
+            steps: 0,
+            end: None,
+        })
+    }
+
     /// The path ends so.
     pub fn end_as(&mut self, end: PathEnd)
         ensures { path_view self.new ≡ record (path_view self.old) { ending = Some (end_view end) } }
