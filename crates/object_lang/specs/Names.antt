@@ -1,5 +1,5 @@
 -- Whether a tree names only what a source text can name: no name has a '$'.
-use Rattle.std.specs.Prelude.{Bool, ◌&&◌}
+use Rattle.std.specs.Prelude.{Bool, true, ◌&&◌}
 use Rattle.std.specs.List.{list_all}
 use Rattle.source_language.specs.Names.{is_source_name}
 use Rattle.source_operators.specs.Names.{is_source_expression}
@@ -20,4 +20,4 @@ is_source_simple (fail e) = is_source_expression e
 is_source_simple (throw e) = is_source_expression e
 
 abbrev pub is_source_function : PureFunction → Bool
-is_source_function f = is_source_name f.name && statements.is_source_function is_source_expression is_source_simple f
+is_source_function f = is_source_name f.name && statements.is_source_function true is_source_expression is_source_simple f

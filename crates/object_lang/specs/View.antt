@@ -6,11 +6,12 @@ use Rattle.source_language.specs.declared.trees.SourceParts.{SourceParts}
 use Rattle.source_operators.specs.declared.trees.Expression.{Expression}
 use Rattle.source_operators.specs.View as operators
 use Rattle.source_statements.specs.declared.tree.Block.{Block}
+use Rattle.source_statements.specs.declared.tree.Statement.{Statement}
 use Rattle.source_statements.specs.View as statements
 use Rattle.object_operators.specs.declared.trees.Prefix.{Prefix}
 use Rattle.object_operators.specs.declared.trees.Joint.{Joint}
 use Rattle.object_operators.specs.Pure.{PureExpression}
-use Rattle.object_lang.specs.Pure.{PureSimple, assign, input, create, proto, has, call, set, delete, set_proto, fail, throw, PureBlock, PureFunction, PureSource}
+use Rattle.object_lang.specs.Pure.{PureSimple, assign, input, create, proto, has, call, set, delete, set_proto, fail, throw, PureStatement, PureBlock, PureFunction, PureSource}
 use Rattle.object_lang.specs.declared.tree.SimpleStatement.{SimpleStatement}
 
 abbrev pub expression_view : Expression Prefix Joint → PureExpression
@@ -28,6 +29,9 @@ simple_view (SimpleStatement.Delete a b) = delete (expression_view a) (expressio
 simple_view (SimpleStatement.SetProto a b) = set_proto (expression_view a) (expression_view b)
 simple_view (SimpleStatement.Fail e) = fail (expression_view e)
 simple_view (SimpleStatement.Throw e) = throw (expression_view e)
+
+abbrev pub statement_view : Statement (Expression Prefix Joint) SimpleStatement → PureStatement
+statement_view c = statements.statement_view expression_view simple_view c
 
 abbrev pub block_view : Block (Expression Prefix Joint) SimpleStatement → PureBlock
 block_view b = statements.block_view expression_view simple_view b

@@ -1,0 +1,2 @@
+pub mod MoreTurns
+pub mod Statements
