@@ -1,0 +1,9 @@
+pub mod Actions
+pub mod Ends
+pub mod Fitting
+pub mod Following
+pub mod Fronts
+pub mod Lengths
+pub mod Names
+pub mod Programs
+pub mod WellMade

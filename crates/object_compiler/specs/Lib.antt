@@ -1,0 +1,4 @@
+pub mod Compiled
+pub mod SameEnds
+pub mod Source
+pub mod Valid

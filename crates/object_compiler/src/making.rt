@@ -1,0 +1,45 @@
+//! Sources of trees.
+ghost use Rattle.std.specs.Prelude.{◌≡◌, ◌≢◌, true, IsTrue, IfOk, IfErr};
+ghost use Rattle.std.specs.List.{list_all};
+ghost use Rattle.gil_syntax.specs.View.{parts_view};
+ghost use Rattle.gil_syntax.specs.declared.validity.InvalidKind.TheVariants.{Memory};
+ghost use Rattle.gil_syntax.specs.WellMade.{is_well_made};
+ghost use Rattle.gil_program.specs.Uncounted.{IsNamedButLength};
+ghost use Rattle.object_lang.specs.Names.{is_source_function};
+ghost use Rattle.object_lang.specs.View.{source_parts_view};
+ghost use Rattle.object_compiler.specs.Compiled.{compiled};
+ghost use Rattle.object_compiler.specs.Source.{source_view};
+
+use crate::language::ObjectCodes;
+use crate::source::Source;
+use gil_program::{Invalid, check_but_length};
+use gil_syntax::Parts;
+use object_lang::{Function, resolved};
+use object_operators::get_procedure;
+use source_language::SourceParts;
+use source_statements::parts_of;
+use std::alloc::{AllocError, Global};
+
+/// The parts of the compiled program, however long its procedures are.
+fn program_of(alloc: Global, source: &SourceParts<Function>) -> Result<Parts, AllocError>
+    ensures { IfOk result (λ parts. parts_view parts ≡ compiled (source_parts_view source.now)) }
+{
+    let mut parts = parts_of::<ObjectCodes>(alloc, &resolved(alloc, source)?)?;
+    parts.procs.push(get_procedure(alloc)?)?;
+    Ok(parts)
+}
+
+impl Source {
+    /// The source of trees. A fault is one of the compiled program, the number of a procedure's commands aside, and its item is
+    /// counted through the functions, the procedure that reads properties, the specifications and the predicates.
+    pub fn new(alloc: Global, parts: SourceParts<Function>) -> Result<Source, Invalid>
+        requires named { list_all (λ f. is_source_function f) (source_parts_view parts).functions ≡ true }
+        requires well_made { IsTrue (is_well_made (compiled (source_parts_view parts))) }
+        ensures source { IfOk result (λ source. source_view source ≡ source_parts_view parts) }
+        ensures invalid { IfErr result (λ e. e.kind ≢ Memory → IsNamedButLength (compiled (source_parts_view parts)) e.kind e.item) }
+    {
+        let program = program_of(alloc, &parts)?;
+        check_but_length(alloc, &program)?;
+        Ok(Source { parts })
+    }
+}
