@@ -6,5 +6,7 @@ pub mod FormLaws
 pub mod FreeRight
 pub mod Instance
 pub mod Law
+pub mod Listing
 pub mod Loops
+pub mod Missing
 pub mod Right

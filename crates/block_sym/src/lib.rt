@@ -5,6 +5,7 @@ mod addresses;
 mod cells;
 mod freeing;
 mod laws;
+mod listed;
 mod making;
 mod memory;
 mod states;

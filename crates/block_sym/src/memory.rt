@@ -14,7 +14,10 @@ use std::alloc::{AllocError, Global};
 use sym_model::{Branch, Branches, SymFrag, SymMemory};
 
 /// The branches over states of blocks.
-fn with_states(alloc: Global, branches: Branches<SymFrag>) -> Result<Branches<BlockSym>, AllocError>
+pub(crate) fn with_states(
+    alloc: Global,
+    branches: Branches<SymFrag>,
+) -> Result<Branches<BlockSym>, AllocError>
     ensures { IfOk result (λ bs. block_branches_view bs ≡ chunk_branches_view branches) }
 {
     let mut wrapped = Sequence::new(alloc);
