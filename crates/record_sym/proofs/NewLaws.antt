@@ -23,27 +23,31 @@ use Rattle.mem_model.proofs.Changes.{get-with_all, with_none}
 use Rattle.mem_model.proofs.Joins.{same_heap, value_at, has_key}
 use Rattle.mem_model.proofs.Holding.{same_key, held_inserted, held_with_all}
 use Rattle.mem_model.proofs.NameKeys.{or_of}
+use Rattle.pure_terms.specs.declared.literals.Literal.{Literal}
 use Rattle.pure_terms.specs.declared.variables.Sort.{Sort}
 use Rattle.pure_terms.specs.declared.variables.Var.{Var}
-use Rattle.pure_terms.specs.Meaning.{value, values, IsProper, IsOver}
+use Rattle.pure_terms.specs.Meaning.{literal_value, value, values, all_true, IsProper, IsOver}
 use Rattle.pure_terms.specs.Pure.{PureTerm, literal, variable, list_of, unary_of, binary_of, PureTerms, no_terms, term_and, to_list, from_list}
 use Rattle.record_heap.specs.Table.{name_list_in, new}
-use Rattle.record_sym.specs.Table.{cases, failure, faulty, distinct_from, name_chunk, created, made_cases, make, act_new}
-use Rattle.sym_conditions.specs.Alternatives.{always, of_kind, not_of_kind, with_form}
+use Rattle.record_sym.specs.Table.{faulty, name_chunk, created, make, act_new}
+use Rattle.sym_chunks.specs.Cases.{branches_of, failure}
+use Rattle.sym_chunks.specs.Forms.{form_of}
+use Rattle.sym_chunks.specs.NameTerms.{distinct_from}
+use Rattle.sym_conditions.specs.Alternatives.{Hold, always, any, same, of_kind, not_of_kind}
 use Rattle.sym_conditions.proofs.Combined.{always_true}
 use Rattle.sym_conditions.proofs.Telling.{of_kind_tells, not_of_kind_tells}
 use Rattle.sym_model.specs.Chunks.{IsUnion, StandFor}
 use Rattle.sym_model.specs.Lists.{Each}
 use Rattle.sym_model.specs.Meaning.{location_of, name_of, key_of, key_value}
 use Rattle.sym_model.specs.Pure.{named, shape, PureChunk, done}
+use Rattle.sym_model.specs.Terms.{is_list_term}
 use Rattle.sym_model.proofs.Asking.{both_parts as value_parts}
-use Rattle.sym_model.proofs.ChunkMeaning.{ChunkTerms}
-use Rattle.sym_model.proofs.ListLaws.{same_some, each_append, one_left, one_right}
+use Rattle.sym_model.proofs.ListLaws.{same_some, each_append, one_left, one_right, one_parts}
 use Rattle.sym_model.proofs.Unions.{put_last}
-use Rattle.record_sym.proofs.CaseLaws.{Exact, IsFor, IsTaken, exact_cases, open_cases, taken_case, form_open, form_holds}
-use Rattle.record_sym.proofs.Facts.{same_names}
-use Rattle.record_sym.proofs.LookupLaws.{IsRight, values_one, fails_always, failure_for}
-use Rattle.record_sym.proofs.NameLists.{elements_over, list_value, faulty_holds, holds_faulty, distinct_holds, holds_distinct}
+use Rattle.sym_chunks.proofs.ArgumentLaws.{values_one, fails_always, failure_for}
+use Rattle.sym_chunks.proofs.CaseLaws.{IsRight, Exact, IsFor, IsTaken, exact_cases, open_cases, taken_case, needed_open, form_holds}
+use Rattle.sym_chunks.proofs.Facts.{same_names}
+use Rattle.sym_chunks.proofs.NameLists.{elements_over, list_value, one_equal, equal_one, some_equal, equal_some, text_of_kind, no_text, not_distinct, why_not, distinct_holds, holds_distinct}
 
 -- ---- names put one after another
 
@@ -130,6 +134,36 @@ module _ (v : List PureValue) (x : Var) (n : ℕ) (is_x : value v (variable x) �
       (λ kept. lacks Shape (has_key h (key n Shape) w kept))
       (held_with_all (name_keys n (texts_of ws)) h (key n Shape) (kind Kind.Null) w held)))
 
+-- ---- names that are refused
+
+module _ (vars : List Sort) (v : List PureValue) (proper : IsProper vars v) where
+  faulty_holds : (ts : PureTerms) (ws : List PureValue) → values v ts ≡ Some ws → Each (IsOver vars) (to_list ts) → Hold v (faulty (to_list ts)) → are_distinct_texts ws ≡ false
+  faulty_holds no_terms ws have over holds = absurd holds
+  faulty_holds (term_and t ts) ws have over holds =
+      let (w, (us, (first, rest, whole))) = value_parts (value v t) (values v ts) ws have in
+      ap are_distinct_texts whole
+      ∙ not_distinct vars v proper (is_text w) (list_any (same_value w) us) (are_distinct_texts us)
+      (⊎_elim
+      (λ kinds. inl (no_text vars v proper w ((not_of_kind_tells vars v t Kind.Str w proper over.0 first).0 kinds)))
+      (λ more. inr (⊎_elim
+      (λ twice. inl (one_equal vars v proper t w over.0 first ts us rest over.1 (some_equal vars v proper t w over.0 first ts twice)))
+      (λ later. inr (faulty_holds ts us rest over.1 later))
+      (one_parts (λ conds. IsTrue (all_true v conds)) (any (same t) (to_list ts)) (faulty (to_list ts)) more)))
+      (one_parts (λ conds. IsTrue (all_true v conds)) (not_of_kind t Kind.Str) (any (same t) (to_list ts) ++ faulty (to_list ts)) holds))
+
+  holds_faulty : (ts : PureTerms) (ws : List PureValue) → values v ts ≡ Some ws → Each (IsOver vars) (to_list ts) → are_distinct_texts ws ≡ false → Hold v (faulty (to_list ts))
+  holds_faulty no_terms ws have over none = absurd (true≢false (sym (ap are_distinct_texts (sym (same_some have))) ∙ none))
+  holds_faulty (term_and t ts) ws have over none =
+      let (w, (us, (first, rest, whole))) = value_parts (value v t) (values v ts) ws have in
+      ⊎_elim
+      (λ kinds. one_left (λ conds. IsTrue (all_true v conds)) (not_of_kind t Kind.Str) (any (same t) (to_list ts) ++ faulty (to_list ts))
+      ((not_of_kind_tells vars v t Kind.Str w proper over.0 first).1 (λ e. true≢false (sym (text_of_kind vars v proper w e) ∙ kinds))))
+      (λ more. one_right (λ conds. IsTrue (all_true v conds)) (not_of_kind t Kind.Str) (any (same t) (to_list ts) ++ faulty (to_list ts)) (⊎_elim
+      (λ twice. one_left (λ conds. IsTrue (all_true v conds)) (any (same t) (to_list ts)) (faulty (to_list ts)) (equal_some vars v proper t w over.0 first ts (equal_one vars v proper t w over.0 first ts us rest over.1 twice)))
+      (λ later. one_right (λ conds. IsTrue (all_true v conds)) (any (same t) (to_list ts)) (faulty (to_list ts)) (holds_faulty ts us rest over.1 later))
+      more))
+      (why_not vars v proper (is_text w) (list_any (same_value w) us) (are_distinct_texts us) (sym (ap are_distinct_texts whole) ∙ none))
+
 -- the concrete `new`, by its argument
 module _ (n : ℕ) (h : Heap) where
   abbrev makes : List PureValue → ActionResult
@@ -163,15 +197,15 @@ bool_cases : (b : Bool) → (b ≡ true) ⊎ (b ≡ false)
 bool_cases true = inl refl
 bool_cases false = inr refl
 
-module _ (vars : List Sort) (v : List PureValue) (h : Heap) (cs : List PureChunk) (proper : IsProper vars v) (over : Each (ChunkTerms (IsOver vars)) cs) (stands : StandFor Record cs v h) (x : Var) (n : ℕ) (is_x : value v (variable x) ≡ Some (symbol n)) (lacks : (s : Sub) → ¬ HasKey h (key n s)) where
-  listed_right : (ts : PureTerms) (w : PureValue) → IsOver vars (list_of ts) → value v (list_of ts) ≡ Some w → IsHeapOf Record (makes n h (w ∷ [])).heap → IsRight v (makes n h (w ∷ [])) (make x (list_of ts) cs)
+module _ (vars : List Sort) (v : List PureValue) (h : Heap) (cs : List PureChunk) (proper : IsProper vars v) (stands : StandFor Record cs v h) (x : Var) (n : ℕ) (is_x : value v (variable x) ≡ Some (symbol n)) (lacks : (s : Sub) → ¬ HasKey h (key n s)) where
+  listed_right : (ts : PureTerms) (w : PureValue) → IsOver vars (list_of ts) → value v (list_of ts) ≡ Some w → IsHeapOf Record (makes n h (w ∷ [])).heap → IsRight Record v (makes n h (w ∷ [])) (make x (list_of ts) cs)
   listed_right ts w over_list is_list keeps =
       let (ws, (have, whole)) = list_value v ts w is_list in
       let test : is_name_list w ≡ are_distinct_texts ws = ap is_name_list whole ∙ ap are_distinct_texts (values_back ws) in
       let r = makes n h (w ∷ []) in
-      let made : are_distinct_texts ws ≡ true → IsFor v r (created x (list_of ts) (to_list ts) cs) (done (variable x)) = (λ distinct.
+      let made : are_distinct_texts ws ≡ true → IsFor Record v r (created x (list_of ts) (to_list ts) cs) (done (variable x)) = (λ distinct.
       let e : r ≡ new (Some n) w h = made_by n h w (test ∙ distinct) in
-      subst (λ q. IsFor v q (created x (list_of ts) (to_list ts) cs) (done (variable x))) (sym e) (
+      subst (λ q. IsFor Record v q (created x (list_of ts) (to_list ts) cs) (done (variable x))) (sym e) (
         is_x,
         record {
           union = subst (λ d. IsUnion v (created x (list_of ts) (to_list ts) cs) (created_heap (key n Shape) d (name_keys n (names_of d)) (kind Kind.Null) h)) (sym whole) (record_added v x n is_x ts ws cs h have distinct stands.union lacks);
@@ -179,45 +213,60 @@ module _ (vars : List Sort) (v : List PureValue) (h : Heap) (cs : List PureChunk
         },
       )) in
       record {
-        exact = each_append (Exact v r) (cases (faulty (to_list ts)) cs (failure Failure.Kind)) (made_cases x (list_of ts) (to_list ts) cs)
-            (exact_cases v r (faulty (to_list ts)) cs (failure Failure.Kind) (λ holds. failure_for vars v h cs proper over stands r Failure.Kind (refused_by n h w (are_distinct_texts ws) test (faulty_holds vars v proper ts ws have (elements_over vars ts over_list) holds))))
-            (exact_cases v r (distinct_from always (to_list ts)) (created x (list_of ts) (to_list ts) cs) (done (variable x)) (λ holds. made (distinct_holds vars v proper ts always ws have (elements_over vars ts over_list) holds).1));
+        exact = each_append (Exact Record v r) (branches_of (faulty (to_list ts)) cs (failure Failure.Kind)) (branches_of (distinct_from always (to_list ts)) (created x (list_of ts) (to_list ts) cs) (done (variable x)))
+            (exact_cases Record v r (faulty (to_list ts)) cs (failure Failure.Kind) (λ holds. failure_for Record vars v h cs proper stands r Failure.Kind (refused_by n h w (are_distinct_texts ws) test (faulty_holds vars v proper ts ws have (elements_over vars ts over_list) holds))))
+            (exact_cases Record v r (distinct_from always (to_list ts)) (created x (list_of ts) (to_list ts) cs) (done (variable x)) (λ holds. made (distinct_holds vars v proper ts always ws have (elements_over vars ts over_list) holds).1));
         taken = ⊎_elim
-            (λ distinct. one_right (IsTaken v) (cases (faulty (to_list ts)) cs (failure Failure.Kind)) (made_cases x (list_of ts) (to_list ts) cs)
+            (λ distinct. one_right (IsTaken v) (branches_of (faulty (to_list ts)) cs (failure Failure.Kind)) (branches_of (distinct_from always (to_list ts)) (created x (list_of ts) (to_list ts) cs) (done (variable x)))
             (taken_case v (distinct_from always (to_list ts)) (created x (list_of ts) (to_list ts) cs) (done (variable x)) (holds_distinct vars v proper ts always ws have (elements_over vars ts over_list) (always_true v) distinct)))
-            (λ isnt. one_left (IsTaken v) (cases (faulty (to_list ts)) cs (failure Failure.Kind)) (made_cases x (list_of ts) (to_list ts) cs)
+            (λ isnt. one_left (IsTaken v) (branches_of (faulty (to_list ts)) cs (failure Failure.Kind)) (branches_of (distinct_from always (to_list ts)) (created x (list_of ts) (to_list ts) cs) (done (variable x)))
             (taken_case v (faulty (to_list ts)) cs (failure Failure.Kind) (holds_faulty vars v proper ts ws have (elements_over vars ts over_list) isnt)))
             (bool_cases (are_distinct_texts ws));
       }
 
-  unlisted_right : (t : PureTerm) (w : PureValue) → IsOver vars t → value v t ≡ Some w → IsRight v (makes n h (w ∷ [])) (cases (not_of_kind t Kind.List) cs (failure Failure.Kind) ++ cases (with_form t (of_kind t Kind.List)) cs (done (variable x)))
-  unlisted_right t w over_t is_t =
+  -- a list that no list term gives is no literal, so that its form is needed
+  form_comes : (t : PureTerm) (w : PureValue) → value v t ≡ Some w → kind_of w ≡ Kind.List → is_list_term t ≡ false → Hold v (of_kind t Kind.List) → Hold v (form_of t (of_kind t Kind.List))
+  form_comes (list_of ts) w is_t is no_list holds = absurd (true≢false no_list)
+  form_comes (literal k) w is_t is no_list holds = absurd (no_list_literal k w is_t is)
+    where
+      no_list_literal : (k : Literal) (w : PureValue) → Some (literal_value k) ≡ Some w → kind_of w ≡ Kind.List → ⊥
+      no_list_literal (Literal.Int i) w is_t is = let e : Kind.Int ≡ Kind.List = ap kind_of (same_some is_t) ∙ is in cc
+      no_list_literal (Literal.Bool i) w is_t is = let e : Kind.Bool ≡ Kind.List = ap kind_of (same_some is_t) ∙ is in cc
+      no_list_literal (Literal.Str i) w is_t is = let e : Kind.Str ≡ Kind.List = ap kind_of (same_some is_t) ∙ is in cc
+      no_list_literal (Literal.Kind i) w is_t is = let e : Kind.Kind ≡ Kind.List = ap kind_of (same_some is_t) ∙ is in cc
+      no_list_literal (Literal.Proc i) w is_t is = let e : Kind.Proc ≡ Kind.List = ap kind_of (same_some is_t) ∙ is in cc
+  form_comes (variable y) w is_t is no_list holds = form_holds v (variable y) w (of_kind (variable y) Kind.List) is_t holds
+  form_comes (unary_of op t) w is_t is no_list holds = form_holds v (unary_of op t) w (of_kind (unary_of op t) Kind.List) is_t holds
+  form_comes (binary_of op s t) w is_t is no_list holds = form_holds v (binary_of op s t) w (of_kind (binary_of op s t) Kind.List) is_t holds
+
+  unlisted_right : (t : PureTerm) (w : PureValue) → is_list_term t ≡ false → IsOver vars t → value v t ≡ Some w → IsRight Record v (makes n h (w ∷ [])) (branches_of (not_of_kind t Kind.List) cs (failure Failure.Kind) ++ branches_of (form_of t (of_kind t Kind.List)) cs (done (variable x)))
+  unlisted_right t w no_list_term over_t is_t =
       let r = makes n h (w ∷ []) in
       record {
-        exact = each_append (Exact v r) (cases (not_of_kind t Kind.List) cs (failure Failure.Kind)) (cases (with_form t (of_kind t Kind.List)) cs (done (variable x)))
-            (exact_cases v r (not_of_kind t Kind.List) cs (failure Failure.Kind) (λ holds. failure_for vars v h cs proper over stands r Failure.Kind (refused_by n h w false (no_list w ((not_of_kind_tells vars v t Kind.List w proper over_t is_t).0 holds)) refl)))
-            (open_cases v r (with_form t (of_kind t Kind.List)) cs (done (variable x)) (form_open v t (of_kind t Kind.List)));
+        exact = each_append (Exact Record v r) (branches_of (not_of_kind t Kind.List) cs (failure Failure.Kind)) (branches_of (form_of t (of_kind t Kind.List)) cs (done (variable x)))
+            (exact_cases Record v r (not_of_kind t Kind.List) cs (failure Failure.Kind) (λ holds. failure_for Record vars v h cs proper stands r Failure.Kind (refused_by n h w false (no_list w ((not_of_kind_tells vars v t Kind.List w proper over_t is_t).0 holds)) refl)))
+            (open_cases Record v r (form_of t (of_kind t Kind.List)) cs (done (variable x)) (needed_open v t (of_kind t Kind.List)));
         taken = ⊎_elim
-            (λ is. one_right (IsTaken v) (cases (not_of_kind t Kind.List) cs (failure Failure.Kind)) (cases (with_form t (of_kind t Kind.List)) cs (done (variable x)))
-            (taken_case v (with_form t (of_kind t Kind.List)) cs (done (variable x)) (form_holds v t w (of_kind t Kind.List) is_t ((of_kind_tells vars v t Kind.List w proper over_t is_t).1 is))))
-            (λ differ. one_left (IsTaken v) (cases (not_of_kind t Kind.List) cs (failure Failure.Kind)) (cases (with_form t (of_kind t Kind.List)) cs (done (variable x)))
+            (λ is. one_right (IsTaken v) (branches_of (not_of_kind t Kind.List) cs (failure Failure.Kind)) (branches_of (form_of t (of_kind t Kind.List)) cs (done (variable x)))
+            (taken_case v (form_of t (of_kind t Kind.List)) cs (done (variable x)) (form_comes t w is_t is no_list_term ((of_kind_tells vars v t Kind.List w proper over_t is_t).1 is))))
+            (λ differ. one_left (IsTaken v) (branches_of (not_of_kind t Kind.List) cs (failure Failure.Kind)) (branches_of (form_of t (of_kind t Kind.List)) cs (done (variable x)))
             (taken_case v (not_of_kind t Kind.List) cs (failure Failure.Kind) ((not_of_kind_tells vars v t Kind.List w proper over_t is_t).1 differ)))
             (list_or_not w);
       }
 
-  make_right : (t : PureTerm) (w : PureValue) → IsOver vars t → value v t ≡ Some w → IsHeapOf Record (makes n h (w ∷ [])).heap → IsRight v (makes n h (w ∷ [])) (make x t cs)
+  make_right : (t : PureTerm) (w : PureValue) → IsOver vars t → value v t ≡ Some w → IsHeapOf Record (makes n h (w ∷ [])).heap → IsRight Record v (makes n h (w ∷ [])) (make x t cs)
   make_right (list_of ts) w over_t is_t keeps = listed_right ts w over_t is_t keeps
-  make_right (literal k) w over_t is_t keeps = unlisted_right (literal k) w over_t is_t
-  make_right (variable y) w over_t is_t keeps = unlisted_right (variable y) w over_t is_t
-  make_right (unary_of op t) w over_t is_t keeps = unlisted_right (unary_of op t) w over_t is_t
-  make_right (binary_of op s t) w over_t is_t keeps = unlisted_right (binary_of op s t) w over_t is_t
+  make_right (literal k) w over_t is_t keeps = unlisted_right (literal k) w refl over_t is_t
+  make_right (variable y) w over_t is_t keeps = unlisted_right (variable y) w refl over_t is_t
+  make_right (unary_of op t) w over_t is_t keeps = unlisted_right (unary_of op t) w refl over_t is_t
+  make_right (binary_of op s t) w over_t is_t keeps = unlisted_right (binary_of op s t) w refl over_t is_t
 
-  pub new_right : (args : List PureTerm) (args' : List PureValue) → Each (IsOver vars) args → values v (from_list args) ≡ Some args' → IsHeapOf Record (makes n h args').heap → IsRight v (makes n h args') (act_new (Some x) args cs)
+  pub new_right : (args : List PureTerm) (args' : List PureValue) → Each (IsOver vars) args → values v (from_list args) ≡ Some args' → IsHeapOf Record (makes n h args').heap → IsRight Record v (makes n h args') (act_new (Some x) args cs)
   new_right (d ∷ []) args' over_args have keeps =
       let (w, (is_d, whole)) = values_one v d args' have in
-      subst (λ us. IsRight v (makes n h us) (act_new (Some x) (d ∷ []) cs)) (sym whole) (make_right d w over_args.0 is_d (subst (λ us. IsHeapOf Record (makes n h us).heap) whole keeps))
-  new_right [] args' over_args have keeps = fails_always vars v h cs proper over stands (makes n h args') Failure.Arity (ap (makes n h) (sym (same_some have)))
+      subst (λ us. IsRight Record v (makes n h us) (act_new (Some x) (d ∷ []) cs)) (sym whole) (make_right d w over_args.0 is_d (subst (λ us. IsHeapOf Record (makes n h us).heap) whole keeps))
+  new_right [] args' over_args have keeps = fails_always Record vars v h cs proper stands (makes n h args') Failure.Arity (ap (makes n h) (sym (same_some have)))
   new_right (l ∷ p ∷ more) args' over_args have keeps =
       let (a, (us, (first, rest, whole))) = value_parts (value v l) (values v (from_list (p ∷ more))) args' have in
       let (b, (ws, (second, others, next))) = value_parts (value v p) (values v (from_list more)) us rest in
-      fails_always vars v h cs proper over stands (makes n h args') Failure.Arity (ap (makes n h) (whole ∙ ap (λ xs. a ∷ xs) next))
+      fails_always Record vars v h cs proper stands (makes n h args') Failure.Arity (ap (makes n h) (whole ∙ ap (λ xs. a ∷ xs) next))

@@ -1,7 +1,7 @@
--- The branches of looking up a name and of giving it a value are right.
-use Rattle.std.proofs.Common.{◌≡◌, ◌⊎◌, ⊎_elim, inl, inr, ℕ, List, [], ◌∷◌, ◌++◌, Bool, true, false, if◌then◌else◌, Option, Some, None, IsSome, IsTrue, is_some, slice_get, refl, sym, ap, subst, ◌∙◌, true≢false, arith}
+-- What the conditions of an action on a name of a location say of the heap.
+use Rattle.std.proofs.Common.{◌≡◌, ◌⊎◌, ⊎_elim, inl, inr, ℕ, List, [], ◌∷◌, ◌++◌, Bool, true, false, Option, Some, None, IsTrue, slice_get, refl, sym, ap, subst, ◌∙◌, true≢false, arith}
 use Rattle.std.specs.FinMap.{get}
-use Rattle.gil_values.specs.Pure.{PureValue}
+use Rattle.gil_values.specs.Pure.{PureValue, text}
 use Rattle.mem_model.specs.declared.failures.Failure.{Failure}
 use Rattle.mem_model.specs.declared.keys.Key.{Key}
 use Rattle.mem_model.specs.declared.keys.Sub.{Sub}
@@ -10,371 +10,283 @@ use Rattle.mem_model.specs.declared.keys.MemoryName.TheVariants.{Record}
 use Rattle.mem_model.specs.Actions.{ActionResult}
 use Rattle.mem_model.specs.Heaps.{Heap, Holds, HasKey, IsHeapOf}
 use Rattle.mem_model.specs.Keys.{key}
-use Rattle.mem_model.specs.KeyOrder.{key_eq, variant_number}
+use Rattle.mem_model.specs.KeyOrder.{variant_number}
 use Rattle.mem_model.specs.Names.{is_name_list, lists_name}
-use Rattle.mem_model.specs.Tables.{fails, misses, found_or, at}
-use Rattle.mem_model.proofs.Holding.{same_key, itself}
+use Rattle.mem_model.specs.Tables.{fails, misses}
 use Rattle.mem_model.proofs.Joins.{has_key, value_at}
 use Rattle.pure_terms.specs.declared.variables.Sort.{Sort}
-use Rattle.pure_terms.specs.declared.literals.Literal.{Literal}
-use Rattle.pure_terms.specs.Meaning.{literal_value, value, all_true, IsOver}
-use Rattle.pure_terms.specs.Pure.{PureTerm, literal, variable, list_of, unary_of, binary_of}
+use Rattle.pure_terms.specs.Meaning.{value, all_true, IsProper, IsOver}
+use Rattle.pure_terms.specs.Pure.{PureTerm, list_of}
 use Rattle.record_heap.specs.Table.{no_property}
-use Rattle.record_sym.specs.Places.{gone_at, other_key, listed, unlisted, tells_not, lacks, absent_there, absent_at, form_of_names, opened_there, opened_at}
-use Rattle.record_sym.specs.Table.{failure, gone_cases, absent_cases, missed_name, opened_names, missed_names, without_property}
-use Rattle.sym_conditions.specs.Alternatives.{Alternatives, Hold, always, both, any, all, same, other}
-use Rattle.sym_conditions.proofs.Combined.{both_from, both_parts, all_from_from, all_from_parts, always_true}
+use Rattle.record_sym.specs.Places.{unlisted_there, lists_not, opened_there, opened_at, opened, tells_not, lacks}
+use Rattle.record_sym.specs.Table.{without_name}
+use Rattle.sym_chunks.specs.ByPlace.{all_by_place, any_at}
+use Rattle.sym_chunks.specs.Cases.{PureCase, case_of, gone_case, failure, missed_name}
+use Rattle.sym_chunks.specs.Keys.{other_sub}
+use Rattle.sym_chunks.specs.Laws.{IsLocation, IsKeyOf}
+use Rattle.sym_conditions.specs.Alternatives.{Hold, any, same}
+use Rattle.sym_conditions.proofs.Combined.{both_from, always_true}
 use Rattle.sym_model.specs.Chunks.{IsUnion, StandFor}
 use Rattle.sym_model.specs.Lists.{Each, OneOf}
-use Rattle.sym_model.specs.Meaning.{location_of, name_of, sub_value, key_of}
+use Rattle.sym_model.specs.Meaning.{location_of, key_of}
 use Rattle.sym_model.specs.Pure.{PureSub, named, cell, shape, bound, dom, proto, gone, PureChunk}
 use Rattle.sym_model.specs.Terms.{is_list_term}
-use Rattle.sym_model.proofs.ChunkMeaning.{chunk_val}
-use Rattle.sym_model.proofs.ListLaws.{same_some, each_append, each_to, each_at, one_left, one_right, one_parts, one_with, one_at, one_flat, one_flattened}
-use Rattle.sym_model.proofs.Unions.{found_chunk, same_entry}
-use Rattle.record_sym.proofs.CaseLaws.{Exact, IsFor, IsTaken, exact_cases, open_cases, taken_case, form_open, form_holds, both_open, any_open, AreOpen}
-use Rattle.record_sym.proofs.Facts.{keys_equal, sub_is, Fact, AskedLocation, AskedName, key_number, gone_holds, holds_gone, shape_key, same_loc, loc_same, other_loc, loc_other, loc_or_not, loc_of, place_holds, holds_place, holds_other}
-use Rattle.record_sym.proofs.NameLists.{listed_holds, holds_listed, unlisted_holds, holds_unlisted}
-
-none_from : {X : Type 0} (o : Option X) → ¬ IsSome o → o ≡ None
-none_from None lacks_it = refl
-none_from (Some x) lacks_it = absurd (lacks_it refl)
-
-pub at_some : (h : Heap) (k : Key) (w : PureValue) (found : PureValue → ActionResult) (otherwise : ActionResult) → Holds h k w → at h k found otherwise ≡ found w
-at_some h k w found otherwise holds = ap (λ o. found_or o found otherwise) holds
-
-pub at_none : (h : Heap) (k : Key) (found : PureValue → ActionResult) (otherwise : ActionResult) → get h k ≡ None → at h k found otherwise ≡ otherwise
-at_none h k found otherwise none = ap (λ o. found_or o found otherwise) none
-
-key_or_not : (q k : Key) → (q ≡ k) ⊎ (¬ (q ≡ k))
-key_or_not q k = by_test (key_eq q k) refl
-  where
-    by_test : (b : Bool) → key_eq q k ≡ b → (q ≡ k) ⊎ (¬ (q ≡ k))
-    by_test true is = inl (same_key q k is)
-    by_test false is = inr (λ e. true≢false (sym (itself q) ∙ ap (key_eq q) e ∙ is))
+use Rattle.sym_model.proofs.ListLaws.{same_some, each_append, each_at, one_left, one_right, one_flat}
+use Rattle.sym_model.proofs.Unions.{same_entry}
+use Rattle.sym_chunks.proofs.CaseLaws.{AreOpen, IsFor, IsExactCase, made_exact, made_comes, needed_open, both_open, any_open}
+use Rattle.sym_chunks.proofs.ChunkFacts.{key_at, somewhere_parts, somewhere_from, val_over, val_is, key_number}
+use Rattle.sym_chunks.proofs.Facts.{Fact, kind_number, keys_equal, sub_tells, loc_tells}
+use Rattle.sym_chunks.proofs.FoundLaws.{at_chunk, held_at, by_place_parts, by_place_from, key_lacks}
+use Rattle.sym_chunks.proofs.GoneLaws.{gone_exact, gone_comes, no_gone_beside}
+use Rattle.sym_chunks.proofs.HeapFacts.{none_from, not_both, key_or_not}
+use Rattle.sym_chunks.proofs.NameLists.{unlisted_holds, holds_unlisted}
+use Rattle.sym_chunks.proofs.NamesHeld.{form_is_needed, name_asked, unheld_by, by_unheld}
+use Rattle.record_sym.proofs.HeapLaws.{IsListedHere, gone_result, absent_result, missed_result}
 
 -- the key isn't that of the name, not gone, and where it lists the names of the location, the name is among them
-pub record Away (a : ℕ) (n : List ℕ) (k : Key) (w : PureValue) : Type 0 where
-  pub not_name : ¬ (k ≡ key a (Name n))
-  pub not_gone : ¬ (k ≡ key a Gone)
-  pub lists : k ≡ key a Shape → lists_name w n ≡ true
+record Away (a : ℕ) (n : List ℕ) (k : Key) (w : PureValue) : Type 0 where
+  not_name : ¬ (k ≡ key a (Name n))
+  not_gone : ¬ (k ≡ key a Gone)
+  lists : k ≡ key a Shape → lists_name w n ≡ true
 
-module _ (vars : List Sort) (v : List PureValue) (h : Heap) (l : PureTerm) (a : ℕ) (asked : AskedLocation vars v l a) (p : PureTerm) (n : List ℕ) (asked_name : AskedName vars v p n) where
-  -- ---- one chunk
+-- ---- forms
 
-  module _ (c : PureChunk) (f : Fact vars v h c) where
-    val_over : (t : PureTerm) → c.val ≡ t → IsOver vars t
-    val_over t is = subst (IsOver vars) is (chunk_val (IsOver vars) c f.over)
+opened_by : (v : List PureValue) (l loc : PureTerm) (s : PureSub) (t : PureTerm) → AreOpen (opened_there l loc s t)
+opened_by v l loc shape t = needed_open v t (same l loc)
+opened_by v l loc (named q) t = tt
+opened_by v l loc (cell q) t = tt
+opened_by v l loc dom t = tt
+opened_by v l loc bound t = tt
+opened_by v l loc proto t = tt
+opened_by v l loc gone t = tt
 
-    val_is : (t : PureTerm) → c.val ≡ t → value v t ≡ Some f.w
-    val_is t is = ap (value v) (sym is) ∙ f.entry.holds
+pub opened_needs : (v : List PureValue) (l p : PureTerm) (cs : List PureChunk) → AreOpen (opened l p cs)
+opened_needs v l p cs = both_open v (any (opened_at l) cs) (all_by_place l (λ c. other_sub (named p) c.sub) cs) (any_open v (opened_at l) cs (λ c. opened_by v l c.loc c.sub c.val))
 
-    absent_by : (s : PureSub) → c.sub ≡ s → (t : PureTerm) → c.val ≡ t → Hold v (absent_there l p c.loc s t) → (f.k ≡ key a Shape) × (lists_name f.w n ≡ false)
-    absent_by shape is (list_of ts) is_t holds =
-        let parts = both_parts v (same l c.loc) (unlisted p (list_of ts)) holds in (
-          shape_key vars v h l a asked c f is (same_loc vars v h l a asked c f parts.0),
-          unlisted_holds vars v asked.proper p n asked_name.over asked_name.is ts f.w (val_over (list_of ts) is_t) (val_is (list_of ts) is_t) parts.1,
+-- ---- chunks of lists of names
+
+pub is_shape : (s : PureSub) → 2 ≡ kind_number s → s ≡ shape
+is_shape shape is = refl
+is_shape (named q) is = absurd (omega (arith, is))
+is_shape (cell q) is = absurd (omega (arith, is))
+is_shape dom is = absurd (omega (arith, is))
+is_shape bound is = absurd (omega (arith, is))
+is_shape proto is = absurd (omega (arith, is))
+is_shape gone is = absurd (omega (arith, is))
+
+module _ (vars : List Sort) (v : List PureValue) (h : Heap) (proper : IsProper vars v) (c : PureChunk) (f : Fact vars v h c) where
+  pub shape_of : (a : ℕ) → f.k ≡ key a Shape → c.sub ≡ shape
+  shape_of a e = is_shape c.sub (key_number vars v h c f c.sub a Shape refl e)
+
+  module _ (p : PureTerm) (n : List ℕ) (over_p : IsOver vars p) (is_p : value v p ≡ Some (text n)) where
+    lists_not_by : (s : PureSub) → c.sub ≡ s → (t : PureTerm) → c.val ≡ t → Hold v (unlisted_there p s t) → (c.sub ≡ shape) × (lists_name f.w n ≡ false)
+    lists_not_by shape is (list_of ts) is_t holds = (is, unlisted_holds vars v proper p n over_p is_p ts f.w (val_over vars v h c f (list_of ts) is_t) (val_is vars v h c f (list_of ts) is_t) holds)
+    lists_not_by shape is t is_t holds = absurd holds
+    lists_not_by s is t is_t holds = absurd holds
+
+    pub lists_not_tells : Hold v (lists_not p c) → (c.sub ≡ shape) × (lists_name f.w n ≡ false)
+    lists_not_tells holds = lists_not_by c.sub refl c.val refl holds
+
+    unnamed_by : (t : PureTerm) → c.val ≡ t → is_list_term t ≡ true → lists_name f.w n ≡ false → Hold v (unlisted_there p shape t)
+    unnamed_by (list_of ts) is_t is_list unnamed = holds_unlisted vars v proper p n over_p is_p ts f.w (val_over vars v h c f (list_of ts) is_t) (val_is vars v h c f (list_of ts) is_t) unnamed
+    unnamed_by t is_t is_list unnamed = absurd (true≢false (sym is_list))
+
+    pub tells_lists_not : c.sub ≡ shape → is_list_term c.val ≡ true → lists_name f.w n ≡ false → Hold v (lists_not p c)
+    tells_lists_not is is_list unnamed = subst (λ s. Hold v (unlisted_there p s c.val)) (sym is) (unnamed_by c.val refl is_list unnamed)
+
+module _ (vars : List Sort) (v : List PureValue) (h : Heap) (proper : IsProper vars v) (cs : List PureChunk) (union : IsUnion v cs h) (facts : Each (Fact vars v h) cs) (is_heap : IsHeapOf Record h)
+    (l : PureTerm) (a : ℕ) (asked : IsLocation vars v l a) where
+  pub stands_now : StandFor Record cs v h
+  stands_now = record { union = union; is_heap = is_heap }
+
+  pub shape_asked : IsKeyOf vars v l shape (key a Shape)
+  shape_asked = record { over_loc = asked.over; over_sub = tt; is = ap (λ o. key_of (location_of o) (Some Shape)) asked.is }
+
+  pub shape_at : (c : PureChunk) (f : Fact vars v h c) → c.sub ≡ shape → f.k.loc ≡ a → f.k ≡ key a Shape
+  shape_at c f is e = key_at vars v h proper l a asked c f shape Shape is refl e
+
+  at_loc : (c : PureChunk) (f : Fact vars v h c) (t : Sub) → f.k ≡ key a t → f.k.loc ≡ a
+  at_loc c f t e = ap (λ (q : Key). q.loc) e
+
+  pub holds_at : (c : PureChunk) (f : Fact vars v h c) (k : Key) → f.k ≡ k → Holds h k f.w
+  holds_at c f k e = held_at vars v h proper cs union facts c f k e
+
+  pub names_at : (c : PureChunk) (f : Fact vars v h c) → f.k ≡ key a Shape → is_name_list f.w ≡ true
+  names_at c f e = is_heap.well_formed.name_lists a Shape f.w tt (holds_at c f (key a Shape) e)
+
+  pub opened_here : (c : PureChunk) (f : Fact vars v h c) → f.k ≡ key a Shape → is_list_term c.val ≡ false → Hold v (opened_at l c)
+  opened_here c f e no_list =
+      subst (λ s. Hold v (opened_there l c.loc s c.val)) (sym (shape_of vars v h proper c f a e))
+      (form_is_needed v c.val f.w (same l c.loc) no_list f.entry.holds (names_at c f e) ((loc_tells vars v h proper c f l a asked).1 (at_loc c f Shape e)))
+
+  -- the names of the location are given by list terms, or some aren't
+  abbrev pub Closed : PureChunk → Type 0
+  Closed c = (f : Fact vars v h c) → f.k ≡ key a Shape → is_list_term c.val ≡ true
+
+  closed_by : (c : PureChunk) (f : Fact vars v h c) (b : Bool) → is_list_term c.val ≡ b → (Closed c) ⊎ Hold v (opened_at l c)
+  closed_by c f true is = inl (λ g e. is)
+  closed_by c f false is = ⊎_elim (λ e. inr (opened_here c f e is)) (λ differ. inl (λ g e. absurd (differ ((same_entry v c f.k g.k f.w g.w f.entry g.entry).0 ∙ e)))) (key_or_not f.k (key a Shape))
+
+  pub each_closed : (ds : List PureChunk) → Each (Fact vars v h) ds → Each Closed ds ⊎ OneOf (λ c. Hold v (opened_at l c)) ds
+  each_closed [] all_facts = inl tt
+  each_closed (c ∷ ds) all_facts =
+      ⊎_elim (λ here. ⊎_elim (λ rest. inl (here, rest)) (λ later. inr (inr later)) (each_closed ds all_facts.1)) (λ here. inr (inl here)) (closed_by c all_facts.0 (is_list_term c.val) refl)
+
+  module _ (p : PureTerm) (n : List ℕ) (over_p : IsOver vars p) (is_p : value v p ≡ Some (text n)) where
+    asked_name : IsKeyOf vars v l (named p) (key a (Name n))
+    asked_name = name_asked vars v h proper cs facts l a asked p n over_p is_p
+
+    pub no_name_if : (d : PureValue) → Holds h (key a Shape) d → lists_name d n ≡ false → get h (key a (Name n)) ≡ None
+    no_name_if d held unnamed = none_from (get h (key a (Name n))) (λ has. true≢false (sym (is_heap.well_formed.names_listed a Shape d tt held n has) ∙ unnamed))
+
+    module _ (c : PureChunk) (f : Fact vars v h c) (here : f.k.loc ≡ a) where
+      -- ---- a chunk that doesn't tell of the name
+
+      lacks_by : (s : PureSub) → c.sub ≡ s → Hold v (tells_not p cs c.loc s c.val) → Away a n f.k f.w
+      lacks_by (named q) is holds = record {
+        not_name = λ e. (sub_tells vars v h proper c f l (named p) (key a (Name n)) asked_name).0 (subst (λ s. Hold v (other_sub (named p) s)) (sym is) holds) (ap (λ (q : Key). q.sub) e);
+        not_gone = λ e. absurd (omega (arith, key_number vars v h c f (named q) a Gone is e));
+        lists = λ e. absurd (omega (arith, key_number vars v h c f (named q) a Shape is e));
+      }
+      lacks_by shape is holds = record {
+        not_name = λ e. absurd (omega (arith, key_number vars v h c f shape a (Name n) is e));
+        not_gone = λ e. absurd (omega (arith, key_number vars v h c f shape a Gone is e));
+        lists = λ e. unheld_by vars v h proper cs facts l a asked p n over_p is_p c f here c.val refl holds;
+      }
+      lacks_by gone is holds = absurd holds
+      lacks_by (cell q) is holds = record {
+        not_name = λ e. absurd (omega (arith, key_number vars v h c f (cell q) a (Name n) is e));
+        not_gone = λ e. absurd (omega (arith, key_number vars v h c f (cell q) a Gone is e));
+        lists = λ e. absurd (omega (arith, key_number vars v h c f (cell q) a Shape is e));
+      }
+      lacks_by bound is holds = record {
+        not_name = λ e. absurd (omega (arith, key_number vars v h c f bound a (Name n) is e));
+        not_gone = λ e. absurd (omega (arith, key_number vars v h c f bound a Gone is e));
+        lists = λ e. absurd (omega (arith, key_number vars v h c f bound a Shape is e));
+      }
+      lacks_by dom is holds = record {
+        not_name = λ e. absurd (omega (arith, key_number vars v h c f dom a (Name n) is e));
+        not_gone = λ e. absurd (omega (arith, key_number vars v h c f dom a Gone is e));
+        lists = λ e. absurd (omega (arith, key_number vars v h c f dom a Shape is e));
+      }
+      lacks_by proto is holds = record {
+        not_name = λ e. absurd (omega (arith, key_number vars v h c f proto a (Name n) is e));
+        not_gone = λ e. absurd (omega (arith, key_number vars v h c f proto a Gone is e));
+        lists = λ e. absurd (omega (arith, key_number vars v h c f proto a Shape is e));
+      }
+
+      lacks_tells : Hold v (lacks p cs c) → Away a n f.k f.w
+      lacks_tells holds = lacks_by c.sub refl holds
+
+      other_name : ¬ HasKey h (key a (Name n)) → Hold v (other_sub (named p) c.sub)
+      other_name no_name = (sub_tells vars v h proper c f l (named p) (key a (Name n)) asked_name).1
+          (λ subs. no_name (has_key h (key a (Name n)) f.w (holds_at c f (key a (Name n)) (keys_equal f.k a (Name n) here subs))))
+
+      by_lacks : ¬ HasKey h (key a (Name n)) → get h (key a Gone) ≡ None → (f.k ≡ key a Shape → is_list_term c.val ≡ true) → (f.k ≡ key a Shape → lists_name f.w n ≡ true) → (s : PureSub) → c.sub ≡ s → Hold v (tells_not p cs c.loc s c.val)
+      by_lacks no_name no_gone closed is_named (named q) is = subst (λ s. Hold v (other_sub (named p) s)) is (other_name no_name)
+      by_lacks no_name no_gone closed is_named shape is = let e = shape_at c f is here in by_unheld vars v h proper cs facts l a asked p n over_p is_p c f here no_name (is_named e) c.val refl (closed e)
+      by_lacks no_name no_gone closed is_named gone is = absurd (not_both (get h (key a Gone)) no_gone (holds_at c f (key a Gone) (key_at vars v h proper l a asked c f gone Gone is refl here)))
+      by_lacks no_name no_gone closed is_named (cell q) is = always_true v
+      by_lacks no_name no_gone closed is_named bound is = always_true v
+      by_lacks no_name no_gone closed is_named dom is = always_true v
+      by_lacks no_name no_gone closed is_named proto is = always_true v
+
+    -- ---- all chunks
+
+    -- where the location's names are known, the name is one of them
+    abbrev Here : Type 0
+    Here = IsListedHere a h n
+
+    missing_parts : Hold v (all_by_place l (lacks p cs) cs) → (get h (key a (Name n)) ≡ None) × (get h (key a Gone) ≡ None) × Here
+    missing_parts holds =
+        let away : (i : ℕ) (c : PureChunk) (f : Fact vars v h c) → slice_get cs i ≡ Some c → f.k.loc ≡ a → Away a n f.k f.w =
+        (λ i c f there here. lacks_tells c f here (by_place_parts vars v h proper cs union facts l a asked (lacks p cs) holds i c f there here)) in (
+          none_from (get h (key a (Name n))) (λ has. let (w, held) = value_at h (key a (Name n)) has in at_chunk vars v h proper cs union facts (key a (Name n)) w held (λ i c f there e is. (away i c f there (at_loc c f (Name n) e)).not_name e)),
+          none_from (get h (key a Gone)) (λ has. let (w, held) = value_at h (key a Gone) has in at_chunk vars v h proper cs union facts (key a Gone) w held (λ i c f there e is. (away i c f there (at_loc c f Gone e)).not_gone e)),
+          λ d held. at_chunk vars v h proper cs union facts (key a Shape) d held (λ i c f there e is. ap (λ w. lists_name w n) (sym is) ∙ (away i c f there (at_loc c f Shape e)).lists e),
         )
-    absent_by shape is t is_t holds = absurd (both_parts v (same l c.loc) (unlisted p t) holds).1
-    absent_by s is t is_t holds = absurd holds
 
-    absent_holds : Hold v (absent_at l p c) → (f.k ≡ key a Shape) × (lists_name f.w n ≡ false)
-    absent_holds holds = absent_by c.sub refl c.val refl holds
+    missing_from : Each Closed cs → ¬ HasKey h (key a (Name n)) → get h (key a Gone) ≡ None → Here → Hold v (all_by_place l (lacks p cs) cs)
+    missing_from closed no_name no_gone listed =
+        by_place_from vars v h proper cs union facts l a asked (lacks p cs)
+        (λ i c f there here. by_lacks c f here no_name no_gone (each_at Closed cs i c closed there f) (λ e. listed f.w (holds_at c f (key a Shape) e)) c.sub refl)
 
-    by_absent : (s : PureSub) → c.sub ≡ s → (t : PureTerm) → c.val ≡ t → is_list_term t ≡ true → f.k ≡ key a Shape → lists_name f.w n ≡ false → Hold v (absent_there l p c.loc s t)
-    by_absent shape is (list_of ts) is_t is_list e unnamed =
-        both_from v (same l c.loc) (unlisted p (list_of ts)) (loc_same vars v h l a asked c f (loc_of vars v h l a asked c f Shape e))
-        (holds_unlisted vars v asked.proper p n asked_name.over asked_name.is ts f.w (val_over (list_of ts) is_t) (val_is (list_of ts) is_t) unnamed)
-    by_absent shape is t is_t is_list e unnamed = absurd (true≢false (sym is_list))
-    by_absent (named q) is t is_t is_list e unnamed = absurd (omega (arith, key_number vars v h c f (named q) a Shape is e))
-    by_absent (cell q) is t is_t is_list e unnamed = absurd (omega (arith, key_number vars v h c f (cell q) a Shape is e))
-    by_absent bound is t is_t is_list e unnamed = absurd (omega (arith, key_number vars v h c f bound a Shape is e))
-    by_absent dom is t is_t is_list e unnamed = absurd (omega (arith, key_number vars v h c f dom a Shape is e))
-    by_absent proto is t is_t is_list e unnamed = absurd (omega (arith, key_number vars v h c f proto a Shape is e))
-    by_absent gone is t is_t is_list e unnamed = absurd (omega (arith, key_number vars v h c f gone a Shape is e))
+    pub opened_from : OneOf (λ c. Hold v (opened_at l c)) cs → ¬ HasKey h (key a (Name n)) → Hold v (opened l p cs)
+    opened_from one no_name =
+        both_from v (any (opened_at l) cs) (all_by_place l (λ c. other_sub (named p) c.sub) cs) (one_flat (λ conds. IsTrue (all_true v conds)) (opened_at l) cs one)
+        (key_lacks vars v h proper cs union facts l (named p) (key a (Name n)) asked_name (none_from (get h (key a (Name n))) no_name))
 
-    holds_absent : is_list_term c.val ≡ true → f.k ≡ key a Shape → lists_name f.w n ≡ false → Hold v (absent_at l p c)
-    holds_absent is_list e unnamed = by_absent c.sub refl c.val refl is_list e unnamed
+    pub absent_parts : {X : Type 0} → Hold v (any_at l (lists_not p) cs) → ((d : PureValue) → Holds h (key a Shape) d → lists_name d n ≡ false → X) → X
+    absent_parts holds use_it =
+        somewhere_parts vars v h proper l a asked (lists_not p) cs facts holds
+        (λ c f here is. let parts = lists_not_tells vars v h proper c f p n over_p is_p is in use_it f.w (holds_at c f (key a Shape) (shape_at c f parts.0 here)) parts.1)
 
-    -- ---- a form that is needed
+    pub absent_from : Each Closed cs → (d : PureValue) → Holds h (key a Shape) d → lists_name d n ≡ false → Hold v (any_at l (lists_not p) cs)
+    absent_from closed d held unnamed =
+        at_chunk vars v h proper cs union facts (key a Shape) d held (λ i c f there e is.
+        somewhere_from vars v h proper l a asked (lists_not p) cs i c f there (at_loc c f Shape e)
+        (tells_lists_not vars v h proper c f p n over_p is_p (shape_of vars v h proper c f a e) (each_at Closed cs i c closed there f e) (ap (λ w. lists_name w n) is ∙ unnamed)))
 
-    no_names : (k : Literal) → is_name_list (literal_value k) ≡ false
-    no_names (Literal.Int i) = refl
-    no_names (Literal.Bool b) = refl
-    no_names (Literal.Str s) = refl
-    no_names (Literal.Kind k) = refl
-    no_names (Literal.Proc s) = refl
+    -- ---- where no chunk is that of the name
 
-    form_needed : (t : PureTerm) (x : Alternatives) → is_list_term t ≡ false → value v t ≡ Some f.w → is_name_list f.w ≡ true → Hold v x → Hold v (form_of_names t x)
-    form_needed (list_of ts) x no_list is names holds = absurd (true≢false no_list)
-    form_needed (literal k) x no_list is names holds = absurd (true≢false (sym names ∙ ap is_name_list (sym (same_some is)) ∙ no_names k))
-    form_needed (variable y) x no_list is names holds = form_holds v (variable y) f.w x is holds
-    form_needed (unary_of op t) x no_list is names holds = form_holds v (unary_of op t) f.w x is holds
-    form_needed (binary_of op s t) x no_list is names holds = form_holds v (binary_of op s t) f.w x is holds
+    fails_for : (r : ActionResult) (why : Failure) → r ≡ fails why h → IsFor Record v r cs (failure why)
+    fails_for r why e = subst (λ x. IsFor Record v x cs (failure why)) (sym e) (refl, stands_now)
 
-    by_opened : (s : PureSub) → c.sub ≡ s → is_list_term c.val ≡ false → is_name_list f.w ≡ true → f.k ≡ key a Shape → Hold v (opened_there l c.loc s c.val)
-    by_opened shape is no_list names e = form_needed c.val (same l c.loc) no_list f.entry.holds names (loc_same vars v h l a asked c f (loc_of vars v h l a asked c f Shape e))
-    by_opened (named q) is no_list names e = absurd (omega (arith, key_number vars v h c f (named q) a Shape is e))
-    by_opened (cell q) is no_list names e = absurd (omega (arith, key_number vars v h c f (cell q) a Shape is e))
-    by_opened bound is no_list names e = absurd (omega (arith, key_number vars v h c f bound a Shape is e))
-    by_opened dom is no_list names e = absurd (omega (arith, key_number vars v h c f dom a Shape is e))
-    by_opened proto is no_list names e = absurd (omega (arith, key_number vars v h c f proto a Shape is e))
-    by_opened gone is no_list names e = absurd (omega (arith, key_number vars v h c f gone a Shape is e))
+    missed_for : (r : ActionResult) → r ≡ misses (key a (Name n)) h → IsFor Record v r cs (missed_name l p)
+    missed_for r e = subst (λ x. IsFor Record v x cs (missed_name l p)) (sym e) (asked_name.is, stands_now)
 
-    pub holds_opened : is_list_term c.val ≡ false → is_name_list f.w ≡ true → f.k ≡ key a Shape → Hold v (opened_at l c)
-    holds_opened no_list names e = by_opened c.sub refl no_list names e
+    -- what an action comes to where the heap lacks the name
+    module _ (r : ActionResult) (is_r : get h (key a (Name n)) ≡ None → r ≡ no_property a n h) where
+      no_name_if_gone : HasKey h (key a Gone) → get h (key a (Name n)) ≡ None
+      no_name_if_gone has_gone = none_from (get h (key a (Name n))) (λ has. let subs : ◌≡◌ {A = Sub} (Name n) Gone = is_heap.well_formed.gone_alone a (Name n) has_gone has in absurd (omega (arith, ap variant_number subs)))
 
-    -- ---- a chunk that doesn't tell of the name
+      absent_for : Hold v (any_at l (lists_not p) cs) → IsFor Record v r cs (failure Failure.Absent)
+      absent_for holds =
+          absent_parts holds (λ d held unnamed.
+          let no_gone = no_gone_beside Record vars v h proper cs stands_now facts l a asked Shape (λ e. absurd (omega (arith, e))) (has_key h (key a Shape) d held) in
+          fails_for r Failure.Absent (is_r (no_name_if d held unnamed) ∙ absent_result a h n d no_gone held unnamed))
 
-    no_list_there : (t : PureTerm) → c.val ≡ t → c.sub ≡ shape → Hold v (both (same l c.loc) (listed p t)) → lists_name f.w n ≡ true
-    no_list_there (list_of ts) is_t is holds =
-        listed_holds vars v asked.proper p n asked_name.over asked_name.is ts f.w (val_over (list_of ts) is_t) (val_is (list_of ts) is_t) (both_parts v (same l c.loc) (listed p (list_of ts)) holds).1
-    no_list_there t is_t is holds = absurd (both_parts v (same l c.loc) (listed p t) holds).1
+      pub without_exact : Each (IsExactCase Record v r) (without_name l p cs)
+      without_exact =
+          each_append (IsExactCase Record v r) (gone_case l cs) _ (gone_exact Record vars v h proper cs stands_now facts l a asked r (λ w held. is_r (no_name_if_gone (has_key h (key a Gone) w held)) ∙ gone_result a h n w held))
+          (each_append (IsExactCase Record v r) (case_of (any_at l (lists_not p) cs) cs (failure Failure.Absent)) _
+          (made_exact Record v r (any_at l (lists_not p) cs) cs (failure Failure.Absent) (inr absent_for))
+          (each_append (IsExactCase Record v r) (case_of (opened l p cs) cs (missed_name l p)) (case_of (all_by_place l (lacks p cs) cs) cs (missed_name l p))
+          (made_exact Record v r (opened l p cs) cs (missed_name l p) (inl (opened_needs v l p cs)))
+          (made_exact Record v r (all_by_place l (lacks p cs) cs) cs (missed_name l p) (inr (λ holds. let parts = missing_parts holds in missed_for r (is_r parts.0 ∙ missed_result a h n parts.1 parts.2))))))
 
-    lacks_by : (s : PureSub) → c.sub ≡ s → Hold v (tells_not l p c.loc s c.val) → Away a n f.k f.w
-    lacks_by (named q) is holds = record {
-      not_name = place_holds vars v h l a asked c f p n asked_name q is holds;
-      not_gone = λ e. absurd (omega (arith, key_number vars v h c f (named q) a Gone is e));
-      lists = λ e. absurd (omega (arith, key_number vars v h c f (named q) a Shape is e));
-    }
-    lacks_by gone is holds = record {
-      not_name = λ e. absurd (omega (arith, key_number vars v h c f gone a (Name n) is e));
-      not_gone = λ e. other_loc vars v h l a asked c f holds (loc_of vars v h l a asked c f Gone e);
-      lists = λ e. absurd (omega (arith, key_number vars v h c f gone a Shape is e));
-    }
-    lacks_by shape is holds = record {
-      not_name = λ e. absurd (omega (arith, key_number vars v h c f shape a (Name n) is e));
-      not_gone = λ e. absurd (omega (arith, key_number vars v h c f shape a Gone is e));
-      lists = λ e. ⊎_elim (λ elsewhere. absurd (other_loc vars v h l a asked c f elsewhere (loc_of vars v h l a asked c f Shape e))) (no_list_there c.val refl is)
-          (one_parts (λ conds. IsTrue (all_true v conds)) (other l c.loc) (both (same l c.loc) (listed p c.val)) holds);
-    }
-    lacks_by (cell q) is holds = record {
-      not_name = λ e. absurd (omega (arith, key_number vars v h c f (cell q) a (Name n) is e));
-      not_gone = λ e. absurd (omega (arith, key_number vars v h c f (cell q) a Gone is e));
-      lists = λ e. absurd (omega (arith, key_number vars v h c f (cell q) a Shape is e));
-    }
-    lacks_by bound is holds = record {
-      not_name = λ e. absurd (omega (arith, key_number vars v h c f bound a (Name n) is e));
-      not_gone = λ e. absurd (omega (arith, key_number vars v h c f bound a Gone is e));
-      lists = λ e. absurd (omega (arith, key_number vars v h c f bound a Shape is e));
-    }
-    lacks_by dom is holds = record {
-      not_name = λ e. absurd (omega (arith, key_number vars v h c f dom a (Name n) is e));
-      not_gone = λ e. absurd (omega (arith, key_number vars v h c f dom a Gone is e));
-      lists = λ e. absurd (omega (arith, key_number vars v h c f dom a Shape is e));
-    }
-    lacks_by proto is holds = record {
-      not_name = λ e. absurd (omega (arith, key_number vars v h c f proto a (Name n) is e));
-      not_gone = λ e. absurd (omega (arith, key_number vars v h c f proto a Gone is e));
-      lists = λ e. absurd (omega (arith, key_number vars v h c f proto a Shape is e));
-    }
+    -- the cases of a name that the heap lacks: one of them comes
+    module _ (no_name : ¬ HasKey h (key a (Name n))) where
+      abbrev Some_of : List PureCase → Type 0
+      Some_of cases = OneOf (λ c. Hold v c.when) cases
 
-    lacks_holds : Hold v (lacks l p c) → Away a n f.k f.w
-    lacks_holds holds = lacks_by c.sub refl holds
+      after_gone : Some_of (case_of (any_at l (lists_not p) cs) cs (failure Failure.Absent) ++ (case_of (opened l p cs) cs (missed_name l p) ++ case_of (all_by_place l (lacks p cs) cs) cs (missed_name l p))) → Some_of (without_name l p cs)
+      after_gone one = one_right (λ c. Hold v c.when) (gone_case l cs) _ one
 
-    named_there : (t : PureTerm) → c.val ≡ t → is_list_term t ≡ true → lists_name f.w n ≡ true → Hold v (listed p t)
-    named_there (list_of ts) is_t is_list is_named = holds_listed vars v asked.proper p n asked_name.over asked_name.is ts f.w (val_over (list_of ts) is_t) (val_is (list_of ts) is_t) is_named
-    named_there (literal k) is_t is_list is_named = absurd (true≢false (sym is_list))
-    named_there (variable y) is_t is_list is_named = absurd (true≢false (sym is_list))
-    named_there (unary_of op t) is_t is_list is_named = absurd (true≢false (sym is_list))
-    named_there (binary_of op s t) is_t is_list is_named = absurd (true≢false (sym is_list))
+      after_absent : Some_of (case_of (opened l p cs) cs (missed_name l p) ++ case_of (all_by_place l (lacks p cs) cs) cs (missed_name l p)) → Some_of (without_name l p cs)
+      after_absent one = after_gone (one_right (λ c. Hold v c.when) (case_of (any_at l (lists_not p) cs) cs (failure Failure.Absent)) _ one)
 
-    by_lacks : (s : PureSub) → c.sub ≡ s → (f.k ≡ key a Shape → is_list_term c.val ≡ true) → Away a n f.k f.w → Hold v (tells_not l p c.loc s c.val)
-    by_lacks (named q) is closed away = holds_place vars v h l a asked c f p n asked_name q is away.not_name
-    by_lacks gone is closed away = loc_other vars v h l a asked c f (λ e. away.not_gone (gone_there_is e))
-      where
-        gone_there_is : f.k.loc ≡ a → f.k ≡ key a Gone
-        gone_there_is e = keys_equal f.k a Gone e (sym (same_some (ap (sub_value v) (sym is) ∙ sub_is vars v h c f)))
-    by_lacks shape is closed away =
-        ⊎_elim
-        (λ here. let e = shape_key vars v h l a asked c f is here in
-        one_right (λ conds. IsTrue (all_true v conds)) (other l c.loc) (both (same l c.loc) (listed p c.val))
-        (both_from v (same l c.loc) (listed p c.val) (loc_same vars v h l a asked c f here) (named_there c.val refl (closed e) (away.lists e))))
-        (λ elsewhere. one_left (λ conds. IsTrue (all_true v conds)) (other l c.loc) (both (same l c.loc) (listed p c.val)) (loc_other vars v h l a asked c f elsewhere))
-        (loc_or_not vars v h l a asked c f)
-    by_lacks (cell q) is closed away = always_true v
-    by_lacks bound is closed away = always_true v
-    by_lacks dom is closed away = always_true v
-    by_lacks proto is closed away = always_true v
+      opened_comes : OneOf (λ c. Hold v (opened_at l c)) cs → Some_of (without_name l p cs)
+      opened_comes one = after_absent (one_left (λ c. Hold v c.when) (case_of (opened l p cs) cs (missed_name l p)) _ (made_comes v (opened l p cs) cs (missed_name l p) (opened_from one no_name)))
 
-    holds_lacks : (f.k ≡ key a Shape → is_list_term c.val ≡ true) → Away a n f.k f.w → Hold v (lacks l p c)
-    holds_lacks closed away = by_lacks c.sub refl closed away
+      missing_comes : Each Closed cs → get h (key a Gone) ≡ None → Here → Some_of (without_name l p cs)
+      missing_comes closed no_gone listed =
+          after_absent (one_right (λ c. Hold v c.when) (case_of (opened l p cs) cs (missed_name l p)) (case_of (all_by_place l (lacks p cs) cs) cs (missed_name l p))
+          (made_comes v (all_by_place l (lacks p cs) cs) cs (missed_name l p) (missing_from closed no_name no_gone listed)))
 
-  -- ---- all chunks
+      by_list : Each Closed cs → get h (key a Gone) ≡ None → (d : PureValue) → Holds h (key a Shape) d → (b : Bool) → lists_name d n ≡ b → Some_of (without_name l p cs)
+      by_list closed no_gone d held false unnamed =
+          after_gone (one_left (λ c. Hold v c.when) (case_of (any_at l (lists_not p) cs) cs (failure Failure.Absent)) _
+          (made_comes v (any_at l (lists_not p) cs) cs (failure Failure.Absent) (absent_from closed d held unnamed)))
+      by_list closed no_gone d held true is_named = missing_comes closed no_gone (λ e there. ap (λ w. lists_name w n) (same_some (sym there ∙ held)) ∙ is_named)
 
-  module _ (cs : List PureChunk) (union : IsUnion v cs h) (facts : Each (Fact vars v h) cs) (is_heap : IsHeapOf Record h) (when : Alternatives) (r : ActionResult) (is_r : get h (key a (Name n)) ≡ None → r ≡ no_property a n h) where
-    stands : StandFor Record cs v h
-    stands = record { union = union; is_heap = is_heap }
-
-    for_fails : (why : Failure) → r ≡ fails why h → IsFor v r cs (failure why)
-    for_fails why e = subst (λ x. IsFor v x cs (failure why)) (sym e) (refl, stands)
-
-    for_misses : r ≡ misses (key a (Name n)) h → IsFor v r cs (missed_name l p)
-    for_misses e = subst (λ x. IsFor v x cs (missed_name l p)) (sym e) ((λ i. key_of (location_of (asked.is i)) (name_of (asked_name.is i))), stands)
-
-    other_variants : (s t : Sub) → s ≡ t → variant_number s ≡ variant_number t
-    other_variants s t e = ap variant_number e
-
-    no_name_if_gone : HasKey h (key a Gone) → get h (key a (Name n)) ≡ None
-    no_name_if_gone has_gone = none_from (get h (key a (Name n))) (λ has. absurd (omega (arith, other_variants (Name n) Gone (is_heap.well_formed.gone_alone a (Name n) has_gone has))))
-
-    no_gone_if : (s : Sub) → ¬ (variant_number s ≡ 6) → HasKey h (key a s) → get h (key a Gone) ≡ None
-    no_gone_if s differ has = none_from (get h (key a Gone)) (λ has_gone. differ (other_variants s Gone (is_heap.well_formed.gone_alone a s has_gone has)))
-
-    held_at : (c : PureChunk) (f : Fact vars v h c) (k : Key) → f.k ≡ k → Holds h k f.w
-    held_at c f k e = subst (λ q. Holds h q f.w) e f.held
-
-    gone_result : (w : PureValue) → Holds h (key a Gone) w → no_property a n h ≡ fails Failure.Gone h
-    gone_result w holds = at_some h (key a Gone) w _ _ holds
-
-    gone_for : Hold v (both when (any (gone_at l) cs)) → IsFor v r cs (failure Failure.Gone)
-    gone_for holds =
-        one_with (Fact vars v h) (λ c. Hold v (gone_at l c)) cs facts
-        (one_flattened (λ conds. IsTrue (all_true v conds)) (gone_at l) cs (both_parts v when (any (gone_at l) cs) holds).1)
-        (λ c f here.
-        let held = held_at c f (key a Gone) (gone_holds vars v h l a asked c f here) in
-        for_fails Failure.Gone (is_r (no_name_if_gone (has_key h (key a Gone) f.w held)) ∙ gone_result f.w held))
-
-    absent_result : (d : PureValue) → get h (key a Gone) ≡ None → Holds h (key a Shape) d → lists_name d n ≡ false → no_property a n h ≡ fails Failure.Absent h
-    absent_result d no_gone holds unnamed =
-        at_none h (key a Gone) _ _ no_gone ∙ at_some h (key a Shape) d _ _ holds ∙ ap (λ b. if b then misses (key a (Name n)) h else fails Failure.Absent h) unnamed
-
-    absent_for : Hold v (both when (any (absent_at l p) cs)) → IsFor v r cs (failure Failure.Absent)
-    absent_for holds =
-        one_with (Fact vars v h) (λ c. Hold v (absent_at l p c)) cs facts
-        (one_flattened (λ conds. IsTrue (all_true v conds)) (absent_at l p) cs (both_parts v when (any (absent_at l p) cs) holds).1)
-        (λ c f here.
-        let parts = absent_holds c f here in
-        let held = held_at c f (key a Shape) parts.0 in
-        let has = has_key h (key a Shape) f.w held in
-        let no_name : get h (key a (Name n)) ≡ None = none_from (get h (key a (Name n))) (λ named_key. true≢false (sym (is_heap.well_formed.names_listed a Shape f.w tt held n named_key) ∙ parts.1)) in
-        for_fails Failure.Absent (is_r no_name ∙ absent_result f.w (no_gone_if Shape (λ e. absurd (omega (arith, e))) has) held parts.1))
-
-    -- what the heap holds is that of a chunk with a fact
-    at_chunk : {X : Type 0} (k : Key) (w : PureValue) → Holds h k w → ((i : ℕ) (c : PureChunk) (f : Fact vars v h c) → slice_get cs i ≡ Some c → f.k ≡ k → f.w ≡ w → X) → X
-    at_chunk k w holds use_it =
-        let (i, (c, (there, entry))) = found_chunk v cs h k w union holds in
-        let f = each_at (Fact vars v h) cs i c facts there in
-        let alike = same_entry v c f.k k f.w w f.entry entry in
-        use_it i c f there alike.0 alike.1
-
-    shape_result : (o : Option PureValue) → get h (key a Shape) ≡ o → get h (key a Gone) ≡ None → ((d : PureValue) → Holds h (key a Shape) d → lists_name d n ≡ true) → no_property a n h ≡ misses (key a (Name n)) h
-    shape_result None is no_gone lists = at_none h (key a Gone) _ _ no_gone ∙ at_none h (key a Shape) _ _ is
-    shape_result (Some d) is no_gone lists =
-        at_none h (key a Gone) _ _ no_gone ∙ at_some h (key a Shape) d _ _ is ∙ ap (λ b. if b then misses (key a (Name n)) h else fails Failure.Absent h) (lists d is)
-
-    missed_for : Hold v (both when (all (lacks l p) cs)) → IsFor v r cs (missed_name l p)
-    missed_for holds =
-        let each = (all_from_parts v (lacks l p) cs always (both_parts v when (all (lacks l p) cs) holds).1).1 in
-        let away : (i : ℕ) (c : PureChunk) (f : Fact vars v h c) → slice_get cs i ≡ Some c → Away a n f.k f.w = (λ i c f there. lacks_holds c f (each_at (λ d. Hold v (lacks l p d)) cs i c each there)) in
-        let no_name : get h (key a (Name n)) ≡ None = none_from (get h (key a (Name n))) (λ has. let (w, held) = value_at h (key a (Name n)) has in at_chunk (key a (Name n)) w held (λ i c f there e is. (away i c f there).not_name e)) in
-        let no_gone : get h (key a Gone) ≡ None = none_from (get h (key a Gone)) (λ has. let (w, held) = value_at h (key a Gone) has in at_chunk (key a Gone) w held (λ i c f there e is. (away i c f there).not_gone e)) in
-        for_misses (is_r no_name ∙ shape_result (get h (key a Shape)) refl no_gone
-        (λ d held. at_chunk (key a Shape) d held (λ i c f there e is. ap (λ w. lists_name w n) (sym is) ∙ (away i c f there).lists e)))
-
-    pub without_exact : Each (Exact v r) (without_property when l p cs)
-    without_exact =
-        each_append (Exact v r) (gone_cases when l cs) (absent_cases when l p cs ++ (opened_names when l p cs ++ missed_names when l p cs))
-        (exact_cases v r (both when (any (gone_at l) cs)) cs (failure Failure.Gone) gone_for)
-        (each_append (Exact v r) (absent_cases when l p cs) (opened_names when l p cs ++ missed_names when l p cs)
-        (exact_cases v r (both when (any (absent_at l p) cs)) cs (failure Failure.Absent) absent_for)
-        (each_append (Exact v r) (opened_names when l p cs) (missed_names when l p cs)
-        (open_cases v r (both (any (opened_at l) cs) (both when (all (other_key l p) cs))) cs (missed_name l p)
-        (both_open v (any (opened_at l) cs) (both when (all (other_key l p) cs)) (any_open v (opened_at l) cs opened_is)))
-        (exact_cases v r (both when (all (lacks l p) cs)) cs (missed_name l p) missed_for)))
-      where
-        opened_form : (t : PureTerm) (x : Alternatives) → AreOpen (form_of_names t x)
-        opened_form (list_of ts) x = tt
-        opened_form (literal k) x = tt
-        opened_form (variable y) x = form_open v (variable y) x
-        opened_form (unary_of op t) x = form_open v (unary_of op t) x
-        opened_form (binary_of op s t) x = form_open v (binary_of op s t) x
-
-        opened_by : (loc : PureTerm) (s : PureSub) (t : PureTerm) → AreOpen (opened_there l loc s t)
-        opened_by loc shape t = opened_form t (same l loc)
-        opened_by loc s t = tt
-
-        opened_is : (c : PureChunk) → AreOpen (opened_at l c)
-        opened_is c = opened_by c.loc c.sub c.val
-
-    -- ---- cover
-
-    abbrev Closed : PureChunk → Type 0
-    Closed c = (f : Fact vars v h c) → f.k ≡ key a Shape → is_list_term c.val ≡ true
-
-    closed_by : (c : PureChunk) (f : Fact vars v h c) (b : Bool) → is_list_term c.val ≡ b → (Closed c) ⊎ Hold v (opened_at l c)
-    closed_by c f true is = inl (λ g e. is)
-    closed_by c f false is = ⊎_elim (λ e. inr (holds_opened c f is (is_heap.well_formed.name_lists a Shape f.w tt (held_at c f (key a Shape) e)) e)) (λ differ. inl (λ g e. absurd (differ ((same_entry v c f.k g.k f.w g.w f.entry g.entry).0 ∙ e)))) (key_or_not f.k (key a Shape))
-
-    each_closed : (ds : List PureChunk) → Each (Fact vars v h) ds → Each Closed ds ⊎ OneOf (λ c. Hold v (opened_at l c)) ds
-    each_closed [] all_facts = inl tt
-    each_closed (c ∷ ds) all_facts =
-        ⊎_elim (λ here. ⊎_elim (λ rest. inl (here, rest)) (λ later. inr (inr later)) (each_closed ds all_facts.1)) (λ here. inr (inl here)) (closed_by c all_facts.0 (is_list_term c.val) refl)
-
-    module _ (holds_when : Hold v when) (no_name : get h (key a (Name n)) ≡ None) where
-      not_name : (c : PureChunk) (f : Fact vars v h c) → ¬ (f.k ≡ key a (Name n))
-      not_name c f e = true≢false (sym (ap is_some (held_at c f (key a (Name n)) e)) ∙ ap is_some no_name)
-
-      all_other : Hold v (all (other_key l p) cs)
-      all_other = all_from_from v (other_key l p) cs always (always_true v) (each_to (Fact vars v h) (λ c. Hold v (other_key l p c)) cs (λ c f. holds_other vars v h l a asked c f p n asked_name (not_name c f)) facts)
-
-      take_gone : OneOf (IsTaken v) (gone_cases when l cs) → OneOf (IsTaken v) (without_property when l p cs)
-      take_gone one = one_left (IsTaken v) (gone_cases when l cs) _ one
-
-      take_absent : OneOf (IsTaken v) (absent_cases when l p cs) → OneOf (IsTaken v) (without_property when l p cs)
-      take_absent one = one_right (IsTaken v) (gone_cases when l cs) _ (one_left (IsTaken v) (absent_cases when l p cs) _ one)
-
-      take_opened : OneOf (IsTaken v) (opened_names when l p cs) → OneOf (IsTaken v) (without_property when l p cs)
-      take_opened one = one_right (IsTaken v) (gone_cases when l cs) _ (one_right (IsTaken v) (absent_cases when l p cs) _ (one_left (IsTaken v) (opened_names when l p cs) _ one))
-
-      take_missed : OneOf (IsTaken v) (missed_names when l p cs) → OneOf (IsTaken v) (without_property when l p cs)
-      take_missed one = one_right (IsTaken v) (gone_cases when l cs) _ (one_right (IsTaken v) (absent_cases when l p cs) _ (one_right (IsTaken v) (opened_names when l p cs) (missed_names when l p cs) one))
-
-      cover_opened : OneOf (λ c. Hold v (opened_at l c)) cs → OneOf (IsTaken v) (without_property when l p cs)
-      cover_opened one =
-          take_opened (taken_case v (both (any (opened_at l) cs) (both when (all (other_key l p) cs))) cs (missed_name l p)
-          (both_from v (any (opened_at l) cs) (both when (all (other_key l p) cs)) (one_flat (λ conds. IsTrue (all_true v conds)) (opened_at l) cs one) (both_from v when (all (other_key l p) cs) holds_when all_other)))
-
-      cover_gone : (w : PureValue) → Holds h (key a Gone) w → OneOf (IsTaken v) (without_property when l p cs)
-      cover_gone w held = at_chunk (key a Gone) w held (λ i c f there e is.
-          take_gone (taken_case v (both when (any (gone_at l) cs)) cs (failure Failure.Gone)
-          (both_from v when (any (gone_at l) cs) holds_when
-          (one_flat (λ conds. IsTrue (all_true v conds)) (gone_at l) cs (one_at (λ d. Hold v (gone_at l d)) cs i c there (holds_gone vars v h l a asked c f e))))))
-
-      cover_absent : Each Closed cs → (d : PureValue) → Holds h (key a Shape) d → lists_name d n ≡ false → OneOf (IsTaken v) (without_property when l p cs)
-      cover_absent closed d held unnamed = at_chunk (key a Shape) d held (λ i c f there e is.
-          take_absent (taken_case v (both when (any (absent_at l p) cs)) cs (failure Failure.Absent)
-          (both_from v when (any (absent_at l p) cs) holds_when
-          (one_flat (λ conds. IsTrue (all_true v conds)) (absent_at l p) cs (one_at (λ d'. Hold v (absent_at l p d')) cs i c there
-          (holds_absent c f (each_at Closed cs i c closed there f e) e (ap (λ w. lists_name w n) is ∙ unnamed)))))))
-
-      lack_each : (ds : List PureChunk) → Each (Fact vars v h) ds → Each Closed ds → get h (key a Gone) ≡ None → ((d : PureValue) → Holds h (key a Shape) d → lists_name d n ≡ true) → Each (λ c. Hold v (lacks l p c)) ds
-      lack_each [] all_facts closed no_gone lists = tt
-      lack_each (c ∷ ds) all_facts closed no_gone lists = (
-        holds_lacks c all_facts.0 (closed.0 all_facts.0) (record {
-          not_name = not_name c all_facts.0;
-          not_gone = λ e. true≢false (sym (ap is_some (held_at c all_facts.0 (key a Gone) e)) ∙ ap is_some no_gone);
-          lists = λ e. lists all_facts.0.w (held_at c all_facts.0 (key a Shape) e);
-        }),
-        lack_each ds all_facts.1 closed.1 no_gone lists,
-      )
-
-      cover_missed : Each Closed cs → get h (key a Gone) ≡ None → ((d : PureValue) → Holds h (key a Shape) d → lists_name d n ≡ true) → OneOf (IsTaken v) (without_property when l p cs)
-      cover_missed closed no_gone lists =
-          take_missed (taken_case v (both when (all (lacks l p) cs)) cs (missed_name l p)
-          (both_from v when (all (lacks l p) cs) holds_when (all_from_from v (lacks l p) cs always (always_true v) (lack_each cs facts closed no_gone lists))))
-
-      by_list : Each Closed cs → get h (key a Gone) ≡ None → (d : PureValue) → Holds h (key a Shape) d → (b : Bool) → lists_name d n ≡ b → OneOf (IsTaken v) (without_property when l p cs)
-      by_list closed no_gone d held false unnamed = cover_absent closed d held unnamed
-      by_list closed no_gone d held true is_named = cover_missed closed no_gone (λ e there. ap (λ w. lists_name w n) (same_some (sym there ∙ held)) ∙ is_named)
-
-      by_shape : Each Closed cs → get h (key a Gone) ≡ None → (o : Option PureValue) → get h (key a Shape) ≡ o → OneOf (IsTaken v) (without_property when l p cs)
-      by_shape closed no_gone None is = cover_missed closed no_gone (λ d held. absurd (true≢false (sym (ap is_some held) ∙ ap is_some is)))
+      by_shape : Each Closed cs → get h (key a Gone) ≡ None → (o : Option PureValue) → get h (key a Shape) ≡ o → Some_of (without_name l p cs)
+      by_shape closed no_gone None is = missing_comes closed no_gone (λ d held. absurd (not_both (get h (key a Shape)) is held))
       by_shape closed no_gone (Some d) is = by_list closed no_gone d is (lists_name d n) refl
 
-      by_gone : Each Closed cs → (o : Option PureValue) → get h (key a Gone) ≡ o → OneOf (IsTaken v) (without_property when l p cs)
-      by_gone closed None is = by_shape closed is (get h (key a Shape)) refl
-      by_gone closed (Some w) is = cover_gone w is
+      by_gone : (o : Option PureValue) → get h (key a Gone) ≡ o → Some_of (without_name l p cs)
+      by_gone (Some w) is = one_left (λ c. Hold v c.when) (gone_case l cs) _ (gone_comes Record vars v h proper cs stands_now facts l a asked w is)
+      by_gone None is = ⊎_elim (λ closed. by_shape closed is (get h (key a Shape)) refl) opened_comes (each_closed cs facts)
 
-      pub without_covers : OneOf (IsTaken v) (without_property when l p cs)
-      without_covers = ⊎_elim (λ closed. by_gone closed (get h (key a Gone)) refl) cover_opened (each_closed cs facts)
+      pub without_comes : Some_of (without_name l p cs)
+      without_comes = by_gone (get h (key a Gone)) refl

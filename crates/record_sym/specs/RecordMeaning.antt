@@ -5,18 +5,15 @@ use Rattle.mem_model.specs.declared.keys.MemoryName.TheVariants.{Record}
 use Rattle.pure_terms.specs.Pure.{PureTerm}
 use Rattle.record_heap.specs.declared.actions.RecordAction.{RecordAction}
 use Rattle.record_heap.specs.Names.{action_of}
-use Rattle.record_sym.specs.Plain.{ListsByTerm, ArePlainChunks, record_stands, record_terms, record_plain, record_asked}
+use Rattle.record_sym.specs.Plain.{record_stands, record_terms, record_plain, record_asked}
 use Rattle.record_sym.specs.declared.states.RecordSym.{RecordSym}
 use Rattle.record_sym.specs.Table.{may_be_taken, unstored, asked_by, formed_by}
 use Rattle.record_sym.specs.View.{state_view}
 use Rattle.sym_model.specs.Laws.{IsMeaning, AsksItsArguments}
-use Rattle.sym_model.specs.Chunks.{value_where_described, terms_of}
 use Rattle.sym_model.specs.Lists.{Each, IsAmong}
 use Rattle.sym_model.specs.Plain.{IsPlainState}
-use Rattle.sym_model.specs.Pure.{PureSub, named, cell, shape, bound, dom, proto, gone, PureChunk}
-use Rattle.sym_model.specs.Terms.{is_list_term}
 use Rattle.sym_model.proofs.ChunkMeaning.{chunks_have_meaning}
-use Rattle.sym_model.proofs.ListLaws.{each_if, each_to, each_flat, each_flattened, each_is_among}
+use Rattle.sym_model.proofs.ListLaws.{each_if, each_to, each_is_among}
 
 pub record_meaning : IsMeaning Record record_stands record_terms
 record_meaning = let chunks = chunks_have_meaning Record in record {
@@ -61,32 +58,5 @@ record_asks_its_arguments action args = (
   formed (action_of action) args,
 )
 
--- ---- plain states are those of records
-
-described_by : (s : PureSub) (t : PureTerm) → ListsByTerm s t ↔ Each (λ u. IsTrue (is_list_term u)) (value_where_described s t)
-described_by (named p) t = (λ is. tt, λ is. tt)
-described_by (cell i) t = (λ is. tt, λ is. tt)
-described_by shape t = (λ is. (is, tt), λ is. is.0)
-described_by bound t = (λ is. (is, tt), λ is. is.0)
-described_by dom t = (λ is. (is, tt), λ is. is.0)
-described_by proto t = (λ is. tt, λ is. tt)
-described_by gone t = (λ is. tt, λ is. tt)
-
-plain_chunks : (cs : List PureChunk) (low high : ℤ) → ArePlainChunks cs low high ↔ IsPlainState Record (terms_of cs) low high
-plain_chunks cs low high = (
-  (λ plain. record {
-    plain = plain.terms;
-    described =
-        each_flat (λ u. IsTrue (is_list_term u)) (λ (c : PureChunk). value_where_described c.sub c.val) cs
-        (each_to (λ c. ListsByTerm c.sub c.val) (λ c. Each (λ u. IsTrue (is_list_term u)) (value_where_described c.sub c.val)) cs (λ c is. (described_by c.sub c.val).0 is) plain.lists);
-  }),
-  (λ plain. record {
-    terms = plain.plain;
-    lists =
-        each_to (λ c. Each (λ u. IsTrue (is_list_term u)) (value_where_described c.sub c.val)) (λ c. ListsByTerm c.sub c.val) cs (λ c is. (described_by c.sub c.val).1 is)
-        (each_flattened (λ u. IsTrue (is_list_term u)) (λ (c : PureChunk). value_where_described c.sub c.val) cs plain.described);
-  }),
-)
-
 pub record_plain_is_said : (s : RecordSym) (low high : ℤ) → record_plain s low high ↔ IsPlainState Record (record_terms s) low high
-record_plain_is_said s low high = plain_chunks (state_view s) low high
+record_plain_is_said s low high = (λ plain. plain, λ plain. plain)

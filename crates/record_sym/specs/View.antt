@@ -1,10 +1,7 @@
 -- The pure data of the states and branches of records.
 use Rattle.std.specs.Prelude.{List, map}
 use Rattle.pure_terms.specs.View.{atoms_view}
-use Rattle.record_sym.specs.Table.{PureTaking}
 use Rattle.record_sym.specs.declared.states.RecordSym.{RecordSym}
-use Rattle.record_sym.specs.declared.states.Taking.{Taking}
-use Rattle.sym_conditions.specs.Alternatives.{alternatives_view}
 use Rattle.sym_model.specs.declared.branches.Branch.{Branch}
 use Rattle.sym_model.specs.Pure.{PureChunk, PureBranch}
 use Rattle.sym_model.specs.View.{frag_view, result_view}
@@ -17,9 +14,3 @@ record_branch_view b = record { conds = atoms_view b.conds; state = state_view b
 
 abbrev pub record_branches_view : List (Branch RecordSym) → List (PureBranch (List PureChunk))
 record_branches_view bs = map record_branch_view bs
-
-abbrev pub taking_view : Taking → PureTaking
-taking_view k = record { when = alternatives_view k.when; left = frag_view k.left }
-
-abbrev pub takings_view : List Taking → List PureTaking
-takings_view ks = map taking_view ks

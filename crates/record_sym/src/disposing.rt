@@ -1,369 +1,145 @@
 //! `dispose`.
-ghost use Rattle.std.specs.Prelude.{◌≡◌, [], ◌∷◌, ◌++◌, ◌<◌, length, map, remove, IfOk};
-ghost use Rattle.std.specs.List.{flat_map};
-ghost use Rattle.gil_values.specs.declared.kinds.Kind.{Kind};
-ghost use Rattle.mem_model.specs.declared.failures.Failure.{Failure};
-ghost use Rattle.pure_terms.specs.View.{term_view, terms_view};
-ghost use Rattle.record_sym.specs.Places.{at_key, opened_at, undescribed_at};
-ghost use Rattle.record_sym.specs.Table.{
-  cases,
-  failure,
-  taking as taking_of,
-  next_takings as next_takings_of,
-  missing_name,
-  disposed,
-  dispose_names as dispose_names_of,
-  dispose_there as dispose_there_of,
-  dispose_from,
-  dispose as dispose_of,
-  act_dispose as act_dispose_of,
-  true_term,
-};
-ghost use Rattle.record_sym.specs.View.{record_branches_view, taking_view, takings_view};
-ghost use Rattle.sym_conditions.specs.Alternatives.{alternatives_view, any, all, both, same, of_kind, not_of_kind};
-ghost use Rattle.sym_model.specs.Pure.{done, missed, shape, gone};
-ghost use Rattle.sym_model.specs.View.{frag_view, chunk_view, sub_view};
+ghost use Rattle.std.specs.Prelude.{◌≡◌, ◌++◌, ◌<◌, length, map, remove, IfOk};
+ghost use Rattle.pure_terms.specs.View.{term_view};
+ghost use Rattle.record_sym.specs.Places.{undescribed};
+ghost use Rattle.record_sym.specs.Table.{disposed_there, disposed_from, dispose_cases as dispose_cases_of};
+ghost use Rattle.sym_chunks.specs.ByPlace.{all_by_place as all_by_place_of};
+ghost use Rattle.sym_chunks.specs.Cases.{case_of, missed_key as missed_key_of, true_term};
+ghost use Rattle.sym_chunks.specs.Forms.{form_of};
+ghost use Rattle.sym_chunks.specs.View.{cases_view, ways_view};
+ghost use Rattle.sym_chunks.specs.Walking.{walk, way_of};
+ghost use Rattle.sym_conditions.specs.Alternatives.{same};
+ghost use Rattle.sym_model.specs.Pure.{named, shape, done};
+ghost use Rattle.sym_model.specs.View.{frag_view, sub_view};
 
-use crate::building::{with_cases, with_failure};
-use crate::folds::{all_other_keys, all_undescribed, any_opened};
-use crate::places::key_here;
-use crate::properties::{missed_name, with_gone, wrong_number};
-use crate::states::{RecordSym, Taking, Takings};
-use gil_values::Kind;
-use mem_model::Failure;
-use pure_terms::{Literal, Term, Terms};
+use crate::places::Undescribed;
+use pure_terms::{Literal, Term};
 use sequence::Sequence;
 use std::alloc::{AllocError, Global};
-use sym_conditions::{Alternatives, both as combine, extend, kind_is, kind_is_not, terms_equal};
-use sym_model::{Branches, Chunk, SymFrag, SymKey, SymResult, SymSub};
+use sym_chunks::{
+    Cases, Walk, Ways, all_by_place, form_needed, missed_key, name_sub, walk_on, with_all_taken,
+    with_case, with_gone, with_way, without_chunk,
+};
+use sym_conditions::terms_equal;
+use sym_model::{Chunk, SymFrag, SymResult, SymSub};
 
-/// The takings and one more, unless it never is so.
-fn with_taking(takings: Takings, when: Alternatives, left: SymFrag) -> Result<Takings, AllocError>
-    ensures { IfOk result (λ ks. takings_view ks ≡ takings_view takings ++ taking_of (alternatives_view when) (frag_view left)) }
-{
-    let mut takings = takings;
-    if when.len() > 0 {
-        takings.push(Taking { when, left })?;
-    }
-    Ok(takings)
-}
-
-/// The chunks without the one at a place.
-fn without_chunk(alloc: Global, chunks: &SymFrag, index: usize) -> Result<SymFrag, AllocError>
-    requires { index < length (frag_view chunks.now) }
-    ensures { IfOk result (λ cs. frag_view cs ≡ remove (frag_view chunks.now) index) }
-{
-    let mut left = chunks.copy(alloc)?;
-    left.remove(index);
-    Ok(left)
-}
-
-/// The takings, and that of the chunk at a place, if it is that of the name.
-fn take_here(
+/// The cases, and those of taking the names one after another, which end with the ways to take them.
+fn take_names(
     alloc: Global,
-    takings: Takings,
-    taking: &Taking,
-    loc: &Term,
-    name: &Term,
-    index: usize,
-    chunk: &Chunk,
-) -> Result<Takings, AllocError>
-    requires { index < length (frag_view taking.now.left) }
-    ensures { IfOk result (λ ks. takings_view ks ≡ takings_view takings ++ taking_of (both (alternatives_view taking.now.when) (at_key
-        (term_view loc.now) (term_view name.now) (chunk_view chunk.now))) (remove (frag_view taking.now.left) index)) }
-{
-    let here = combine(alloc, &taking.when, &key_here(alloc, loc, name, chunk)?)?;
-    if here.len() == 0 {
-        return Ok(takings);
-    }
-    let left = without_chunk(alloc, &taking.left, index)?;
-    with_taking(takings, here, left)
-}
-
-/// The takings, and those of the name after another taking.
-fn take_name(
-    alloc: Global,
-    takings: Takings,
-    taking: &Taking,
-    loc: &Term,
-    name: &Term,
-) -> Result<Takings, AllocError>
-    ensures { IfOk result (λ ks. takings_view ks ≡ takings_view takings ++ next_takings_of (term_view loc.now) (term_view name.now)
-        (taking_view taking.now)) }
-{
-    let mut takings = takings;
-    for (index, chunk) in taking.left.as_slice().iter().enumerate() {
-        takings = take_here(alloc, takings, taking, loc, name, index, chunk)?;
-    }
-    Ok(takings)
-}
-
-/// The takings of the name after each of these.
-fn next_takings(
-    alloc: Global,
-    before: &Takings,
-    loc: &Term,
-    name: &Term,
-) -> Result<Takings, AllocError>
-    ensures { IfOk result (λ ks. takings_view ks ≡ flat_map (next_takings_of (term_view loc.now) (term_view name.now))
-        (takings_view before.now)) }
-{
-    let mut takings = Sequence::new(alloc);
-    for taking in before.as_slice() {
-        takings = take_name(alloc, takings, taking, loc, name)?;
-    }
-    Ok(takings)
-}
-
-/// The branches in which the name is missing from what a taking leaves.
-fn with_missing_after(
-    alloc: Global,
-    branches: Branches<RecordSym>,
+    cases: Cases,
     chunks: &SymFrag,
-    loc: &Term,
-    name: &Term,
-    taking: &Taking,
-) -> Result<Branches<RecordSym>, AllocError>
-    ensures { IfOk result (λ bs. record_branches_view bs ≡ record_branches_view branches ++ missing_name (frag_view chunks.now)
-        (term_view loc.now) (term_view name.now) (taking_view taking.now)) }
-{
-    let others = all_other_keys(alloc, loc, name, taking.left.as_slice())?;
-    let missing = combine(alloc, &taking.when, &others)?;
-    let outcome = missed_name(alloc, loc, name)?;
-    with_cases(alloc, branches, missing, chunks, &outcome)
-}
-
-/// The branches in which the name is missing.
-fn with_missing(
-    alloc: Global,
-    branches: Branches<RecordSym>,
-    chunks: &SymFrag,
-    loc: &Term,
-    name: &Term,
-    takings: &Takings,
-) -> Result<Branches<RecordSym>, AllocError>
-    ensures { IfOk result (λ bs. record_branches_view bs ≡ record_branches_view branches ++ flat_map (missing_name
-        (frag_view chunks.now) (term_view loc.now) (term_view name.now)) (takings_view takings.now)) }
-{
-    let mut branches = branches;
-    for taking in takings.as_slice() {
-        branches = with_missing_after(alloc, branches, chunks, loc, name, taking)?;
-    }
-    Ok(branches)
-}
-
-/// The chunks and the one that says that the location is gone.
-fn with_gone_chunk(alloc: Global, chunks: &SymFrag, loc: &Term) -> Result<SymFrag, AllocError>
-    ensures { IfOk result (λ cs. frag_view cs ≡ frag_view chunks.now
-        ++ record { loc = term_view loc.now; sub = gone; val = true_term } ∷ []) }
-{
-    let mut left = chunks.copy(alloc)?;
-    left.push(Chunk {
-        loc: loc.copy(alloc)?,
-        sub: SymSub::Gone,
-        val: Term::Lit(Literal::Bool(true)),
-    })?;
-    Ok(left)
-}
-
-/// The branches in which all names were taken.
-fn with_disposed(
-    alloc: Global,
-    branches: Branches<RecordSym>,
-    loc: &Term,
-    taking: &Taking,
-) -> Result<Branches<RecordSym>, AllocError>
-    ensures { IfOk result (λ bs. record_branches_view bs ≡ record_branches_view branches ++ disposed (term_view loc.now)
-        (taking_view taking.now)) }
-{
-    let left = with_gone_chunk(alloc, &taking.left, loc)?;
-    let when = copy_alternatives(alloc, &taking.when)?;
-    let outcome = SymResult::Done(Term::Lit(Literal::Bool(true)));
-    with_cases(alloc, branches, when, &left, &outcome)
-}
-
-/// Equal alternatives.
-fn copy_alternatives(alloc: Global, when: &Alternatives) -> Result<Alternatives, AllocError>
-    ensures { IfOk result (λ x. alternatives_view x ≡ alternatives_view when.now) }
-{
-    extend(alloc, Sequence::new(alloc), when)
-}
-
-/// The branches in which all names were taken in one of these ways.
-fn with_all_disposed(
-    alloc: Global,
-    branches: Branches<RecordSym>,
-    loc: &Term,
-    takings: &Takings,
-) -> Result<Branches<RecordSym>, AllocError>
-    ensures { IfOk result (λ bs. record_branches_view bs ≡ record_branches_view branches ++ flat_map (disposed (term_view loc.now))
-        (takings_view takings.now)) }
-{
-    let mut branches = branches;
-    for taking in takings.as_slice() {
-        branches = with_disposed(alloc, branches, loc, taking)?;
-    }
-    Ok(branches)
-}
-
-/// The branches of taking the names one after another.
-fn dispose_names(
-    alloc: Global,
-    branches: Branches<RecordSym>,
-    chunks: &SymFrag,
-    loc: &Term,
+    l: &Term,
     names: &[Term],
-    first: Takings,
-) -> Result<Branches<RecordSym>, AllocError>
-    ensures { IfOk result (λ bs. record_branches_view bs ≡ record_branches_view branches ++ dispose_names_of (frag_view chunks.now)
-        (term_view loc.now) (map term_view names.now) (takings_view first)) }
+    first: Ways,
+) -> Result<Cases, AllocError>
+    ensures { IfOk result (λ cs. cases_view cs ≡ cases_view cases ++ walk (frag_view chunks.now) (term_view l.now) (map named (map
+        term_view names.now)) (ways_view first)) }
 {
-    let mut branches = branches;
-    let mut takings = first;
+    let mut walk = Walk { cases, ways: first };
     for name in names {
-        branches = with_missing(alloc, branches, chunks, loc, name, &takings)?;
-        takings = next_takings(alloc, &takings, loc, name)?;
+        let sub = name_sub(alloc, name)?;
+        walk = walk_on(alloc, walk, chunks, l, &sub)?;
     }
-    with_all_disposed(alloc, branches, loc, &takings)
+    let Walk { cases, ways } = walk;
+    with_all_taken(alloc, cases, l, &ways)
 }
 
-/// The branches in which the chunk at a place, a list of names, is that of the location.
-fn dispose_listed(
+/// The cases in which the chunk at a place, which lists the names, is that of the location.
+fn with_listed_names(
     alloc: Global,
-    branches: Branches<RecordSym>,
-    when: &Alternatives,
+    cases: Cases,
     l: &Term,
     chunks: &SymFrag,
     index: usize,
-    loc: &Term,
-    names: &Terms,
-) -> Result<Branches<RecordSym>, AllocError>
+    place: &Term,
+    names: &[Term],
+) -> Result<Cases, AllocError>
     requires { index < length (frag_view chunks.now) }
-    ensures { IfOk result (λ bs. record_branches_view bs ≡ record_branches_view branches ++ dispose_names_of (frag_view chunks.now)
-        (term_view loc.now) (terms_view names.now) (taking_of (both (alternatives_view when.now) (same (term_view l.now)
-        (term_view loc.now))) (remove (frag_view chunks.now) index))) }
+    ensures { IfOk result (λ cs. cases_view cs ≡ cases_view cases ++ walk (frag_view chunks.now) (term_view place.now) (map named (map
+        term_view names.now)) (way_of (same (term_view l.now) (term_view place.now)) (remove (frag_view chunks.now) index))) }
 {
-    let here = combine(alloc, when, &terms_equal(alloc, l, loc)?)?;
+    let here = terms_equal(alloc, l, place)?;
+    if here.len() == 0 {
+        return Ok(cases);
+    }
     let left = without_chunk(alloc, chunks, index)?;
-    let first = with_taking(Sequence::new(alloc), here, left)?;
-    dispose_names(alloc, branches, chunks, loc, names.as_slice(), first)
+    let first = with_way(Sequence::new(alloc), here, left)?;
+    take_names(alloc, cases, chunks, place, names, first)
 }
 
-/// The branches in which the chunk at a place lists the location's names.
-fn dispose_there(
-    alloc: Global,
-    branches: Branches<RecordSym>,
-    when: &Alternatives,
-    l: &Term,
-    chunks: &SymFrag,
-    index: usize,
-    chunk: &Chunk,
-) -> Result<Branches<RecordSym>, AllocError>
-    requires { index < length (frag_view chunks.now) }
-    ensures { IfOk result (λ bs. record_branches_view bs ≡ record_branches_view branches ++ dispose_there_of
-        (alternatives_view when.now) (term_view l.now) (frag_view chunks.now) index (term_view chunk.now.loc) (sub_view chunk.now.sub)
-        (term_view chunk.now.val)) }
-{
-    match (&chunk.sub, &chunk.val) {
-        (SymSub::Shape, Term::List(names)) => {
-            dispose_listed(alloc, branches, when, l, chunks, index, &chunk.loc, names)
-        }
-        _ => Ok(branches),
-    }
-}
-
-/// The branches in which some chunk lists the location's names.
-fn dispose_somewhere(
-    alloc: Global,
-    branches: Branches<RecordSym>,
-    when: &Alternatives,
-    l: &Term,
-    chunks: &SymFrag,
-) -> Result<Branches<RecordSym>, AllocError>
-    ensures { IfOk result (λ bs. record_branches_view bs ≡ record_branches_view branches ++ dispose_from (alternatives_view when.now)
-        (term_view l.now) (frag_view chunks.now) 0 (frag_view chunks.now)) }
-{
-    let mut branches = branches;
-    for (index, chunk) in chunks.as_slice().iter().enumerate() {
-        branches = dispose_there(alloc, branches, when, l, chunks, index, chunk)?;
-    }
-    Ok(branches)
-}
-
-/// The branches in which the location has names whose list isn't known.
+/// The case in which the chunk, which has the names in a form that is needed, is that of the location.
 fn with_opened_names(
     alloc: Global,
-    branches: Branches<RecordSym>,
-    when: &Alternatives,
+    cases: Cases,
     l: &Term,
     chunks: &SymFrag,
-) -> Result<Branches<RecordSym>, AllocError>
-    ensures { IfOk result (λ bs. record_branches_view bs ≡ record_branches_view branches ++ cases (both (any (opened_at
-        (term_view l.now)) (frag_view chunks.now)) (alternatives_view when.now)) (frag_view chunks.now) (done true_term)) }
+    chunk: &Chunk,
+) -> Result<Cases, AllocError>
+    ensures { IfOk result (λ cs. cases_view cs ≡ cases_view cases ++ case_of (form_of (term_view chunk.now.val) (same (term_view l.now)
+        (term_view chunk.now.loc))) (frag_view chunks.now) (done true_term)) }
 {
-    let opened = combine(alloc, &any_opened(alloc, l, chunks.as_slice())?, when)?;
+    let here = terms_equal(alloc, l, &chunk.loc)?;
+    let opened = form_needed(alloc, &chunk.val, &here)?;
     let outcome = SymResult::Done(Term::Lit(Literal::Bool(true)));
-    with_cases(alloc, branches, opened, chunks, &outcome)
+    with_case(alloc, cases, opened, chunks, &outcome)
 }
 
-/// The branches in which no chunk lists the location's names or says that it is gone.
+/// The cases in which the chunk at a place has the names of the location.
+fn with_names_here(
+    alloc: Global,
+    cases: Cases,
+    l: &Term,
+    chunks: &SymFrag,
+    index: usize,
+    chunk: &Chunk,
+) -> Result<Cases, AllocError>
+    requires { index < length (frag_view chunks.now) }
+    ensures { IfOk result (λ cs. cases_view cs ≡ cases_view cases ++ disposed_there (term_view l.now) (frag_view chunks.now) index
+        (term_view chunk.now.loc) (sub_view chunk.now.sub) (term_view chunk.now.val)) }
+{
+    match chunk.sub {
+        SymSub::Shape => match &chunk.val {
+            Term::List(names) => {
+                with_listed_names(alloc, cases, l, chunks, index, &chunk.loc, names.as_slice())
+            }
+            _ => with_opened_names(alloc, cases, l, chunks, chunk),
+        },
+        _ => Ok(cases),
+    }
+}
+
+/// The cases in which some chunk has the names of the location.
+fn with_names(alloc: Global, cases: Cases, l: &Term, chunks: &SymFrag) -> Result<Cases, AllocError>
+    ensures { IfOk result (λ cs. cases_view cs ≡ cases_view cases ++ disposed_from (term_view l.now) (frag_view chunks.now) 0
+        (frag_view chunks.now)) }
+{
+    let mut cases = cases;
+    for (index, chunk) in chunks.as_slice().iter().enumerate() {
+        cases = with_names_here(alloc, cases, l, chunks, index, chunk)?;
+    }
+    Ok(cases)
+}
+
+/// The cases, and that in which no chunk has the names of the location.
 fn with_missed_names(
     alloc: Global,
-    branches: Branches<RecordSym>,
-    when: &Alternatives,
+    cases: Cases,
     l: &Term,
     chunks: &SymFrag,
-) -> Result<Branches<RecordSym>, AllocError>
-    ensures { IfOk result (λ bs. record_branches_view bs ≡ record_branches_view branches ++ cases (both (alternatives_view when.now)
-        (all (undescribed_at (term_view l.now)) (frag_view chunks.now))) (frag_view chunks.now) (missed
-        (record { loc = term_view l.now; sub = shape }))) }
+) -> Result<Cases, AllocError>
+    ensures { IfOk result (λ cs. cases_view cs ≡ cases_view cases ++ case_of (all_by_place_of (term_view l.now) undescribed
+        (frag_view chunks.now)) (frag_view chunks.now) (missed_key_of (term_view l.now) shape)) }
 {
-    let undescribed = combine(alloc, when, &all_undescribed(alloc, l, chunks.as_slice())?)?;
-    let outcome = SymResult::Miss(SymKey {
-        loc: l.copy(alloc)?,
-        sub: SymSub::Shape,
-    });
-    with_cases(alloc, branches, undescribed, chunks, &outcome)
+    let outcome = missed_key(alloc, l, &SymSub::Shape)?;
+    let missing = all_by_place(alloc, l, &Undescribed, chunks.as_slice())?;
+    with_case(alloc, cases, missing, chunks, &outcome)
 }
 
-/// The branches of disposing of a location.
-fn dispose(
-    alloc: Global,
-    branches: Branches<RecordSym>,
-    when: &Alternatives,
-    l: &Term,
-    chunks: &SymFrag,
-) -> Result<Branches<RecordSym>, AllocError>
-    ensures { IfOk result (λ bs. record_branches_view bs ≡ record_branches_view branches ++ dispose_of (alternatives_view when.now)
-        (term_view l.now) (frag_view chunks.now)) }
+/// The cases of disposing of a location.
+pub fn dispose_cases(alloc: Global, l: &Term, chunks: &SymFrag) -> Result<Cases, AllocError>
+    ensures { IfOk result (λ cs. cases_view cs ≡ dispose_cases_of (term_view l.now) (frag_view chunks.now)) }
 {
-    let gone = with_gone(alloc, branches, when, l, chunks)?;
-    let opened = with_opened_names(alloc, gone, when, l, chunks)?;
-    let missed = with_missed_names(alloc, opened, when, l, chunks)?;
-    dispose_somewhere(alloc, missed, when, l, chunks)
-}
-
-/// The branches of disposing, whatever the argument's kind.
-fn dispose_any(alloc: Global, l: &Term, chunks: &SymFrag) -> Result<Branches<RecordSym>, AllocError>
-    ensures { IfOk result (λ bs. record_branches_view bs ≡ cases (not_of_kind (term_view l.now) Kind.Sym) (frag_view chunks.now)
-        (failure Failure.Kind) ++ dispose_of (of_kind (term_view l.now) Kind.Sym) (term_view l.now) (frag_view chunks.now)) }
-{
-    let wrong = kind_is_not(alloc, l, Kind::Sym)?;
-    let branches = with_failure(alloc, Sequence::new(alloc), wrong, chunks, Failure::Kind)?;
-    let when = kind_is(alloc, l, Kind::Sym)?;
-    dispose(alloc, branches, &when, l, chunks)
-}
-
-/// The branches of `dispose`.
-pub fn act_dispose(
-    alloc: Global,
-    args: &Terms,
-    chunks: &SymFrag,
-) -> Result<Branches<RecordSym>, AllocError>
-    ensures { IfOk result (λ bs. record_branches_view bs ≡ act_dispose_of (terms_view args.now) (frag_view chunks.now)) }
-{
-    match args.as_slice() {
-        [l] => dispose_any(alloc, l, chunks),
-        _ => wrong_number(alloc, chunks),
-    }
+    let gone = with_gone(alloc, Sequence::new(alloc), l, chunks)?;
+    let taken = with_names(alloc, gone, l, chunks)?;
+    with_missed_names(alloc, taken, l, chunks)
 }

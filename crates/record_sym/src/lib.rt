@@ -1,9 +1,7 @@
 //! Symbolic records.
 #![tactic(auto)]
 
-mod building;
 mod disposing;
-mod folds;
 mod laws;
 mod listed;
 mod making;

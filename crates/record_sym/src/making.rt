@@ -4,43 +4,22 @@ ghost use Rattle.gil_values.specs.declared.kinds.Kind.{Kind};
 ghost use Rattle.mem_model.specs.declared.failures.Failure.{Failure};
 ghost use Rattle.pure_terms.specs.Pure.{list_of, from_list, variable};
 ghost use Rattle.pure_terms.specs.View.{term_view, terms_view};
-ghost use Rattle.record_sym.specs.Table.{
-  cases,
-  failure,
-  faulty as faulty_of,
-  distinct_from,
-  name_chunk as name_chunk_of,
-  created as created_of,
-  made_cases,
-  make as make_of,
-  act_new as new_of,
-};
-ghost use Rattle.record_sym.specs.View.{record_branches_view};
-ghost use Rattle.sym_conditions.specs.Alternatives.{
-  alternatives_view,
-  any,
-  all_from,
-  always as no_condition,
-  both as combined,
-  with_form as with_form_of,
-  same,
-  other,
-  of_kind,
-  not_of_kind,
-};
+ghost use Rattle.record_sym.specs.Table.{faulty as faulty_of, name_chunk as name_chunk_of, created as created_of, make as make_of};
+ghost use Rattle.sym_chunks.specs.Cases.{branches_of, failure};
+ghost use Rattle.sym_chunks.specs.Forms.{form_of};
+ghost use Rattle.sym_chunks.specs.NameTerms.{distinct_from};
+ghost use Rattle.sym_chunks.specs.View.{chunk_branches_view};
+ghost use Rattle.sym_conditions.specs.Alternatives.{alternatives_view, any, always as no_condition, same, of_kind, not_of_kind};
 ghost use Rattle.sym_model.specs.Pure.{done};
 ghost use Rattle.sym_model.specs.View.{chunk_view, frag_view};
 
-use crate::building::{with_cases, with_failure};
-use crate::folds::{equal_to_none, equal_to_one};
-use crate::properties::wrong_number;
-use crate::states::RecordSym;
 use gil_values::Kind;
 use mem_model::Failure;
 use pure_terms::{Literal, Term, Terms, Var};
 use sequence::Sequence;
 use std::alloc::{AllocError, Global};
-use sym_conditions::{Alternatives, always, both, extend, kind_is, kind_is_not, never, with_form};
+use sym_chunks::{distinct_names, equal_to_one, form_needed, with_branches, with_failure};
+use sym_conditions::{Alternatives, always, extend, kind_is, kind_is_not, never};
 use sym_model::{Branches, Chunk, SymFrag, SymResult, SymSub};
 
 /// The term is no text, or equal to one of these.
@@ -60,31 +39,6 @@ fn faulty(alloc: Global, names: &[Term]) -> Result<Alternatives, AllocError>
     for (index, name) in names.iter().enumerate() {
         let faults = faulty_before(alloc, name, &names[index + 1..])?;
         alternatives = extend(alloc, alternatives, &faults)?;
-    }
-    Ok(alternatives)
-}
-
-/// Besides, the term is a text, and equal to none of these.
-fn distinct_before(
-    alloc: Global,
-    first: &Alternatives,
-    term: &Term,
-    later: &[Term],
-) -> Result<Alternatives, AllocError>
-    ensures { IfOk result (λ x. alternatives_view x ≡ all_from (combined (alternatives_view first.now) (of_kind
-        (term_view term.now) Kind.Str)) (other (term_view term.now)) (map term_view later.now)) }
-{
-    let text = both(alloc, first, &kind_is(alloc, term, Kind::Str)?)?;
-    equal_to_none(alloc, text, term, later)
-}
-
-/// Each name is a text, and no two are equal.
-fn distinct(alloc: Global, names: &[Term]) -> Result<Alternatives, AllocError>
-    ensures { IfOk result (λ x. alternatives_view x ≡ distinct_from no_condition (map term_view names.now)) }
-{
-    let mut alternatives = always(alloc)?;
-    for (index, name) in names.iter().enumerate() {
-        alternatives = distinct_before(alloc, &alternatives, name, &names[index + 1..])?;
     }
     Ok(alternatives)
 }
@@ -128,8 +82,8 @@ fn refused(
     alloc: Global,
     names: &Terms,
     chunks: &SymFrag,
-) -> Result<Branches<RecordSym>, AllocError>
-    ensures { IfOk result (λ bs. record_branches_view bs ≡ cases (faulty_of (terms_view names.now)) (frag_view chunks.now)
+) -> Result<Branches<SymFrag>, AllocError>
+    ensures { IfOk result (λ bs. chunk_branches_view bs ≡ branches_of (faulty_of (terms_view names.now)) (frag_view chunks.now)
         (failure Failure.Kind)) }
 {
     let faults = faulty(alloc, names.as_slice())?;
@@ -139,18 +93,20 @@ fn refused(
 /// The branches in which the terms are distinct texts, and the record is made.
 fn with_made(
     alloc: Global,
-    branches: Branches<RecordSym>,
+    branches: Branches<SymFrag>,
     location: Var,
     names: &Terms,
     chunks: &SymFrag,
-) -> Result<Branches<RecordSym>, AllocError>
-    ensures { IfOk result (λ bs. record_branches_view bs ≡ record_branches_view branches ++ made_cases location (list_of (from_list
-        (terms_view names.now))) (terms_view names.now) (frag_view chunks.now)) }
+) -> Result<Branches<SymFrag>, AllocError>
+    ensures { IfOk result (λ bs. chunk_branches_view bs ≡ chunk_branches_view branches ++ branches_of (distinct_from no_condition
+        (terms_view names.now)) (created_of location (list_of (from_list (terms_view names.now))) (terms_view names.now)
+        (frag_view chunks.now)) (done (variable location))) }
 {
-    let when = distinct(alloc, names.as_slice())?;
+    let first = always(alloc)?;
+    let when = distinct_names(alloc, first, names.as_slice())?;
     let made = with_record(alloc, location, names, chunks)?;
     let outcome = SymResult::Done(Term::Var(location));
-    with_cases(alloc, branches, when, &made, &outcome)
+    with_branches(alloc, branches, when, &made, &outcome)
 }
 
 /// The branches of a new record with the names of a list term.
@@ -159,8 +115,8 @@ fn make_listed(
     location: Var,
     names: &Terms,
     chunks: &SymFrag,
-) -> Result<Branches<RecordSym>, AllocError>
-    ensures { IfOk result (λ bs. record_branches_view bs ≡ make_of location (list_of (from_list (terms_view names.now)))
+) -> Result<Branches<SymFrag>, AllocError>
+    ensures { IfOk result (λ bs. chunk_branches_view bs ≡ make_of location (list_of (from_list (terms_view names.now)))
         (frag_view chunks.now)) }
 {
     let branches = refused(alloc, names, chunks)?;
@@ -173,48 +129,30 @@ fn make_unlisted(
     location: Var,
     names: &Term,
     chunks: &SymFrag,
-) -> Result<Branches<RecordSym>, AllocError>
-    ensures { IfOk result (λ bs. record_branches_view bs ≡ cases (not_of_kind (term_view names.now) Kind.List) (frag_view chunks.now)
-        (failure Failure.Kind) ++ cases (with_form_of (term_view names.now) (of_kind (term_view names.now) Kind.List))
+) -> Result<Branches<SymFrag>, AllocError>
+    ensures { IfOk result (λ bs. chunk_branches_view bs ≡ branches_of (not_of_kind (term_view names.now) Kind.List) (frag_view chunks.now)
+        (failure Failure.Kind) ++ branches_of (form_of (term_view names.now) (of_kind (term_view names.now) Kind.List))
         (frag_view chunks.now) (done (variable location))) }
 {
     let no_list = kind_is_not(alloc, names, Kind::List)?;
     let branches = with_failure(alloc, Sequence::new(alloc), no_list, chunks, Failure::Kind)?;
     let list = kind_is(alloc, names, Kind::List)?;
-    let opened = with_form(alloc, names, &list)?;
+    let opened = form_needed(alloc, names, &list)?;
     let outcome = SymResult::Done(Term::Var(location));
-    with_cases(alloc, branches, opened, chunks, &outcome)
+    with_branches(alloc, branches, opened, chunks, &outcome)
 }
 
 /// The branches of a new record.
-fn make(
+pub fn make(
     alloc: Global,
     location: Var,
     names: &Term,
     chunks: &SymFrag,
-) -> Result<Branches<RecordSym>, AllocError>
-    ensures { IfOk result (λ bs. record_branches_view bs ≡ make_of location (term_view names.now) (frag_view chunks.now)) }
+) -> Result<Branches<SymFrag>, AllocError>
+    ensures { IfOk result (λ bs. chunk_branches_view bs ≡ make_of location (term_view names.now) (frag_view chunks.now)) }
 {
     match names {
         Term::List(names) => make_listed(alloc, location, names, chunks),
         _ => make_unlisted(alloc, location, names, chunks),
-    }
-}
-
-/// The branches of `new`, with the variable of the new record's location.
-pub fn act_new(
-    alloc: Global,
-    fresh: Option<Var>,
-    args: &Terms,
-    chunks: &SymFrag,
-) -> Result<Branches<RecordSym>, AllocError>
-    ensures { IfOk result (λ bs. record_branches_view bs ≡ new_of fresh (terms_view args.now) (frag_view chunks.now)) }
-{
-    match args.as_slice() {
-        [names] => match fresh {
-            Some(location) => make(alloc, location, names, chunks),
-            None => Ok(Sequence::new(alloc)),
-        },
-        _ => wrong_number(alloc, chunks),
     }
 }

@@ -1,12 +1,47 @@
 //! The symbolic memory of records.
+ghost use Rattle.std.specs.Prelude.{◌≡◌, ◌++◌, IfOk};
+ghost use Rattle.record_sym.specs.View.{record_branch_view, record_branches_view};
+ghost use Rattle.sym_chunks.specs.View.{chunk_branch_view, chunk_branches_view};
+
 use crate::states::RecordSym;
 use crate::table::branches;
 use gil_values::Text;
 use mem_model::MemoryName;
-use pure_terms::{Terms, Var};
 use record_heap::RecordHeap;
+use pure_terms::{Terms, Var};
+use sequence::Sequence;
 use std::alloc::{AllocError, Global};
-use sym_model::{Branches, SymFrag, SymMemory};
+use sym_model::{Branch, Branches, SymFrag, SymMemory};
+
+/// A branch whose state is one of records.
+fn with_state(branch: Branch<SymFrag>) -> Branch<RecordSym>
+    ensures { record_branch_view result ≡ chunk_branch_view branch }
+{
+    let Branch {
+        conds,
+        state,
+        result,
+    } = branch;
+    Branch {
+        conds,
+        state: RecordSym { chunks: state },
+        result,
+    }
+}
+
+/// The branches, whose states are those of records.
+fn with_states(
+    alloc: Global,
+    branches: Branches<SymFrag>,
+) -> Result<Branches<RecordSym>, AllocError>
+    ensures { IfOk result (λ bs. record_branches_view bs ≡ chunk_branches_view branches) }
+{
+    let mut states = Sequence::new(alloc);
+    for branch in branches.into_vec() {
+        states.push(with_state(branch))?;
+    }
+    Ok(states)
+}
 
 impl SymMemory for RecordSym {
     ghost use Rattle.std.specs.Prelude.{⊤};
@@ -60,6 +95,7 @@ impl SymMemory for RecordSym {
         fresh: Option<Var>,
         args: &Terms,
     ) -> Result<Branches<RecordSym>, AllocError> {
-        branches(alloc, action, fresh, args, &self.chunks)
+        let branches = branches(alloc, action, fresh, args, &self.chunks)?;
+        with_states(alloc, branches)
     }
 }

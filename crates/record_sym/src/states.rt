@@ -1,6 +1,4 @@
 //! The states of symbolic records.
-use sequence::Sequence;
-use sym_conditions::Alternatives;
 use sym_model::SymFrag;
 
 /// A symbolic state of records: a list of chunks.
@@ -8,12 +6,3 @@ use sym_model::SymFrag;
 pub struct RecordSym {
     pub(crate) chunks: SymFrag,
 }
-
-/// A way to take keys out of chunks: when it is so, and the chunks that are left.
-#[derive(Debug, Drop)]
-pub struct Taking {
-    pub when: Alternatives,
-    pub left: SymFrag,
-}
-
-pub type Takings = Sequence<Taking>;

@@ -1,9 +1,0 @@
-use Rattle.std.proofs.Common.{◌≡◌, take, map}
-use Rattle.pure_terms.specs.View.{term_view}
-use Rattle.record_sym.specs.Places.{absent_at}
-use Rattle.sym_conditions.specs.Alternatives.{alternatives_view, any}
-use Rattle.sym_model.specs.View.{chunk_view}
-use Rattle.record_sym.proofs.folds.any_absent.Given as goal
-
-abbrev pub invariant-loop-chunk : goal.invariant-loop-chunk
-invariant-loop-chunk l = alternatives_view l.alternatives ≡ any (absent_at (term_view l.l) (term_view l.p)) (map chunk_view (take l.chunk-index l.chunks))

@@ -1,0 +1,23 @@
+use Rattle.std.proofs.Common.{◌++◌, ap, ◌∙◌}
+use Rattle.pure_terms.specs.View.{term_view}
+use Rattle.record_sym.specs.Places.{opened, lacks}
+use Rattle.sym_chunks.specs.ByPlace.{all_by_place}
+use Rattle.sym_chunks.specs.Cases.{case_of, missed_key, missed_name}
+use Rattle.sym_chunks.specs.View.{cases_view}
+use Rattle.sym_model.specs.View.{frag_view}
+use Rattle.sym_chunks.proofs.Choosing.{joined_two}
+use Rattle.sym_chunks.proofs.Elements.{ok_to}
+use Rattle.record_sym.proofs.properties.with_missed.Goals as goal
+
+pub returns : goal.returns
+returns c =
+    let l = term_view c.args.l.now in
+    let p = term_view c.args.p.now in
+    let cs = frag_view c.args.chunks.now in
+    let first = c.in_ok-forms.ensures ∙ ap (opened l p) c.as_slice.ensures in
+    let second = c.in_ok-lacking.ensures ∙ (λ i. all_by_place l (lacks p (c.as_slice-2.ensures i)) (c.as_slice-3.ensures i)) in
+    let missed = c.in_ok-outcome.ensures ∙ ap (missed_key l) c.in_ok-name.ensures in
+    ok_to c.with_case-2.result _ _ (λ all is.
+    joined_two (cases_view c.args.cases) (cases_view c.in_ok-cases.cases) (cases_view all) (case_of (opened l p cs) cs (missed_name l p)) (case_of (all_by_place l (lacks p cs) cs) cs (missed_name l p))
+    (c.in_ok-cases.ensures ∙ (λ i. cases_view c.args.cases ++ case_of (first i) cs (missed i)))
+    (is ∙ (λ i. cases_view c.in_ok-cases.cases ++ case_of (second i) cs (missed i)))) c.with_case-2.ensures
