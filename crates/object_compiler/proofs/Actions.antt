@@ -1,13 +1,13 @@
 -- The commands of statements that do actions of the memory follow what the statements do.
-use Rattle.std.proofs.Common.{◌≡◌, ℕ, ◌+◌, List, [], ◌∷◌, ◌++◌, true, false, Some, length, ap, ◌∙◌}
+use Rattle.std.proofs.Common.{◌≡◌, ℕ, ◌+◌, List, [], ◌∷◌, true, false, Some, length, ap, ◌∙◌}
 use Rattle.std.specs.Prelude.{None, codes}
 use Rattle.std.specs.List.{list_all}
 use Rattle.gil_values.specs.Pure.{PureValue}
 use Rattle.gil_syntax.specs.Pure.{act, PureNumberedCommand, PureProc, PureParts}
 use Rattle.gil_syntax.specs.Programs.{find_proc}
 use Rattle.gil_syntax.specs.Evaluation.{Store, bind}
-use Rattle.mem_model.specs.Actions.{Actions, ActionResult}
-use Rattle.gil_machine.specs.State.{Frame, State}
+use Rattle.mem_model.specs.Actions.{Actions}
+use Rattle.gil_machine.specs.State.{Frame}
 use Rattle.gil_machine.specs.Step as machine
 use Rattle.gil_machine.specs.Run.{run}
 use Rattle.source_language.specs.Completions.{Situation}
@@ -17,8 +17,8 @@ use Rattle.source_language.proofs.Following.{state_at, Here, Catcher, Runs, step
 use Rattle.source_language.proofs.Stretches.{HasAt, has_front, has_back}
 use Rattle.source_operators.specs.Codes.{all_uses, results}
 use Rattle.source_operators.specs.Names.{is_source_expression}
-use Rattle.source_operators.specs.Operands.{Operand, read_all}
-use Rattle.source_operators.proofs.Leaving.{OperatorsRun, AllStand, all_stand_for, operands_leave}
+use Rattle.source_operators.specs.Operands.{read_all}
+use Rattle.source_operators.proofs.Leaving.{OperatorsRun, all_stand_for, operands_leave}
 use Rattle.source_statements.specs.Values.{Continuation}
 use Rattle.object_operators.specs.Codes.{codes_of_operators}
 use Rattle.object_operators.specs.Meaning.{meanings}

@@ -3,7 +3,6 @@ use Rattle.std.proofs.Common.{◌≡◌, inl, inr, ℕ, ◌-◌, ◌≤◌, List
 use Rattle.std.specs.List.{list_all}
 use Rattle.std.proofs.lemmas.Bool.{and_parts}
 use Rattle.gil_values.specs.Pure.{PureValue}
-use Rattle.gil_syntax.specs.Evaluation.{Store}
 use Rattle.gil_syntax.specs.Programs.{find_proc}
 use Rattle.mem_model.specs.declared.keys.MemoryName.TheVariants as memories
 use Rattle.object_heap.specs.Table.{object_actions}
@@ -18,7 +17,6 @@ use Rattle.source_language.proofs.Ends.{CallsFollow, BodiesFinish, found_passes,
 use Rattle.source_language.proofs.Following.{state_at, Finishes, leads, steps, one_step}
 use Rattle.source_operators.specs.Names.{is_source_expression}
 use Rattle.source_statements.specs.Names.{is_source_block}
-use Rattle.source_statements.specs.Names as names
 use Rattle.source_statements.proofs.Ends.{statements_finish}
 use Rattle.object_operators.specs.Library.{get_proc}
 use Rattle.object_operators.specs.Walk.{get_name}

@@ -5,10 +5,10 @@ use Rattle.std.proofs.lemmas.Bool.{and_parts}
 use Rattle.std.proofs.lemmas.List.{map_push}
 use Rattle.std.proofs.lemmas.List.Folds.{list_any-append}
 use Rattle.gil_syntax.specs.declared.validity.InvalidKind.{InvalidKind}
-use Rattle.gil_syntax.specs.Pure.{PureExpr, name, assign, call, PureNumberedCommand, PureProc}
+use Rattle.gil_syntax.specs.Pure.{PureExpr, name, assign, PureNumberedCommand, PureProc}
 use Rattle.gil_syntax.specs.Valid.{ProgramItem, a_proc, has_bad_label, has_no_end, has_many_commands, IsNamedFault}
 use Rattle.gil_program.specs.Uncounted.{IsValidButLength}
-use Rattle.source_language.specs.Code.{truth, jump}
+use Rattle.source_language.specs.Code.{truth}
 use Rattle.source_language.specs.Names.{is_source_name, caught}
 use Rattle.source_language.specs.Procedures.{placed}
 use Rattle.source_language.proofs.Labels as labels
@@ -27,7 +27,7 @@ use Rattle.object_operators.specs.Library.{get_proc}
 use Rattle.object_operators.specs.Pure.{PureExpression}
 use Rattle.object_operators.proofs.Fitting.{operators_fit}
 use Rattle.object_lang.specs.Names.{is_source_simple, is_source_function}
-use Rattle.object_lang.specs.Pure.{PureSimple, assign as assign_statement, input, create, proto, has, call as call_statement, set, delete, set_proto, fail, throw, PureFunction, PureSource}
+use Rattle.object_lang.specs.Pure.{PureSimple, assign as assign_statement, input, create, proto, has, call as call_statement, set, delete, set_proto, fail, throw, PureSource}
 use Rattle.object_lang.specs.Resolved.{resolved}
 use Rattle.object_compiler.specs.Compiled.{object_codes, first_code, first_codes, action_code, call_code, throw_code, simple_code, compiled_function, compiled}
 use Rattle.object_compiler.specs.Valid.{IsValidSource, first_too_long}

@@ -1,31 +1,30 @@
 -- The commands of expressions and simple statements of the object language do what these mean.
-use Rattle.std.proofs.Common.{◌≡◌, ℕ, ◌+◌, ◌-◌, ◌≤◌, List, [], ◌∷◌, ◌++◌, true, false, Option, Some, None, Ok, length, slice_get, refl, sym, ap, ◌∙◌, arith, length-append}
+use Rattle.std.proofs.Common.{◌≡◌, ℕ, ◌+◌, ◌-◌, ◌≤◌, List, [], ◌∷◌, ◌++◌, true, false, Option, Some, None, Ok, length, slice_get, refl, ap, ◌∙◌, arith, length-append}
 use Rattle.std.specs.Prelude.{ℤ, codes, pos, ◌&&◌}
 use Rattle.std.specs.List.{list_all}
 use Rattle.std.specs.Option.{option_map}
 use Rattle.std.proofs.lemmas.Bool.{and_from, and_parts}
 use Rattle.gil_values.specs.Pure.{PureValue, integer, boolean, text, symbol, kind, procedure as procedure_value, list}
-use Rattle.gil_syntax.specs.Pure.{PureExpr, name, assign as assign_command, call as call_command, act, fail as fail_command, throw as throw_command, PureNumberedCommand, PureProc, PureParts}
+use Rattle.gil_syntax.specs.Pure.{PureExpr, name, assign as assign_command, call as call_command, fail as fail_command, PureNumberedCommand, PureProc, PureParts}
 use Rattle.gil_syntax.specs.Programs.{find_proc}
 use Rattle.gil_syntax.specs.Evaluation.{Store, bind, set_or_fault, evaluate, evaluate_all}
 use Rattle.mem_model.specs.Actions.{Actions}
 use Rattle.gil_machine.specs.State.{Frame}
 use Rattle.gil_machine.specs.Step as machine
 use Rattle.gil_machine.specs.Run.{run}
-use Rattle.source_language.specs.Code.{truth, jump}
 use Rattle.source_language.specs.Completions.{Situation, Completion, normal, throws, unfinished, sets, fails, with_value, with_values}
 use Rattle.source_language.specs.Names.{is_source_name, temporary, caught, IsExtendedBy}
 use Rattle.source_language.specs.Procedures.{placed}
 use Rattle.source_language.specs.Pure.{find_function}
 use Rattle.source_language.proofs.Ends.{CallsFollow}
-use Rattle.source_language.proofs.Following.{state_at, Here, Catcher, handler_of, Catches, leads, leads_on, Runs, Throws, runs_after, at_place, value_matches, steps, one_step, matched, throw_runs, value_runs, values_run, stays}
+use Rattle.source_language.proofs.Following.{state_at, Here, Catcher, handler_of, Catches, leads, leads_on, Runs, at_place, value_matches, steps, one_step, matched, throw_runs, value_runs, values_run, stays}
 use Rattle.source_language.proofs.Stores.{bound_value, extended_both, extended_more, extended_aside}
 use Rattle.source_language.proofs.Stretches.{HasAt, has_front, has_back}
 use Rattle.source_operators.specs.Codes.{uses, result, all_uses, results}
 use Rattle.source_operators.specs.Names.{is_source_expression}
 use Rattle.source_operators.specs.Operands.{Operand, read, read_all}
 use Rattle.source_operators.proofs.Leaving.{OperatorsRun, Stands, stands_for, AllStand, all_stand_for, operand_leaves, operands_leave}
-use Rattle.source_operators.proofs.Steps.{at_label, chooses}
+use Rattle.source_operators.proofs.Steps.{chooses}
 use Rattle.source_statements.specs.Values.{Continuation, call_value}
 use Rattle.source_statements.proofs.Following.{catcher_of, IsHandled, LanguageRuns}
 use Rattle.source_statements.proofs.Values.{draw_runs, call_runs}

@@ -1,5 +1,5 @@
 -- The commands of one, two and three expressions.
-use Rattle.std.proofs.Common.{◌≡◌, ℕ, ◌+◌, List, [], ◌∷◌, ◌++◌, length, ap, ◌∙◌}
+use Rattle.std.proofs.Common.{◌≡◌, ℕ, ◌+◌, [], ◌∷◌, ◌++◌, length, ap}
 use Rattle.std.proofs.lemmas.List.{append-nil}
 use Rattle.source_operators.specs.Codes.{uses, code, all_code}
 use Rattle.object_operators.specs.Codes.{codes_of_operators}

@@ -3,18 +3,15 @@ use Rattle.std.proofs.Common.{◌≡◌, ℕ, List, [], ◌∷◌, Bool, true, f
 use Rattle.std.specs.List.{list_all}
 use Rattle.std.proofs.lemmas.Bool.{and_from, and_parts}
 use Rattle.gil_values.specs.Pure.{procedure}
-use Rattle.gil_syntax.specs.WellMade.{is_program_name}
 use Rattle.source_language.specs.Names.{is_source_name, has_source_invariant}
 use Rattle.source_operators.specs.Names.{is_source_expression}
 use Rattle.source_operators.specs.Pure as trees
-use Rattle.source_operators.proofs.Making.{is_made_expression}
 use Rattle.source_statements.specs.Names as names
 use Rattle.source_statements.specs.Pure as tree
-use Rattle.source_statements.specs.WellMade as made
 use Rattle.object_operators.specs.Pure.{PureExpression}
 use Rattle.object_lang.specs.Names.{is_source_simple, is_source_function}
 use Rattle.object_lang.specs.Pure.{PureSimple, assign, input, create, proto, has, call, set, delete, set_proto, fail, throw, PureStatement, PureBlock, PureFunction, PureSource}
-use Rattle.object_lang.specs.Resolved.{resolved_name, resolved_expression, resolved_simple, resolved_statement, resolved_block, names_function, resolved_function, resolved}
+use Rattle.object_lang.specs.Resolved.{resolved_expression, resolved_simple, resolved_statement, resolved_block, names_function, resolved_function, resolved}
 
 pub both : (a b a' b' : Bool) → (a ≡ true → a' ≡ true) → (b ≡ true → b' ≡ true) → (a && b) ≡ true → (a' && b') ≡ true
 both a b a' b' f g h = let parts = and_parts a b h in and_from a' b' (f parts.0) (g parts.1)

@@ -1,6 +1,5 @@
 -- The functions of a program with that which reads properties, and their procedures.
 use Rattle.std.proofs.Common.{◌≡◌, ◌⊎◌, inl, inr, ℕ, List, [], ◌∷◌, ◌++◌, Bool, true, false, cond, Option, Some, None, map, refl, sym, ap, ◌∙◌, true≢false}
-use Rattle.std.specs.Prelude.{◌&&◌}
 use Rattle.std.specs.List.{list_all}
 use Rattle.std.specs.Option.{option_map}
 use Rattle.std.specs.Str.{bytes_eq}
@@ -15,9 +14,9 @@ use Rattle.source_language.proofs.Ends.{KeepsHead}
 use Rattle.source_language.proofs.Stores.{other_name}
 use Rattle.object_operators.specs.Library.{get_proc}
 use Rattle.object_operators.specs.Walk.{get_name}
-use Rattle.object_lang.specs.Meaning.{PureBody, statements, reads_property, Procedures, of_statements, get_function, with_library}
+use Rattle.object_lang.specs.Meaning.{PureBody, statements, reads_property, of_statements, get_function, with_library}
 use Rattle.object_lang.specs.Names.{is_source_function}
-use Rattle.object_lang.specs.Pure.{PureBlock, PureFunction, PureSource}
+use Rattle.object_lang.specs.Pure.{PureFunction, PureSource}
 use Rattle.object_lang.specs.Resolved.{resolved}
 use Rattle.object_compiler.specs.Compiled.{compiled_function, compiled}
 

@@ -1,18 +1,17 @@
 -- The program of a source of the object language is well made where the names and constants of its trees are those of texts, and what only
 -- proofs look at is well made.
-use Rattle.std.proofs.Common.{◌≡◌, ℕ, ◌+◌, Bool, true, false, cond, ◌&&◌, List, [], ◌∷◌, ◌++◌, Option, Some, None, length, map, refl, ◌∙◌}
-use Rattle.std.specs.Prelude.{codes, pos}
+use Rattle.std.proofs.Common.{◌≡◌, ℕ, Bool, true, false, ◌&&◌, List, [], ◌∷◌, Option, Some, None, map, refl, ◌∙◌}
+use Rattle.std.specs.Prelude.{codes}
 use Rattle.std.specs.List.{list_all}
 use Rattle.std.proofs.lemmas.Bool.{and_from, and_parts}
 use Rattle.std.proofs.lemmas.List.Folds.{list_all-append}
-use Rattle.gil_values.specs.Pure.{procedure}
-use Rattle.gil_syntax.specs.Pure.{PureExpr, name, assign as assign_command, call as call_command, act, isym, fail as fail_command, throw as throw_command, PureNumberedCommand}
+use Rattle.gil_syntax.specs.Pure.{PureExpr, name, assign as assign_command, call as call_command, act, isym, fail as fail_command, throw as throw_command}
 use Rattle.gil_syntax.specs.WellMade.{is_drawable, is_program_name, is_well_made_expr, is_well_made_proc}
-use Rattle.source_language.specs.Code.{truth, jump}
-use Rattle.source_language.specs.Names.{temporary, caught}
+use Rattle.source_language.specs.Code.{truth}
+use Rattle.source_language.specs.Names.{caught}
 use Rattle.source_language.specs.Procedures.{placed}
 use Rattle.source_language.proofs.Made.{AreMade, made_one, made_append, made_jump, one_expr}
-use Rattle.source_operators.specs.Codes.{result, all_uses, results}
+use Rattle.source_operators.specs.Codes.{result, results}
 use Rattle.source_operators.specs.Pure as trees
 use Rattle.source_operators.proofs.Making.{is_made_expression, result_made, operand_made, results_made, operands_made}
 use Rattle.source_statements.specs.Pure as tree

@@ -1,6 +1,6 @@
 -- The GIL program that a program of the object language is compiled to. Expressions are done from left to right into operands, from the
 -- first temporary on in each statement.
-use Rattle.std.specs.Prelude.{ℕ, ◌+◌, pos, List, [], ◌∷◌, ◌++◌, length, Bool, true, false, Option, Some, None, codes}
+use Rattle.std.specs.Prelude.{ℕ, ◌+◌, pos, List, [], ◌∷◌, ◌++◌, Bool, true, false, Option, Some, None, codes}
 use Rattle.gil_syntax.specs.Pure.{PureExpr, name, assign, call, act, isym, fail, throw, PureNumberedCommand, PureProc, PureParts}
 use Rattle.source_language.specs.Code.{truth, jump}
 use Rattle.source_language.specs.Names.{temporary, caught}

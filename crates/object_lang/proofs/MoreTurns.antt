@@ -1,5 +1,5 @@
 -- An end of a program of the object language is its end with more turns too.
-use Rattle.std.proofs.Common.{◌≡◌, ℕ, ◌≤◌, List, [], ◌∷◌, refl}
+use Rattle.std.proofs.Common.{ℕ, ◌≤◌, List, [], ◌∷◌, refl}
 use Rattle.std.specs.Prelude.{codes}
 use Rattle.gil_values.specs.declared.places.Place.{Place}
 use Rattle.gil_values.specs.Pure.{PureValue}
@@ -17,9 +17,9 @@ use Rattle.source_statements.proofs.Values.{function-extends}
 use Rattle.object_operators.specs.Meaning.{meanings}
 use Rattle.object_operators.specs.Pure.{PureExpression}
 use Rattle.object_operators.specs.Walk.{get_place}
-use Rattle.object_operators.proofs.Extending.{outcome-extends, walk-extends, operators_extend}
+use Rattle.object_operators.proofs.Extending.{walk-extends, operators_extend}
 use Rattle.object_lang.specs.Laws.{EndsStay}
-use Rattle.object_lang.specs.Meaning.{PureBody, statements, reads_property, Procedures, Calls, with_operand, with_operands, acts, creates, gets, goes_on, simple, object_meanings, reads, body, with_library}
+use Rattle.object_lang.specs.Meaning.{PureBody, statements, reads_property, Procedures, Calls, with_operand, with_operands, acts, gets, goes_on, simple, object_meanings, reads, body, with_library}
 use Rattle.object_lang.specs.Pure.{PureSimple, assign, input, create, proto, has, call, set, delete, set_proto, fail, throw}
 
 module _ (m : Actions) (n k : ℕ) (le : n ≤ k) where

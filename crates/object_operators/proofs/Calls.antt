@@ -1,5 +1,5 @@
 -- Calls whose bodies throw nothing, whatever handler there is around them.
-use Rattle.std.proofs.Common.{◌≡◌, ℕ, ◌≤◌, List, ◌∷◌, Some, ap, ◌∙◌, arith}
+use Rattle.std.proofs.Common.{ℕ, List, ◌∷◌, Some, ap, ◌∙◌, arith}
 use Rattle.std.specs.Prelude.{None}
 use Rattle.gil_values.specs.declared.kinds.Kind.TheVariants.{Null}
 use Rattle.gil_values.specs.declared.places.Place.{Place}

@@ -1,5 +1,5 @@
 -- More turns and deeper calls change nothing of what the operators come to.
-use Rattle.std.proofs.Common.{◌≡◌, ℕ, zero, suc, ◌≤◌, [], ◌∷◌, Bool, true, false, cond, refl, sym, ap, subst, arith}
+use Rattle.std.proofs.Common.{ℕ, zero, suc, ◌≤◌, [], ◌∷◌, Bool, true, false, cond, refl, sym, ap, subst, arith}
 use Rattle.std.specs.Prelude.{None, codes}
 use Rattle.gil_values.specs.declared.kinds.Kind.TheVariants.{Undef, Null}
 use Rattle.gil_values.specs.declared.places.Place.{Place}
@@ -20,7 +20,7 @@ use Rattle.object_operators.specs.declared.trees.Prefix.{Prefix}
 use Rattle.object_operators.specs.declared.trees.Prefix.TheVariants.{Minus, Not}
 use Rattle.object_operators.specs.declared.trees.Joint.{Joint}
 use Rattle.object_operators.specs.declared.trees.Joint.TheVariants.{Operation, Property}
-use Rattle.object_operators.specs.Meaning.{value_of, applied, property, joined, decision, meanings}
+use Rattle.object_operators.specs.Meaning.{value_of, applied, joined, decision, meanings}
 use Rattle.object_operators.specs.Operations.{operation}
 use Rattle.object_operators.specs.Walk.{get_place, walk}
 

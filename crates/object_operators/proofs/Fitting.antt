@@ -1,5 +1,5 @@
 -- The jumps of the commands of the operators stay within them.
-use Rattle.std.proofs.Common.{◌≡◌, ℕ, ◌+◌, ◌≤◌, List, [], ◌∷◌, length, false, refl, arith}
+use Rattle.std.proofs.Common.{ℕ, ◌+◌, ◌≤◌, [], ◌∷◌, false, refl, arith}
 use Rattle.gil_values.specs.Pure.{boolean}
 use Rattle.gil_syntax.specs.Pure.{PureExpr, literal}
 use Rattle.source_language.specs.Code.{truth, jump}

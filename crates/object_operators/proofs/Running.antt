@@ -1,5 +1,5 @@
 -- The commands of each operator do what it means.
-use Rattle.std.proofs.Common.{◌≡◌, ℕ, ◌+◌, ◌-◌, ◌<◌, ◌≤◌, List, [], ◌∷◌, ◌++◌, false, Some, Ok, Err, length, refl, sym, ap, subst, ◌∙◌, arith, slice_get, length-append}
+use Rattle.std.proofs.Common.{◌≡◌, ℕ, ◌+◌, ◌-◌, ◌≤◌, List, [], ◌∷◌, ◌++◌, false, Some, Ok, Err, length, refl, sym, ap, subst, ◌∙◌, arith, slice_get, length-append}
 use Rattle.std.specs.Prelude.{None, codes}
 use Rattle.gil_values.specs.declared.operators.BinOp.{BinOp}
 use Rattle.gil_values.specs.declared.operators.BinOp.TheVariants as gil
@@ -7,17 +7,16 @@ use Rattle.gil_values.specs.declared.operators.UnOp.TheVariants as unary
 use Rattle.gil_values.specs.declared.places.Place.{Place}
 use Rattle.gil_values.specs.Operators.{Outcome, unary as apply_unary, binary}
 use Rattle.gil_values.specs.Pure.{PureValue, boolean, procedure}
-use Rattle.gil_syntax.specs.Pure.{PureExpr, unary_of, binary_of, assign, PureNumberedCommand, PureProc, PureParts}
+use Rattle.gil_syntax.specs.Pure.{PureExpr, unary_of, binary_of, PureNumberedCommand, PureProc, PureParts}
 use Rattle.gil_syntax.specs.Programs.{find_proc}
 use Rattle.gil_syntax.specs.Evaluation.{Store, bind, value_of, after_value, both, evaluate}
 use Rattle.mem_model.specs.Actions.{Actions}
 use Rattle.gil_machine.specs.State.{Frame, State, Step}
 use Rattle.gil_machine.specs.Run.{run}
 use Rattle.gil_machine.specs.Step as machine
-use Rattle.source_language.specs.Code.{jump, truth}
+use Rattle.source_language.specs.Code.{truth}
 use Rattle.source_language.specs.Completions.{Situation, Completion, with_value, thrown_in}
 use Rattle.source_language.specs.Names.{temporary, IsExtendedBy}
-use Rattle.source_language.specs.Procedures.{placed}
 use Rattle.source_language.proofs.Following.{state_at, Here, Catcher, leads, runs_after, steps, one_step, value_runs}
 use Rattle.source_language.proofs.Stores.{bound_value, extended_more}
 use Rattle.source_language.proofs.Stretches.{HasAt, has_front, has_back}

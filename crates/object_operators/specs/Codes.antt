@@ -1,5 +1,5 @@
 -- The commands of the operators of the object language.
-use Rattle.std.specs.Prelude.{ℕ, ◌+◌, List, [], ◌∷◌, true, false, Option, None}
+use Rattle.std.specs.Prelude.{ℕ, ◌+◌, List, [], ◌∷◌, true, false, None}
 use Rattle.gil_values.specs.declared.operators.UnOp.TheVariants as unary
 use Rattle.gil_values.specs.Pure.{boolean, procedure}
 use Rattle.gil_syntax.specs.Pure.{PureExpr, literal, name, unary_of, assign, call, PureNumberedCommand}
