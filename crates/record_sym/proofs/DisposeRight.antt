@@ -1,5 +1,5 @@
 -- The cases of `dispose` are right.
-use Rattle.std.proofs.Common.{◌≡◌, ⊎_elim, inl, inr, ℕ, zero, suc, ◌+◌, List, [], ◌∷◌, ◌++◌, map, Bool, true, false, not, ◌&&◌, ◌||◌, Option, Some, None, IsTrue, slice_get, refl, sym, ap, subst, ◌∙◌, true≢false, arith}
+use Rattle.std.proofs.Common.{◌≡◌, ⊎_elim, inl, inr, ℕ, zero, suc, ◌+◌, List, [], ◌∷◌, ◌++◌, map, Bool, true, false, ◌||◌, Option, Some, None, IsTrue, slice_get, refl, sym, ap, subst, ◌∙◌, true≢false, arith}
 use Rattle.std.specs.FinMap.{get, remove}
 use Rattle.std.specs.List.{list_any, remove as remove_at}
 use Rattle.gil_values.specs.Equality.{same_value}
@@ -16,9 +16,8 @@ use Rattle.mem_model.specs.KeyOrder.{key_eq, variant_number}
 use Rattle.mem_model.specs.Names.{is_text, are_distinct_texts, is_name_list}
 use Rattle.mem_model.specs.Tables.{does, fails, misses, names_of, texts_of, name_keys, is_among, disposed, first_missing, missed_or, dispose_whole}
 use Rattle.mem_model.proofs.Joins.{has_key, value_at}
-use Rattle.mem_model.proofs.Holding.{same_key, itself}
+use Rattle.mem_model.proofs.Holding.{same_key}
 use Rattle.mem_model.proofs.NameKeys.{or_of, listed_among}
-use Rattle.pure_terms.specs.declared.literals.Literal.{Literal}
 use Rattle.pure_terms.specs.declared.variables.Sort.{Sort}
 use Rattle.pure_terms.specs.Meaning.{value, values, IsProper, IsOver}
 use Rattle.pure_terms.specs.Pure.{PureTerm, literal, variable, list_of, unary_of, binary_of, PureTerms, no_terms, term_and, to_list}

@@ -1,5 +1,5 @@
 -- A branch needs the literal form of a term only where the action depends on it.
-use Rattle.std.proofs.Common.{◌≡◌, ◌⊎◌, inr, ℕ, List, [], ◌∷◌, ◌++◌, Option, Some, None, IsTrue, if◌then◌else◌, refl, ap, subst, ◌∙◌}
+use Rattle.std.proofs.Common.{◌≡◌, inr, ℕ, List, [], ◌∷◌, ◌++◌, Option, Some, None, IsTrue, refl, ap, ◌∙◌}
 use Rattle.std.specs.Prelude.{⊤}
 use Rattle.std.specs.FinMap.{get}
 use Rattle.gil_values.specs.declared.kinds.Kind.{Kind}
@@ -20,7 +20,7 @@ use Rattle.record_sym.specs.Places.{opened_there, opened_at, opened}
 use Rattle.record_sym.specs.Table.{name_cases, faulty, created, make, dispose_cases, table}
 use Rattle.sym_chunks.specs.Arguments.{no_property, is_property, checked}
 use Rattle.sym_chunks.specs.ByPlace.{all_by_place}
-use Rattle.sym_chunks.specs.Cases.{PureCase, PureAccess, reads, writes, branches_of, case_of, failure, true_term, missed_name}
+use Rattle.sym_chunks.specs.Cases.{PureAccess, reads, writes, branches_of, case_of, failure, true_term, missed_name}
 use Rattle.sym_chunks.specs.Forms.{form_of}
 use Rattle.sym_chunks.specs.Keys.{other_sub}
 use Rattle.sym_chunks.specs.Laws.{IsLocation, IsKeyOf}
@@ -38,8 +38,7 @@ use Rattle.sym_model.specs.Terms.{all_of}
 use Rattle.sym_model.proofs.Asking.{both_parts as value_parts, symbol_of_kind}
 use Rattle.sym_model.proofs.ChunkMeaning.{ChunkTerms, chunk_by_chunk, loc_value}
 use Rattle.sym_model.proofs.ListLaws.{each_append, each_flat, each_left, each_right, each_to}
-use Rattle.sym_chunks.proofs.ArgumentShapes.{closed_state, fine_open, shaped_open, checked_open, property_open, number_open, unknown_open}
-use Rattle.sym_chunks.proofs.CaseLaws.{each_every}
+use Rattle.sym_chunks.proofs.ArgumentShapes.{closed_state, fine_open, checked_open, property_open, number_open, unknown_open}
 use Rattle.sym_chunks.proofs.Facts.{Fact, each_fact, loc_tells}
 use Rattle.sym_chunks.proofs.FoundLaws.{lacks_key}
 use Rattle.sym_chunks.proofs.HeapFacts.{not_both}

@@ -28,7 +28,6 @@ use Rattle.sym_model.specs.Meaning.{fresh_symbol}
 use Rattle.sym_model.specs.Plain.{IsPlainState}
 use Rattle.sym_model.specs.Pure.{named, shape, gone, PureChunk, result_terms}
 use Rattle.sym_model.specs.Terms.{all_of, AreEachOver, IsFreshOver, IsMadeOf, is_given}
-use Rattle.sym_model.proofs.ChunkMeaning.{chunk_by_chunk}
 use Rattle.sym_model.proofs.Listed.{listed_itself}
 use Rattle.sym_model.proofs.ListLaws.{not_none, each_to, each_left, each_right, each_is_among}
 use Rattle.sym_model.proofs.MadeLaws.{made_of_given, elements_made}

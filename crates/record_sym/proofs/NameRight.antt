@@ -1,5 +1,5 @@
 -- The cases of `lookup` and `mutate` are right.
-use Rattle.std.proofs.Common.{◌≡◌, ℕ, List, ◌++◌, Option, Some, None, slice_get, refl, sym, subst}
+use Rattle.std.proofs.Common.{◌≡◌, ℕ, List, Option, Some, None, slice_get, refl, sym, subst}
 use Rattle.std.specs.FinMap.{get, insert}
 use Rattle.gil_values.specs.Pure.{PureValue, text}
 use Rattle.mem_model.specs.declared.keys.Sub.TheVariants.{Name}
@@ -14,7 +14,7 @@ use Rattle.pure_terms.specs.Meaning.{value, IsProper, IsOver}
 use Rattle.pure_terms.specs.Pure.{PureTerm}
 use Rattle.record_heap.specs.Table.{no_property, lookup, mutate}
 use Rattle.record_sym.specs.Table.{without_name, name_cases}
-use Rattle.sym_chunks.specs.Cases.{PureCase, PureAccess, reads, writes, accessed, given_back, found}
+use Rattle.sym_chunks.specs.Cases.{PureAccess, reads, writes, accessed, given_back, found}
 use Rattle.sym_chunks.specs.Laws.{IsLocation, IsKeyOf}
 use Rattle.sym_conditions.specs.Alternatives.{Hold}
 use Rattle.sym_model.specs.Chunks.{IsUnion, StandFor, with_held}

@@ -1,6 +1,6 @@
 -- The forms of the conditions that the actions of records ask, and what their states and results are made of, for every reading of
 -- conditions and terms.
-use Rattle.std.proofs.Common.{◌≡◌, ◌⊎◌, ⊎_elim, inl, inr, ℕ, ◌+◌, List, [], ◌∷◌, ◌++◌, map, Bool, true, false, Option, Some, None, if◌then◌else◌, slice_get, refl, sym, ap, subst, ◌∙◌, true≢false, arith}
+use Rattle.std.proofs.Common.{◌≡◌, ◌⊎◌, ⊎_elim, inl, inr, ℕ, ◌+◌, List, [], ◌∷◌, ◌++◌, map, Bool, true, false, Option, Some, None, if◌then◌else◌, refl, sym, ap, subst, ◌∙◌, true≢false}
 use Rattle.std.specs.List.{remove, list_any}
 use Rattle.std.specs.Prelude.{⊤}
 use Rattle.gil_values.specs.declared.kinds.Kind.{Kind}
@@ -14,19 +14,19 @@ use Rattle.record_sym.specs.Places.{unlisted_there, lists_not, opened_there, ope
 use Rattle.record_sym.specs.Table.{without_name, name_cases, faulty, name_chunk, created, make, disposed_there, disposed_from, dispose_cases, asked_by, branches_by, table}
 use Rattle.sym_chunks.specs.Arguments.{may_be_symbol, may_be_property}
 use Rattle.sym_chunks.specs.ByPlace.{all_by_place, any_at}
-use Rattle.sym_chunks.specs.Cases.{PureCase, PureAccess, reads, writes, takes, case_of, branches_of, found, gone_case, failure, true_term, null_term, missed_key, missed_name}
+use Rattle.sym_chunks.specs.Cases.{PureCase, PureAccess, reads, writes, case_of, branches_of, found, gone_case, failure, true_term, null_term, missed_key, missed_name}
 use Rattle.sym_chunks.specs.Forms.{form_of}
 use Rattle.sym_chunks.specs.Keys.{same_sub, other_sub}
 use Rattle.sym_chunks.specs.NameTerms.{distinct_from}
 use Rattle.sym_chunks.specs.Walking.{way_of, walk}
-use Rattle.sym_conditions.specs.Alternatives.{Alternatives, never, always, both, any, is_empty, same, of_kind, not_of_kind}
+use Rattle.sym_conditions.specs.Alternatives.{Alternatives, never, always, any, is_empty, same, of_kind, not_of_kind}
 use Rattle.sym_model.specs.Chunks.{value_where_described}
 use Rattle.sym_model.specs.Lists.{Each}
 use Rattle.sym_model.specs.Pure.{PureSub, named, cell, shape, bound, dom, proto, gone, PureChunk, sub_terms, done}
 use Rattle.sym_model.specs.Terms.{is_literal, is_list_term}
 use Rattle.sym_model.proofs.ChunkMeaning.{chunk_val}
 use Rattle.sym_model.proofs.ListLaws.{each_append, each_to}
-use Rattle.sym_chunks.proofs.ArgumentShapes.{right_fine, number_fine, unknown_fine, symbol_fine, property_fine}
+use Rattle.sym_chunks.proofs.ArgumentShapes.{number_fine, unknown_fine, symbol_fine, property_fine}
 use Rattle.sym_chunks.proofs.GoneLaws.{gone_fine}
 use Rattle.sym_chunks.proofs.Shapes.{EachAtom, Reading, ChunkSides, ChunkForms, IsFine, IsFineState, IsFineResult, Shaped, both_shaped, or_shaped, form_shaped, form_never, other_shaped, kind_shaped, not_kind_shaped, wrong_kind, any_shaped, same_each, unlisted_shaped, unheld_shaped, distinct_shaped, side_sub, loc_near_or_never, loc_same, by_place_shaped, any_at_shaped, IsFineCase, fine_case, branches_shaped, failure_shaped, surely_shaped, fine_chunk, IsFineAccess, found_shaped, IsFineSub, way_without, walk_shaped, no_ways_walk}
 

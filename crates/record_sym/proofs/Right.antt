@@ -1,11 +1,11 @@
 -- The branches of each action are right, wherever the action may be asked.
-use Rattle.std.proofs.Common.{◌≡◌, ⊎_elim, ℕ, List, [], ◌∷◌, true, Option, Some, None, Ok, Err, refl, sym, ap, subst, ◌∙◌, true≢false, inl, inr}
+use Rattle.std.proofs.Common.{◌≡◌, ℕ, List, [], ◌∷◌, true, Option, Some, None, Ok, refl, sym, ap, subst, ◌∙◌, true≢false, inl}
 use Rattle.gil_values.specs.declared.kinds.Kind.{Kind}
-use Rattle.gil_values.specs.Pure.{PureValue, symbol, text, kind_of}
+use Rattle.gil_values.specs.Pure.{PureValue}
 use Rattle.mem_model.specs.declared.failures.Failure.{Failure}
 use Rattle.mem_model.specs.declared.keys.MemoryName.TheVariants.{Record}
 use Rattle.mem_model.specs.Actions.{ActionResult, MayAct}
-use Rattle.mem_model.specs.Arguments.{and_then, symbol_of, text_of, location_in, property_in, property_and_value_in}
+use Rattle.mem_model.specs.Arguments.{and_then, text_of, location_in, property_in, property_and_value_in}
 use Rattle.mem_model.specs.Heaps.{Heap, IsHeapOf}
 use Rattle.mem_model.specs.Keys.{key}
 use Rattle.mem_model.specs.Tables.{read_or_fail}

@@ -1,5 +1,5 @@
 -- The states of symbolic records have a meaning.
-use Rattle.std.specs.Prelude.{◌↔◌, ◌∷◌, ℤ, List, [], Option, Some, None, IsTrue}
+use Rattle.std.specs.Prelude.{◌↔◌, ◌∷◌, ℤ, List, [], Option, Some, None}
 use Rattle.std.proofs.Common.{inl}
 use Rattle.mem_model.specs.declared.keys.MemoryName.TheVariants.{Record}
 use Rattle.pure_terms.specs.Pure.{PureTerm}

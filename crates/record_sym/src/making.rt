@@ -78,11 +78,7 @@ fn with_record(
 }
 
 /// The branches in which the terms are no distinct texts.
-fn refused(
-    alloc: Global,
-    names: &Terms,
-    chunks: &SymFrag,
-) -> Result<Branches<SymFrag>, AllocError>
+fn refused(alloc: Global, names: &Terms, chunks: &SymFrag) -> Result<Branches<SymFrag>, AllocError>
     ensures { IfOk result (λ bs. chunk_branches_view bs ≡ branches_of (faulty_of (terms_view names.now)) (frag_view chunks.now)
         (failure Failure.Kind)) }
 {
