@@ -1,0 +1,5 @@
+pub mod Fresh
+pub mod Numbered
+pub mod Others
+pub mod Places
+pub mod SymbolLaws
