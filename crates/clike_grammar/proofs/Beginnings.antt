@@ -8,10 +8,10 @@ use Rattle.gil_lexemes.specs.declared.standing.Lexeme.{Lexeme}
 use Rattle.gil_lexemes.specs.declared.standing.Lexeme.TheVariants as lexemes
 use Rattle.gil_lexemes.specs.Reading.{form_of, first_form, same_sign, is_sign}
 use Rattle.gil_grammar.specs.Vocabulary.{opening_parenthesis}
-use Rattle.source_operators.specs.Operands.{Operand, known, named}
-use Rattle.source_operators.specs.Pure.{constant, variable, brackets, prefixed, joined, skipping}
+use Rattle.gil_grammar.proofs.ListLaws.{NeverBegins}
+use Rattle.source_operators.specs.Operands.{Operand}
 use Rattle.operator_text.specs.Apart.{AreApart}
-use Rattle.operator_text.specs.Grammar.{ampersand}
+use Rattle.operator_text.proofs.Beginnings.{BeginsSo, expression_begins as begins_by}
 use Rattle.clike_operators.specs.declared.trees.Prefix.{Prefix}
 use Rattle.clike_operators.specs.declared.trees.Joint.{Joint}
 use Rattle.clike_operators.specs.declared.trees.Joint.TheVariants.{Operation, Cell, Address}
@@ -19,7 +19,7 @@ use Rattle.clike_operators.specs.Pure.{PureExpression}
 use Rattle.clike_lang.specs.Pure.{PureSimple, assign, input, malloc, call, free, store}
 use Rattle.clike_grammar.specs.Reading.{given_at, assigned_by, begun_at, simple_by}
 use Rattle.clike_grammar.specs.Signs.{prefix, leaf, taken, clike_signs}
-use Rattle.clike_grammar.specs.Statements.{SpellsExpressionAt, SpellsTarget, SpellsSimple}
+use Rattle.clike_grammar.specs.Statements.{SpellsExpressionAt, SpellsExpression, SpellsTarget, SpellsSimple}
 
 -- ---- which lexemes are apart
 
@@ -92,10 +92,6 @@ begins_expression (forms.Sign signs.Bang) = true
 begins_expression (forms.Sign signs.Star) = true
 begins_expression _ = false
 
--- the lexemes begin so
-abbrev pub BeginsSo : (Form → Bool) → List Lexeme → Type 0
-BeginsSo test ls = (l : Lexeme) × (more : List Lexeme) × (ls ≡ l ∷ more) × (test (form_of l) ≡ true)
-
 leaf_begins : (l : Lexeme) (a : Operand) → leaf l ≡ Some a → begins_expression (form_of l) ≡ true
 leaf_begins (lexemes.Name x) a says = refl
 leaf_begins (lexemes.Number n) a says = refl
@@ -109,13 +105,7 @@ prefix_begins (forms.Sign signs.Star) u says = refl
 prefix_begins _ u says = absurd (cc says)
 
 pub expression_begins : (e : PureExpression) (k : ℕ) (ls rest : List Lexeme) → SpellsExpressionAt k e ls rest → BeginsSo begins_expression ls
-expression_begins (constant v) k ls rest (l, says, is) = (l, rest, is, leaf_begins l (known v) says)
-expression_begins (variable x) k ls rest (l, says, is) = (l, rest, is, leaf_begins l (named x) says)
-expression_begins (brackets e) k ls rest (inner, is, h) = (opening_parenthesis, inner, is, refl)
-expression_begins (prefixed u e) k ls rest (l, inner, le, says, is, h) = (l, inner, is, prefix_begins (form_of l) u says)
-expression_begins (joined j d e) k ls rest (inl (l, right, a, says, same, le, h, side)) = expression_begins d _ ls (l ∷ right) h
-expression_begins (joined j d e) k ls rest (inr (i, inner, takes, le, is, h)) = (ampersand, inner, is, refl)
-expression_begins (skipping c d e) k ls rest (l, right, a, says, same, le, h, side) = expression_begins d _ ls (l ∷ right) h
+expression_begins e k ls rest h = begins_by clike_signs begins_expression leaf_begins prefix_begins refl refl e k ls rest h
 
 -- so such lexemes are given as an expression, and begin a statement of an expression
 given_form : (form : Form) (x : List ℕ) (ls : List Lexeme) → begins_expression form ≡ true → assigned_by (Some form) x ls ≡ given_at x ls
@@ -194,5 +184,7 @@ open_form forms.Logical h = refl
 open_form forms.Procedure h = refl
 open_form forms.Text h = refl
 
-pub never_closes : (ls : List Lexeme) → BeginsSo begins_expression ls → is_sign signs.RightParenthesis (first_form ls) ≡ false
-never_closes ls (l, more, is, begins) = ap (λ m. is_sign signs.RightParenthesis (first_form m)) is ∙ open_form (form_of l) begins
+pub never_closes : NeverBegins SpellsExpression signs.RightParenthesis
+never_closes e ls rest h =
+    let begins = expression_begins e 0 ls rest h in
+    ap (λ m. is_sign signs.RightParenthesis (first_form m)) begins.2 ∙ open_form (form_of begins.0) begins.3

@@ -84,6 +84,7 @@ simple_never c ls rest h =
 
 pub pieces_read : PiecesRead clike_spellings clike_readers
 pieces_read = record {
+  same_try = refl;
   expression_takes = expression_takes;
   expression_again = expression_again;
   simple_takes = simple_takes;
@@ -156,7 +157,7 @@ function_takes place ls found int e =
       declared_spelled x.0.0 ls (opening_parenthesis ∷ a.0) int (x.1 ∙ ap (λ m. Some (x.0.0, m)) (sign_takes signs.LeftParenthesis x.0.1 a.0 a.1)),
       subst (SpellsSeparated SpellsDeclared comma xs.0.0 a.0) (sign_takes signs.RightParenthesis xs.0.1 b.0 b.1)
           (separated_takes SpellsDeclared param_at param_takes signs.RightParenthesis signs.Comma a.0 xs.0 xs.1),
-      block_takes clike_spellings clike_readers expression_takes simple_takes place (length b.0) b.0 body.0 body.1,
+      block_takes clike_spellings clike_readers refl expression_takes simple_takes place (length b.0) b.0 body.0 body.1,
     )
 
 no_comma : same_sign signs.RightParenthesis signs.Comma ≡ false

@@ -1,111 +1,43 @@
 -- What is spelled as an expression or a statement without statements in it is read so.
-use Rattle.std.proofs.Common.{◌≡◌, inl, inr, ◌≤◌, ◌<◌, ℕ, zero, suc, false, List, [], ◌∷◌, length, Some, None, refl, sym, ap, subst, ◌∙◌, arith}
+use Rattle.std.proofs.Common.{◌≡◌, inl, inr, ◌≤◌, ◌<◌, ℕ, zero, suc, List, ◌∷◌, length, Some, None, refl, ap, ◌∙◌, arith}
 use Rattle.gil_lexer.specs.declared.signs.Sign.TheVariants as signs
 use Rattle.gil_lexer.specs.declared.words.Word.TheVariants as words
 use Rattle.gil_lexemes.specs.declared.standing.Lexeme.{Lexeme}
 use Rattle.gil_lexemes.specs.declared.standing.Lexeme.TheVariants as lexemes
-use Rattle.gil_lexemes.specs.Reading.{Reading, ◌>>=◌, form_of, same_sign, name_at}
+use Rattle.gil_lexemes.specs.Reading.{◌>>=◌, same_sign, name_at}
 use Rattle.gil_lexemes.proofs.ReadingLaws.{same_sign-refl}
-use Rattle.gil_grammar.specs.Lists.{SpellsMore, SpellsSeparated}
-use Rattle.gil_grammar.specs.Vocabulary.{opening_parenthesis, closing_parenthesis, comma, semicolon}
-use Rattle.gil_grammar.proofs.ListLaws.{Again, NeverBegins, separated_again}
+use Rattle.gil_grammar.specs.Vocabulary.{opening_parenthesis, closing_parenthesis, semicolon}
 use Rattle.source_operators.specs.Pure.{variable, constant, brackets, prefixed, joined, skipping}
 use Rattle.source_text.specs.Vocabulary.{equals}
-use Rattle.operator_text.specs.Grammar.{Stops}
-use Rattle.operator_text.specs.Signs.{after, tight}
-use Rattle.operator_text.proofs.ExpressionReads.{spelled_is_read, shorter}
+use Rattle.operator_text.specs.Pieces.{SpellsArguments}
+use Rattle.operator_text.specs.Signs.{tight}
+use Rattle.operator_text.proofs.Beginnings.{BeginsSo}
+use Rattle.operator_text.proofs.ExpressionReads.{shorter}
+use Rattle.operator_text.proofs.PieceReads as pieces
+use Rattle.operator_text.proofs.PieceReads.{IsRead, Ends}
 use Rattle.clike_operators.specs.Pure.{PureExpression}
 use Rattle.clike_lang.specs.Pure.{PureSimple, assign, input, malloc, call, free, store}
 use Rattle.clike_grammar.specs.Reading.{expression_from, expression_at, value_at, argument_at, arguments_at, input_at, behind_value, assigned_at, target_at, store_at, behind_name, begun_by, behind_stars, simple_at}
 use Rattle.clike_grammar.specs.Signs.{clike_signs}
 use Rattle.clike_grammar.specs.Statements.{SpellsExpressionAt, SpellsExpression, stars, SpellsTarget, SpellsArgument, SpellsCall, place_parts, SpellsSimple}
-use Rattle.clike_grammar.proofs.Beginnings.{clike_apart, begins_expression, BeginsSo, expression_begins, given_so, begun_so, never_closes}
+use Rattle.clike_grammar.proofs.Beginnings.{clike_apart, begins_expression, expression_begins, given_so, begun_so, never_closes}
 
--- x is read from the lexemes, and those that are left are fewer
-pub record IsRead {X : Type 0} (read : List Lexeme → Reading X) (x : X) (ls rest : List Lexeme) : Type 0 where
-  pub is : read ls ≡ Some (x, rest)
-  pub shorter : length rest < length ls
-
--- nothing goes on an expression in front of a lexeme that begins nothing there
-abbrev pub Ends : Lexeme → Type 0
-Ends l = after false (form_of l) ≡ None
-
-stops : (k : ℕ) (l : Lexeme) (rest : List Lexeme) → Ends l → Stops clike_signs k (l ∷ rest)
-stops k l rest ends a is = absurd (cc)
-
-pub expression_reads : (k : ℕ) (e : PureExpression) (l : Lexeme) (ls rest : List Lexeme) → Ends l → SpellsExpressionAt k e ls (l ∷ rest)
+pub expression_reads : (k : ℕ) (e : PureExpression) (l : Lexeme) (ls rest : List Lexeme) → Ends clike_signs l → SpellsExpressionAt k e ls (l ∷ rest)
     → IsRead (expression_from k) e ls (l ∷ rest)
-expression_reads k e l ls rest ends h = record {
-  is = spelled_is_read clike_signs clike_apart e (length ls) k ls (l ∷ rest) h (stops k l rest ends) (omega arith);
-  shorter = shorter clike_signs e k ls (l ∷ rest) h;
-}
+expression_reads k e l ls rest ends h = pieces.expression_reads clike_signs clike_apart k e l ls rest ends h
 
 value_reads : (e : PureExpression) (ls rest : List Lexeme) → SpellsExpression e ls (semicolon ∷ rest) → IsRead value_at e ls rest
-unfolding value_at
-value_reads e ls rest h =
-    let read = expression_reads 0 e semicolon ls rest refl h in
-    record { is = rw (read.is, same_sign-refl signs.Semicolon) refl; shorter = omega (arith, read.shorter) }
+value_reads e ls rest h = pieces.value_reads clike_signs clike_apart e ls rest h
 
 argument_reads : (e : PureExpression) (ls rest : List Lexeme) → SpellsArgument e ls rest → IsRead argument_at e ls rest
-unfolding argument_at
-argument_reads e ls rest (inner, is, h) =
-    let read = expression_reads 0 e closing_parenthesis inner (semicolon ∷ rest) refl h in
-    record {
-      is = rw (is, same_sign-refl signs.LeftParenthesis, read.is, same_sign-refl signs.RightParenthesis, same_sign-refl signs.Semicolon) refl;
-      shorter = omega (arith, ap length is, read.shorter);
-    }
+argument_reads e ls rest h = pieces.argument_reads clike_signs clike_apart e ls rest h
 
--- ---- arguments
-
--- an expression that nothing goes on
-abbrev Whole : PureExpression → List Lexeme → List Lexeme → Type 0
-Whole e ls rest = SpellsExpression e ls rest × Stops clike_signs 0 rest
-
-abbrev Anything : List Lexeme → Type 0
-Anything ls = Unit {0}
-
-whole_again : Again Anything Whole expression_at
-whole_again e ls rest p (h, ends) = record {
-  is = spelled_is_read clike_signs clike_apart e (length ls) 0 ls rest h ends (omega arith);
-  under = tt;
-  shorter = shorter clike_signs e 0 ls rest h;
-}
-
-whole_never : NeverBegins Whole signs.RightParenthesis
-whole_never e ls rest (h, ends) = never_closes ls (expression_begins e 0 ls rest h)
-
-more_ends : (es : List PureExpression) (ls rest : List Lexeme) → Stops clike_signs 0 rest → SpellsMore SpellsExpression comma es ls rest
-    → Stops clike_signs 0 ls
-more_ends [] ls rest ends is = subst (Stops clike_signs 0) (sym is) ends
-more_ends (e ∷ es) ls rest ends (inner, after, is, one, more) = subst (Stops clike_signs 0) (sym is) (stops 0 comma inner refl)
-
-more_whole : (es : List PureExpression) (ls rest : List Lexeme) → Stops clike_signs 0 rest → SpellsMore SpellsExpression comma es ls rest
-    → SpellsMore Whole comma es ls rest
-more_whole [] ls rest ends is = is
-more_whole (e ∷ es) ls rest ends (inner, after, is, one, more) =
-    (inner, after, is, (one, more_ends es after rest ends more), more_whole es after rest ends more)
-
-all_whole : (es : List PureExpression) (ls rest : List Lexeme) → Stops clike_signs 0 rest → SpellsSeparated SpellsExpression comma es ls rest
-    → SpellsSeparated Whole comma es ls rest
-all_whole [] ls rest ends is = is
-all_whole (e ∷ es) ls rest ends (after, one, more) = (after, (one, more_ends es after rest ends more), more_whole es after rest ends more)
-
-no_comma : same_sign signs.RightParenthesis signs.Comma ≡ false
-unfolding same_sign
-no_comma = refl
-
-arguments_read : (es : List PureExpression) (ls rest : List Lexeme) → SpellsSeparated SpellsExpression comma es ls (closing_parenthesis ∷ semicolon ∷ rest)
-    → (arguments_at ls ≡ Some (es, rest)) × (length rest < length ls)
-unfolding arguments_at
-arguments_read es ls rest h =
-    let read = separated_again Anything (λ l more p. tt) Whole expression_at whole_again signs.RightParenthesis signs.Comma whole_never es ls
-    (closing_parenthesis ∷ semicolon ∷ rest) tt
-    (all_whole es ls (closing_parenthesis ∷ semicolon ∷ rest) (stops 0 closing_parenthesis (semicolon ∷ rest) refl) h) (same_sign-refl signs.RightParenthesis) no_comma in
-    (rw (read.is, same_sign-refl signs.RightParenthesis, same_sign-refl signs.Semicolon) refl, omega (arith, read.shorter))
+arguments_read : (es : List PureExpression) (ls rest : List Lexeme) → SpellsArguments clike_signs es ls rest → IsRead arguments_at es ls rest
+arguments_read es ls rest h = pieces.arguments_read clike_signs clike_apart never_closes es ls rest h
 
 -- ---- what is assigned
 
-name_reads : (k : ℕ) (x : List ℕ) (l : Lexeme) (rest : List Lexeme) → Ends l → expression_from k (lexemes.Name x ∷ l ∷ rest) ≡ Some (variable x, l ∷ rest)
+name_reads : (k : ℕ) (x : List ℕ) (l : Lexeme) (rest : List Lexeme) → Ends clike_signs l → expression_from k (lexemes.Name x ∷ l ∷ rest) ≡ Some (variable x, l ∷ rest)
 name_reads k x l rest ends = (expression_reads k (variable x) l (lexemes.Name x ∷ l ∷ rest) rest ends (lexemes.Name x, refl, refl)).is
 
 given_reads : (x : List ℕ) (e : PureExpression) (ls rest : List Lexeme) → SpellsExpression e ls (semicolon ∷ rest)
@@ -121,7 +53,7 @@ unfolding behind_value same_sign
 called_reads x f es ls rest (inner, is, h) =
     ap (assigned_at x) is
     ∙ ap (λ r. r >>= λ e. behind_value x e.0 e.1) (name_reads 0 f opening_parenthesis inner refl)
-    ∙ ap (λ r. r >>= λ a. Some (call (Some x) f a.0, a.1)) (arguments_read es inner rest h).0
+    ∙ ap (λ r. r >>= λ a. Some (call (Some x) f a.0, a.1)) (arguments_read es inner rest h).is
 
 input_reads : (x : List ℕ) (rest : List Lexeme)
     → input_at x (opening_parenthesis ∷ closing_parenthesis ∷ semicolon ∷ rest) ≡ Some (input x, rest)
@@ -165,12 +97,12 @@ place_begins (joined j d e) a b ls says = refl
 place_begins (skipping c d e) a b ls says = refl
 
 calls_read : (f : List ℕ) (es : List PureExpression) (ls inner rest : List Lexeme) → ls ≡ lexemes.Name f ∷ opening_parenthesis ∷ inner
-    → SpellsSeparated SpellsExpression comma es inner (closing_parenthesis ∷ semicolon ∷ rest) → simple_at ls ≡ Some (call None f es, rest)
+    → SpellsArguments clike_signs es inner rest → simple_at ls ≡ Some (call None f es, rest)
 unfolding simple_at behind_name same_sign
 calls_read f es ls inner rest is h =
     ap simple_at is
     ∙ ap (λ r. r >>= λ e. begun_by e.0 e.1) (name_reads tight f opening_parenthesis inner refl)
-    ∙ ap (λ r. r >>= λ a. Some (call None f a.0, a.1)) (arguments_read es inner rest h).0
+    ∙ ap (λ r. r >>= λ a. Some (call None f a.0, a.1)) (arguments_read es inner rest h).is
 
 frees : (e : PureExpression) (ls value rest : List Lexeme) → ls ≡ lexemes.Word words.Free ∷ value → argument_at value ≡ Some (e, rest)
     → simple_at ls ≡ Some (free e, rest)
@@ -207,11 +139,11 @@ simple_reads (malloc x e) ls rest (value, target, h) =
     }
 simple_reads (call (Some x) f es) ls rest (value, target, (inner, is, h)) = record {
   is = target_reads x ls value target ∙ called_reads x f es value rest (inner, is, h);
-  shorter = omega (arith, target_shorter x ls value target, ap length is, (arguments_read es inner rest h).1);
+  shorter = omega (arith, target_shorter x ls value target, ap length is, (arguments_read es inner rest h).shorter);
 }
 simple_reads (call None f es) ls rest (inner, is, h) = record {
   is = calls_read f es ls inner rest is h;
-  shorter = omega (arith, ap length is, (arguments_read es inner rest h).1);
+  shorter = omega (arith, ap length is, (arguments_read es inner rest h).shorter);
 }
 simple_reads (free e) ls rest (value, is, h) =
     let read = argument_reads e value rest h in

@@ -5,18 +5,17 @@ use Rattle.gil_lexer.specs.declared.signs.Sign.TheVariants as signs
 use Rattle.gil_lexer.specs.declared.words.Word.TheVariants as words
 use Rattle.gil_lexemes.specs.declared.standing.Lexeme.{Lexeme}
 use Rattle.gil_lexemes.specs.declared.standing.Lexeme.TheVariants as lexemes
-use Rattle.gil_lexemes.specs.Lists.{separated_at}
 use Rattle.gil_lexemes.specs.Reading.{◌>>=◌, form_of, first_form, behind, is_sign, sign_at, name_at}
 use Rattle.gil_lexemes.proofs.ReadingLaws.{bind_some, at_sign_is, sign_takes, name_takes}
-use Rattle.gil_grammar.specs.Lists.{SpellsSeparated}
-use Rattle.gil_grammar.specs.Vocabulary.{opening_parenthesis, closing_parenthesis, comma, semicolon}
-use Rattle.gil_grammar.proofs.ListLaws.{Takes, separated_takes}
+use Rattle.gil_grammar.specs.Vocabulary.{opening_parenthesis, closing_parenthesis, semicolon}
+use Rattle.gil_grammar.proofs.ListLaws.{Takes}
 use Rattle.gil_grammar.proofs.AssertionLaws.{in_place}
 use Rattle.source_operators.specs.Operands.{known, named}
 use Rattle.source_operators.specs.Pure.{variable, constant, brackets, prefixed, joined, skipping}
 use Rattle.source_text.specs.Vocabulary.{equals}
+use Rattle.operator_text.specs.Pieces.{SpellsValue, SpellsArguments}
 use Rattle.operator_text.specs.Signs.{tight}
-use Rattle.operator_text.proofs.ExpressionTakes.{read_is_spelled}
+use Rattle.operator_text.proofs.PieceTakes as pieces
 use Rattle.clike_operators.specs.Pure.{PureExpression}
 use Rattle.clike_operators.specs.Ranges.{is_int}
 use Rattle.clike_lang.specs.Pure.{PureSimple, assign, input, malloc, call, free, store}
@@ -26,52 +25,25 @@ use Rattle.clike_grammar.specs.Statements.{SpellsExpressionAt, SpellsExpression,
 use Rattle.clike_grammar.proofs.Beginnings.{clike_apart}
 
 pub from_takes : (k : ℕ) → k ≤ tight → Takes (SpellsExpressionAt k) (expression_from k)
-from_takes k le ls found is = (read_is_spelled clike_signs clike_apart (length ls) k ls found le is).0
+from_takes k le ls found is = pieces.from_takes clike_signs clike_apart k le ls found is
 
 pub expression_takes : Takes SpellsExpression expression_at
-expression_takes ls found is = from_takes 0 (omega arith) ls found is
+expression_takes ls found is = pieces.whole_takes clike_signs clike_apart ls found is
 
-abbrev pub SpellsValue : PureExpression → List Lexeme → List Lexeme → Type 0
-SpellsValue e ls rest = SpellsExpression e ls (semicolon ∷ rest)
+value_takes : Takes (SpellsValue clike_signs) value_at
+value_takes ls found is = pieces.value_takes clike_signs clike_apart ls found is
 
-value_takes : Takes SpellsValue value_at
-unfolding value_at
-value_takes ls found is =
-    let e = bind_some (expression_at ls) _ found is in
-    let r = bind_some (sign_at signs.Semicolon e.0.1) _ found e.2 in
-    in_place SpellsValue ls e.0.0 r.0 found r.2 (subst (SpellsExpression e.0.0 ls) (sign_takes signs.Semicolon e.0.1 r.0 r.1) (expression_takes ls e.0 e.1))
+argument_takes : Takes SpellsArgument argument_at
+argument_takes ls found is = pieces.argument_takes clike_signs clike_apart ls found is
+
+arguments_take : Takes (SpellsArguments clike_signs) arguments_at
+arguments_take ls found is = pieces.arguments_take clike_signs clike_apart ls found is
 
 -- `)` and `;`
 closed : (ls end rest : List Lexeme) → sign_at signs.RightParenthesis ls ≡ Some end → sign_at signs.Semicolon end ≡ Some rest
     → ls ≡ closing_parenthesis ∷ semicolon ∷ rest
 closed ls end rest is is' =
     sign_takes signs.RightParenthesis ls end is ∙ ap (λ (m : List Lexeme). closing_parenthesis ∷ m) (sign_takes signs.Semicolon end rest is')
-
-argument_takes : Takes SpellsArgument argument_at
-unfolding argument_at
-argument_takes ls found is =
-    let a = bind_some (sign_at signs.LeftParenthesis ls) _ found is in
-    let e = bind_some (expression_at a.0) _ found a.2 in
-    let end = bind_some (sign_at signs.RightParenthesis e.0.1) _ found e.2 in
-    let r = bind_some (sign_at signs.Semicolon end.0) _ found end.2 in
-    in_place SpellsArgument ls e.0.0 r.0 found r.2 (
-      a.0,
-      sign_takes signs.LeftParenthesis ls a.0 a.1,
-      subst (SpellsExpression e.0.0 a.0) (closed e.0.1 end.0 r.0 end.1 r.1) (expression_takes a.0 e.0 e.1),
-    )
-
-abbrev SpellsArguments : List PureExpression → List Lexeme → List Lexeme → Type 0
-SpellsArguments es ls rest = SpellsSeparated SpellsExpression comma es ls (closing_parenthesis ∷ semicolon ∷ rest)
-
-arguments_take : Takes SpellsArguments arguments_at
-unfolding arguments_at
-arguments_take ls found is =
-    let es = bind_some (separated_at expression_at signs.RightParenthesis signs.Comma ls) _ found is in
-    let end = bind_some (sign_at signs.RightParenthesis es.0.1) _ found es.2 in
-    let r = bind_some (sign_at signs.Semicolon end.0) _ found end.2 in
-    in_place SpellsArguments ls es.0.0 r.0 found r.2
-    (subst (SpellsSeparated SpellsExpression comma es.0.0 ls) (closed es.0.1 end.0 r.0 end.1 r.1)
-    (separated_takes SpellsExpression expression_at expression_takes signs.RightParenthesis signs.Comma ls es.0 es.1))
 
 -- ---- what is assigned
 

@@ -49,7 +49,7 @@ function_named place f ls rest (params, body, at, h, a, (inner, opens, b)) k =
     let p = params_named f.params params (closing_parenthesis ∷ body) a (declared_keeps Kept tail f.name ls (opening_parenthesis ∷ params) h k) in
     let q = statements_named clike_spellings is_source_expression is_source_simple
     (λ e ls rest h k. expression_named e 0 ls rest h k) simple_named place f.body inner (closing_brace ∷ rest) b (subst Kept opens p.1) in
-    (and_from (list_all is_source_name f.params) (statements.is_source_block is_source_expression is_source_simple f.body) p.0 q.0, q.1)
+    (and_from (list_all is_source_name f.params) (statements.is_source_block clike_spellings.has_try is_source_expression is_source_simple f.body) p.0 q.0, q.1)
 
 pub source_named : (bytes : List ℕ) (source : PureSource) → SpellSource bytes source → IsTrue (list_all (λ f. is_source_function f) source.functions)
 source_named bytes source (items, s, is) =

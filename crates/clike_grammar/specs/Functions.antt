@@ -1,5 +1,5 @@
 -- The lexemes of C-like functions, and the reading of them.
-use Rattle.std.specs.Prelude.{◌≡◌, ℕ, List, ◌∷◌, length, Some}
+use Rattle.std.specs.Prelude.{◌≡◌, ℕ, false, List, ◌∷◌, length, Some}
 use Rattle.gil_lexer.specs.declared.signs.Sign.TheVariants.{LeftParenthesis, RightParenthesis, Comma}
 use Rattle.gil_lexer.specs.declared.words.Word.TheVariants.{Int}
 use Rattle.gil_lexemes.specs.declared.standing.Lexeme.{Lexeme}
@@ -15,10 +15,10 @@ use Rattle.clike_grammar.specs.Reading.{expression_at, simple_at, declared_name_
 use Rattle.clike_grammar.specs.Statements.{SpellsExpression, SpellsSimple, SpellsDeclared}
 
 abbrev pub clike_spellings : Spellings PureExpression PureSimple
-clike_spellings = record { expression = SpellsExpression; simple = SpellsSimple }
+clike_spellings = record { expression = SpellsExpression; simple = SpellsSimple; has_try = false }
 
 abbrev pub clike_readers : Readers PureExpression PureSimple
-clike_readers = record { expression_at = expression_at; simple_at = simple_at }
+clike_readers = record { expression_at = expression_at; simple_at = simple_at; has_try = false }
 
 -- Where the last so many lexemes of a text begin is said by place.
 module _ (place : ℕ → ℕ) where

@@ -1,16 +1,15 @@
 -- Reading the C-like statements without statements in them, as functions: what the functions of a reader answer.
-use Rattle.std.specs.Prelude.{ℕ, List, [], ◌∷◌, length, Option, Some, None, if◌then◌else◌}
+use Rattle.std.specs.Prelude.{ℕ, List, [], ◌∷◌, Option, Some, None, if◌then◌else◌}
 use Rattle.gil_values.specs.declared.kinds.Kind.TheVariants.{Null}
 use Rattle.gil_values.specs.Pure.{integer, kind}
 use Rattle.gil_lexer.specs.declared.forms.Form.{Form}
 use Rattle.gil_lexer.specs.declared.forms.Form.TheVariants as forms
-use Rattle.gil_lexer.specs.declared.signs.Sign.TheVariants.{LeftParenthesis, RightParenthesis, Comma, Semicolon, Equal, Star}
+use Rattle.gil_lexer.specs.declared.signs.Sign.TheVariants.{LeftParenthesis, RightParenthesis, Semicolon, Equal, Star}
 use Rattle.gil_lexer.specs.declared.words.Word.TheVariants.{Int, Input, Malloc, Free, NullPointer}
 use Rattle.gil_lexemes.specs.declared.standing.Lexeme.{Lexeme}
-use Rattle.gil_lexemes.specs.Lists.{separated_at}
 use Rattle.gil_lexemes.specs.Reading.{Reading, ◌>>=◌, form_of, first_form, behind, is_sign, sign_at, name_at, number_at}
 use Rattle.source_operators.specs.Pure.{constant, variable}
-use Rattle.operator_text.specs.Reading as operators
+use Rattle.operator_text.specs.PieceReading as pieces
 use Rattle.operator_text.specs.Signs.{tight}
 use Rattle.clike_operators.specs.Pure.{PureExpression}
 use Rattle.clike_operators.specs.Ranges.{is_int}
@@ -39,34 +38,19 @@ leaf_at ls = leaf_by (first_form ls) ls
 
 -- an expression where only operators of at least a strength may stand
 abbrev pub expression_from : ℕ → List Lexeme → Reading PureExpression
-expression_from k ls = operators.expression_at clike_signs (length ls) k ls
+expression_from k ls = pieces.expression_from clike_signs k ls
 
 abbrev pub expression_at : List Lexeme → Reading PureExpression
-expression_at ls = expression_from 0 ls
+expression_at ls = pieces.whole_at clike_signs ls
 
--- e;
-unfoldable pub value_at : List Lexeme → Reading PureExpression
-value_at ls = do
-  e ← expression_at ls
-  rest ← sign_at Semicolon e.1
-  Some (e.0, rest)
+abbrev pub value_at : List Lexeme → Reading PureExpression
+value_at ls = pieces.value_at clike_signs ls
 
--- (e);
-unfoldable pub argument_at : List Lexeme → Reading PureExpression
-argument_at ls = do
-  inner ← sign_at LeftParenthesis ls
-  e ← expression_at inner
-  end ← sign_at RightParenthesis e.1
-  rest ← sign_at Semicolon end
-  Some (e.0, rest)
+abbrev pub argument_at : List Lexeme → Reading PureExpression
+argument_at ls = pieces.argument_at clike_signs ls
 
--- e, ..);   behind `(`
-unfoldable pub arguments_at : List Lexeme → Reading (List PureExpression)
-arguments_at ls = do
-  es ← separated_at expression_at RightParenthesis Comma ls
-  end ← sign_at RightParenthesis es.1
-  rest ← sign_at Semicolon end
-  Some (es.0, rest)
+abbrev pub arguments_at : List Lexeme → Reading (List PureExpression)
+arguments_at ls = pieces.arguments_at clike_signs ls
 
 abbrev pub call_at : Option (List ℕ) → List ℕ → List Lexeme → Reading PureSimple
 call_at x f ls = arguments_at ls >>= λ es. Some (call x f es.0, es.1)

@@ -4,11 +4,11 @@ use Rattle.gil_lexer.specs.declared.signs.Sign.TheVariants as signs
 use Rattle.gil_lexer.specs.declared.words.Word.TheVariants.{Int, Input, Malloc, Free}
 use Rattle.gil_lexemes.specs.declared.standing.Lexeme.{Lexeme}
 use Rattle.gil_lexemes.specs.declared.standing.Lexeme.TheVariants.{Name, Word, Sign}
-use Rattle.gil_grammar.specs.Lists.{SpellsSeparated}
-use Rattle.gil_grammar.specs.Vocabulary.{opening_parenthesis, closing_parenthesis, comma, semicolon}
+use Rattle.gil_grammar.specs.Vocabulary.{opening_parenthesis, closing_parenthesis, semicolon}
 use Rattle.source_operators.specs.Pure.{constant, prefixed, joined}
 use Rattle.source_text.specs.Vocabulary.{equals}
 use Rattle.operator_text.specs.Grammar as operators
+use Rattle.operator_text.specs.Pieces as pieces
 use Rattle.operator_text.specs.Signs.{tight}
 use Rattle.clike_operators.specs.declared.trees.Prefix.TheVariants.{Pointee}
 use Rattle.clike_operators.specs.declared.trees.Joint.TheVariants.{Cell}
@@ -21,7 +21,7 @@ abbrev pub SpellsExpressionAt : ℕ → PureExpression → List Lexeme → List 
 SpellsExpressionAt k e from rest = operators.SpellsExpression clike_signs k e from rest
 
 abbrev pub SpellsExpression : PureExpression → List Lexeme → List Lexeme → Type 0
-SpellsExpression e from rest = SpellsExpressionAt 0 e from rest
+SpellsExpression e from rest = pieces.SpellsWhole clike_signs e from rest
 
 -- so many stars in front of lexemes
 abbrev pub stars : ℕ → List Lexeme → List Lexeme
@@ -38,14 +38,12 @@ SpellsTarget x from value = (from ≡ Name x ∷ equals ∷ value) ⊎ SpellsDec
 
 -- (e);
 abbrev pub SpellsArgument : PureExpression → List Lexeme → List Lexeme → Type 0
-SpellsArgument e from rest =
-    (inner : List Lexeme) × (from ≡ opening_parenthesis ∷ inner) × SpellsExpression e inner (closing_parenthesis ∷ semicolon ∷ rest)
+SpellsArgument e from rest = pieces.SpellsArgument clike_signs e from rest
 
 -- f(e, ..);
 abbrev pub SpellsCall : List ℕ → List PureExpression → List Lexeme → List Lexeme → Type 0
 SpellsCall f es from rest =
-    (inner : List Lexeme) × (from ≡ Name f ∷ opening_parenthesis ∷ inner)
-    × SpellsSeparated SpellsExpression comma es inner (closing_parenthesis ∷ semicolon ∷ rest)
+    (inner : List Lexeme) × (from ≡ Name f ∷ opening_parenthesis ∷ inner) × pieces.SpellsArguments clike_signs es inner rest
 
 -- the pointer and the offset of a place: of `*a`, which is `a[0]`, and of `a[b]`
 abbrev pub place_parts : PureExpression → Option (PureExpression × PureExpression)

@@ -14,7 +14,7 @@ use Rattle.source_text.proofs.RefusalLemmas.{located_source, located_spells}
 use Rattle.clike_lang.specs.Names.{is_source_function}
 use Rattle.clike_lang.specs.Pure.{PureFunction, PureSource}
 use Rattle.clike_grammar.specs.Functions.{SpellsFunction}
-use Rattle.clike_grammar.specs.Texts.{PlacedItem, SpellItems}
+use Rattle.clike_grammar.specs.Texts.{PlacedItem, SpellItems, SpellSource}
 use Rattle.clike_grammar.proofs.TextLaws.{source_named}
 use Rattle.clike_compiler.specs.Compiled.{compiled_function, compiled}
 use Rattle.clike_compiler.specs.Valid.{IsValidSource}
@@ -30,10 +30,10 @@ pub makes_hold : (bytes : List ℕ) (located : PureLocated PureFunction) (items 
     → IsTrue (is_well_made (compiled (located_source located)))
 makes_hold bytes located items s is = source_makes bytes (located_source located) (located_spells IsNestedWithFew SpellsFunction bytes located items s is)
 
--- a source with a fault that is named isn't valid
-pub named_is_invalid : (p source : PureSource) (kind : InvalidKind) (i : ℕ) → p ≡ source → IsNamedButLength (compiled p) kind i → IsValidSource source → ⊥
-named_is_invalid p source kind i same named valid =
-    program_is_valid source valid kind i (subst (λ (q : PureSource). IsTrue (fault_but_length_at (compiled q) kind i)) same named.at_fault)
+-- a source of a text with a fault that is named isn't valid
+pub named_is_invalid : (bytes : List ℕ) (p source : PureSource) (kind : InvalidKind) (i : ℕ) → SpellSource bytes source → p ≡ source → IsNamedButLength (compiled p) kind i → IsValidSource source → ⊥
+named_is_invalid bytes p source kind i spells same named valid =
+    program_is_valid source (source_named bytes source spells) valid kind i (subst (λ (q : PureSource). IsTrue (fault_but_length_at (compiled q) kind i)) same named.at_fault)
 
 -- the items of a program are those of its source
 pub counted : (s : PureSource) → length (items_of (compiled s)) ≡ length s.functions + 0 + length s.specs + length s.preds

@@ -119,18 +119,6 @@ impl OperatorLanguage for Expressions {
     ghost apart = { clike_apart };
 }
 
-/// The expression at the front, where only operators of at least a strength may stand.
-pub(crate) fn expression_from<'a>(
-    alloc: Global,
-    least: u8,
-    cursor: Cursor<'a>,
-) -> Result<(Expression, Cursor<'a>), Stop>
-    ensures { Gives (λ found. (expression_view found.0, found.1)) result (read.expression_from least cursor.entry) }
-{
-    let most = cursor.left();
-    operator_text::expression_at::<Expressions>(alloc, most, least, cursor)
-}
-
 /// The expression at the front.
 pub(crate) fn expression_at<'a>(
     alloc: Global,
@@ -138,5 +126,5 @@ pub(crate) fn expression_at<'a>(
 ) -> Result<(Expression, Cursor<'a>), Stop>
     ensures { Gives (λ found. (expression_view found.0, found.1)) result (read.expression_at cursor.entry) }
 {
-    expression_from(alloc, 0, cursor)
+    operator_text::whole_at::<Expressions>(alloc, cursor)
 }

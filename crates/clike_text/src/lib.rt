@@ -4,7 +4,6 @@
 mod expressions;
 mod functions;
 mod laws;
-mod lists;
 mod names;
 mod simple;
 mod statements;

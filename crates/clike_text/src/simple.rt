@@ -5,38 +5,15 @@ ghost use Rattle.clike_lang.specs.View.{expression_view, simple_view};
 ghost use Rattle.clike_grammar.specs.Reading as read;
 ghost use Rattle.clike_grammar.specs.Statements as statements;
 
-use crate::expressions::{expression_at, expression_from};
-use crate::lists::arguments_at;
+use crate::expressions::{Expressions, expression_at};
 use crate::names::declared_name_at;
 use clike_lang::SimpleStatement;
 use clike_operators::{Expression, Joint, Prefix};
 use gil_lexemes::{Cursor, Stop};
 use gil_lexer::{Form, Sign, Word};
 use gil_values::{Text, Value};
-use operator_text::TIGHT;
+use operator_text::{TIGHT, argument_at, arguments_at, expression_from, value_at};
 use std::alloc::{AllocError, Global};
-
-/// `e;`
-#[tactic(auto, unfolding(clike_grammar::specs::Reading::value_at))]
-fn value_at<'a>(alloc: Global, cursor: Cursor<'a>) -> Result<(Expression, Cursor<'a>), Stop>
-    ensures { Gives (λ found. (expression_view found.0, found.1)) result (read.value_at cursor.entry) }
-{
-    let (value, cursor) = expression_at(alloc, cursor)?;
-    let cursor = cursor.sign(Sign::Semicolon)?;
-    Ok((value, cursor))
-}
-
-/// `(e);`
-#[tactic(auto, unfolding(clike_grammar::specs::Reading::argument_at))]
-fn argument_at<'a>(alloc: Global, cursor: Cursor<'a>) -> Result<(Expression, Cursor<'a>), Stop>
-    ensures { Gives (λ found. (expression_view found.0, found.1)) result (read.argument_at cursor.entry) }
-{
-    let cursor = cursor.sign(Sign::LeftParenthesis)?;
-    let (argument, cursor) = expression_at(alloc, cursor)?;
-    let cursor = cursor.sign(Sign::RightParenthesis)?;
-    let cursor = cursor.sign(Sign::Semicolon)?;
-    Ok((argument, cursor))
-}
 
 /// `e, ..);`, behind `x = f(` or `f(`.
 fn call_at<'a>(
@@ -47,7 +24,7 @@ fn call_at<'a>(
 ) -> Result<(SimpleStatement, Cursor<'a>), Stop>
     ensures { Gives (λ found. (simple_view found.0, found.1)) result (read.call_at target function cursor.entry) }
 {
-    let (arguments, cursor) = arguments_at(alloc, cursor)?;
+    let (arguments, cursor) = arguments_at::<Expressions>(alloc, cursor)?;
     let call = SimpleStatement::Call(target, function, arguments);
     Ok((call, cursor))
 }
@@ -71,7 +48,7 @@ fn malloc_at<'a>(
 ) -> Result<(SimpleStatement, Cursor<'a>), Stop>
     ensures { Gives (λ found. (simple_view found.0, found.1)) result (read.malloc_at target cursor.entry) }
 {
-    let (size, cursor) = argument_at(alloc, cursor)?;
+    let (size, cursor) = argument_at::<Expressions>(alloc, cursor)?;
     Ok((SimpleStatement::Malloc(target, size), cursor))
 }
 
@@ -79,7 +56,7 @@ fn malloc_at<'a>(
 fn free_at<'a>(alloc: Global, cursor: Cursor<'a>) -> Result<(SimpleStatement, Cursor<'a>), Stop>
     ensures { Gives (λ found. (simple_view found.0, found.1)) result (read.free_at cursor.entry) }
 {
-    let (pointer, cursor) = argument_at(alloc, cursor)?;
+    let (pointer, cursor) = argument_at::<Expressions>(alloc, cursor)?;
     Ok((SimpleStatement::Free(pointer), cursor))
 }
 
@@ -216,7 +193,7 @@ fn store_at<'a>(
         return Err(Stop::Syntax(cursor.left()));
     };
     let cursor = cursor.sign(Sign::Equal)?;
-    let (value, cursor) = value_at(alloc, cursor)?;
+    let (value, cursor) = value_at::<Expressions>(alloc, cursor)?;
     Ok((SimpleStatement::Store(pointer, offset, value), cursor))
 }
 
@@ -253,7 +230,7 @@ fn begun_by<'a>(
 fn begun_at<'a>(alloc: Global, cursor: Cursor<'a>) -> Result<(SimpleStatement, Cursor<'a>), Stop>
     ensures { Gives (λ found. (simple_view found.0, found.1)) result (read.begun_at cursor.entry) }
 {
-    let (expression, cursor) = expression_from(alloc, TIGHT, cursor)?;
+    let (expression, cursor) = expression_from::<Expressions>(alloc, TIGHT, cursor)?;
     begun_by(alloc, expression, cursor)
 }
 

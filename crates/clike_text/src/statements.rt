@@ -30,6 +30,10 @@ impl StatementReader for Statements {
 
     ghost readers = { clike_readers };
 
+    fn has_try() -> bool {
+        false
+    }
+
     fn expression_at<'a>(
         alloc: Global,
         cursor: Cursor<'a>,

@@ -42,7 +42,7 @@ returns-in-Some c =
     let named = c.in-Err.ensures.invalid c.in_default.not-Memory in
     record {
       ok = tt;
-      only = λ source spells valid. absurd (named_is_invalid (located_source located) source c.in-Err.invalid.kind c.in-Err.invalid.item
+      only = λ source spells valid. absurd (named_is_invalid c.args.bytes.now (located_source located) source c.in-Err.invalid.kind c.in-Err.invalid.item spells
           (one_source IsNestedWithFew SpellsFunction (λ ls nested. nested.0) Int function_at functions_read c.args.bytes.now (located_source located) source spelled spells) named valid);
       refused = fault_refusal compiled [] counted located read.0 c.in-Err.invalid.kind c.in-Err.invalid.item read.2 named IsNestedWithFew SpellsFunction c.args.bytes.now c.in-Some.at read.1 (sym c.place_at.ensures ∙ c.in-Some.is);
     }
