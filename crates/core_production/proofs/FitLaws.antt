@@ -1,10 +1,10 @@
 -- The conditions on a new chunk tell whether its key may stand by itself, and beside the key of another chunk.
-use Rattle.std.proofs.Common.{◌≡◌, ◌⊎◌, ⊎_elim, inl, inr, ℕ, nat_eq, ℤ, pos, ◌≤ℤ◌, ◌<ℤ◌, List, Bool, true, false, if◌then◌else◌, Option, Some, None, IsTrue, refl, sym, ap, subst, ◌∙◌, true≢false, arith}
+use Rattle.std.proofs.Common.{◌≡◌, ◌⊎◌, ⊎_elim, ℕ, nat_eq, ℤ, pos, List, Bool, true, false, if◌then◌else◌, Some, IsTrue, refl, sym, ap, subst, ◌∙◌, true≢false}
 use Rattle.std.specs.Prelude.{⊤}
-use Rattle.std.specs.FinMap.{insert, empty}
+use Rattle.std.specs.FinMap.{empty}
 use Rattle.std.proofs.lemmas.Bool.Decides.{Decides-eqb}
 use Rattle.gil_values.specs.declared.kinds.Kind.{Kind}
-use Rattle.gil_values.specs.Pure.{PureValue, symbol, text, integer, boolean, list, kind, procedure, kind_of, to_list-from_list as values_back}
+use Rattle.gil_values.specs.Pure.{PureValue, symbol, text, integer, boolean, list, kind_of, to_list-from_list as values_back}
 use Rattle.core_production.specs.Producing.{are_names, is_right, needs_form, listed_unless_open, fits, has_open_names}
 use Rattle.core_production.proofs.NameLists.{list_value, listed_holds, holds_listed, distinct_holds, holds_distinct}
 use Rattle.core_uses.proofs.ListingLaws.{key_parts}
@@ -12,7 +12,7 @@ use Rattle.mem_model.specs.declared.keys.Key.{Key}
 use Rattle.mem_model.specs.declared.keys.Sub.{Sub}
 use Rattle.mem_model.specs.declared.keys.Sub.TheVariants.{Name, At, Shape, Bound, Dom, Proto, Gone}
 use Rattle.mem_model.specs.Cores.{one_key, IsWithin, FitTogether}
-use Rattle.mem_model.specs.Heaps.{Heap, Holds, HasKey, HoldsNames, IsDescriptor, IsWellFormed}
+use Rattle.mem_model.specs.Heaps.{Heap, Holds, HasKey, HoldsNames, IsWellFormed}
 use Rattle.mem_model.specs.Keys.{key}
 use Rattle.mem_model.specs.KeyOrder.{variant_number}
 use Rattle.mem_model.specs.Names.{is_name_list, are_distinct_texts, lists_name}
@@ -22,22 +22,22 @@ use Rattle.mem_model.proofs.Parts.{no_key}
 use Rattle.pure_terms.specs.declared.literals.Literal.{Literal}
 use Rattle.pure_terms.specs.declared.variables.Sort.{Sort}
 use Rattle.pure_terms.specs.Meaning.{value, IsProper, IsOver}
-use Rattle.pure_terms.specs.Pure.{PureTerm, literal, variable, list_of, unary_of, binary_of, PureTerms}
+use Rattle.pure_terms.specs.Pure.{PureTerm, literal, variable, list_of, unary_of, binary_of}
 use Rattle.sym_chunks.specs.NameTerms.{listed}
 use Rattle.sym_chunks.specs.Ordering.{at_most, less, inside}
 use Rattle.sym_chunks.proofs.Facts.{name_from, cell_from, same_names, same_cells, same_texts, same_integers}
 use Rattle.sym_chunks.proofs.OrderLaws.{less_tells, at_most_tells}
 use Rattle.sym_chunks.proofs.Readings.{over_elements, over_literal}
-use Rattle.sym_conditions.specs.Alternatives.{Alternatives, Hold, always, both, same, other, of_kind}
+use Rattle.sym_conditions.specs.Alternatives.{Alternatives, Hold, always, same, other, of_kind}
 use Rattle.sym_conditions.specs.Laws.{HaveBoth}
 use Rattle.sym_conditions.proofs.Combined.{both_from, both_parts, always_true}
-use Rattle.sym_conditions.proofs.Telling.{same_tells, other_tells, of_kind_tells}
+use Rattle.sym_conditions.proofs.Telling.{other_tells, of_kind_tells}
 use Rattle.sym_model.specs.Cores.{zero_term}
 use Rattle.sym_model.specs.Lists.{Each}
 use Rattle.sym_model.specs.Meaning.{location_of, name_of, cell_of, sub_value, key_of, key_value}
 use Rattle.sym_model.specs.Pure.{PureSub, named, cell, shape, bound, dom, proto, gone, sub_terms}
 use Rattle.sym_model.proofs.Asking.{symbol_of_kind}
-use Rattle.sym_model.proofs.ListLaws.{same_some, not_none}
+use Rattle.sym_model.proofs.ListLaws.{same_some}
 
 pub not_same : (m n : ℕ) → nat_eq m n ≡ false → ¬ (m ≡ n)
 not_same m n differ e = true≢false (sym ((Decides-eqb m n).1 e) ∙ differ)

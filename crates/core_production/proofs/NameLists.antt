@@ -1,11 +1,11 @@
 -- What the conditions on the elements of a list term say of its value.
-use Rattle.std.proofs.Common.{◌≡◌, ◌⊎◌, ⊎_elim, inl, inr, ℕ, List, ◌++◌, Bool, true, false, not, ◌||◌, ◌&&◌, Option, Some, None, IsTrue, refl, sym, ap, ◌∙◌, true≢false}
+use Rattle.std.proofs.Common.{◌≡◌, ◌⊎◌, ⊎_elim, inl, inr, ℕ, List, Bool, true, false, not, ◌||◌, ◌&&◌, Option, Some, None, IsTrue, refl, sym, ap, ◌∙◌, true≢false}
 use Rattle.std.specs.Option.{option_map}
 use Rattle.std.specs.List.{list_any}
 use Rattle.gil_values.specs.declared.kinds.Kind.{Kind}
 use Rattle.gil_values.specs.Equality.{same_value}
 use Rattle.gil_values.specs.EqualityLaws.{same_value-Decides}
-use Rattle.gil_values.specs.Pure.{PureValue, integer, boolean, text, symbol, kind, procedure, list, kind_of, from_list as list_values, to_list-from_list as values_back}
+use Rattle.gil_values.specs.Pure.{PureValue, text, list, kind_of, from_list as list_values, to_list-from_list as values_back}
 use Rattle.mem_model.specs.Names.{is_text, are_distinct_texts, lists_name}
 use Rattle.pure_terms.specs.declared.variables.Sort.{Sort}
 use Rattle.pure_terms.specs.Meaning.{value, values, all_true, IsProper, IsOver}

@@ -1,19 +1,18 @@
 -- The branches of producing a chunk keep the laws of production.
-use Rattle.std.proofs.Common.{◌≡◌, ◌⊎◌, ⊎_elim, inl, inr, ℕ, nat_eq, ℤ, pos, ◌-ℤ◌, ◌+ℤ◌, ◌≤ℤ◌, int_le, List, [], ◌∷◌, ◌++◌, map, length, Bool, true, false, if◌then◌else◌, Option, Some, None, IsTrue, slice_get, codes, refl, sym, ap, subst, ◌∙◌, true≢false, arith}
+use Rattle.std.proofs.Common.{◌≡◌, ◌⊎◌, ⊎_elim, inl, inr, ℕ, nat_eq, ℤ, pos, ◌-ℤ◌, ◌+ℤ◌, ◌≤ℤ◌, int_le, List, [], ◌∷◌, ◌++◌, length, Bool, true, false, if◌then◌else◌, Some, None, IsTrue, slice_get, codes, refl, sym, ap, subst, ◌∙◌, true≢false, arith}
 use Rattle.std.specs.Prelude.{⊤}
-use Rattle.std.specs.FinMap.{insert, empty}
-use Rattle.std.specs.List.{list_any, flat_map}
+use Rattle.std.specs.FinMap.{insert}
+use Rattle.std.specs.List.{list_any}
 use Rattle.std.specs.Str.{bytes_eq}
 use Rattle.std.specs.Option.{option_map}
 use Rattle.std.proofs.lemmas.Bool.{and_from}
 use Rattle.std.proofs.lemmas.Bool.Decides.{Decides-eqb}
 use Rattle.std.proofs.lemmas.Int.{ints}
 use Rattle.gil_values.specs.declared.kinds.Kind.{Kind}
-use Rattle.gil_values.specs.Pure.{PureValue, symbol, boolean, kind_of}
-use Rattle.core_changes.specs.Consuming.{key_given}
-use Rattle.core_changes.proofs.EntryLaws.{GivesKey, gives_key}
+use Rattle.gil_values.specs.Pure.{PureValue, symbol, boolean}
+use Rattle.core_changes.proofs.EntryLaws.{gives_key}
 use Rattle.core_changes.proofs.KeyLaws.{HaveValues}
-use Rattle.core_production.specs.Producing.{held_by, are_names, is_right, needs_form, fits_beside, has_open_names, fits_closed, opened_there, opened_at, may_stand, added, opened_unless_list, produced_at, produced, chunk_of, produced_if, chunk_held, chunk_given, produced_by, ProduceChunks, Produce}
+use Rattle.core_production.specs.Producing.{held_by, are_names, is_right, needs_form, fits_beside, has_open_names, fits_closed, opened_there, opened_at, may_stand, added, opened_unless_list, produced_at, produced, chunk_of, produced_if, chunk_given, produced_by, ProduceChunks, Produce}
 use Rattle.core_production.proofs.FitLaws.{is_open_beside, IsAlone, held_alone, alone_well_formed, well_formed_alone, at_key, no_list_literal, not_same, Told, sub_told, told_of, fits_differ, fits_together, fits_from, right_gives, right_from}
 use Rattle.core_production.proofs.ProduceShapes.{asked_of_new, ZeroOrders, NamesOpen, stand_shaped, stand_closed_shaped, same_places, produced_shaped, none_at_shape}
 use Rattle.core_uses.specs.Kept.{IsKept, AreKept}
@@ -23,7 +22,7 @@ use Rattle.mem_model.specs.declared.cores.Core.{Core}
 use Rattle.mem_model.specs.declared.keys.Key.{Key}
 use Rattle.mem_model.specs.declared.keys.MemoryName.{MemoryName}
 use Rattle.mem_model.specs.declared.keys.MemoryName.TheVariants.{Record, Block, Object}
-use Rattle.mem_model.specs.CoreNames.{core_of, core_name, ins_of, outs_of, has_core}
+use Rattle.mem_model.specs.CoreNames.{core_of, core_name, outs_of, has_core}
 use Rattle.mem_model.specs.Cores.{entry_of, entry_named, core_entry, one_key, FitTogether}
 use Rattle.mem_model.specs.Heaps.{Heap, Holds, HasKey, IsHeapOf}
 use Rattle.mem_model.specs.Keys.{key, has_subkey}
@@ -31,37 +30,35 @@ use Rattle.mem_model.proofs.CoreLaws.{one_key_more_is_heap, cores_stand_for_keys
 use Rattle.mem_model.proofs.Joins.{value_at, has_key}
 use Rattle.pure_terms.specs.declared.literals.Literal.{Literal}
 use Rattle.pure_terms.specs.declared.variables.Sort.{Sort}
-use Rattle.pure_terms.specs.Kinds.{allows, known_kind}
 use Rattle.pure_terms.specs.Meaning.{value, values, all_true, IsOver}
 use Rattle.pure_terms.specs.Numbers.{is_between}
-use Rattle.pure_terms.specs.Pure.{PureTerm, literal, variable, list_of, unary_of, binary_of, from_list, PureAtom, opening}
+use Rattle.pure_terms.specs.Pure.{PureTerm, literal, variable, list_of, unary_of, binary_of, from_list, opening}
 use Rattle.sym_chunks.specs.ByPlace.{all_by_place}
-use Rattle.sym_chunks.specs.Cases.{ChunkBranches, branches_of, true_term}
+use Rattle.sym_chunks.specs.Cases.{true_term}
 use Rattle.sym_chunks.specs.Forms.{form_of}
 use Rattle.sym_chunks.specs.Laws.{IsLocation}
-use Rattle.sym_chunks.proofs.CaseLaws.{Branch, IsTaken, where_taken, each_one, each_every, AreOpen, form_open, needed_open, form_holds, any_open, both_open}
-use Rattle.sym_chunks.proofs.Facts.{kind_number, Fact, each_fact, fact_loc, fact_sub, keys_equal, same_symbols}
+use Rattle.sym_chunks.proofs.CaseLaws.{Branch, where_taken, each_every, AreOpen, needed_open, form_holds, any_open, both_open}
+use Rattle.sym_chunks.proofs.Facts.{kind_number, Fact, each_fact, fact_loc, fact_sub, same_symbols}
 use Rattle.sym_chunks.proofs.FoundLaws.{at_chunk, by_place_parts, by_place_from}
 use Rattle.sym_chunks.proofs.Opening.{OpenFor, Opens, closed_open, branches_open}
 use Rattle.sym_chunks.proofs.Opening.{both_open as opens_both, form_open as opens_form}
 use Rattle.sym_chunks.proofs.Readings.{own_reading, made_state, own_sides, own_forms, over_reading, over_state, over_sides, over_forms, over_literal, no_list_kind, plain_reading, plain_state, plain_sides, plain_forms, state_plain, AnyAtom, KeptAt, loose_state, loose_sides, loose_forms, kept_reading, any_term, closed_reading, closed_sides, NoOpen, positive_closed, negative_closed, shaped_terms, shaped_conds, shaped_named}
-use Rattle.sym_chunks.proofs.Shapes.{Reading, ChunkSides, ChunkForms, IsFine, IsFineState, Shaped, EachAtom, fine_terms, fine_chunk}
+use Rattle.sym_chunks.proofs.Shapes.{Reading, IsFine, IsFineState, Shaped, EachAtom, fine_terms, fine_chunk}
 use Rattle.sym_conditions.specs.Alternatives.{Alternatives, Hold, never, always, both, any, is_empty, settled, same, of_kind}
-use Rattle.sym_conditions.specs.Laws.{HaveBoth}
 use Rattle.sym_conditions.proofs.Combined.{both_from, both_parts, settled_from}
 use Rattle.sym_conditions.proofs.Telling.{same_tells, of_kind_tells}
-use Rattle.sym_model.specs.Chunks.{IsEntry, IsUnion, StandFor, value_where_described, located_in, terms_of}
-use Rattle.sym_model.specs.CoreLaws.{MayBeAdded, IsAdded, ProduceLaw, ProducesWhatMatters, ArePlainUses, ProducesPlainly}
-use Rattle.sym_model.specs.Cores.{core_of_sub, IsSubOf, TakesBoth, zero_term, asked_of_core, produce_asks, NamesBeside, IsListProduced, DependsOnForm}
+use Rattle.sym_model.specs.Chunks.{IsEntry, StandFor, value_where_described, located_in, terms_of}
+use Rattle.sym_model.specs.CoreLaws.{IsAdded, ProduceLaw, ProducesWhatMatters, ArePlainUses, ProducesPlainly}
+use Rattle.sym_model.specs.Cores.{core_of_sub, IsSubOf, zero_term, asked_of_core, NamesBeside, IsListProduced, DependsOnForm}
 use Rattle.sym_model.specs.Forms.{OpensOnly}
-use Rattle.sym_model.specs.Laws.{Serves, IsPlainWithin, ArePlain, growth, HaveOwnConditions}
+use Rattle.sym_model.specs.Laws.{Serves, IsPlainWithin, growth, HaveOwnConditions}
 use Rattle.sym_model.specs.Lists.{Each, OneOf, IsAmong}
 use Rattle.sym_model.specs.Meaning.{location_of, has_open, key_value}
 use Rattle.sym_model.specs.Plain.{is_plain_description, IsPlainState}
-use Rattle.sym_model.specs.Pure.{PureSub, named, cell, shape, bound, dom, proto, gone, PureKey, PureChunk, PureBranch, sub_terms, done}
-use Rattle.sym_model.specs.Terms.{all_of, AreEachOver, IsMadeOf, IsListed, is_given, is_literal, is_list_term, Asked, asked_of, IsLimit, AreOrdered, IsFormAsked}
+use Rattle.sym_model.specs.Pure.{PureSub, named, cell, shape, bound, dom, proto, gone, PureKey, PureChunk, sub_terms, done}
+use Rattle.sym_model.specs.Terms.{all_of, AreEachOver, IsMadeOf, IsListed, is_given, is_literal, is_list_term, asked_of, IsLimit, AreOrdered}
 use Rattle.sym_model.proofs.Asking.{both_parts as both_values}
-use Rattle.sym_model.proofs.ChunkMeaning.{ChunkTerms, chunk_by_chunk, chunk_val}
+use Rattle.sym_model.proofs.ChunkMeaning.{chunk_by_chunk, chunk_val}
 use Rattle.sym_model.proofs.ListLaws.{same_some, not_none, each_append, each_to, each_map, each_at, each_left, each_right, each_flat, each_flattened, each_is_among, one_left, one_right, one_to, one_map, one_with, one_flat, one_at, each_by_place}
 use Rattle.sym_model.proofs.MadeLaws.{made_of_given}
 use Rattle.sym_model.proofs.PlainLaws.{plain_wider}

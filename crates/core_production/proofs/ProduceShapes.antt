@@ -1,5 +1,5 @@
 -- The forms of the conditions that production asks, and what its states are made of, for every reading.
-use Rattle.std.proofs.Common.{◌≡◌, ◌⊎◌, ⊎_elim, inl, inr, List, [], ◌∷◌, ◌++◌, Bool, true, false, if◌then◌else◌, refl, sym, ap, subst, ◌∙◌, true≢false}
+use Rattle.std.proofs.Common.{◌≡◌, ◌⊎◌, ⊎_elim, List, [], ◌∷◌, ◌++◌, Bool, true, false, if◌then◌else◌, refl, sym, ap, subst, ◌∙◌, true≢false}
 use Rattle.std.specs.Prelude.{⊤}
 use Rattle.gil_values.specs.declared.kinds.Kind.{Kind}
 use Rattle.core_production.specs.Producing.{are_names, is_right, needs_form, listed_unless_open, fits, fits_beside, has_open_names, fits_closed, opened_there, opened_at, may_stand, added, opened_unless_list, produced_at, produced}
@@ -8,7 +8,7 @@ use Rattle.pure_terms.specs.Pure.{PureTerm, literal, variable, list_of, unary_of
 use Rattle.sym_chunks.specs.ByPlace.{all_by_place}
 use Rattle.sym_chunks.specs.Cases.{true_term}
 use Rattle.sym_chunks.specs.Forms.{form_of}
-use Rattle.sym_chunks.specs.NameTerms.{listed, distinct_from}
+use Rattle.sym_chunks.specs.NameTerms.{listed}
 use Rattle.sym_chunks.proofs.Shapes.{Reading, ChunkSides, ChunkForms, IsFine, IsFineState, Shaped, EachAtom, limits_of, both_shaped, form_shaped, form_never, other_shaped, inside_shaped, kind_shaped, wrong_kind, any_shaped, both_never, listed_shaped, distinct_shaped, loc_near_or_never, loc_same, by_place_shaped, branches_shaped}
 use Rattle.sym_conditions.specs.Alternatives.{Alternatives, never, always, both, any, same, of_kind}
 use Rattle.sym_model.specs.Chunks.{value_where_described}
