@@ -1,13 +1,13 @@
 -- A valuation whose symbols are given their places among those that no fresh variable has, and after them those of the fresh variables, is
 -- numbered.
-use Rattle.std.proofs.Common.{◌≡◌, ⊎_elim, inl, inr, ℕ, zero, suc, ◌<◌, ◌≤◌, [], ◌∷◌, ◌&&◌, pos, neg_ℤ, ◌^◌, List, ◌++◌, map, length, slice_get, Some, IsTrue, refl, sym, ap, subst, ◌∙◌, arith}
-use Rattle.std.specs.List.{Contains, list_all}
+use Rattle.std.proofs.Common.{◌≡◌, ⊎_elim, ℕ, zero, suc, ◌<◌, ◌≤◌, [], ◌∷◌, ◌&&◌, pos, neg_ℤ, ◌^◌, List, ◌++◌, map, length, slice_get, Some, refl, sym, ap, subst, ◌∙◌, arith}
+use Rattle.std.specs.List.{Contains}
 use Rattle.std.proofs.lemmas.List.{length-map}
 use Rattle.std.proofs.lemmas.List.Elements.{Contains-append_left, Contains-append_right}
 use Rattle.gil_values.specs.Pure.{PureValue}
 use Rattle.gil_values.specs.Symbols.{symbols_of_all, OccursAmong}
 use Rattle.pure_terms.specs.declared.variables.Sort.{Sort}
-use Rattle.pure_terms.specs.Meaning.{truth, all_true, IsProper, Satisfies}
+use Rattle.pure_terms.specs.Meaning.{all_true, IsProper}
 use Rattle.pure_terms.specs.Pure.{PureAtom}
 use Rattle.pure_terms.specs.Renaming.{renamed, IsOneToOneOn}
 use Rattle.pure_terms.proofs.Renamed.{renaming_keeps}

@@ -1,4 +1,4 @@
-use Rattle.std.proofs.Common.{◌≡◌, ◌+◌, take, add-one, [], Some, slice_get, get_or, sym, ap, subst, ◌∙◌}
+use Rattle.std.proofs.Common.{◌≡◌, take, add-one, [], Some, slice_get, get_or, sym, ap, subst, ◌∙◌}
 use Rattle.std.proofs.lemmas.Option.{slice_get-get_or}
 use Rattle.pure_terms.proofs.Evaluated.{take-push}
 use Rattle.sym_witness.specs.Numbering.{AreOthers}

@@ -1,4 +1,4 @@
-use Rattle.std.proofs.Common.{◌≡◌, ◌+◌, ◌≤◌, map, Some, slice_get, sym, ap, subst, ◌∙◌, arith}
+use Rattle.std.proofs.Common.{◌≡◌, ◌≤◌, Some, slice_get, sym, ap, subst, ◌∙◌, arith}
 use Rattle.gil_values.specs.Pure.{list, from_list, value_size, values_size}
 use Rattle.gil_values.specs.View.{value_view, values_view}
 use Rattle.gil_values.proofs.Lists.{slice_get-read}
