@@ -17,7 +17,7 @@ use Rattle.operator_text.proofs.PieceReads as pieces
 use Rattle.operator_text.proofs.PieceReads.{IsRead, Ends}
 use Rattle.clike_operators.specs.Pure.{PureExpression}
 use Rattle.clike_lang.specs.Pure.{PureSimple, assign, input, malloc, call, free, store}
-use Rattle.clike_grammar.specs.Reading.{expression_from, expression_at, value_at, argument_at, arguments_at, input_at, behind_value, assigned_at, target_at, store_at, behind_name, begun_by, behind_stars, simple_at}
+use Rattle.clike_grammar.specs.Reading.{expression_from, value_at, argument_at, arguments_at, input_at, behind_value, assigned_at, target_at, store_at, behind_name, begun_by, behind_stars, simple_at}
 use Rattle.clike_grammar.specs.Signs.{clike_signs}
 use Rattle.clike_grammar.specs.Statements.{SpellsExpressionAt, SpellsExpression, stars, SpellsTarget, SpellsArgument, SpellsCall, place_parts, SpellsSimple}
 use Rattle.clike_grammar.proofs.Beginnings.{clike_apart, begins_expression, expression_begins, given_so, begun_so, never_closes}

@@ -1,5 +1,5 @@
 -- What is spelled as a statement without statements in it leaves what holds of lexemes, and names only what a source text can name.
-use Rattle.std.proofs.Common.{inl, inr, ℕ, List, ◌∷◌, Bool, refl, subst}
+use Rattle.std.proofs.Common.{inl, inr, ℕ, List, ◌∷◌, subst}
 use Rattle.std.specs.Prelude.{◌&&◌, IsTrue}
 use Rattle.std.specs.List.{list_all}
 use Rattle.std.proofs.lemmas.Bool.{and_from, and_parts}

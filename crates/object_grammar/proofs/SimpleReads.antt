@@ -12,10 +12,8 @@ use Rattle.gil_grammar.specs.Vocabulary.{opening_parenthesis, semicolon, input_w
 use Rattle.gil_grammar.proofs.VocabularyLaws.{input_again}
 use Rattle.source_operators.specs.Pure.{variable, joined}
 use Rattle.source_text.specs.Vocabulary.{equals}
-use Rattle.operator_text.specs.PieceReading as pieces
-use Rattle.operator_text.specs.Pieces.{SpellsValue, SpellsPair, SpellsArguments}
+use Rattle.operator_text.specs.Pieces.{SpellsValue, SpellsArguments}
 use Rattle.operator_text.specs.Signs.{tight}
-use Rattle.operator_text.proofs.Beginnings.{BeginsSo}
 use Rattle.operator_text.proofs.ExpressionReads.{shorter}
 use Rattle.operator_text.proofs.PieceReads.{IsRead, Ends, expression_reads, value_reads, argument_reads, pair_reads, arguments_read}
 use Rattle.object_operators.specs.declared.trees.Joint.TheVariants.{Property}
@@ -24,7 +22,7 @@ use Rattle.object_lang.specs.Pure.{PureSimple, assign, input, create, proto, has
 use Rattle.object_grammar.specs.Reading.{value_at, pair_at, input_at, behind_value, assigned_at, target_at, place_at, set_at, delete_at, begun_by, simple_at}
 use Rattle.object_grammar.specs.Signs.{object_signs}
 use Rattle.object_grammar.specs.Statements.{SpellsExpression, SpellsTarget, SpellsPlace, SpellsSimple}
-use Rattle.object_grammar.proofs.Beginnings.{object_apart, begins_expression, expression_begins, given_so, begun_so, never_closes}
+use Rattle.object_grammar.proofs.Beginnings.{object_apart, expression_begins, given_so, begun_so, never_closes}
 
 -- ---- what is assigned
 

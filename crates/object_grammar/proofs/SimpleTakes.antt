@@ -7,7 +7,6 @@ use Rattle.gil_lexemes.specs.declared.standing.Lexeme.TheVariants as lexemes
 use Rattle.gil_lexemes.specs.Reading.{◌>>=◌, first_form, behind, is_sign, sign_at, name_at}
 use Rattle.gil_lexemes.proofs.ReadingLaws.{bind_some, at_sign_is, sign_takes, name_takes}
 use Rattle.gil_grammar.specs.Reading.Vocabulary.{word_of, input_of_word}
-use Rattle.gil_grammar.specs.Vocabulary.{opening_parenthesis, semicolon}
 use Rattle.gil_grammar.proofs.AssertionLaws.{in_place}
 use Rattle.gil_grammar.proofs.ListLaws.{Takes, found_is}
 use Rattle.gil_grammar.proofs.VocabularyLaws.{input_takes}

@@ -1,12 +1,12 @@
 -- The names and constants of expressions are well made where proper lexemes spell them.
-use Rattle.std.proofs.Common.{◌≡◌, inl, inr, ℕ, List, ◌∷◌, Bool, true, ◌&&◌, Some, refl, sym, subst}
+use Rattle.std.proofs.Common.{◌≡◌, inl, inr, ℕ, List, ◌∷◌, true, ◌&&◌, Some, refl, sym, subst}
 use Rattle.std.specs.List.{list_all}
 use Rattle.std.proofs.lemmas.Bool.{and_from}
 use Rattle.gil_values.specs.Pure.{PureValue}
 use Rattle.gil_lexemes.specs.declared.standing.Lexeme.{Lexeme}
 use Rattle.gil_lexemes.specs.declared.standing.Lexeme.TheVariants.{Name}
 use Rattle.gil_syntax.specs.WellMade.{is_spellable}
-use Rattle.gil_grammar.specs.Vocabulary.{opening_parenthesis, closing_parenthesis, closing_bracket, comma, semicolon}
+use Rattle.gil_grammar.specs.Vocabulary.{closing_parenthesis, closing_bracket, comma, semicolon}
 use Rattle.gil_grammar.proofs.MadeLaws.{IsProper, AreProper, Made, Makes, after, separated_make, program_name}
 use Rattle.source_operators.specs.Operands.{known, named}
 use Rattle.source_operators.specs.Pure.{PureExpression, constant, variable, brackets, prefixed, joined, skipping}

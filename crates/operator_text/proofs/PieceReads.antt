@@ -5,7 +5,7 @@ use Rattle.gil_lexemes.specs.declared.standing.Lexeme.{Lexeme}
 use Rattle.gil_lexemes.specs.Reading.{Reading, form_of, same_sign}
 use Rattle.gil_lexemes.proofs.ReadingLaws.{same_sign-refl}
 use Rattle.gil_grammar.specs.Lists.{SpellsMore, SpellsSeparated}
-use Rattle.gil_grammar.specs.Vocabulary.{opening_parenthesis, closing_parenthesis, comma, semicolon}
+use Rattle.gil_grammar.specs.Vocabulary.{closing_parenthesis, comma, semicolon}
 use Rattle.gil_grammar.proofs.ListLaws.{Again, NeverBegins, separated_again}
 use Rattle.source_operators.specs.Pure.{PureExpression}
 use Rattle.operator_text.specs.Apart.{AreApart}
