@@ -1,5 +1,5 @@
 -- The names and constants of C-like expressions and simple statements are well made where proper lexemes spell them.
-use Rattle.std.proofs.Common.{◌≡◌, ℕ, zero, suc, List, ◌∷◌, Bool, true, false, cond, ◌&&◌, Some, None, refl, sym, subst, inl, inr}
+use Rattle.std.proofs.Common.{◌≡◌, ℕ, zero, suc, List, ◌∷◌, Bool, true, false, cond, ◌&&◌, Some, None, refl, subst, inl, inr}
 use Rattle.std.specs.List.{list_all}
 use Rattle.std.proofs.lemmas.Bool.{and_from, and_parts}
 use Rattle.gil_values.specs.declared.kinds.Kind.TheVariants.{Null}
