@@ -1,6 +1,7 @@
 //! Tests of symbolic memories, evaluation, paths and exploration; the library is empty. `chunks` tests `sym_model`, `notes` tests
-//! `least_memory`, `consuming` tests `core_changes`, `blocks` tests `block_sym`, `records` tests `record_sym`, `evaluation` tests
-//! `sym_evaluation`, `paths` tests `sym_paths`, and `exploration` tests `sym_explore`.
+//! `least_memory`, `consuming` tests `core_changes`, `producing` tests `core_production`, `blocks` tests `block_sym`, `records` tests
+//! `record_sym`, `evaluation` tests `sym_evaluation`, `paths` tests `sym_paths`, and `exploration` tests `sym_explore`. `core_words`
+//! reads chunks and terms in words.
 #![tactic(auto)]
 
 #[cfg(test)]
@@ -10,6 +11,8 @@ mod chunks;
 #[cfg(test)]
 mod consuming;
 #[cfg(test)]
+mod core_words;
+#[cfg(test)]
 mod evaluation;
 #[cfg(test)]
 mod exploration;
@@ -17,5 +20,7 @@ mod exploration;
 mod notes;
 #[cfg(test)]
 mod paths;
+#[cfg(test)]
+mod producing;
 #[cfg(test)]
 mod records;
