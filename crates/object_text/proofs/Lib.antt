@@ -1,1 +1,4 @@
 pub mod OnlySource
+pub mod Reading
+pub mod SimpleMade
+pub mod TextMade

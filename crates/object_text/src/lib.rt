@@ -1,10 +1,12 @@
-//! Reads programs of the object language to their trees.
+//! Reads programs of the object language.
 #![tactic(auto)]
 
 mod expressions;
 mod functions;
+mod laws;
 mod simple;
 mod statements;
 mod texts;
 
-pub use texts::read_trees;
+pub use laws::texts_compile_to_well_made_programs;
+pub use texts::{read, read_trees};
