@@ -8,10 +8,10 @@ ghost use Rattle.gillian_core.specs.Right.{IsProgramOf};
 ghost use Rattle.gillian_core.specs.ObjectLanguage.{object_language, object_sources};
 
 use crate::limits::limit_refused;
-use object_compiler::compile;
-use object_text::read;
 use gil_program::Prog;
 use gil_text::Refused;
+use object_compiler::compile;
+use object_text::read;
 use std::alloc::Global;
 
 /// The compiled program of a text.
