@@ -1,0 +1,10 @@
+pub mod Additions
+pub mod ArgumentLaws
+pub mod Conditions
+pub mod CoreItems
+pub mod FactItems
+pub mod Joining
+pub mod Produced
+pub mod PureItems
+pub mod UseItems
+pub mod Values

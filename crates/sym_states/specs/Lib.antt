@@ -1,0 +1,5 @@
+pub mod Laws
+pub mod Meaning
+pub mod Producing
+pub mod Pure
+pub mod View
