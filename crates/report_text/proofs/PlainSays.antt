@@ -1,0 +1,215 @@
+-- What is read as a report is plain.
+use Rattle.std.proofs.Common.{◌≡◌, ℕ, List, length, Some, subst, inl, inr}
+use Rattle.std.specs.Prelude.{codes}
+use Rattle.std.specs.List.{AllByRecursion}
+use Rattle.std.proofs.lemmas.Option.{same_Some}
+use Rattle.gil_values.specs.declared.places.Place.{Place}
+use Rattle.value_text.specs.Reading.{Reading, ◌>>=◌, behind, behind_or, many_at, name_at, natural_at, any_value_at, bracketed_values_at}
+use Rattle.value_text.proofs.Says.{step, behind_or_says, natural_says, name_says, any_says, bracketed_says, many_says}
+use Rattle.gil_report.specs.declared.heads.Head.{Head}
+use Rattle.gil_report.specs.Pure.{PureAnswer, returned, vanished, cut, no_input, bad_input, number, clean, bytes as length_of, PureReport}
+use Rattle.report_text.specs.Plain.{IsPlainHead, IsPlainPlace, IsPlainAnswer, IsPlain}
+use Rattle.report_text.specs.Reading.{place_at, language_at, mode_at, check_at, sweep_at, entry_at, asked_at, head_at, returned_at, failed_at, no_input_at, bad_input_at, number_at, bug_at, length_at, rarer_at, body_at, answer_at, is_at_end, lines_at, answers_at, report_at}
+
+place_says : (bytes : List ℕ) (y : Place × List ℕ) → place_at bytes ≡ Some y → IsPlainPlace y.0
+unfolding place_at
+place_says bytes y e =
+    let a = step (name_at bytes) _ y e in
+    let b = step (behind (codes ":") a.first.1) _ y a.then_read in
+    let c = step (natural_at 32 b.first) _ y b.then_read in
+    subst (λ p. IsPlainPlace p.0) (same_Some _ _ c.then_read) (name_says bytes a.first a.read, natural_says 32 b.first c.first c.read)
+
+-- ---- heads
+
+abbrev OnlyHeads : Reading Head → Type 0
+OnlyHeads r = (y : Head × List ℕ) → r ≡ Some y → IsPlainHead y.0
+
+check_says : (bytes : List ℕ) → OnlyHeads (check_at bytes)
+unfolding check_at
+check_says bytes y e =
+    let a = step (language_at bytes) _ y e in
+    let b = step (behind (codes " bound ") a.first.1) _ y a.then_read in
+    let c = step (natural_at 32 b.first) _ y b.then_read in
+    let d = step (behind (codes "\n") c.first.1) _ y c.then_read in
+    subst (λ p. IsPlainHead p.0) (same_Some _ _ d.then_read) (natural_says 32 b.first c.first c.read)
+
+sweep_says : (bytes : List ℕ) → OnlyHeads (sweep_at bytes)
+unfolding sweep_at
+sweep_says bytes y e =
+    let c = step (natural_at 32 bytes) _ y e in
+    let d = step (behind (codes "\n") c.first.1) _ y c.then_read in
+    subst (λ p. IsPlainHead p.0) (same_Some _ _ d.then_read) (natural_says 32 bytes c.first c.read)
+
+entry_says : (bytes : List ℕ) → OnlyHeads (entry_at bytes)
+unfolding entry_at
+entry_says bytes y e =
+    let a = step (mode_at bytes) _ y e in
+    let b = step (behind (codes " ") a.first.1) _ y a.then_read in
+    let c = step (language_at b.first) _ y b.then_read in
+    let d = step (behind (codes " entry ") c.first.1) _ y c.then_read in
+    let f = step (name_at d.first) _ y d.then_read in
+    let g = step (behind (codes " bound ") f.first.1) _ y f.then_read in
+    let h = step (natural_at 32 g.first) _ y g.then_read in
+    let i = step (behind (codes "\n") h.first.1) _ y h.then_read in
+    subst (λ p. IsPlainHead p.0) (same_Some _ _ i.then_read) (name_says d.first f.first f.read, natural_says 32 g.first h.first h.read)
+
+solve_says : (rest : List ℕ) (y : Head × List ℕ) → Some (Head.Solve, rest) ≡ Some y → IsPlainHead y.0
+solve_says rest y e = subst (λ p. IsPlainHead p.0) (same_Some (Head.Solve, rest) y e) tt
+
+abbrev asked_last : List ℕ → Reading Head
+asked_last bytes = behind_or (behind (codes "sweep ") bytes) sweep_at (entry_at bytes)
+
+abbrev asked_rest : List ℕ → Reading Head
+asked_rest bytes = behind_or (behind (codes "solve atoms\n") bytes) (λ rest. Some (Head.Solve, rest)) (asked_last bytes)
+
+asked_says : (bytes : List ℕ) → OnlyHeads (asked_at bytes)
+asked_says bytes y e = elim (behind_or_says {X = Head} (behind (codes "check ") bytes) check_at (asked_rest bytes) y e) [
+  | inl (rest, is) ↦ check_says rest y is
+  | inr other ↦ elim (behind_or_says {X = Head} (behind (codes "solve atoms\n") bytes) (λ rest. Some (Head.Solve, rest)) (asked_last bytes) y other) [
+    | inl (rest, is) ↦ solve_says rest y is
+    | inr another ↦ elim (behind_or_says {X = Head} (behind (codes "sweep ") bytes) sweep_at (entry_at bytes) y another) [
+      | inl (rest, is) ↦ sweep_says rest y is
+      | inr is ↦ entry_says bytes y is
+    ]
+  ]
+]
+
+head_says : (bytes : List ℕ) → OnlyHeads (head_at bytes)
+unfolding head_at
+head_says bytes y e = let a = step (behind (codes "gillian ") bytes) asked_at y e in asked_says a.first y a.then_read
+
+-- ---- answers
+
+abbrev OnlyPlain : Reading PureAnswer → Type 0
+OnlyPlain r = (y : PureAnswer × List ℕ) → r ≡ Some y → IsPlainAnswer y.0
+
+-- what is made of something that was read
+made_says : {X : Type 0} (r : Reading X) (make : X → PureAnswer) → ((y : X × List ℕ) → r ≡ Some y → IsPlainAnswer (make y.0)) → OnlyPlain (r >>= λ x. Some (make x.0, x.1))
+made_says r make each y e =
+    let s = step r _ y e in subst (λ p. IsPlainAnswer p.0) (same_Some _ _ s.then_read) (each s.first s.read)
+
+-- an answer of one word
+alone_says : (x : PureAnswer) (rest : List ℕ) → IsPlainAnswer x → (y : PureAnswer × List ℕ) → Some (x, rest) ≡ Some y → IsPlainAnswer y.0
+alone_says x rest is y e = subst (λ p. IsPlainAnswer p.0) (same_Some (x, rest) y e) is
+
+returned_says : (bytes : List ℕ) → OnlyPlain (returned_at bytes)
+unfolding returned_at
+returned_says bytes y e = made_says (any_value_at bytes) returned (λ z f. any_says bytes z f) y e
+
+failed_says : (bytes : List ℕ) → OnlyPlain (failed_at bytes)
+unfolding failed_at
+failed_says bytes y e =
+    let a = step (any_value_at bytes) _ y e in
+    let b = step (behind (codes " ") a.first.1) _ y a.then_read in
+    let c = step (place_at b.first) _ y b.then_read in
+    subst (λ p. IsPlainAnswer p.0) (same_Some _ _ c.then_read) (any_says bytes a.first a.read, place_says b.first c.first c.read)
+
+no_input_says : (bytes : List ℕ) → OnlyPlain (no_input_at bytes)
+unfolding no_input_at
+no_input_says bytes y e = made_says (natural_at 32 bytes) no_input (λ z f. natural_says 32 bytes z f) y e
+
+bad_input_says : (bytes : List ℕ) → OnlyPlain (bad_input_at bytes)
+unfolding bad_input_at
+bad_input_says bytes y e = made_says (natural_at 32 bytes) bad_input (λ z f. natural_says 32 bytes z f) y e
+
+number_says : (bytes : List ℕ) → OnlyPlain (number_at bytes)
+unfolding number_at
+number_says bytes y e = made_says (place_at bytes) number (λ z f. place_says bytes z f) y e
+
+length_says : (bytes : List ℕ) → OnlyPlain (length_at bytes)
+unfolding length_at
+length_says bytes y e = made_says (natural_at 64 bytes) length_of (λ z f. natural_says 64 bytes z f) y e
+
+bug_says : (bytes : List ℕ) → OnlyPlain (bug_at bytes)
+unfolding bug_at
+bug_says bytes y e =
+    let a = step (place_at bytes) _ y e in
+    let b = step (behind (codes " ") a.first.1) _ y a.then_read in
+    let c = step (any_value_at b.first) _ y b.then_read in
+    let d = step (behind (codes " inputs ") c.first.1) _ y c.then_read in
+    let f = step (bracketed_values_at d.first) _ y d.then_read in
+    subst (λ p. IsPlainAnswer p.0) (same_Some _ _ f.then_read) (place_says bytes a.first a.read, any_says b.first c.first c.read, bracketed_says d.first f.first f.read)
+
+-- what is read where none of the words so far stands at the front
+abbrev after_bug : List ℕ → Reading PureAnswer
+after_bug bytes = behind (codes "bytes ") bytes >>= length_at
+
+abbrev after_clean : List ℕ → Reading PureAnswer
+after_clean bytes = behind_or (behind (codes "bug ") bytes) bug_at (after_bug bytes)
+
+abbrev after_number : List ℕ → Reading PureAnswer
+after_number bytes = behind_or (behind (codes "clean") bytes) (λ rest. Some (clean, rest)) (after_clean bytes)
+
+abbrev after_bad_input : List ℕ → Reading PureAnswer
+after_bad_input bytes = behind_or (behind (codes "number ") bytes) number_at (after_number bytes)
+
+rarer_says : (bytes : List ℕ) → OnlyPlain (rarer_at bytes)
+rarer_says bytes y e = elim (behind_or_says {X = PureAnswer} (behind (codes "bad input ") bytes) bad_input_at (after_bad_input bytes) y e) [
+  | inl (rest, is) ↦ bad_input_says rest y is
+  | inr e1 ↦ elim (behind_or_says {X = PureAnswer} (behind (codes "number ") bytes) number_at (after_number bytes) y e1) [
+    | inl (rest, is) ↦ number_says rest y is
+    | inr e2 ↦ elim (behind_or_says {X = PureAnswer} (behind (codes "clean") bytes) (λ rest. Some (clean, rest)) (after_clean bytes) y e2) [
+      | inl (rest, is) ↦ alone_says clean rest tt y is
+      | inr e3 ↦ elim (behind_or_says {X = PureAnswer} (behind (codes "bug ") bytes) bug_at (after_bug bytes) y e3) [
+        | inl (rest, is) ↦ bug_says rest y is
+        | inr e4 ↦ let a = step (behind (codes "bytes ") bytes) length_at y e4 in length_says a.first y a.then_read
+      ]
+    ]
+  ]
+]
+
+abbrev after_cut : List ℕ → Reading PureAnswer
+after_cut bytes = behind_or (behind (codes "no input ") bytes) no_input_at (rarer_at bytes)
+
+abbrev after_vanished : List ℕ → Reading PureAnswer
+after_vanished bytes = behind_or (behind (codes "cut") bytes) (λ rest. Some (cut, rest)) (after_cut bytes)
+
+abbrev after_failed : List ℕ → Reading PureAnswer
+after_failed bytes = behind_or (behind (codes "vanished") bytes) (λ rest. Some (vanished, rest)) (after_vanished bytes)
+
+abbrev after_returned : List ℕ → Reading PureAnswer
+after_returned bytes = behind_or (behind (codes "failed ") bytes) failed_at (after_failed bytes)
+
+body_says : (bytes : List ℕ) → OnlyPlain (body_at bytes)
+body_says bytes y e = elim (behind_or_says {X = PureAnswer} (behind (codes "returned ") bytes) returned_at (after_returned bytes) y e) [
+  | inl (rest, is) ↦ returned_says rest y is
+  | inr e1 ↦ elim (behind_or_says {X = PureAnswer} (behind (codes "failed ") bytes) failed_at (after_failed bytes) y e1) [
+    | inl (rest, is) ↦ failed_says rest y is
+    | inr e2 ↦ elim (behind_or_says {X = PureAnswer} (behind (codes "vanished") bytes) (λ rest. Some (vanished, rest)) (after_vanished bytes) y e2) [
+      | inl (rest, is) ↦ alone_says vanished rest tt y is
+      | inr e3 ↦ elim (behind_or_says {X = PureAnswer} (behind (codes "cut") bytes) (λ rest. Some (cut, rest)) (after_cut bytes) y e3) [
+        | inl (rest, is) ↦ alone_says cut rest tt y is
+        | inr e4 ↦ elim (behind_or_says {X = PureAnswer} (behind (codes "no input ") bytes) no_input_at (rarer_at bytes) y e4) [
+          | inl (rest, is) ↦ no_input_says rest y is
+          | inr is ↦ rarer_says bytes y is
+        ]
+      ]
+    ]
+  ]
+]
+
+answer_says : (bytes : List ℕ) (y : PureAnswer × List ℕ) → answer_at bytes ≡ Some y → IsPlainAnswer y.0
+unfolding answer_at
+answer_says bytes y e =
+    let a = step (body_at bytes) _ y e in
+    let b = step (behind (codes "\n") a.first.1) _ y a.then_read in
+    subst (λ p. IsPlainAnswer p.0) (same_Some _ _ b.then_read) (body_says bytes a.first a.read)
+
+-- ---- reports
+
+lines_say : (bytes : List ℕ) (y : List PureAnswer × List ℕ) → lines_at bytes ≡ Some y → AllByRecursion IsPlainAnswer y.0
+lines_say bytes y e =
+    let a = step (many_at is_at_end answer_at (length bytes) bytes) _ y e in
+    subst (λ p. AllByRecursion IsPlainAnswer p.0) (same_Some _ _ a.then_read)
+    (many_says is_at_end answer_at IsPlainAnswer answer_says (length bytes) bytes a.first a.read)
+
+answers_say : (bytes : List ℕ) (xs : List PureAnswer) → answers_at bytes ≡ Some xs → AllByRecursion IsPlainAnswer xs
+answers_say bytes xs e =
+    let a = step (lines_at bytes) _ xs e in subst (AllByRecursion IsPlainAnswer) (same_Some _ _ a.then_read) (lines_say bytes a.first a.read)
+
+pub report_says : (bytes : List ℕ) (r : PureReport) → report_at bytes ≡ Some r → IsPlain r
+unfolding report_at
+report_says bytes r e =
+    let a = step (head_at bytes) _ r e in
+    let b = step (answers_at a.first.1) _ r a.then_read in
+    subst IsPlain (same_Some _ _ b.then_read) (record { head = head_says bytes a.first a.read; answers = answers_say a.first.1 b.first b.read })

@@ -1,0 +1,141 @@
+-- Reading the lines of reports, as functions: what the readers answer.
+use Rattle.std.specs.Prelude.{ℕ, Bool, true, false, List, [], ◌∷◌, length, Option, Some, codes}
+use Rattle.gil_values.specs.declared.places.Place.{Place}
+use Rattle.gillian_words.specs.declared.tasks.Language.{Language}
+use Rattle.gillian_words.specs.declared.tasks.Language.TheVariants as languages
+use Rattle.value_text.specs.Reading.{Reading, ◌>>=◌, ◌or_else◌, behind, behind_or, word_by, many_at, with_front, name_at, natural_at, any_value_at, bracketed_values_at}
+use Rattle.gil_report.specs.declared.heads.EntryMode.{EntryMode}
+use Rattle.gil_report.specs.declared.heads.EntryMode.TheVariants as modes
+use Rattle.gil_report.specs.declared.heads.Head.{Head}
+use Rattle.gil_report.specs.Pure.{PureAnswer, returned, failed, vanished, cut, no_input, bad_input, number, clean, bug, bytes as length_of, PureReport}
+
+-- `main:4`
+unfoldable pub place_at : List ℕ → Reading Place
+place_at bytes = do
+  x ← name_at bytes
+  inner ← behind (codes ":") x.1
+  n ← natural_at 32 inner
+  Some (record { proc = x.0; at = n.0 }, n.1)
+
+-- ---- heads
+
+abbrev pub language_at : List ℕ → Reading Language
+language_at bytes =
+    word_by (codes "gil-record") languages.GilRecord bytes or_else word_by (codes "gil-block") languages.GilBlock bytes
+    or_else word_by (codes "gil-object") languages.GilObject bytes or_else word_by (codes "while") languages.While bytes
+    or_else word_by (codes "clike") languages.Clike bytes
+
+abbrev pub mode_at : List ℕ → Reading EntryMode
+mode_at bytes =
+    word_by (codes "run") modes.Run bytes or_else word_by (codes "test") modes.Test bytes or_else word_by (codes "infer") modes.Infer bytes
+
+unfoldable pub check_at : List ℕ → Reading Head
+check_at bytes = do
+  language ← language_at bytes
+  after ← behind (codes " bound ") language.1
+  n ← natural_at 32 after
+  rest ← behind (codes "\n") n.1
+  Some (Head.Check language.0 n.0, rest)
+
+unfoldable pub sweep_at : List ℕ → Reading Head
+sweep_at bytes = do
+  n ← natural_at 32 bytes
+  rest ← behind (codes "\n") n.1
+  Some (Head.Sweep n.0, rest)
+
+unfoldable pub entry_at : List ℕ → Reading Head
+entry_at bytes = do
+  mode ← mode_at bytes
+  after ← behind (codes " ") mode.1
+  language ← language_at after
+  before ← behind (codes " entry ") language.1
+  entry ← name_at before
+  count ← behind (codes " bound ") entry.1
+  n ← natural_at 32 count
+  rest ← behind (codes "\n") n.1
+  Some (Head.Entry mode.0 language.0 entry.0 n.0, rest)
+
+abbrev pub asked_at : List ℕ → Reading Head
+asked_at bytes =
+    behind_or (behind (codes "check ") bytes) check_at
+    (behind_or (behind (codes "solve atoms\n") bytes) (λ rest. Some (Head.Solve, rest))
+    (behind_or (behind (codes "sweep ") bytes) sweep_at
+    (entry_at bytes)))
+
+unfoldable pub head_at : List ℕ → Reading Head
+head_at bytes = behind (codes "gillian ") bytes >>= asked_at
+
+-- ---- answers
+
+unfoldable pub returned_at : List ℕ → Reading PureAnswer
+returned_at bytes = any_value_at bytes >>= λ v. Some (returned v.0, v.1)
+
+unfoldable pub failed_at : List ℕ → Reading PureAnswer
+failed_at bytes = do
+  v ← any_value_at bytes
+  after ← behind (codes " ") v.1
+  place ← place_at after
+  Some (failed v.0 place.0, place.1)
+
+unfoldable pub no_input_at : List ℕ → Reading PureAnswer
+no_input_at bytes = natural_at 32 bytes >>= λ n. Some (no_input n.0, n.1)
+
+unfoldable pub bad_input_at : List ℕ → Reading PureAnswer
+bad_input_at bytes = natural_at 32 bytes >>= λ n. Some (bad_input n.0, n.1)
+
+unfoldable pub number_at : List ℕ → Reading PureAnswer
+number_at bytes = place_at bytes >>= λ place. Some (number place.0, place.1)
+
+unfoldable pub bug_at : List ℕ → Reading PureAnswer
+bug_at bytes = do
+  place ← place_at bytes
+  after ← behind (codes " ") place.1
+  v ← any_value_at after
+  before ← behind (codes " inputs ") v.1
+  inputs ← bracketed_values_at before
+  Some (bug place.0 v.0 inputs.0, inputs.1)
+
+unfoldable pub length_at : List ℕ → Reading PureAnswer
+length_at bytes = natural_at 64 bytes >>= λ n. Some (length_of n.0, n.1)
+
+abbrev pub rarer_at : List ℕ → Reading PureAnswer
+rarer_at bytes =
+    behind_or (behind (codes "bad input ") bytes) bad_input_at
+    (behind_or (behind (codes "number ") bytes) number_at
+    (behind_or (behind (codes "clean") bytes) (λ rest. Some (clean, rest))
+    (behind_or (behind (codes "bug ") bytes) bug_at
+    (behind (codes "bytes ") bytes >>= length_at))))
+
+abbrev pub body_at : List ℕ → Reading PureAnswer
+body_at bytes =
+    behind_or (behind (codes "returned ") bytes) returned_at
+    (behind_or (behind (codes "failed ") bytes) failed_at
+    (behind_or (behind (codes "vanished") bytes) (λ rest. Some (vanished, rest))
+    (behind_or (behind (codes "cut") bytes) (λ rest. Some (cut, rest))
+    (behind_or (behind (codes "no input ") bytes) no_input_at
+    (rarer_at bytes)))))
+
+-- a whole line
+unfoldable pub answer_at : List ℕ → Reading PureAnswer
+answer_at bytes = do
+  x ← body_at bytes
+  rest ← behind (codes "\n") x.1
+  Some (x.0, rest)
+
+-- ---- reports
+
+abbrev pub is_at_end : List ℕ → Bool
+is_at_end [] = true
+is_at_end (b ∷ bytes) = false
+
+abbrev pub lines_at : List ℕ → Reading (List PureAnswer)
+lines_at bytes = with_front [] (many_at is_at_end answer_at (length bytes) bytes)
+
+abbrev pub answers_at : List ℕ → Option (List PureAnswer)
+answers_at bytes = lines_at bytes >>= λ x. Some x.0
+
+unfoldable pub report_at : List ℕ → Option PureReport
+report_at bytes = do
+  head ← head_at bytes
+  answers ← answers_at head.1
+  Some (record { head = head.0; answers = answers })

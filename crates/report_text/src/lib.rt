@@ -1,0 +1,10 @@
+//! Reports that are read back from their lines.
+#![tactic(auto)]
+
+mod answers;
+mod heads;
+mod laws;
+mod reading;
+
+pub use laws::printing_tells_reports;
+pub use reading::read_plain_report;
