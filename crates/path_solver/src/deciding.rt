@@ -58,7 +58,7 @@ fn decide_sorted(
 }
 
 /// What a decider says of a list of the fragment, of which this is found.
-fn decision_of(vars: &VarTable, atoms: &Atoms, found: Found) -> Decision
+pub(crate) fn decision_of(vars: &VarTable, atoms: &Atoms, found: Found) -> Decision
     requires over { AreOver vars.now (atoms_view atoms.now) }
     requires found { IsFound vars.now (atoms_view atoms.now) found }
     ensures right { IsRight vars.now (atoms_view atoms.now) (decision_view result) }

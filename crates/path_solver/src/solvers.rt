@@ -1,32 +1,39 @@
 //! The decider and refuter that solves, and keeps what it was asked last.
-ghost use Rattle.std.specs.Prelude.{◌≡◌, ◌≤◌, ◌∷◌, ◌++◌, [], length, take, IfOk, OnOk, OnErr};
+ghost use Rattle.std.specs.Prelude.{◌≡◌, ◌≤◌, ◌∷◌, ◌++◌, [], length, take, IfOk, IfSome, OnOk, OnErr};
 ghost use Rattle.std.specs.Option.{option_map};
 ghost use Rattle.pure_terms.specs.Deciding.{IsRight};
 ghost use Rattle.pure_terms.specs.Meaning.{AreOver};
 ghost use Rattle.pure_terms.specs.View.{atom_view, atoms_view, decision_view};
 ghost use Rattle.solver_proof.specs.Refuting.{RefutesRightly};
 ghost use Rattle.solver_proof.specs.View.{proof_view};
+ghost use Rattle.path_solver.specs.Searching.{IsFound};
 ghost use Rattle.path_solver.specs.Solving.{IsSolved, IsDecidedWhenSorted, solution_view};
 ghost use Rattle.path_solver.specs.Standing.{table_of, list_of};
 
-use crate::deciding::decide_on;
+use crate::deciding::{decide_on, decision_of};
 use crate::lists::{common, copy_of_table, cut_to};
+use crate::outside::first_outside;
+use crate::searching::Found;
 use crate::solutions::Solution;
 use crate::solving::solve_on;
-use pure_terms::{Atom, Atoms, Decider, Decision, VarTable};
+use pure_terms::{Atom, Atoms, Decider, Decision, Valuation, VarTable};
 use rewrite_book::RuleBook;
+use solver_parts::{Part, broken_part, fitted, near_values};
 use solver_proof::{Proof, Refuter};
 use std::alloc::{AllocError, Global};
 
 /// A decider that proves what it refutes. It asks no rules. A list that isn't of the fragment is decided with the sorts that it says
 /// of its variables. A table and a list stand in it from one question to the next, to which atoms are added and from which they are
-/// cut.
+/// cut. Values that satisfied a list are kept: where they still do, or when they are moved, they are the answer, and else the part of the
+/// list that they break is solved by itself. Only where that doesn't serve the whole list is searched.
 #[derive(Drop)]
 pub struct PathSolver {
     vars: VarTable,
     list: Atoms,
     /// The list that is searched.
     searched: Atoms,
+    /// What satisfied the last list that was satisfied.
+    values: Valuation,
 }
 
 impl PathSolver {
@@ -39,6 +46,7 @@ impl PathSolver {
             vars: VarTable::new(alloc),
             list: Atoms::new(alloc),
             searched: Atoms::new(alloc),
+            values: Valuation::new(alloc),
         }
     }
 
@@ -80,7 +88,74 @@ impl PathSolver {
         ensures right { IfOk result (λ decision. IsRight (table_of self.old) (list_of self.old) (decision_view decision)) }
         ensures decided { IfOk result (λ decision. IsDecidedWhenSorted (table_of self.old) (list_of self.old) (decision_view decision)) }
     {
-        decide_on(alloc, &self.vars, &self.list, &mut self.searched)
+        if first_outside(&self.list).is_none() {
+            if let Some(found) = self.known(alloc)? {
+                self.keep(alloc, &found)?;
+                return Ok(decision_of(&self.vars, &self.list, found));
+            }
+        }
+        let decision = decide_on(alloc, &self.vars, &self.list, &mut self.searched)?;
+        if let Decision::Sat(values) = &decision {
+            self.values = values.copy(alloc)?;
+        }
+        Ok(decision)
+    }
+
+    /// What the values that are kept show of the list that stands, if they do.
+    fn known(&mut self, alloc: Global) -> Result<Option<Found>, AllocError>
+        ensures table { table_of self.new ≡ table_of self.old }
+        ensures list { list_of self.new ≡ list_of self.old }
+        ensures found { IfOk result (λ found. IfSome found (IsFound (table_of self.old) (list_of self.old))) }
+    {
+        let values = fitted(alloc, &self.vars, &self.values)?;
+        if let Some(near) = near_values(alloc, &self.vars, &self.list, &values)? {
+            return Ok(Some(Found::Model(near)));
+        }
+        match broken_part(alloc, &self.vars, &self.list, &values)? {
+            Some(part) => self.known_by_part(alloc, &values, &part),
+            None => Ok(None),
+        }
+    }
+
+    /// What solving a part by itself shows of the list that stands.
+    fn known_by_part(
+        &mut self,
+        alloc: Global,
+        values: &Valuation,
+        part: &Part,
+    ) -> Result<Option<Found>, AllocError>
+        requires { AreOver part.now.vars (atoms_view part.now.atoms) }
+        ensures table { table_of self.new ≡ table_of self.old }
+        ensures list { list_of self.new ≡ list_of self.old }
+        ensures found { IfOk result (λ found. IfSome found (IsFound (table_of self.old) (list_of self.old))) }
+    {
+        let none = RuleBook::new(alloc);
+        match solve_on(alloc, &part.vars, &part.atoms, &none, &mut self.searched)? {
+            Solution::Sat(found) => {
+                match part.values(alloc, &self.vars, &self.list, values, &found)? {
+                    Some(all) => Ok(Some(Found::Model(all))),
+                    None => Ok(None),
+                }
+            }
+            Solution::Unsat(proof) => {
+                match part.proof(alloc, &self.vars, &self.list, &proof)? {
+                    Some(whole) => Ok(Some(Found::Closed(whole))),
+                    None => Ok(None),
+                }
+            }
+            Solution::Unknown(_) => Ok(None),
+        }
+    }
+
+    /// Keeps the values that were found.
+    fn keep(&mut self, alloc: Global, found: &Found) -> Result<(), AllocError>
+        ensures table { table_of self.new ≡ table_of self.old }
+        ensures list { list_of self.new ≡ list_of self.old }
+    {
+        if let Found::Model(values) = found {
+            self.values = values.copy(alloc)?;
+        }
+        Ok(())
     }
 
     /// A proof that closes the list that stands, and None only where it isn't in the fragment or some proper valuation makes every

@@ -15,3 +15,4 @@ mod testing;
 mod values;
 
 pub use guessing::{Guess, guess_at};
+pub use testing::is_model;

@@ -33,7 +33,7 @@ fn are_true(alloc: Global, atoms: &Atoms, valuation: &Valuation) -> Result<bool,
 }
 
 /// Whether values are surely a model of a list.
-pub(crate) fn is_model(
+pub fn is_model(
     alloc: Global,
     vars: &VarTable,
     list: &Atoms,
