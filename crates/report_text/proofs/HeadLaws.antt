@@ -42,6 +42,7 @@ language_again languages.GilBlock rest = refl
 language_again languages.GilObject rest = refl
 language_again languages.While rest = refl
 language_again languages.Clike rest = refl
+language_again languages.Object rest = refl
 
 mode_again : (m : EntryMode) (rest : List ℕ) → mode_at (mode_word m ++ rest) ≡ Some (m, rest)
 unfolding behind

@@ -23,7 +23,7 @@ abbrev pub language_at : List ℕ → Reading Language
 language_at bytes =
     word_by (codes "gil-record") languages.GilRecord bytes or_else word_by (codes "gil-block") languages.GilBlock bytes
     or_else word_by (codes "gil-object") languages.GilObject bytes or_else word_by (codes "while") languages.While bytes
-    or_else word_by (codes "clike") languages.Clike bytes
+    or_else word_by (codes "clike") languages.Clike bytes or_else word_by (codes "object") languages.Object bytes
 
 abbrev pub mode_at : List ℕ → Reading EntryMode
 mode_at bytes =

@@ -36,8 +36,11 @@ fn language_at(bytes: &[u8]) -> Result<(Language, &[u8]), ReadFault>
     if let Some(rest) = behind("while", bytes) {
         return Ok((Language::While, rest));
     }
-    let rest = expect("clike", bytes)?;
-    Ok((Language::Clike, rest))
+    if let Some(rest) = behind("clike", bytes) {
+        return Ok((Language::Clike, rest));
+    }
+    let rest = expect("object", bytes)?;
+    Ok((Language::Object, rest))
 }
 
 /// The mode at the front, of those that ask about an entry.
