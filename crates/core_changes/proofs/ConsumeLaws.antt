@@ -7,6 +7,7 @@ use Rattle.std.specs.Prelude.{⊤}
 use Rattle.gil_values.proofs.OperatorSymbols.{none_contained}
 use Rattle.gil_values.specs.Pure.{PureValue, symbol, boolean}
 use Rattle.core_changes.specs.Consuming.{key_given, consumed_cases, consumed, consumed_by, ConsumeChunks, Consume}
+use Rattle.core_changes.proofs.ConsumeNarrow.{consumes_narrowly}
 use Rattle.core_changes.proofs.EntryLaws.{GivesKey, gives_key, entry_at, entry_key, outs_have}
 use Rattle.core_changes.proofs.KeyLaws.{HaveValues, told_key, no_key_lacks}
 use Rattle.core_uses.specs.Kept.{IsKept, AreKept}
@@ -340,7 +341,7 @@ module _ (memory : MemoryName) (name : List ℕ) (k : PureKey) (cs : List PureCh
       k tt (any_term (sub_terms k.sub)) tt (any_term (sub_terms k.sub)) of_memory (λ c fine. tt))
 
   key_consumed : ConsumeChunks memory name (k.loc ∷ sub_terms k.sub) cs (consumed (Some k) cs)
-  key_consumed = record { laws = key_law; plain = key_plain; kept = key_kept }
+  key_consumed = record { laws = key_law; plain = key_plain; narrow = consumes_narrowly name k cs is_core; kept = key_kept }
 
 -- ---- by name and ins
 

@@ -1,3 +1,4 @@
 pub mod ConsumeLaws
+pub mod ConsumeNarrow
 pub mod EntryLaws
 pub mod KeyLaws

@@ -10,7 +10,7 @@ use Rattle.sym_chunks.specs.Cases.{ChunkBranches, PureCase, case_of, choose, tak
 use Rattle.sym_chunks.specs.Keys.{other_sub}
 use Rattle.sym_conditions.specs.Alternatives.{always}
 use Rattle.sym_model.specs.Chunks.{StandFor, terms_of}
-use Rattle.sym_model.specs.CoreLaws.{ConsumeLaw, ConsumesPlainly}
+use Rattle.sym_model.specs.CoreLaws.{ConsumeLaw, ConsumesPlainly, ConsumesNarrowly}
 use Rattle.sym_model.specs.Cores.{TakesIns}
 use Rattle.sym_model.specs.Lists.{Each}
 use Rattle.sym_model.specs.Plain.{IsPlainState}
@@ -40,11 +40,12 @@ abbrev pub consumed_by : Option Core → List PureTerm → List PureChunk → Ch
 consumed_by (Some core) ins cs = consumed (key_given core ins) cs
 consumed_by None ins cs = []
 
--- The branches keep the laws of consumption for every memory that has the core predicate: they are plain from plain states, and keep
--- what lists of chunks keep.
+-- The branches keep the laws of consumption for every memory that has the core predicate: they are plain from plain states and narrow
+-- from narrow ones, and keep what lists of chunks keep.
 pub record ConsumeChunks (memory : MemoryName) (core : List ℕ) (ins : List PureTerm) (cs : List PureChunk) (bs : ChunkBranches) : Type 0 where
   pub laws : ConsumeLaw memory (StandFor memory) terms_of core ins cs bs
   pub plain : ConsumesPlainly (λ ds. IsPlainState memory (terms_of ds)) ins cs bs
+  pub narrow : ConsumesNarrowly terms_of core ins cs bs
   pub kept : AreKept memory cs → Each (λ b. AreKept memory b.state) bs
 
 abbrev pub Consume : List ℕ → List PureTerm → List PureChunk → ChunkBranches → Type 0

@@ -11,6 +11,7 @@ pub mod HeapFacts
 pub mod Loops
 pub mod NameLists
 pub mod NamesHeld
+pub mod Narrow
 pub mod Opening
 pub mod OrderLaws
 pub mod PlaceLaws
