@@ -6,7 +6,7 @@ use Rattle.std.proofs.lemmas.Bool.Decides.{Decides-eqb}
 use Rattle.gil_values.specs.declared.kinds.Kind.{Kind}
 use Rattle.gil_values.specs.Pure.{PureValue, symbol, text, integer, boolean, list, kind_of, to_list-from_list as values_back}
 use Rattle.core_production.specs.Producing.{are_names, is_right, needs_form, listed_unless_open, fits, has_open_names}
-use Rattle.core_production.proofs.NameLists.{list_value, listed_holds, holds_listed, distinct_holds, holds_distinct}
+use Rattle.sym_chunks.proofs.NameLists.{list_value, listed_holds, holds_listed, distinct_holds, holds_distinct}
 use Rattle.core_uses.proofs.ListingLaws.{key_parts}
 use Rattle.mem_model.specs.declared.keys.Key.{Key}
 use Rattle.mem_model.specs.declared.keys.Sub.{Sub}

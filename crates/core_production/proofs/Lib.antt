@@ -1,6 +1,6 @@
 pub mod FitLaws
 pub mod FixLaws
-pub mod NameLists
 pub mod ProduceLaws
+pub mod ProduceNarrow
 pub mod ProduceShapes
 pub mod Wrapped

@@ -14,6 +14,7 @@ use Rattle.core_changes.proofs.EntryLaws.{gives_key}
 use Rattle.core_changes.proofs.KeyLaws.{HaveValues}
 use Rattle.core_production.specs.Producing.{held_by, are_names, is_right, needs_form, fits_beside, has_open_names, fits_closed, opened_there, opened_at, may_stand, added, opened_unless_list, produced_at, produced, chunk_of, produced_if, chunk_given, produced_by, ProduceChunks, Produce}
 use Rattle.core_production.proofs.FitLaws.{is_open_beside, IsAlone, held_alone, alone_well_formed, well_formed_alone, at_key, no_list_literal, not_same, Told, sub_told, told_of, fits_differ, fits_together, fits_from, right_gives, right_from}
+use Rattle.core_production.proofs.ProduceNarrow.{produces_narrowly}
 use Rattle.core_production.proofs.ProduceShapes.{asked_of_new, ZeroOrders, NamesOpen, stand_shaped, stand_closed_shaped, same_places, produced_shaped, none_at_shape}
 use Rattle.core_uses.specs.Kept.{IsKept, AreKept}
 use Rattle.core_uses.specs.Uses.{outs_at}
@@ -823,7 +824,7 @@ module _ (memory : MemoryName) (name : List ℕ) (n : PureChunk) (cs : List Pure
       (names_open (kept_reading memory) n.sub n.val (λ no_list no_literal. tt)))
 
   chunk_produced : ProduceChunks memory name (n.loc ∷ sub_terms n.sub) (outs_at n.sub n.val) cs (produced n cs)
-  chunk_produced = record { laws = chunk_law; forms = chunk_forms; plain = chunk_plain; kept = chunk_kept }
+  chunk_produced = record { laws = chunk_law; forms = chunk_forms; plain = chunk_plain; narrow = produces_narrowly name n cs is_core; kept = chunk_kept }
 
 -- ---- by name, ins and outs
 

@@ -10,7 +10,7 @@ use Rattle.pure_terms.specs.Pure.{PureTerm}
 use Rattle.sym_chunks.specs.Wrapped.{chunks_stand, chunks_terms, seen}
 use Rattle.sym_chunks.proofs.Wrapping.{each_seen, one_seen, serves_chunks}
 use Rattle.sym_model.specs.Chunks.{StandFor, terms_of}
-use Rattle.sym_model.specs.CoreLaws.{ProduceLaw, ProducesWhatMatters, ProducesPlainly, ConsumeLaw, ConsumesPlainly, IsConsumed, IsNoFailure}
+use Rattle.sym_model.specs.CoreLaws.{ProduceLaw, ProducesWhatMatters, ProducesPlainly, ProducesNarrowly, ConsumeLaw, ConsumesPlainly, ConsumesNarrowly, IsConsumed, IsNoFailure}
 use Rattle.sym_model.specs.Listing.{IsListing}
 use Rattle.sym_model.specs.Lists.{Each}
 use Rattle.sym_model.specs.Plain.{IsPlainState}
@@ -46,6 +46,9 @@ module _ {S : Type 0} (view : S → List PureChunk) (memory : MemoryName) (s : S
       wrapped_plain plain said low high is uses =
           each_seen view _ _ (λ b fine. (fine.0, ((said b.state _ _).1 fine.1.0, fine.1.1))) bs (chunks.plain low high ((said s low high).0 is) uses)
 
+      pub wrapped_narrow : ProducesNarrowly (chunks_terms view) name ins outs s bs
+      wrapped_narrow low high is_prop around is given = each_seen view _ _ (λ b fine. fine) bs (chunks.narrow low high is_prop around is given)
+
       pub wrapped_kept : AreKept memory (view s) → Each (λ b. AreKept memory (view b.state)) bs
       wrapped_kept kept = each_seen view (λ b. AreKept memory b.state) (λ b. AreKept memory (view b.state)) (λ b is. is) bs (chunks.kept kept)
 
@@ -76,6 +79,9 @@ module _ {S : Type 0} (view : S → List PureChunk) (memory : MemoryName) (s : S
       pub wrapped_consumes_plainly : (plain : S → ℤ → ℤ → Type 0) → ((t : S) (low high : ℤ) → plain t low high ↔ IsPlainState memory (terms_of (view t)) low high) → ConsumesPlainly plain ins s bs
       wrapped_consumes_plainly plain said low high is around given =
           each_seen view _ _ (λ b fine. (fine.0, ((said b.state _ _).1 fine.1.0, fine.1.1))) bs (chunks.plain low high ((said s low high).0 is) around given)
+
+      pub wrapped_consumes_narrowly : ConsumesNarrowly (chunks_terms view) name ins s bs
+      wrapped_consumes_narrowly low high is_prop around is given = each_seen view _ _ (λ b fine. fine) bs (chunks.narrow low high is_prop around is given)
 
       pub wrapped_consumed_kept : AreKept memory (view s) → Each (λ b. AreKept memory (view b.state)) bs
       wrapped_consumed_kept kept = each_seen view (λ b. AreKept memory b.state) (λ b. AreKept memory (view b.state)) (λ b is. is) bs (chunks.kept kept)

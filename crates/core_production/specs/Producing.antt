@@ -15,7 +15,7 @@ use Rattle.sym_chunks.specs.NameTerms.{listed, distinct_from}
 use Rattle.sym_chunks.specs.Ordering.{inside}
 use Rattle.sym_conditions.specs.Alternatives.{Alternatives, never, always, both, any, same, other, of_kind}
 use Rattle.sym_model.specs.Chunks.{StandFor, terms_of}
-use Rattle.sym_model.specs.CoreLaws.{ProduceLaw, ProducesWhatMatters, ProducesPlainly}
+use Rattle.sym_model.specs.CoreLaws.{ProduceLaw, ProducesWhatMatters, ProducesPlainly, ProducesNarrowly}
 use Rattle.sym_model.specs.Cores.{TakesBoth}
 use Rattle.sym_model.specs.Lists.{Each}
 use Rattle.sym_model.specs.Plain.{IsPlainState}
@@ -165,11 +165,12 @@ produced_by (Some core) ins outs cs = produced_if (chunk_given (key_given core i
 produced_by None ins outs cs = []
 
 -- The branches keep the laws of production for every memory that has the core predicate: a literal form is needed only where it
--- matters, they are plain from plain states, and keep what lists of chunks keep.
+-- matters, they are plain from plain states and narrow from narrow ones, and keep what lists of chunks keep.
 pub record ProduceChunks (memory : MemoryName) (core : List ℕ) (ins outs : List PureTerm) (cs : List PureChunk) (bs : ChunkBranches) : Type 0 where
   pub laws : ProduceLaw memory (StandFor memory) terms_of core ins outs cs bs
   pub forms : ProducesWhatMatters memory (StandFor memory) terms_of core ins outs cs bs
   pub plain : ProducesPlainly (λ ds. IsPlainState memory (terms_of ds)) core ins outs cs bs
+  pub narrow : ProducesNarrowly terms_of core ins outs cs bs
   pub kept : AreKept memory cs → Each (λ b. AreKept memory b.state) bs
 
 abbrev pub Produce : List ℕ → List PureTerm → List PureTerm → List PureChunk → ChunkBranches → Type 0
