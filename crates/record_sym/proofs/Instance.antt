@@ -18,6 +18,7 @@ use Rattle.sym_model.specs.Cores.{MissesItsOwn}
 use Rattle.sym_model.specs.Forms.{OpenWhatMatters}
 use Rattle.sym_model.specs.Laws.{MayBeAsked, ActLaw, ActsPlainly}
 use Rattle.sym_model.specs.Lists.{Each}
+use Rattle.sym_model.specs.Plain.{ActsNarrowly}
 use Rattle.sym_model.specs.Pure.{PureBranch}
 use Rattle.sym_model.specs.View.{branches_view}
 use Rattle.sym_chunks.proofs.CaseLaws.{Branch as ChunkBranch}
@@ -25,6 +26,7 @@ use Rattle.sym_chunks.proofs.Opening.{Opens}
 use Rattle.sym_chunks.proofs.Wrapping.{each_seen, serves_chunks, wrapped_law}
 use Rattle.record_sym.proofs.FormLaws.{table_depends}
 use Rattle.record_sym.proofs.Law.{table_law, table_plain, table_keeps, table_misses}
+use Rattle.record_sym.proofs.NarrowLaws.{table_narrow}
 
 -- the branches over states, seen as those over lists of chunks
 as_seen : (ds : List (Branch RecordSym)) → map (seen state_view) (branches_view ds) ≡ record_branches_view ds
@@ -59,3 +61,6 @@ module _ (action : List ℕ) (fresh : Option Var) (args : List PureTerm) (s : Re
 
     pub acts_plainly : ActsPlainly record_plain action args s (branches_view bs)
     acts_plainly low high plain arguments = from_table _ _ (λ b is. is) (table_plain (action_of action) action fresh args (state_view s) refl asked low high plain arguments)
+
+    pub acts_narrowly : ActsNarrowly record_terms action args s (branches_view bs)
+    acts_narrowly low high narrow arguments = from_table _ _ (λ b is. is) (table_narrow action fresh args (state_view s) asked low high narrow arguments)

@@ -7,6 +7,7 @@ pub mod Listing
 pub mod Loops
 pub mod Missing
 pub mod NameRight
+pub mod NarrowLaws
 pub mod NewLaws
 pub mod PropertyLaws
 pub mod RecordShapes

@@ -62,7 +62,7 @@ impl SymMemory for RecordSym {
 
     ghost keeps_plain = { ⊤ };
 
-    ghost keeps_narrow = { ⊥ };
+    ghost keeps_narrow = { ⊤ };
 
     ghost kept = { record_kept };
 

@@ -1,7 +1,7 @@
 use Rattle.pure_terms.specs.View.{terms_view}
 use Rattle.sym_chunks.proofs.Elements.{ok_to}
 use Rattle.sym_model.specs.View.{branches_view}
-use Rattle.record_sym.proofs.Listing.{consume_law, consumes_plainly, consume_keeps}
+use Rattle.record_sym.proofs.Listing.{consume_law, consumes_plainly, names_consumed_narrowly, consume_keeps}
 use Rattle.record_sym.proofs.listed.RecordSymListedMemory.consume.Goals as goal
 
 pub returns-clause-laws : goal.returns-clause-laws
@@ -11,6 +11,10 @@ returns-clause-laws c =
 pub returns-clause-plain : goal.returns-clause-plain
 returns-clause-plain c =
     λ keeps. ok_to c.with_states.result _ _ (λ bs is. consumes_plainly c.args.core.now (terms_view c.args.ins.now) c.args.self.now (branches_view bs) _ is c.requires c.in_ok-branches.ensures) c.with_states.ensures
+
+pub returns-clause-narrow : goal.returns-clause-narrow
+returns-clause-narrow c =
+    λ keeps. ok_to c.with_states.result _ _ (λ bs is. names_consumed_narrowly c.args.core.now (terms_view c.args.ins.now) c.args.self.now (branches_view bs) _ is c.requires c.in_ok-branches.ensures) c.with_states.ensures
 
 pub returns-clause-kept : goal.returns-clause-kept
 returns-clause-kept c =
