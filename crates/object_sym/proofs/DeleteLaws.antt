@@ -13,12 +13,12 @@ use Rattle.mem_model.specs.Keys.{key}
 use Rattle.mem_model.specs.Names.{is_name_list, lists_name}
 use Rattle.mem_model.specs.Tables.{does, misses}
 use Rattle.object_heap.specs.Table.{without_name, delete_property}
-use Rattle.object_sym.specs.Table.{missed_key, missed_name, taken_from, taken, relisted, taken_each, deleted_there, deleted_from, delete_cases}
+use Rattle.object_sym.specs.Table.{taken_from, taken, relisted, taken_each, deleted_there, deleted_from, delete_cases}
 use Rattle.pure_terms.specs.declared.variables.Sort.{Sort}
 use Rattle.pure_terms.specs.Meaning.{value, values, all_true, IsProper, IsOver}
 use Rattle.pure_terms.specs.Pure.{PureTerm, literal, variable, list_of, unary_of, binary_of, PureTerms, to_list, from_list}
 use Rattle.sym_chunks.specs.ByPlace.{all_by_place}
-use Rattle.sym_chunks.specs.Cases.{PureCase, case_of, true_term}
+use Rattle.sym_chunks.specs.Cases.{PureCase, case_of, true_term, missed_key, missed_name}
 use Rattle.sym_chunks.specs.Forms.{form_of}
 use Rattle.sym_chunks.specs.Keys.{other_sub, at_key}
 use Rattle.sym_chunks.specs.Laws.{IsLocation, IsKeyOf}
@@ -37,11 +37,12 @@ use Rattle.sym_model.proofs.Unions.{held_changes, taken_out, remove-insert_other
 use Rattle.sym_chunks.proofs.CaseLaws.{IsFor, IsExactCase, made_exact, made_comes, needed_open}
 use Rattle.sym_chunks.proofs.Facts.{Fact, key_tells, loc_tells}
 use Rattle.sym_chunks.proofs.FoundLaws.{at_chunk, lacks_key, key_lacks}
-use Rattle.object_sym.proofs.ChunkFacts.{lies_at}
+use Rattle.sym_chunks.proofs.ChunkFacts.{lies_at, val_over, val_is}
+use Rattle.sym_chunks.proofs.NameLists.{elements_over, list_value, listed_holds, holds_listed, unlisted_holds, holds_unlisted}
+use Rattle.sym_chunks.proofs.NamesHeld.{form_is_needed}
 use Rattle.object_sym.proofs.HeapLaws.{delete_absent, delete_taken, delete_missed, delete_nowhere}
 use Rattle.object_sym.proofs.ListValues.{values_append, values_split, list_is, given_values, without_is, held_elsewhere}
-use Rattle.object_sym.proofs.NameLists.{elements_over, list_value, listed_holds, holds_listed, unlisted_holds, holds_unlisted}
-use Rattle.object_sym.proofs.PropertyLaws.{Comes, form_is_needed, val_over, val_is, dom_of, stands_now, dom_asked, dom_at, holds_at, names_at, name_asked}
+use Rattle.object_sym.proofs.PropertyLaws.{Comes, dom_of, stands_now, dom_asked, dom_at, holds_at, names_at, name_asked}
 use Rattle.object_sym.proofs.SetLaws.{name_is_no_list}
 
 module _ (vars : List Sort) (v : List PureValue) (h : Heap) (proper : IsProper vars v) (cs : List PureChunk) (union : IsUnion v cs h) (facts : Each (Fact vars v h) cs) (is_heap : IsHeapOf Object h)
@@ -194,13 +195,13 @@ module _ (vars : List Sort) (v : List PureValue) (h : Heap) (proper : IsProper v
 
   module _ (i : ℕ) (c : PureChunk) (f : Fact vars v h c) (there : slice_get cs i ≡ Some c) (is_dom : c.sub ≡ dom) (ts : PureTerms) (is_list : c.val ≡ list_of ts) where
     over_list : IsOver vars (list_of ts)
-    over_list = val_over vars v h proper c f (list_of ts) is_list
+    over_list = val_over vars v h c f (list_of ts) is_list
 
     -- what is known of the elements before one, of it, and of those after it
     with_values : {X : Type 0} (before : List PureTerm) (e : PureTerm) (es : List PureTerm) → before ++ e ∷ es ≡ to_list ts
         → ((us ws : List PureValue) (w : PureValue) → values v (from_list before) ≡ Some us → value v e ≡ Some w → values v (from_list es) ≡ Some ws → f.w ≡ list (list_values (us ++ w ∷ ws)) → X) → X
     with_values before e es split use_it =
-        let (zs, (have, whole)) = list_value v ts f.w (val_is vars v h proper c f (list_of ts) is_list) in
+        let (zs, (have, whole)) = list_value v ts f.w (val_is vars v h c f (list_of ts) is_list) in
         let (us, (more, (first, second, parts))) = values_split v before (e ∷ es) zs (ap (λ xs. values v (from_list xs)) split ∙ given_values v ts zs have) in
         let (w, (ws, (at_e, after, joined))) = value_parts (value v e) (values v (from_list es)) more second in
         use_it us ws w first at_e after (whole ∙ ap (λ ks. list (list_values ks)) (parts ∙ ap (λ k. us ++ k) joined))
@@ -211,7 +212,7 @@ module _ (vars : List Sort) (v : List PureValue) (h : Heap) (proper : IsProper v
     -- an element with the name is one of the list
     element_named : (before : List PureTerm) (e : PureTerm) (es : List PureTerm) → before ++ e ∷ es ≡ to_list ts → (w : PureValue) → value v e ≡ Some w → w ≡ text n → lists_name f.w n ≡ true
     element_named before e es split w have is_n =
-        listed_holds vars v proper p n over_p is_p ts f.w over_list (val_is vars v h proper c f (list_of ts) is_list)
+        listed_holds vars v proper p n over_p is_p ts f.w over_list (val_is vars v h c f (list_of ts) is_list)
         (subst (λ xs. Hold v (any (same p) xs)) split
         (one_flat (λ conds. IsTrue (all_true v conds)) (same p) (before ++ e ∷ es)
         (one_right (λ x. Hold v (same p x)) before (e ∷ es)
@@ -246,18 +247,18 @@ module _ (vars : List Sort) (v : List PureValue) (h : Heap) (proper : IsProper v
         let parts = both_parts v (same l c.loc) (unlisted p (list_of ts)) holds in
         let dom_here = dom_at vars v h proper cs union facts is_heap l a asked c f is_dom ((loc_tells vars v h proper c f l a asked).0 parts.0) in
         done_for (delete_absent a h n f.w (holds_at vars v h proper cs union facts is_heap l a asked c f (key a Dom) dom_here)
-        (unlisted_holds vars v proper p n over_p is_p ts f.w over_list (val_is vars v h proper c f (list_of ts) is_list) parts.1)))))
+        (unlisted_holds vars v proper p n over_p is_p ts f.w over_list (val_is vars v h c f (list_of ts) is_list) parts.1)))))
         (each_exact [] (to_list ts) refl)
 
     listed_by : Hold v (same l c.loc) → (b : Bool) → lists_name f.w n ≡ b → OneOf (Comes v) (deleted_there l p cs i c.loc dom (list_of ts))
     listed_by here false unnamed =
         one_left (Comes v) (case_of (both (same l c.loc) (unlisted p (list_of ts))) cs (done true_term)) (taken_each l p cs i c.loc [] (to_list ts))
         (made_comes v (both (same l c.loc) (unlisted p (list_of ts))) cs (done true_term)
-        (both_from v (same l c.loc) (unlisted p (list_of ts)) here (holds_unlisted vars v proper p n over_p is_p ts f.w over_list (val_is vars v h proper c f (list_of ts) is_list) unnamed)))
+        (both_from v (same l c.loc) (unlisted p (list_of ts)) here (holds_unlisted vars v proper p n over_p is_p ts f.w over_list (val_is vars v h c f (list_of ts) is_list) unnamed)))
     listed_by here true is_named =
         one_right (Comes v) (case_of (both (same l c.loc) (unlisted p (list_of ts))) cs (done true_term)) (taken_each l p cs i c.loc [] (to_list ts))
         (each_comes here [] (to_list ts) refl
-        (one_flattened (λ conds. IsTrue (all_true v conds)) (same p) (to_list ts) (holds_listed vars v proper p n over_p is_p ts f.w over_list (val_is vars v h proper c f (list_of ts) is_list) is_named)))
+        (one_flattened (λ conds. IsTrue (all_true v conds)) (same p) (to_list ts) (holds_listed vars v proper p n over_p is_p ts f.w over_list (val_is vars v h c f (list_of ts) is_list) is_named)))
 
   -- ---- a chunk at a place
 
@@ -285,7 +286,7 @@ module _ (vars : List Sort) (v : List PureValue) (h : Heap) (proper : IsProper v
       needed_comes : (t : PureTerm) → c.val ≡ t → is_list_term t ≡ false → OneOf (Comes v) (case_of (form_of t (same l c.loc)) cs (done true_term))
       needed_comes t is_t no_list =
           made_comes v (form_of t (same l c.loc)) cs (done true_term)
-          (form_is_needed v t f.w (same l c.loc) no_list (val_is vars v h proper c f t is_t) (names_at vars v h proper cs union facts is_heap l a asked c f dom_here) here)
+          (form_is_needed v t f.w (same l c.loc) no_list (val_is vars v h c f t is_t) (names_at vars v h proper cs union facts is_heap l a asked c f dom_here) here)
 
       names_come : c.sub ≡ dom → (t : PureTerm) → c.val ≡ t → OneOf (Comes v) (deleted_there l p cs i c.loc dom t)
       names_come is (list_of ts) is_t = listed_by i c f there is ts is_t here (lists_name f.w n) refl

@@ -13,13 +13,13 @@ use Rattle.mem_model.proofs.Joins.{value_at}
 use Rattle.object_heap.specs.declared.actions.ObjectAction.{ObjectAction}
 use Rattle.object_sym.specs.Forms.{ListNames, LooksAmong, DeletesFrom, DependsOn}
 use Rattle.object_sym.specs.Places.{opened_there, opened_at, opened}
-use Rattle.object_sym.specs.Table.{missed_name, get_cases, set_cases, delete_cases, has_cases, prototype_cases, new_cases, is_prototype, is_no_prototype, no_property, is_property, checked, wrong_number, unknown_action, table}
+use Rattle.object_sym.specs.Table.{get_cases, set_cases, delete_cases, has_cases, prototype_cases, new_cases, is_prototype, is_no_prototype, table}
 use Rattle.pure_terms.specs.declared.variables.Sort.{Sort}
 use Rattle.pure_terms.specs.declared.variables.Var.{Var}
 use Rattle.pure_terms.specs.Meaning.{value, values, all_true, IsProper, IsOver}
 use Rattle.pure_terms.specs.Pure.{PureTerm, from_list}
 use Rattle.sym_chunks.specs.ByPlace.{all_by_place}
-use Rattle.sym_chunks.specs.Cases.{PureCase, PureAccess, reads, writes, ChunkBranches, branches_of, case_of, choose, failure, true_term}
+use Rattle.sym_chunks.specs.Cases.{PureCase, PureAccess, reads, writes, ChunkBranches, branches_of, case_of, choose, failure, true_term, missed_name}
 use Rattle.sym_chunks.specs.Forms.{form_of}
 use Rattle.sym_chunks.specs.Keys.{other_sub}
 use Rattle.sym_chunks.specs.Laws.{IsLocation, IsKeyOf}
@@ -42,6 +42,7 @@ use Rattle.sym_chunks.proofs.FoundLaws.{lacks_key}
 use Rattle.sym_chunks.proofs.Opening.{OpenFor, Opens, closed_open, both_open, form_open, branches_open, case_open, chosen_open}
 use Rattle.sym_chunks.proofs.Readings.{NoOpen, positive_closed, negative_closed, closed_reading, closed_sides, loose_state, any_term}
 use Rattle.sym_chunks.proofs.Shapes.{EachAtom, IsFineState, IsFineCase, IsFineAccess, Shaped, both_shaped, or_shaped, same_shaped, kind_shaped, not_kind_shaped}
+use Rattle.sym_chunks.specs.Arguments.{no_property, is_property, checked, wrong_number, unknown_action}
 use Rattle.object_sym.proofs.HeapLaws.{not_both}
 use Rattle.object_sym.proofs.ObjectShapes.{OfObjects, get_fine, set_fine, has_fine, delete_fine, prototype_fine, others_shaped, number_fine, unknown_fine, new_fine, prototype_shaped}
 

@@ -14,12 +14,12 @@ use Rattle.mem_model.specs.Tables.{does, misses}
 use Rattle.mem_model.proofs.Joins.{value_at}
 use Rattle.object_heap.specs.Table.{get_property, has_property, get_prototype, set_prototype}
 use Rattle.object_sym.specs.Places.{lists, lists_not, opened_at, opened, untold_there, untold, unknown_there, knows_not}
-use Rattle.object_sym.specs.Table.{undef_term, false_term, missed_key, missed_name, without_name, get_cases, told_cases, held_case, unknown_cases, has_cases, prototype_cases}
+use Rattle.object_sym.specs.Table.{undef_term, false_term, without_name, get_cases, told_cases, held_case, unknown_cases, has_cases, prototype_cases}
 use Rattle.pure_terms.specs.declared.variables.Sort.{Sort}
 use Rattle.pure_terms.specs.Meaning.{value, IsProper, IsOver}
 use Rattle.pure_terms.specs.Pure.{PureTerm, literal, variable, list_of, unary_of, binary_of}
 use Rattle.sym_chunks.specs.ByPlace.{all_by_place, any_at}
-use Rattle.sym_chunks.specs.Cases.{PureCase, PureAccess, reads, writes, accessed, given_back, true_term, case_of, found}
+use Rattle.sym_chunks.specs.Cases.{PureCase, PureAccess, reads, writes, accessed, given_back, true_term, case_of, found, missed_key, missed_name}
 use Rattle.sym_chunks.specs.Keys.{same_sub, other_sub}
 use Rattle.sym_chunks.specs.Laws.{IsLocation, IsKeyOf}
 use Rattle.sym_conditions.specs.Alternatives.{Hold, both}
@@ -34,7 +34,7 @@ use Rattle.sym_model.proofs.Unions.{held_changes, same_entry}
 use Rattle.sym_chunks.proofs.CaseLaws.{IsFor, IsExactCase, made_exact, made_comes}
 use Rattle.sym_chunks.proofs.Facts.{Fact}
 use Rattle.sym_chunks.proofs.FoundLaws.{at_chunk, by_place_parts, by_place_from, lacks_key, key_lacks, found_exact, found_comes, any_key, key_any}
-use Rattle.object_sym.proofs.ChunkFacts.{somewhere_parts, somewhere_from}
+use Rattle.sym_chunks.proofs.ChunkFacts.{somewhere_parts, somewhere_from}
 use Rattle.object_sym.proofs.HeapLaws.{none_from, not_both, key_or_not, get_found, get_absent, get_missed, has_found, has_told, has_missed, proto_got, proto_unknown, proto_put, proto_missed}
 use Rattle.object_sym.proofs.PropertyLaws.{Comes, dom_of, lists_tells, tells_lists, tells_lists_not, stands_now, dom_at, holds_at, opened_here, opened_needs, name_asked, no_name_if, other_name, opened_from, absent_parts, absent_from, missed_for, without_exact, by_heap}
 

@@ -15,7 +15,7 @@ use Rattle.object_heap.specs.Names.{action_of}
 use Rattle.object_heap.specs.Table.{act_of, object_actions}
 use Rattle.object_sym.specs.Laws.{AreRight}
 use Rattle.object_sym.specs.ObjectMeaning.{each_asked}
-use Rattle.object_sym.specs.Table.{asked_by, branches_by, unknown_action, table}
+use Rattle.object_sym.specs.Table.{asked_by, branches_by, table}
 use Rattle.pure_terms.specs.declared.literals.Literal.{Literal}
 use Rattle.pure_terms.specs.declared.variables.Sort.{Sort}
 use Rattle.pure_terms.specs.declared.variables.Var.{Var}
@@ -38,6 +38,7 @@ use Rattle.sym_model.proofs.PlainLaws.{plain_wider, decided_wider}
 use Rattle.sym_chunks.proofs.CaseLaws.{IsRight, covered, each_every}
 use Rattle.sym_chunks.proofs.Readings.{own_reading, made_state, own_sides, own_forms, over_reading, over_elements, over_literal, over_state, over_sides, over_forms, plain_parts, plain_reading, elements_plain, plain_fresh, plain_state, plain_sides, plain_forms, state_plain, AnyAtom, KeptAt, kept_reading, missed_reading, missed_own, loose_state, loose_sides, loose_forms, any_term, shaped_terms, shaped_conds, shaped_named}
 use Rattle.sym_chunks.proofs.Shapes.{IsFine, Shaped, fine_terms}
+use Rattle.sym_chunks.specs.Arguments.{unknown_action}
 use Rattle.object_sym.proofs.ObjectShapes.{OfObjects, table_fine}
 use Rattle.object_sym.proofs.Right.{fails_always, new_is_right, get_is_right, set_is_right, delete_is_right, has_is_right, getproto_is_right, setproto_is_right}
 use Rattle.sym_model.specs.Cores.{IsSubOf}

@@ -1,5 +1,3 @@
-pub mod Choosing
-pub mod ChunkFacts
 pub mod DeleteLaws
 pub mod FormLaws
 pub mod GetLaws
@@ -9,7 +7,6 @@ pub mod Law
 pub mod ListValues
 pub mod Listing
 pub mod Missing
-pub mod NameLists
 pub mod ObjectShapes
 pub mod PropertyLaws
 pub mod Right

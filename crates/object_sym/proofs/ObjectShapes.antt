@@ -6,18 +6,18 @@ use Rattle.gil_values.specs.declared.kinds.Kind.{Kind}
 use Rattle.mem_model.specs.declared.failures.Failure.{Failure}
 use Rattle.mem_model.specs.Tables.{failure_text}
 use Rattle.object_heap.specs.declared.actions.ObjectAction.{ObjectAction}
-use Rattle.object_sym.specs.Places.{listed_there, lists, unlisted_there, lists_not, opened_there, opened_at, opened, untold_there, untold, unknown_there, knows_not, holds_name, unheld_name, unheld, tells_not, lacks}
-use Rattle.object_sym.specs.Table.{false_term, undef_term, no_names, missed_key, missed_name, is_prototype, is_no_prototype, created, new_cases, without_name, get_cases, with_name, added_there, added_from, set_cases, taken_from, taken, relisted, taken_each, deleted_there, deleted_from, delete_cases, told_cases, held_case, unknown_cases, has_cases, prototype_cases, wrong_number, checked, no_property, is_property, of_property, branches_by, unknown_action, table, may_be_symbol, may_be_property, may_be_prototype, asked_of_property, asked_by}
+use Rattle.object_sym.specs.Places.{listed_there, lists, unlisted_there, lists_not, opened_there, opened_at, opened, untold_there, untold, unknown_there, knows_not, tells_not, lacks}
+use Rattle.object_sym.specs.Table.{false_term, undef_term, no_names, is_prototype, is_no_prototype, created, new_cases, without_name, get_cases, with_name, added_there, added_from, set_cases, taken_from, taken, relisted, taken_each, deleted_there, deleted_from, delete_cases, told_cases, held_case, unknown_cases, has_cases, prototype_cases, of_property, branches_by, table, may_be_prototype, asked_of_property, asked_by}
 use Rattle.pure_terms.specs.declared.variables.Var.{Var}
 use Rattle.pure_terms.specs.Equality.{same_term}
 use Rattle.pure_terms.specs.EqualityLaws.{same_term-same}
 use Rattle.pure_terms.specs.Kinds.{allows, known_kind}
 use Rattle.pure_terms.specs.Pure.{PureTerm, literal, variable, list_of, unary_of, binary_of, PureTerms, to_list, from_list, positive, negative, opening}
 use Rattle.sym_chunks.specs.ByPlace.{all_by_place, any_at}
-use Rattle.sym_chunks.specs.Cases.{PureCase, PureAccess, reads, writes, case_of, branches_of, choose, found, failure, true_term, null_term}
+use Rattle.sym_chunks.specs.Cases.{PureCase, PureAccess, reads, writes, case_of, branches_of, choose, found, failure, true_term, null_term, missed_key, missed_name}
 use Rattle.sym_chunks.specs.Forms.{form_of}
 use Rattle.sym_chunks.specs.Keys.{same_sub, other_sub, at_key}
-use Rattle.sym_chunks.specs.NameTerms.{unlisted}
+use Rattle.sym_chunks.specs.NameTerms.{unlisted, holds_name, unheld_name, unheld}
 use Rattle.sym_conditions.specs.declared.comparing.Comparison.{Comparison}
 use Rattle.sym_conditions.specs.Comparing.{compared}
 use Rattle.sym_conditions.specs.Alternatives.{Alternatives, never, always, given, both, any, is_empty, equal, same, other, by_comparison, of_kind, not_of_kind}
@@ -28,13 +28,9 @@ use Rattle.sym_model.specs.Terms.{is_literal, is_list_term, are_other_kinds, are
 use Rattle.sym_model.proofs.ChunkMeaning.{chunk_val}
 use Rattle.sym_model.proofs.ListLaws.{each_append, each_to}
 use Rattle.sym_chunks.proofs.CaseLaws.{none_chosen}
-use Rattle.sym_chunks.proofs.Shapes.{EachAtom, Reading, ChunkSides, ChunkForms, IsFine, IsFineState, IsFineResult, Shaped, both_shaped, or_shaped, form_shaped, form_never, same_shaped, other_shaped, kind_shaped, not_kind_shaped, wrong_kind, any_shaped, both_never, ends_always, listed_shaped, unlisted_shaped, side_sub, loc_near_or_never, loc_same, where_same, key_shaped, by_place_shaped, any_at_shaped, IsFineCase, fine_case, failure_shaped, surely_shaped, chosen_shaped, fine_chunk, fine_held, IsFineAccess, found_shaped}
-
-each_removed : {A : Type 0} (P : A → Type 0) (xs : List A) (i : ℕ) → Each P xs → Each P (remove xs i)
-each_removed P [] zero all_hold = tt
-each_removed P [] (suc i) all_hold = tt
-each_removed P (x ∷ xs) zero all_hold = all_hold.1
-each_removed P (x ∷ xs) (suc i) all_hold = (all_hold.0, each_removed P xs i all_hold.1)
+use Rattle.sym_chunks.proofs.WalkLaws.{each_removed}
+use Rattle.sym_chunks.proofs.Shapes.{EachAtom, Reading, ChunkSides, ChunkForms, IsFine, IsFineState, IsFineResult, Shaped, both_shaped, or_shaped, form_shaped, form_never, same_shaped, other_shaped, kind_shaped, not_kind_shaped, wrong_kind, any_shaped, both_never, ends_always, listed_shaped, unlisted_shaped, unheld_shaped, side_sub, loc_near_or_never, loc_same, where_same, key_shaped, by_place_shaped, any_at_shaped, IsFineCase, fine_case, failure_shaped, surely_shaped, chosen_shaped, fine_chunk, fine_held, IsFineAccess, found_shaped}
+use Rattle.sym_chunks.specs.Arguments.{wrong_number, checked, no_property, is_property, unknown_action, may_be_symbol, may_be_property}
 
 -- What a reading of objects says besides: list terms are made of fine terms, and fine chunks are held and missed.
 pub record OfObjects (g : Reading) : Type 0 where
@@ -88,19 +84,9 @@ module _ (g : Reading) (o : OfObjects g) where
     knows_not_shaped : EachAtom g.Q (knows_not p c)
     knows_not_shaped = knows_not_by c.sub refl
 
-    if_shaped : (b : Bool) (x : Alternatives) → EachAtom g.Q x → EachAtom g.Q (if b then never else x)
-    if_shaped true x shaped = tt
-    if_shaped false x shaped = shaped
-
-    unheld_by : (cs : List PureChunk) (t : PureTerm) → g.Side t → EachAtom g.Q (unheld p c.loc cs t)
-    unheld_by cs (list_of ts) side =
-        any_shaped g (unheld_name p c.loc cs) (to_list ts)
-        (each_to g.Side (λ e. EachAtom g.Q (unheld_name p c.loc cs e)) (to_list ts) (λ e side_e. if_shaped (holds_name c.loc cs e) (same p e) (same_shaped g p e (g.sides p e side_p side_e))) (g.side_elements ts side))
-    unheld_by cs t side = tt
-
     lacks_by : (cs : List PureChunk) (s : PureSub) → c.sub ≡ s → EachAtom g.Q (tells_not p cs c.loc s c.val)
     lacks_by cs (named q) is = other_shaped g p q (g.sides p q side_p (side_name q is))
-    lacks_by cs dom is = unheld_by cs c.val (side_val is)
+    lacks_by cs dom is = unheld_shaped g p c.loc cs c.val side_p (side_val is)
     lacks_by cs (cell q) is = always_fine
     lacks_by cs shape is = always_fine
     lacks_by cs bound is = always_fine

@@ -20,10 +20,10 @@ use Rattle.pure_terms.specs.Equality.{same_term}
 use Rattle.pure_terms.specs.EqualityLaws.{same_term-same}
 use Rattle.pure_terms.specs.Meaning.{literal_value, value, all_true, IsProper, IsOver}
 use Rattle.pure_terms.specs.Pure.{PureTerm, literal, variable, list_of, unary_of, binary_of, to_list}
-use Rattle.object_sym.specs.Places.{listed_there, lists, unlisted_there, lists_not, opened_there, opened_at, opened, is_name, holds_name, unheld_name, unheld, tells_not, lacks}
-use Rattle.object_sym.specs.Table.{missed_name, without_name}
+use Rattle.object_sym.specs.Places.{listed_there, lists, unlisted_there, lists_not, opened_there, opened_at, opened, tells_not, lacks}
+use Rattle.object_sym.specs.Table.{without_name}
 use Rattle.sym_chunks.specs.ByPlace.{all_by_place, any_at}
-use Rattle.sym_chunks.specs.Cases.{PureCase, case_of}
+use Rattle.sym_chunks.specs.Cases.{PureCase, case_of, missed_name}
 use Rattle.sym_chunks.specs.Forms.{form_of}
 use Rattle.sym_chunks.specs.Keys.{same_sub, other_sub}
 use Rattle.sym_chunks.specs.Laws.{IsLocation, IsKeyOf}
@@ -40,29 +40,16 @@ use Rattle.sym_model.proofs.Unions.{same_entry}
 use Rattle.sym_chunks.proofs.CaseLaws.{AreOpen, IsFor, IsExactCase, made_exact, made_comes, needed_open, both_open, any_open, form_holds}
 use Rattle.sym_chunks.proofs.Facts.{Fact, kind_number, keys_equal, fact_number, key_tells, sub_tells, loc_tells}
 use Rattle.sym_chunks.proofs.FoundLaws.{at_chunk, held_at, by_place_parts, by_place_from, key_lacks}
-use Rattle.object_sym.proofs.ChunkFacts.{key_at, lies_at, lies_there, somewhere_parts, somewhere_from}
+use Rattle.sym_chunks.specs.NameTerms.{is_name, holds_name, unheld_name, unheld}
+use Rattle.sym_chunks.proofs.ChunkFacts.{key_at, somewhere_parts, somewhere_from, val_over, val_is, key_number}
+use Rattle.sym_chunks.proofs.NamesHeld.{form_is_needed, unheld_by, by_unheld}
+use Rattle.sym_chunks.proofs.NameLists.{listed_holds, holds_listed, unlisted_holds, holds_unlisted}
 use Rattle.object_sym.proofs.HeapLaws.{none_from, not_both, key_or_not, IsListedHere}
-use Rattle.object_sym.proofs.NameLists.{listed_holds, holds_listed, unlisted_holds, holds_unlisted}
 
 abbrev pub Comes : List PureValue → PureCase → Type 0
 Comes v c = Hold v c.when
 
 -- ---- forms
-
-no_names : (k : Literal) → is_name_list (literal_value k) ≡ false
-no_names (Literal.Int i) = refl
-no_names (Literal.Bool b) = refl
-no_names (Literal.Str s) = refl
-no_names (Literal.Kind k) = refl
-no_names (Literal.Proc s) = refl
-
--- names that are no list term are a term whose form is needed
-pub form_is_needed : (v : List PureValue) (t : PureTerm) (w : PureValue) (x : Alternatives) → is_list_term t ≡ false → value v t ≡ Some w → is_name_list w ≡ true → Hold v x → Hold v (form_of t x)
-form_is_needed v (list_of ts) w x no_list is names holds = absurd (true≢false no_list)
-form_is_needed v (literal k) w x no_list is names holds = absurd (true≢false (sym names ∙ ap is_name_list (sym (same_some is)) ∙ no_names k))
-form_is_needed v (variable y) w x no_list is names holds = form_holds v (variable y) w x is holds
-form_is_needed v (unary_of op t) w x no_list is names holds = form_holds v (unary_of op t) w x is holds
-form_is_needed v (binary_of op s t) w x no_list is names holds = form_holds v (binary_of op s t) w x is holds
 
 opened_by : (v : List PureValue) (l loc : PureTerm) (s : PureSub) (t : PureTerm) → AreOpen (opened_there l loc s t)
 opened_by v l loc dom t = needed_open v t (same l loc)
@@ -87,42 +74,13 @@ is_dom bound is = absurd (omega (arith, is))
 is_dom proto is = absurd (omega (arith, is))
 is_dom gone is = absurd (omega (arith, is))
 
-and_both : (b c : Bool) → (b && c) ≡ true → (b ≡ true) × (c ≡ true)
-and_both b c is = let parts = and_parts b c is in (parts.0, parts.1)
-
-name_is : (e : PureTerm) (s : PureSub) → is_name e s ≡ true → s ≡ named e
-name_is e (named q) is = ap named (same_term-same q e is)
-name_is e (cell q) is = absurd (true≢false (sym is))
-name_is e shape is = absurd (true≢false (sym is))
-name_is e bound is = absurd (true≢false (sym is))
-name_is e dom is = absurd (true≢false (sym is))
-name_is e proto is = absurd (true≢false (sym is))
-name_is e gone is = absurd (true≢false (sym is))
-
--- a chunk has these very terms
-holds_parts : (m e : PureTerm) (cs : List PureChunk) → holds_name m cs e ≡ true → OneOf (λ c. (c.loc ≡ m) × (c.sub ≡ named e)) cs
-holds_parts m e [] is = absurd (true≢false (sym is))
-holds_parts m e (c ∷ cs) is =
-    ⊎_elim (λ here. let parts = and_both (same_term c.loc m) (is_name e c.sub) here in inl (same_term-same c.loc m parts.0, name_is e c.sub parts.1))
-    (λ later. inr (holds_parts m e cs later))
-    (or_cases (same_term c.loc m && is_name e c.sub) (holds_name m cs e) is)
-
 module _ (vars : List Sort) (v : List PureValue) (h : Heap) (proper : IsProper vars v) (c : PureChunk) (f : Fact vars v h c) where
-  pub val_over : (t : PureTerm) → c.val ≡ t → IsOver vars t
-  val_over t is = subst (IsOver vars) is (chunk_val (IsOver vars) c f.over)
-
-  pub val_is : (t : PureTerm) → c.val ≡ t → value v t ≡ Some f.w
-  val_is t is = ap (value v) (sym is) ∙ f.entry.holds
-
-  pub key_number : (s : PureSub) (a : ℕ) (t : Sub) → c.sub ≡ s → f.k ≡ key a t → variant_number t ≡ kind_number s
-  key_number s a t is e = sym (ap (λ (q : Key). variant_number q.sub) e) ∙ fact_number vars v h c f ∙ ap kind_number is
-
   pub dom_of : (a : ℕ) → f.k ≡ key a Dom → c.sub ≡ dom
-  dom_of a e = is_dom c.sub (key_number c.sub a Dom refl e)
+  dom_of a e = is_dom c.sub (key_number vars v h c f c.sub a Dom refl e)
 
   module _ (p : PureTerm) (n : List ℕ) (over_p : IsOver vars p) (is_p : value v p ≡ Some (text n)) where
     lists_by : (s : PureSub) → c.sub ≡ s → (t : PureTerm) → c.val ≡ t → Hold v (listed_there p s t) → (c.sub ≡ dom) × (lists_name f.w n ≡ true)
-    lists_by dom is (list_of ts) is_t holds = (is, listed_holds vars v proper p n over_p is_p ts f.w (val_over (list_of ts) is_t) (val_is (list_of ts) is_t) holds)
+    lists_by dom is (list_of ts) is_t holds = (is, listed_holds vars v proper p n over_p is_p ts f.w (val_over vars v h c f (list_of ts) is_t) (val_is vars v h c f (list_of ts) is_t) holds)
     lists_by dom is t is_t holds = absurd holds
     lists_by s is t is_t holds = absurd holds
 
@@ -130,14 +88,14 @@ module _ (vars : List Sort) (v : List PureValue) (h : Heap) (proper : IsProper v
     lists_tells holds = lists_by c.sub refl c.val refl holds
 
     named_by : (t : PureTerm) → c.val ≡ t → is_list_term t ≡ true → lists_name f.w n ≡ true → Hold v (listed_there p dom t)
-    named_by (list_of ts) is_t is_list is_named = holds_listed vars v proper p n over_p is_p ts f.w (val_over (list_of ts) is_t) (val_is (list_of ts) is_t) is_named
+    named_by (list_of ts) is_t is_list is_named = holds_listed vars v proper p n over_p is_p ts f.w (val_over vars v h c f (list_of ts) is_t) (val_is vars v h c f (list_of ts) is_t) is_named
     named_by t is_t is_list is_named = absurd (true≢false (sym is_list))
 
     pub tells_lists : c.sub ≡ dom → is_list_term c.val ≡ true → lists_name f.w n ≡ true → Hold v (lists p c)
     tells_lists is is_list is_named = subst (λ s. Hold v (listed_there p s c.val)) (sym is) (named_by c.val refl is_list is_named)
 
     lists_not_by : (s : PureSub) → c.sub ≡ s → (t : PureTerm) → c.val ≡ t → Hold v (unlisted_there p s t) → (c.sub ≡ dom) × (lists_name f.w n ≡ false)
-    lists_not_by dom is (list_of ts) is_t holds = (is, unlisted_holds vars v proper p n over_p is_p ts f.w (val_over (list_of ts) is_t) (val_is (list_of ts) is_t) holds)
+    lists_not_by dom is (list_of ts) is_t holds = (is, unlisted_holds vars v proper p n over_p is_p ts f.w (val_over vars v h c f (list_of ts) is_t) (val_is vars v h c f (list_of ts) is_t) holds)
     lists_not_by dom is t is_t holds = absurd holds
     lists_not_by s is t is_t holds = absurd holds
 
@@ -145,7 +103,7 @@ module _ (vars : List Sort) (v : List PureValue) (h : Heap) (proper : IsProper v
     lists_not_tells holds = lists_not_by c.sub refl c.val refl holds
 
     unnamed_by : (t : PureTerm) → c.val ≡ t → is_list_term t ≡ true → lists_name f.w n ≡ false → Hold v (unlisted_there p dom t)
-    unnamed_by (list_of ts) is_t is_list unnamed = holds_unlisted vars v proper p n over_p is_p ts f.w (val_over (list_of ts) is_t) (val_is (list_of ts) is_t) unnamed
+    unnamed_by (list_of ts) is_t is_list unnamed = holds_unlisted vars v proper p n over_p is_p ts f.w (val_over vars v h c f (list_of ts) is_t) (val_is vars v h c f (list_of ts) is_t) unnamed
     unnamed_by t is_t is_list unnamed = absurd (true≢false (sym is_list))
 
     pub tells_lists_not : c.sub ≡ dom → is_list_term c.val ≡ true → lists_name f.w n ≡ false → Hold v (lists_not p c)
@@ -199,57 +157,20 @@ module _ (vars : List Sort) (v : List PureValue) (h : Heap) (proper : IsProper v
     pub named_if : (d w : PureValue) → Holds h (key a Dom) d → Holds h (key a (Name n)) w → lists_name d n ≡ true
     named_if d w held holds = is_heap.well_formed.names_listed a Dom d tt held n (has_key h (key a (Name n)) w holds)
 
-    -- ---- names that are listed and unheld
-
-    if_parts : (b : Bool) (x : Alternatives) → Hold v (if b then never else x) → Hold v x
-    if_parts true x holds = absurd holds
-    if_parts false x holds = holds
-
-    if_from : (b : Bool) (x : Alternatives) → (b ≡ true → ⊥) → Hold v x → Hold v (if b then never else x)
-    if_from true x isnt holds = absurd (isnt refl)
-    if_from false x isnt holds = holds
+    -- ---- a chunk that doesn't tell of the name
 
     module _ (c : PureChunk) (f : Fact vars v h c) (here : f.k.loc ≡ a) where
-      unheld_by : (t : PureTerm) → c.val ≡ t → Hold v (unheld p c.loc cs t) → lists_name f.w n ≡ true
-      unheld_by (list_of ts) is_t holds =
-          listed_holds vars v proper p n over_p is_p ts f.w (val_over vars v h proper c f (list_of ts) is_t) (val_is vars v h proper c f (list_of ts) is_t)
-          (one_flat (λ conds. IsTrue (all_true v conds)) (same p) (to_list ts)
-          (one_to (λ e. Hold v (unheld_name p c.loc cs e)) (λ e. Hold v (same p e)) (to_list ts) (λ e is. if_parts (holds_name c.loc cs e) (same p e) is)
-          (one_flattened (λ conds. IsTrue (all_true v conds)) (unheld_name p c.loc cs) (to_list ts) holds)))
-      unheld_by t is_t holds = absurd holds
-
-      -- a chunk of that very name would be one of the name that the heap lacks
-      unheld_name_by : ¬ HasKey h (key a (Name n)) → (e : PureTerm) → Hold v (same p e) → holds_name c.loc cs e ≡ true → ⊥
-      unheld_name_by no_name e is holds =
-          one_with (Fact vars v h) (λ d. (d.loc ≡ c.loc) × (d.sub ≡ named e)) cs facts (holds_parts c.loc e cs holds)
-          (λ d g (same_loc, same_name).
-          let lies : value v d.loc ≡ Some (symbol a) = ap (value v) same_loc ∙ lies_at vars v h proper l a asked c f here in
-          let there = lies_there vars v h proper l a asked d g lies in
-          let e_k : g.k ≡ key a (Name n) = (key_tells vars v h proper d g l (named p) (key a (Name n)) name_asked).0
-          (both_from v (same l d.loc) (same_sub (named p) d.sub) ((loc_tells vars v h proper d g l a asked).1 there) (subst (λ s. Hold v (same_sub (named p) s)) (sym same_name) is)) in
-          no_name (has_key h (key a (Name n)) g.w (holds_at d g (key a (Name n)) e_k)))
-
-      by_unheld : ¬ HasKey h (key a (Name n)) → lists_name f.w n ≡ true → (t : PureTerm) → c.val ≡ t → is_list_term t ≡ true → Hold v (unheld p c.loc cs t)
-      by_unheld no_name is_named (list_of ts) is_t is_list =
-          one_flat (λ conds. IsTrue (all_true v conds)) (unheld_name p c.loc cs) (to_list ts)
-          (one_to (λ e. Hold v (same p e)) (λ e. Hold v (unheld_name p c.loc cs e)) (to_list ts) (λ e is. if_from (holds_name c.loc cs e) (same p e) (unheld_name_by no_name e is) is)
-          (one_flattened (λ conds. IsTrue (all_true v conds)) (same p) (to_list ts)
-          (holds_listed vars v proper p n over_p is_p ts f.w (val_over vars v h proper c f (list_of ts) is_t) (val_is vars v h proper c f (list_of ts) is_t) is_named)))
-      by_unheld no_name is_named t is_t is_list = absurd (true≢false (sym is_list))
-
-      -- ---- a chunk that doesn't tell of the name
-
       lacks_by : (s : PureSub) → c.sub ≡ s → Hold v (tells_not p cs c.loc s c.val) → (¬ (f.k ≡ key a (Name n))) × (f.k ≡ key a Dom → lists_name f.w n ≡ true)
       lacks_by (named q) is holds = (
         λ e. (sub_tells vars v h proper c f l (named p) (key a (Name n)) name_asked).0 (subst (λ s. Hold v (other_sub (named p) s)) (sym is) holds) (ap (λ (q : Key). q.sub) e),
-        λ e. absurd (omega (arith, key_number vars v h proper c f (named q) a Dom is e)),
+        λ e. absurd (omega (arith, key_number vars v h c f (named q) a Dom is e)),
       )
-      lacks_by dom is holds = (λ e. absurd (omega (arith, key_number vars v h proper c f dom a (Name n) is e)), λ e. unheld_by c.val refl holds)
-      lacks_by (cell q) is holds = (λ e. absurd (omega (arith, key_number vars v h proper c f (cell q) a (Name n) is e)), λ e. absurd (omega (arith, key_number vars v h proper c f (cell q) a Dom is e)))
-      lacks_by shape is holds = (λ e. absurd (omega (arith, key_number vars v h proper c f shape a (Name n) is e)), λ e. absurd (omega (arith, key_number vars v h proper c f shape a Dom is e)))
-      lacks_by bound is holds = (λ e. absurd (omega (arith, key_number vars v h proper c f bound a (Name n) is e)), λ e. absurd (omega (arith, key_number vars v h proper c f bound a Dom is e)))
-      lacks_by proto is holds = (λ e. absurd (omega (arith, key_number vars v h proper c f proto a (Name n) is e)), λ e. absurd (omega (arith, key_number vars v h proper c f proto a Dom is e)))
-      lacks_by gone is holds = (λ e. absurd (omega (arith, key_number vars v h proper c f gone a (Name n) is e)), λ e. absurd (omega (arith, key_number vars v h proper c f gone a Dom is e)))
+      lacks_by dom is holds = (λ e. absurd (omega (arith, key_number vars v h c f dom a (Name n) is e)), λ e. unheld_by vars v h proper cs facts l a asked p n over_p is_p c f here c.val refl holds)
+      lacks_by (cell q) is holds = (λ e. absurd (omega (arith, key_number vars v h c f (cell q) a (Name n) is e)), λ e. absurd (omega (arith, key_number vars v h c f (cell q) a Dom is e)))
+      lacks_by shape is holds = (λ e. absurd (omega (arith, key_number vars v h c f shape a (Name n) is e)), λ e. absurd (omega (arith, key_number vars v h c f shape a Dom is e)))
+      lacks_by bound is holds = (λ e. absurd (omega (arith, key_number vars v h c f bound a (Name n) is e)), λ e. absurd (omega (arith, key_number vars v h c f bound a Dom is e)))
+      lacks_by proto is holds = (λ e. absurd (omega (arith, key_number vars v h c f proto a (Name n) is e)), λ e. absurd (omega (arith, key_number vars v h c f proto a Dom is e)))
+      lacks_by gone is holds = (λ e. absurd (omega (arith, key_number vars v h c f gone a (Name n) is e)), λ e. absurd (omega (arith, key_number vars v h c f gone a Dom is e)))
 
       lacks_tells : Hold v (lacks p cs c) → (¬ (f.k ≡ key a (Name n))) × (f.k ≡ key a Dom → lists_name f.w n ≡ true)
       lacks_tells holds = lacks_by c.sub refl holds
@@ -260,7 +181,7 @@ module _ (vars : List Sort) (v : List PureValue) (h : Heap) (proper : IsProper v
 
       by_lacks : ¬ HasKey h (key a (Name n)) → (f.k ≡ key a Dom → is_list_term c.val ≡ true) → (f.k ≡ key a Dom → lists_name f.w n ≡ true) → (s : PureSub) → c.sub ≡ s → Hold v (tells_not p cs c.loc s c.val)
       by_lacks no_name closed is_named (named q) is = subst (λ s. Hold v (other_sub (named p) s)) is (other_name no_name)
-      by_lacks no_name closed is_named dom is = let e = dom_at c f is here in by_unheld no_name (is_named e) c.val refl (closed e)
+      by_lacks no_name closed is_named dom is = let e = dom_at c f is here in by_unheld vars v h proper cs facts l a asked p n over_p is_p c f here no_name (is_named e) c.val refl (closed e)
       by_lacks no_name closed is_named (cell q) is = always_true v
       by_lacks no_name closed is_named shape is = always_true v
       by_lacks no_name closed is_named bound is = always_true v

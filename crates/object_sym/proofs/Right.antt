@@ -21,7 +21,7 @@ use Rattle.object_heap.specs.Names.{action_of, takes_symbol_of}
 use Rattle.object_heap.specs.ObjectLaws.{object_is_memory}
 use Rattle.object_heap.specs.Table.{prototype_of, prototype_in, location_and_prototype_in, new, get_property, set_property, delete_property, has_property, get_prototype, set_prototype, act_of, object_actions}
 use Rattle.object_sym.specs.Laws.{AreRight, IsRightAction}
-use Rattle.object_sym.specs.Table.{no_names, is_prototype, is_no_prototype, created, new_cases, get_cases, set_cases, delete_cases, has_cases, prototype_cases, checked, no_property, is_property, of_property, branches_by}
+use Rattle.object_sym.specs.Table.{no_names, is_prototype, is_no_prototype, created, new_cases, get_cases, set_cases, delete_cases, has_cases, prototype_cases, of_property, branches_by}
 use Rattle.pure_terms.specs.declared.literals.Literal.{Literal}
 use Rattle.pure_terms.specs.declared.variables.Sort.{Sort}
 use Rattle.pure_terms.specs.declared.variables.Var.{Var}
@@ -46,6 +46,7 @@ use Rattle.sym_model.proofs.Unions.{put_last}
 use Rattle.sym_chunks.proofs.CaseLaws.{IsFor, Exact, IsTaken, IsExactCase, IsRight, exact_cases, taken_case, chosen_exact, chosen_taken, made_exact, made_comes, covered}
 use Rattle.sym_chunks.proofs.Facts.{Fact, each_fact}
 use Rattle.sym_chunks.proofs.Readings.{over_literal}
+use Rattle.sym_chunks.specs.Arguments.{checked, no_property, is_property}
 use Rattle.object_sym.proofs.DeleteLaws.{delete_exact, delete_comes}
 use Rattle.object_sym.proofs.GetLaws.{get_exact, get_comes, has_exact, has_comes, getproto_exact, setproto_exact, prototype_comes}
 use Rattle.object_sym.proofs.HeapLaws.{insert_comm, made_heap}

@@ -33,12 +33,12 @@ use Rattle.sym_model.proofs.Unions.{held_changes, put_last}
 use Rattle.sym_chunks.proofs.CaseLaws.{IsFor, IsExactCase, made_exact, made_comes}
 use Rattle.sym_chunks.proofs.Facts.{Fact, loc_tells}
 use Rattle.sym_chunks.proofs.FoundLaws.{at_chunk, found_exact, found_comes}
-use Rattle.object_sym.proofs.ChunkFacts.{lies_at}
+use Rattle.sym_chunks.proofs.ChunkFacts.{lies_at, val_over, val_is}
+use Rattle.sym_chunks.proofs.NameLists.{list_value, unlisted_holds, holds_unlisted}
 use Rattle.object_sym.proofs.GetLaws.{changed_for}
 use Rattle.object_sym.proofs.HeapLaws.{insert_comm, not_both, set_found, set_absent, set_missed}
 use Rattle.object_sym.proofs.ListValues.{values_append, one_value, list_is, given_values, appended_is}
-use Rattle.object_sym.proofs.NameLists.{list_value, unlisted_holds, holds_unlisted}
-use Rattle.object_sym.proofs.PropertyLaws.{Comes, Closed, val_over, val_is, dom_of, dom_at, holds_at, name_asked, no_name_if, without_exact, by_heap}
+use Rattle.object_sym.proofs.PropertyLaws.{Comes, Closed, dom_of, dom_at, holds_at, name_asked, no_name_if, without_exact, by_heap}
 
 pub name_is_no_list : (a : ℕ) (n : List ℕ) → ¬ (key a (Name n) ≡ key a Dom)
 name_is_no_list a n e = absurd (omega (arith, ap (λ (q : Key). variant_number q.sub) e))
@@ -62,7 +62,7 @@ module _ (vars : List Sort) (v : List PureValue) (h : Heap) (proper : IsProper v
     added_for ts is is_list here unnamed =
         let e = dom_at vars v h proper cs union facts is_heap l a asked c f is here in
         let held = holds_key c f (key a Dom) e in
-        let (ws, (have, whole)) = list_value v ts f.w (val_is vars v h proper c f (list_of ts) is_list) in
+        let (ws, (have, whole)) = list_value v ts f.w (val_is vars v h c f (list_of ts) is_list) in
         let d : PureValue = list (list_values (ws ++ text n ∷ [])) in
         let is_d : value v (list_of (from_list (to_list ts ++ p ∷ []))) ≡ Some d = list_is v (to_list ts ++ p ∷ []) (ws ++ text n ∷ []) (values_append v (to_list ts) (p ∷ []) ws (text n ∷ []) (given_values v ts ws have) (one_value v p (text n) is_p)) in
         let same_d : d ≡ appended f.w n = appended_is ws n ∙ ap (λ x. appended x n) (sym whole) in
@@ -88,7 +88,7 @@ module _ (vars : List Sort) (v : List PureValue) (h : Heap) (proper : IsProper v
         made_exact Object v r (both (same l c.loc) (unlisted p (list_of ts))) (with_name cs i c.loc (to_list ts) p t) (done t) (inr (λ holds.
         let parts = both_parts v (same l c.loc) (unlisted p (list_of ts)) holds in
         added_for ts is is_list ((loc_tells vars v h proper c f l a asked).0 parts.0)
-        (unlisted_holds vars v proper p n over_p is_p ts f.w (val_over vars v h proper c f (list_of ts) is_list) (val_is vars v h proper c f (list_of ts) is_list) parts.1)))
+        (unlisted_holds vars v proper p n over_p is_p ts f.w (val_over vars v h c f (list_of ts) is_list) (val_is vars v h c f (list_of ts) is_list) parts.1)))
     added_right dom is (literal k) is_list = tt
     added_right dom is (variable y) is_list = tt
     added_right dom is (unary_of op x) is_list = tt
@@ -105,7 +105,7 @@ module _ (vars : List Sort) (v : List PureValue) (h : Heap) (proper : IsProper v
     added_by (list_of ts) is_w is_list here unnamed =
         made_comes v (both (same l c.loc) (unlisted p (list_of ts))) (with_name cs i c.loc (to_list ts) p t) (done t)
         (both_from v (same l c.loc) (unlisted p (list_of ts)) ((loc_tells vars v h proper c f l a asked).1 here)
-        (holds_unlisted vars v proper p n over_p is_p ts f.w (val_over vars v h proper c f (list_of ts) is_w) (val_is vars v h proper c f (list_of ts) is_w) unnamed))
+        (holds_unlisted vars v proper p n over_p is_p ts f.w (val_over vars v h c f (list_of ts) is_w) (val_is vars v h c f (list_of ts) is_w) unnamed))
     added_by w is_w is_list here unnamed = absurd (true≢false (sym is_list))
 
   added_exact : (i : ℕ) (ds : List PureChunk) → ((j : ℕ) (c : PureChunk) → slice_get ds j ≡ Some c → slice_get cs (i + j) ≡ Some c) → Each Right (added_from l p t cs i ds)

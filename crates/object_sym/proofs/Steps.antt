@@ -1,13 +1,13 @@
 -- What literals of the code stand for, and the steps of the loop over the names of which one is deleted.
 use Rattle.std.proofs.Common.{◌≡◌, ℕ, ◌+◌, ◌<◌, List, [], ◌∷◌, ◌++◌, map, take, drop, get_or, length, refl, sym, ap, ◌∙◌, rules}
 use Rattle.std.proofs.lemmas.List.{append_assoc, map-append, take_more, drop_more}
-use Rattle.object_sym.specs.Table.{missed_name, taken_from, taken, relisted, taken_each}
+use Rattle.object_sym.specs.Table.{taken_from, taken, relisted, taken_each}
 use Rattle.pure_terms.specs.declared.literals.Literal.{Literal}
 use Rattle.pure_terms.specs.declared.terms.Term.{Term, the_lemmas}
 use Rattle.pure_terms.specs.Pure.{PureTerm, literal}
 use Rattle.pure_terms.specs.View.{term_view}
 use Rattle.sym_chunks.specs.ByPlace.{all_by_place}
-use Rattle.sym_chunks.specs.Cases.{PureCase, case_of}
+use Rattle.sym_chunks.specs.Cases.{PureCase, case_of, missed_name}
 use Rattle.sym_chunks.specs.Keys.{other_sub}
 use Rattle.sym_conditions.specs.Alternatives.{Alternatives, both, same}
 use Rattle.sym_model.specs.Pure.{PureChunk, named}

@@ -6,10 +6,11 @@ use Rattle.object_heap.specs.declared.actions.ObjectAction.{ObjectAction}
 use Rattle.object_heap.specs.Names.{action_of}
 use Rattle.object_sym.specs.Plain.{object_stands, object_terms, object_plain, object_asked}
 use Rattle.object_sym.specs.declared.states.ObjectSym.{ObjectSym}
-use Rattle.object_sym.specs.Table.{asked_of_property, asked_by, may_be_property, may_be_prototype, may_be_symbol}
+use Rattle.object_sym.specs.Table.{asked_of_property, asked_by, may_be_prototype}
 use Rattle.object_sym.specs.View.{state_view}
 use Rattle.pure_terms.specs.Pure.{PureTerm}
 use Rattle.sym_chunks.specs.Cases.{null_term}
+use Rattle.sym_chunks.specs.Arguments.{may_be_property, may_be_symbol}
 use Rattle.sym_model.specs.Laws.{IsMeaning, AsksItsArguments}
 use Rattle.sym_model.specs.Lists.{Each, IsAmong}
 use Rattle.sym_model.specs.Plain.{IsPlainState}

@@ -1,12 +1,10 @@
 -- The conditions that a chunk of objects is asked about: what it says of the name p of its location.
-use Rattle.std.specs.Prelude.{List, Bool, false, ◌&&◌, if◌then◌else◌}
-use Rattle.std.specs.List.{list_any}
-use Rattle.pure_terms.specs.Equality.{same_term}
-use Rattle.pure_terms.specs.Pure.{PureTerm, list_of, to_list}
+use Rattle.std.specs.Prelude.{List}
+use Rattle.pure_terms.specs.Pure.{PureTerm, list_of}
 use Rattle.sym_chunks.specs.ByPlace.{all_by_place}
 use Rattle.sym_chunks.specs.Forms.{form_of}
 use Rattle.sym_chunks.specs.Keys.{other_sub}
-use Rattle.sym_chunks.specs.NameTerms.{listed, unlisted}
+use Rattle.sym_chunks.specs.NameTerms.{listed, unlisted, unheld}
 use Rattle.sym_conditions.specs.Alternatives.{Alternatives, never, always, both, any, same, other}
 use Rattle.sym_model.specs.Pure.{PureSub, named, dom, PureChunk}
 
@@ -52,25 +50,6 @@ unknown_there p s = other_sub (named p) s
 
 abbrev pub knows_not : PureTerm → PureChunk → Alternatives
 knows_not p c = unknown_there p c.sub
-
--- ---- names that are listed and that no chunk holds
-
-abbrev pub is_name : PureTerm → PureSub → Bool
-is_name e (named q) = same_term q e
-is_name e _ = false
-
--- a chunk has these very terms as its location and its name
-abbrev pub holds_name : PureTerm → List PureChunk → PureTerm → Bool
-holds_name m cs e = list_any (λ c. same_term c.loc m && is_name e c.sub) cs
-
--- p is the name e, for which no chunk has these very terms
-abbrev pub unheld_name : PureTerm → PureTerm → List PureChunk → PureTerm → Alternatives
-unheld_name p m cs e = if holds_name m cs e then never else same p e
-
--- p is one of the names of a list term for which no chunk has these very terms
-abbrev pub unheld : PureTerm → PureTerm → List PureChunk → PureTerm → Alternatives
-unheld p m cs (list_of ds) = any (unheld_name p m cs) (to_list ds)
-unheld p m cs _ = never
 
 -- the chunk doesn't tell of p: it is of another name; or it lists the names of its location, and p among them
 abbrev pub tells_not : PureTerm → List PureChunk → PureTerm → PureSub → PureTerm → Alternatives

@@ -1,22 +1,22 @@
 -- The branches of the actions of objects. Each case has the conditions under which it comes, the chunks after it and its result.
-use Rattle.std.specs.Prelude.{◌≡◌, ℕ, ◌+◌, List, [], ◌∷◌, ◌++◌, Bool, false, ◌&&◌, ◌||◌, if◌then◌else◌, Option, Some, None}
+use Rattle.std.specs.Prelude.{ℕ, ◌+◌, List, [], ◌∷◌, ◌++◌, Bool, false, ◌&&◌, ◌||◌, if◌then◌else◌, Option, Some, None}
 use Rattle.std.specs.List.{remove}
 use Rattle.gil_values.specs.declared.kinds.Kind.{Kind}
-use Rattle.mem_model.specs.declared.failures.Failure.{Failure}
 use Rattle.object_heap.specs.declared.actions.ObjectAction.{ObjectAction}
 use Rattle.object_sym.specs.Places.{lists, lists_not, opened, untold, knows_not, lacks}
 use Rattle.pure_terms.specs.declared.literals.Literal.{Literal}
 use Rattle.pure_terms.specs.declared.variables.Var.{Var}
 use Rattle.pure_terms.specs.Kinds.{allows, known_kind}
 use Rattle.pure_terms.specs.Pure.{PureTerm, literal, variable, list_of, from_list, to_list}
+use Rattle.sym_chunks.specs.Arguments.{wrong_number, checked, no_property, is_property, unknown_action, may_be_symbol, may_be_property}
 use Rattle.sym_chunks.specs.ByPlace.{all_by_place, any_at}
-use Rattle.sym_chunks.specs.Cases.{ChunkBranches, PureCase, PureAccess, reads, writes, case_of, branches_of, choose, found, failure, true_term, null_term}
+use Rattle.sym_chunks.specs.Cases.{ChunkBranches, PureCase, PureAccess, reads, writes, case_of, found, true_term, null_term, missed_key, missed_name}
 use Rattle.sym_chunks.specs.Forms.{form_of}
 use Rattle.sym_chunks.specs.Keys.{same_sub, other_sub, at_key}
 use Rattle.sym_chunks.specs.NameTerms.{unlisted}
 use Rattle.sym_conditions.specs.Alternatives.{Alternatives, always, both, same, other, of_kind, not_of_kind}
 use Rattle.sym_model.specs.Chunks.{with_held}
-use Rattle.sym_model.specs.Pure.{PureSub, named, dom, proto, PureChunk, PureResult, done, missed}
+use Rattle.sym_model.specs.Pure.{PureSub, named, dom, proto, PureChunk, done}
 
 -- ---- literals
 
@@ -28,14 +28,6 @@ undef_term = literal (Literal.Kind Kind.Undef)
 
 abbrev pub no_names : PureTerm
 no_names = list_of (from_list [])
-
--- ---- results
-
-abbrev pub missed_key : PureTerm → PureSub → PureResult
-missed_key l s = missed (record { loc = l; sub = s })
-
-abbrev pub missed_name : PureTerm → PureTerm → PureResult
-missed_name l p = missed_key l (named p)
 
 -- ---- prototypes
 
@@ -152,29 +144,10 @@ has_cases l p cs = told_cases l p cs ++ (held_case l p cs ++ unknown_cases l p c
 abbrev pub prototype_cases : PureAccess → PureTerm → List PureChunk → List PureCase
 prototype_cases a l cs = found a l proto cs ++ case_of (all_by_place l (λ c. other_sub proto c.sub) cs) cs (missed_key l proto)
 
--- ---- the arguments, whose number and kinds are asked before the chunks are looked at
-
-abbrev pub wrong_number : List PureChunk → ChunkBranches
-wrong_number cs = branches_of always cs (failure Failure.Arity)
-
--- where some argument is of a wrong kind the action fails, and where all are of the right ones the cases come
-abbrev pub checked : Alternatives → Alternatives → List PureChunk → List PureCase → ChunkBranches
-checked wrong right cs cases = branches_of wrong cs (failure Failure.Kind) ++ choose right cases
-
-abbrev pub no_property : PureTerm → PureTerm → Alternatives
-no_property l p = not_of_kind l Kind.Sym ++ not_of_kind p Kind.Str
-
-abbrev pub is_property : PureTerm → PureTerm → Alternatives
-is_property l p = both (of_kind l Kind.Sym) (of_kind p Kind.Str)
-
 -- the branches of an action that takes a location and a name
 abbrev pub of_property : List PureTerm → List PureChunk → (PureTerm → PureTerm → List PureCase) → ChunkBranches
 of_property (l ∷ p ∷ []) cs cases = checked (no_property l p) (is_property l p) cs (cases l p)
 of_property _ cs cases = wrong_number cs
-
--- the branches of the cases are those of these
-abbrev pub AreChosenAs : List PureCase → List PureCase → Type 0
-AreChosenAs cases others = (when : Alternatives) → choose when cases ≡ choose when others
 
 -- ---- the branches of each action
 
@@ -205,22 +178,11 @@ branches_by ObjectAction.Has fresh args cs = of_property args cs (λ l p. has_ca
 branches_by ObjectAction.GetProto fresh args cs = getproto_branches args cs
 branches_by ObjectAction.SetProto fresh args cs = setproto_branches args cs
 
--- an action that objects don't have
-abbrev pub unknown_action : List PureChunk → ChunkBranches
-unknown_action cs = branches_of always cs (failure Failure.Action)
-
 abbrev pub table : Option ObjectAction → Option Var → List PureTerm → List PureChunk → ChunkBranches
 table (Some op) fresh args cs = branches_by op fresh args cs
 table None fresh args cs = unknown_action cs
 
 -- ---- what is asked about
-
-abbrev pub may_be_symbol : PureTerm → Bool
-may_be_symbol l = allows (known_kind l) Kind.Sym
-
--- the kinds of a location and a name, where they are known
-abbrev pub may_be_property : PureTerm → PureTerm → Bool
-may_be_property l p = may_be_symbol l && allows (known_kind p) Kind.Str
 
 abbrev pub may_be_prototype : PureTerm → Bool
 may_be_prototype v = may_be_symbol v || allows (known_kind v) Kind.Kind

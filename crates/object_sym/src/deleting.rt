@@ -1,8 +1,6 @@
 //! `delete`.
 ghost use Rattle.std.specs.Prelude.{◌≡◌, [], ◌∷◌, ◌++◌, ◌<◌, length, map, remove, IfOk};
 ghost use Rattle.object_sym.specs.Table.{
-  AreChosenAs,
-  missed_name as missed_name_of,
   taken_from,
   taken as taken_of,
   relisted as relisted_of,
@@ -13,7 +11,7 @@ ghost use Rattle.object_sym.specs.Table.{
 };
 ghost use Rattle.pure_terms.specs.View.{term_view, terms_view};
 ghost use Rattle.sym_chunks.specs.ByPlace.{all_by_place as all_by_place_of};
-ghost use Rattle.sym_chunks.specs.Cases.{case_of, true_term};
+ghost use Rattle.sym_chunks.specs.Cases.{case_of, true_term, AreChosenAs, missed_name as missed_name_of};
 ghost use Rattle.sym_chunks.specs.Forms.{form_of};
 ghost use Rattle.sym_chunks.specs.Keys.{other_sub, at_key};
 ghost use Rattle.sym_chunks.specs.NameTerms.{unlisted as unlisted_in};
@@ -22,14 +20,13 @@ ghost use Rattle.sym_conditions.specs.Alternatives.{alternatives_view, both as c
 ghost use Rattle.sym_model.specs.Pure.{done};
 ghost use Rattle.sym_model.specs.View.{chunk_view, frag_view, sub_view};
 
-use crate::names::name_sub;
 use crate::properties::missed_name;
 use pure_terms::{Literal, Term, Terms};
 use sequence::Sequence;
 use std::alloc::{AllocError, Global};
 use sym_chunks::{
-    Cases, all_other_subs, form_needed, has_sure_case, key_here, missed_key, unlisted, with_case,
-    with_made_case, without_chunk,
+    Cases, all_other_subs, form_needed, has_sure_case, key_here, missed_key, name_sub, unlisted,
+    with_case, with_made_case, without_chunk,
 };
 use sym_conditions::{Alternatives, both, terms_equal};
 use sym_model::{Chunk, SymFrag, SymResult, SymSub};

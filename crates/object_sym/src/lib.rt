@@ -5,7 +5,6 @@ mod deleting;
 mod laws;
 mod listed;
 mod memory;
-mod names;
 mod places;
 mod properties;
 mod prototypes;

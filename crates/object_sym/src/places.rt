@@ -2,16 +2,12 @@
 ghost use Rattle.std.specs.Prelude.{◌≡◌, IfOk};
 ghost use Rattle.object_sym.specs.Places.{lists, lists_not, untold, knows_not, lacks, opened_at, opened as opened_of};
 ghost use Rattle.pure_terms.specs.View.{term_view};
-ghost use Rattle.sym_chunks.specs.Keys.{same_sub};
 ghost use Rattle.sym_conditions.specs.Alternatives.{alternatives_view, any};
-ghost use Rattle.sym_model.specs.View.{chunk_view, chunks_view, sub_view};
+ghost use Rattle.sym_model.specs.View.{chunk_view, chunks_view};
 
-use crate::names::{name_sub, unheld};
 use pure_terms::Term;
 use std::alloc::{AllocError, Global};
-use sym_chunks::{
-    ChunkTest, all_other_subs, form_needed, listed, subkeys_differ, subkeys_equal, unlisted,
-};
+use sym_chunks::{ChunkTest, all_other_subs, form_needed, listed, name_sub, unheld, unlisted};
 use sym_conditions::{Alternatives, always, both, extend, never, terms_differ, terms_equal};
 use sym_model::{Chunk, SymSub};
 
@@ -46,20 +42,6 @@ impl ChunkTest for ListsNot<'_> {
             SymSub::Dom => unlisted(alloc, self.name, &chunk.val),
             _ => Ok(never(alloc)),
         }
-    }
-}
-
-/// The chunk has the same subkey.
-#[derive(Debug, Drop)]
-pub struct SameSub<'a> {
-    pub sub: &'a SymSub,
-}
-
-impl ChunkTest for SameSub<'_> {
-    ghost says = { λ test c. same_sub (sub_view test.sub.now) c.sub };
-
-    fn ask(&self, alloc: Global, chunk: &Chunk) -> Result<Alternatives, AllocError> {
-        subkeys_equal(alloc, self.sub, &chunk.sub)
     }
 }
 

@@ -2,8 +2,6 @@
 ghost use Rattle.std.specs.Prelude.{◌≡◌, ◌++◌, IfOk};
 ghost use Rattle.object_sym.specs.Places.{lists_not};
 ghost use Rattle.object_sym.specs.Table.{
-  AreChosenAs,
-  missed_name as missed_name_of,
   undef_term,
   without_name as without_name_of,
   told_cases,
@@ -14,19 +12,19 @@ ghost use Rattle.object_sym.specs.Table.{
 };
 ghost use Rattle.pure_terms.specs.View.{term_view};
 ghost use Rattle.sym_chunks.specs.ByPlace.{any_at as any_at_of};
-ghost use Rattle.sym_chunks.specs.Cases.{case_of};
+ghost use Rattle.sym_chunks.specs.Cases.{case_of, AreChosenAs, missed_name as missed_name_of};
 ghost use Rattle.sym_chunks.specs.View.{cases_view};
 ghost use Rattle.sym_model.specs.Pure.{done};
 ghost use Rattle.sym_model.specs.View.{frag_view, result_view};
 
-use crate::names::name_sub;
-use crate::places::{KnowsNot, Lacks, Lists, ListsNot, SameSub, Untold, opened};
+use crate::places::{KnowsNot, Lacks, Lists, ListsNot, Untold, opened};
 use gil_values::Kind;
 use pure_terms::{Literal, Term};
 use sequence::Sequence;
 use std::alloc::{AllocError, Global};
 use sym_chunks::{
-    Access, Cases, all_by_place, any_at, has_sure_case, missed_key, with_case, with_found,
+    Access, Cases, SameSub, all_by_place, any_at, has_sure_case, missed_key, name_sub, with_case,
+    with_found,
 };
 use sym_conditions::both;
 use sym_model::{SymFrag, SymResult, SymSub};

@@ -2,7 +2,6 @@
 ghost use Rattle.std.specs.Prelude.{◌≡◌, ◌++◌, IfOk};
 ghost use Rattle.gil_values.specs.declared.kinds.Kind.{Kind};
 ghost use Rattle.object_sym.specs.Table.{
-  AreChosenAs,
   is_prototype as is_prototype_of,
   is_no_prototype as is_no_prototype_of,
   created as created_of,
@@ -11,6 +10,7 @@ ghost use Rattle.object_sym.specs.Table.{
 };
 ghost use Rattle.pure_terms.specs.View.{term_view};
 ghost use Rattle.sym_chunks.specs.View.{access_view, cases_view};
+ghost use Rattle.sym_chunks.specs.Cases.{AreChosenAs};
 ghost use Rattle.sym_conditions.specs.Alternatives.{alternatives_view};
 ghost use Rattle.sym_model.specs.View.{frag_view};
 

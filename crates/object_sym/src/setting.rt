@@ -1,7 +1,6 @@
 //! `set`.
 ghost use Rattle.std.specs.Prelude.{◌≡◌, [], ◌∷◌, ◌++◌, ◌<◌, length, IfOk};
 ghost use Rattle.object_sym.specs.Table.{
-  AreChosenAs,
   with_name as with_name_of,
   added_there,
   added_from,
@@ -9,19 +8,18 @@ ghost use Rattle.object_sym.specs.Table.{
 };
 ghost use Rattle.pure_terms.specs.Pure.{list_of, from_list};
 ghost use Rattle.pure_terms.specs.View.{term_view, terms_view};
-ghost use Rattle.sym_chunks.specs.Cases.{case_of, writes};
+ghost use Rattle.sym_chunks.specs.Cases.{case_of, writes, AreChosenAs};
 ghost use Rattle.sym_chunks.specs.NameTerms.{unlisted as unlisted_in};
 ghost use Rattle.sym_chunks.specs.View.{access_view, cases_view};
 ghost use Rattle.sym_conditions.specs.Alternatives.{both as combined, same};
 ghost use Rattle.sym_model.specs.Pure.{done};
 ghost use Rattle.sym_model.specs.View.{frag_view, sub_view};
 
-use crate::names::name_sub;
 use crate::properties::without_name;
 use pure_terms::{Term, Terms};
 use sequence::Sequence;
 use std::alloc::{AllocError, Global};
-use sym_chunks::{Access, Cases, has_sure_case, unlisted, with_found, with_made_case};
+use sym_chunks::{Access, Cases, has_sure_case, name_sub, unlisted, with_found, with_made_case};
 use sym_conditions::{both, terms_equal};
 use sym_model::{Chunk, SymFrag, SymResult, SymSub};
 

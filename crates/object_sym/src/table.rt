@@ -3,9 +3,6 @@ ghost use Rattle.std.specs.Prelude.{◌≡◌, ◌++◌, IfOk};
 ghost use Rattle.gil_values.specs.declared.kinds.Kind.{Kind};
 ghost use Rattle.object_heap.specs.Names.{action_of};
 ghost use Rattle.object_sym.specs.Table.{
-  checked as checked_of,
-  no_property as no_property_of,
-  is_property as is_property_of,
   is_prototype as is_prototype_of,
   is_no_prototype as is_no_prototype_of,
   new_cases as new_cases_of,
@@ -14,18 +11,17 @@ ghost use Rattle.object_sym.specs.Table.{
   delete_cases as delete_cases_of,
   has_cases as has_cases_of,
   prototype_cases as prototype_cases_of,
-  wrong_number as wrong_number_of,
   of_property as of_property_of,
   new_branches,
   set_branches,
   getproto_branches,
   setproto_branches,
   table,
-  unknown_action,
 };
 ghost use Rattle.pure_terms.specs.View.{term_view, terms_view};
 ghost use Rattle.sym_chunks.specs.Cases.{reads, writes};
 ghost use Rattle.sym_chunks.specs.View.{cases_view, chunk_branches_view};
+ghost use Rattle.sym_chunks.specs.Arguments.{checked as checked_of, no_property as no_property_of, is_property as is_property_of, wrong_number as wrong_number_of, unknown_action};
 ghost use Rattle.sym_conditions.specs.Alternatives.{alternatives_view, both as combined, of_kind, not_of_kind};
 ghost use Rattle.sym_model.specs.View.{frag_view};
 
@@ -34,77 +30,13 @@ use crate::properties::{get_cases, has_cases};
 use crate::prototypes::{is_no_prototype, is_prototype, new_cases, prototype_cases};
 use crate::setting::{set_cases, write_of};
 use gil_values::{Kind, Text};
-use mem_model::Failure;
 use object_heap::ObjectAction;
 use pure_terms::{Term, Terms, Var};
 use sequence::Sequence;
 use std::alloc::{AllocError, Global};
-use sym_chunks::{Access, Cases, choose, with_failure};
-use sym_conditions::{Alternatives, always, both, extend, kind_is, kind_is_not};
+use sym_chunks::{Access, checked, of_property, unknown_action, wrong_number};
+use sym_conditions::{both, extend, kind_is, kind_is_not};
 use sym_model::{Branches, SymFrag};
-
-/// The branches in which the arguments are of wrong kinds, and those of the cases where they are of the right ones.
-fn checked(
-    alloc: Global,
-    wrong: Alternatives,
-    right: Alternatives,
-    chunks: &SymFrag,
-    cases: &Cases,
-) -> Result<Branches<SymFrag>, AllocError>
-    ensures { IfOk result (λ bs. chunk_branches_view bs ≡ checked_of (alternatives_view wrong) (alternatives_view right)
-        (frag_view chunks.now) (cases_view cases.now)) }
-{
-    let refused = with_failure(alloc, Sequence::new(alloc), wrong, chunks, Failure::Kind)?;
-    choose(alloc, refused, right, cases)
-}
-
-/// The location is no symbol or the name no text.
-fn no_property(alloc: Global, l: &Term, p: &Term) -> Result<Alternatives, AllocError>
-    ensures { IfOk result (λ x. alternatives_view x ≡ no_property_of (term_view l.now) (term_view p.now)) }
-{
-    let no_symbol = kind_is_not(alloc, l, Kind::Sym)?;
-    extend(alloc, no_symbol, &kind_is_not(alloc, p, Kind::Str)?)
-}
-
-/// The location is a symbol and the name a text.
-fn is_property(alloc: Global, l: &Term, p: &Term) -> Result<Alternatives, AllocError>
-    ensures { IfOk result (λ x. alternatives_view x ≡ is_property_of (term_view l.now) (term_view p.now)) }
-{
-    let symbol = kind_is(alloc, l, Kind::Sym)?;
-    both(alloc, &symbol, &kind_is(alloc, p, Kind::Str)?)
-}
-
-/// The branches of cases that take a location and a name.
-fn of_property(
-    alloc: Global,
-    l: &Term,
-    p: &Term,
-    chunks: &SymFrag,
-    cases: &Cases,
-) -> Result<Branches<SymFrag>, AllocError>
-    ensures { IfOk result (λ bs. chunk_branches_view bs ≡ checked_of (no_property_of (term_view l.now) (term_view p.now)) (is_property_of
-        (term_view l.now) (term_view p.now)) (frag_view chunks.now) (cases_view cases.now)) }
-{
-    let wrong = no_property(alloc, l, p)?;
-    let right = is_property(alloc, l, p)?;
-    checked(alloc, wrong, right, chunks, cases)
-}
-
-/// The branch in which the number of arguments is wrong.
-fn wrong_number(alloc: Global, chunks: &SymFrag) -> Result<Branches<SymFrag>, AllocError>
-    ensures { IfOk result (λ bs. chunk_branches_view bs ≡ wrong_number_of (frag_view chunks.now)) }
-{
-    let when = always(alloc)?;
-    with_failure(alloc, Sequence::new(alloc), when, chunks, Failure::Arity)
-}
-
-/// The branch of an action that objects don't have.
-fn unknown(alloc: Global, chunks: &SymFrag) -> Result<Branches<SymFrag>, AllocError>
-    ensures { IfOk result (λ bs. chunk_branches_view bs ≡ unknown_action (frag_view chunks.now)) }
-{
-    let when = always(alloc)?;
-    with_failure(alloc, Sequence::new(alloc), when, chunks, Failure::Action)
-}
 
 /// A new object with this prototype.
 fn make(
@@ -323,6 +255,6 @@ pub fn branches(
         Some(ObjectAction::Has) => act_has(alloc, args, chunks),
         Some(ObjectAction::GetProto) => act_getproto(alloc, args, chunks),
         Some(ObjectAction::SetProto) => act_setproto(alloc, args, chunks),
-        None => unknown(alloc, chunks),
+        None => unknown_action(alloc, chunks),
     }
 }

@@ -1,17 +1,17 @@
 use Rattle.std.proofs.Common.{List, ◌++◌, map, length, sym, ap, ◌∙◌}
 use Rattle.std.proofs.lemmas.List.{length-map}
-use Rattle.object_sym.specs.Table.{missed_name, taken_from, taken, relisted}
+use Rattle.object_sym.specs.Table.{taken_from, taken, relisted}
 use Rattle.pure_terms.specs.Pure.{list_of, from_list}
 use Rattle.pure_terms.specs.View.{atoms_view, term_view}
 use Rattle.sym_chunks.specs.ByPlace.{all_by_place}
-use Rattle.sym_chunks.specs.Cases.{PureCase, case_of}
+use Rattle.sym_chunks.specs.Cases.{PureCase, case_of, missed_name}
 use Rattle.sym_chunks.specs.Keys.{other_sub}
 use Rattle.sym_chunks.specs.View.{cases_view}
 use Rattle.sym_conditions.specs.Alternatives.{alternatives_view, both}
 use Rattle.sym_model.specs.Pure.{PureSub, named}
 use Rattle.sym_model.specs.View.{frag_view}
 use Rattle.sym_chunks.proofs.Elements.{ok_to}
-use Rattle.object_sym.proofs.Choosing.{joined_two}
+use Rattle.sym_chunks.proofs.Choosing.{joined_two}
 use Rattle.object_sym.proofs.ListValues.{held_length}
 use Rattle.object_sym.proofs.Steps.{taken_is}
 use Rattle.object_sym.proofs.deleting.with_taken.Goals as goal

@@ -4,7 +4,7 @@ use Rattle.pure_terms.specs.View.{term_view}
 use Rattle.sym_chunks.specs.View.{cases_view}
 use Rattle.sym_model.specs.View.{frag_view}
 use Rattle.sym_chunks.proofs.Elements.{ok_to}
-use Rattle.object_sym.proofs.Choosing.{first_alike, same_alike, joined_two}
+use Rattle.sym_chunks.proofs.Choosing.{first_alike, same_alike, joined_two}
 use Rattle.object_sym.proofs.properties.has_cases.Goals as goal
 
 pub returns-then-has_sure_case : goal.returns-then-has_sure_case

@@ -9,7 +9,7 @@ use Rattle.sym_chunks.specs.View.{cases_view}
 use Rattle.sym_model.specs.Pure.{done}
 use Rattle.sym_model.specs.View.{frag_view}
 use Rattle.sym_chunks.proofs.Elements.{ok_to}
-use Rattle.object_sym.proofs.Choosing.{joined_two}
+use Rattle.sym_chunks.proofs.Choosing.{joined_two}
 use Rattle.object_sym.proofs.Steps.{term_view-Lit}
 use Rattle.object_sym.proofs.properties.with_told.Goals as goal
 

@@ -1,15 +1,14 @@
 use Rattle.std.proofs.Common.{◌++◌, true, ap, ◌∙◌}
 use Rattle.object_sym.specs.Places.{opened, knows_not}
-use Rattle.object_sym.specs.Table.{missed_name}
 use Rattle.pure_terms.specs.declared.literals.Literal.{Literal}
 use Rattle.pure_terms.specs.View.{term_view}
 use Rattle.sym_chunks.specs.ByPlace.{all_by_place}
-use Rattle.sym_chunks.specs.Cases.{case_of, true_term}
+use Rattle.sym_chunks.specs.Cases.{case_of, true_term, missed_name}
 use Rattle.sym_chunks.specs.View.{cases_view}
 use Rattle.sym_model.specs.Pure.{done}
 use Rattle.sym_model.specs.View.{frag_view}
 use Rattle.sym_chunks.proofs.Elements.{ok_to}
-use Rattle.object_sym.proofs.Choosing.{joined_two}
+use Rattle.sym_chunks.proofs.Choosing.{joined_two}
 use Rattle.object_sym.proofs.Steps.{term_view-Lit}
 use Rattle.object_sym.proofs.properties.with_unknown.Goals as goal
 

@@ -1,13 +1,12 @@
 use Rattle.std.proofs.Common.{◌++◌, ap, ◌∙◌}
 use Rattle.object_sym.specs.Places.{opened, lacks}
-use Rattle.object_sym.specs.Table.{missed_name}
 use Rattle.pure_terms.specs.View.{term_view}
 use Rattle.sym_chunks.specs.ByPlace.{all_by_place}
-use Rattle.sym_chunks.specs.Cases.{case_of}
+use Rattle.sym_chunks.specs.Cases.{case_of, missed_name}
 use Rattle.sym_chunks.specs.View.{cases_view}
 use Rattle.sym_model.specs.View.{frag_view}
 use Rattle.sym_chunks.proofs.Elements.{ok_to}
-use Rattle.object_sym.proofs.Choosing.{joined_two}
+use Rattle.sym_chunks.proofs.Choosing.{joined_two}
 use Rattle.object_sym.proofs.properties.without_name.Goals as goal
 
 pub returns : goal.returns

@@ -1,14 +1,13 @@
 use Rattle.std.proofs.Common.{◌++◌, sym, ap, ◌∙◌}
-use Rattle.object_sym.specs.Table.{missed_key}
 use Rattle.pure_terms.specs.View.{term_view}
 use Rattle.sym_chunks.specs.ByPlace.{all_by_place}
-use Rattle.sym_chunks.specs.Cases.{case_of, found}
+use Rattle.sym_chunks.specs.Cases.{case_of, found, missed_key}
 use Rattle.sym_chunks.specs.Keys.{other_sub}
 use Rattle.sym_chunks.specs.View.{access_view, cases_view}
 use Rattle.sym_model.specs.Pure.{proto}
 use Rattle.sym_model.specs.View.{frag_view}
 use Rattle.sym_chunks.proofs.Elements.{ok_to}
-use Rattle.object_sym.proofs.Choosing.{first_alike, same_alike}
+use Rattle.sym_chunks.proofs.Choosing.{first_alike, same_alike}
 use Rattle.object_sym.proofs.prototypes.prototype_cases.Goals as goal
 
 pub returns-then-has_sure_case : goal.returns-then-has_sure_case

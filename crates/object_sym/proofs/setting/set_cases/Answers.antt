@@ -7,7 +7,7 @@ use Rattle.sym_chunks.specs.View.{cases_view}
 use Rattle.sym_model.specs.Pure.{named}
 use Rattle.sym_model.specs.View.{frag_view}
 use Rattle.sym_chunks.proofs.Elements.{ok_to}
-use Rattle.object_sym.proofs.Choosing.{first_alike, same_alike}
+use Rattle.sym_chunks.proofs.Choosing.{first_alike, same_alike}
 use Rattle.object_sym.proofs.setting.set_cases.Goals as goal
 
 pub returns-then-has_sure_case : goal.returns-then-has_sure_case
