@@ -20,7 +20,7 @@ use Rattle.value_text.proofs.WordLaws.{behind_again}
 
 -- ---- what follows
 
-digit_ends : (rest : List ℕ) → EndsWord rest → begins is_ascii_digit rest ≡ false
+pub digit_ends : (rest : List ℕ) → EndsWord rest → begins is_ascii_digit rest ≡ false
 digit_ends [] ends = refl
 digit_ends (b ∷ rest) ends =
     elim (cases_Bool (is_ascii_digit b)) [
@@ -101,7 +101,7 @@ leaf_again zero v rest is = rw (is.no_list) is.leaf
 leaf_again (suc n) v rest is = rw (is.no_list) is.leaf
 
 -- no value begins with the bracket that closes a list
-open_bracket : (v : PureValue) (rest : List ℕ) → begins (λ b. eqb b 93) (printed_value v ++ rest) ≡ false
+pub open_bracket : (v : PureValue) (rest : List ℕ) → begins (λ b. eqb b 93) (printed_value v ++ rest) ≡ false
 open_bracket (integer n) rest = integer_first_not 93 n rest refl refl
 open_bracket (boolean true) rest = refl
 open_bracket (boolean false) rest = refl
@@ -164,7 +164,7 @@ next_again n v rest read = record {
   follows = refl;
 }
 
-no_comma : (rest : List ℕ) → begins (λ b. eqb b 93) rest ≡ true → before_no_comma rest ≡ true
+pub no_comma : (rest : List ℕ) → begins (λ b. eqb b 93) rest ≡ true → before_no_comma rest ≡ true
 no_comma [] closes = absurd (cc closes)
 no_comma (b ∷ rest) closes = rw (eqb-true b 93 closes) refl
 

@@ -90,6 +90,10 @@ abbrev pub name_at : List ℕ → Reading (List ℕ)
 name_at bytes =
     if begins is_name_start bytes then Some (take (prefix_len is_name_byte bytes) bytes, drop (prefix_len is_name_byte bytes) bytes) else None
 
+-- what stands behind it
+abbrev pub past_name : List ℕ → List ℕ
+past_name bytes = drop (prefix_len is_name_byte bytes) bytes
+
 -- a character behind the backslash of its escape
 abbrev pub escape_at : List ℕ → Reading ℕ
 escape_at [] = None

@@ -11,8 +11,8 @@ mod words;
 
 pub use faults::ReadFault;
 pub use laws::{only_writable, values_again};
-pub use names::name_at;
+pub use names::{begins_name, name_at, past_name};
 pub use numbers::{integer_at, long_at, natural_at, small_at};
 pub use texts::text_at;
-pub use values::{value_at, values_at};
+pub use values::{ends_elements, value_at, values_at};
 pub use words::{begins_with, behind, expect};

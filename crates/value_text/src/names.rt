@@ -25,7 +25,7 @@ fn is_name_byte(byte: u8) -> bool
 }
 
 /// Whether the bytes begin as a name does.
-pub(crate) fn begins_name(bytes: &[u8]) -> bool
+pub fn begins_name(bytes: &[u8]) -> bool
     ensures { result ≡ begins class.is_name_start bytes.now }
 {
     match bytes {
@@ -40,6 +40,14 @@ fn name_len(bytes: &[u8]) -> usize
     ensures within { result ≤ length bytes.now }
 {
     bytes.iter().take_while(|b| is_name_byte(**b)).count()
+}
+
+/// What stands behind the name at the front, or behind the bytes that a name may go on with.
+pub fn past_name(bytes: &[u8]) -> &[u8]
+    ensures { result.now ≡ spec.past_name bytes.now }
+{
+    let len = name_len(bytes);
+    &bytes[len..]
 }
 
 /// The name at the front, reserved or not.

@@ -106,8 +106,8 @@ fn next_at(alloc: Global, inner: usize, bytes: &[u8]) -> Result<(Value, &[u8]), 
     nested_at(alloc, inner, rest)
 }
 
-/// Whether no element follows.
-fn ends_elements(bytes: &[u8]) -> bool
+/// Whether no element of a list follows.
+pub fn ends_elements(bytes: &[u8]) -> bool
     ensures { result ≡ before_no_comma bytes.now }
 {
     !begins_with(b',', bytes)

@@ -1,0 +1,8 @@
+//! Lists in brackets are read from the front of bytes, as they are printed.
+#![tactic(auto)]
+
+mod lists;
+mod reader;
+
+pub use lists::list_at;
+pub use reader::Reader;
