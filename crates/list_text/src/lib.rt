@@ -4,5 +4,5 @@
 mod lists;
 mod reader;
 
-pub use lists::list_at;
+pub use lists::{list_at, more_at};
 pub use reader::Reader;

@@ -39,7 +39,7 @@ fn elements_at<R: Reader>(
 }
 
 /// The elements of the list, and those at the front that stand behind a comma each.
-fn more_at<R: Reader>(
+pub fn more_at<R: Reader>(
     alloc: Global,
     items: Sequence<R::Item>,
     bytes: &[u8],

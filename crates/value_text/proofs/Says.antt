@@ -94,7 +94,7 @@ negative_says bytes y e =
     let s = step (number_at a.first) _ y a.then_read in
     subst (λ p. FitsSigned w128 p.0) (same_Some _ _ s.then_read) (fits_negative s.first.0 (number_says a.first s.first s.read))
 
-integer_says : (bytes : List ℕ) (y : ℤ × List ℕ) → integer_at bytes ≡ Some y → FitsSigned w128 y.0
+pub integer_says : (bytes : List ℕ) (y : ℤ × List ℕ) → integer_at bytes ≡ Some y → FitsSigned w128 y.0
 integer_says bytes y e = elim (branch {A = ℤ × List ℕ} (begins (λ b. eqb b 45) bytes) (negative_at bytes) (positive_at bytes) y e) [
   | inl (test, is) ↦ negative_says bytes y is
   | inr (test, is) ↦ positive_says bytes y is

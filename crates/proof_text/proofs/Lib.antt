@@ -1,0 +1,2 @@
+pub mod ProofLaws
+pub mod ProofSays
