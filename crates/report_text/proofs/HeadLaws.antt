@@ -1,39 +1,20 @@
--- Head lines and places that were printed are read again.
-use Rattle.std.proofs.Common.{◌≡◌, ℕ, ◌<◌, ◌^◌, false, List, [], ◌∷◌, ◌++◌, Some, refl, ap, ◌∙◌, arith, append_assoc}
+-- Head lines that were printed are read again.
+use Rattle.std.proofs.Common.{◌≡◌, ℕ, ◌<◌, ◌^◌, List, [], ◌∷◌, ◌++◌, Some, refl, ap, ◌∙◌, arith, append_assoc}
 use Rattle.std.specs.Prelude.{codes}
-use Rattle.std.specs.Char.{is_ascii_digit}
-use Rattle.gil_values.specs.Pieces.{printed_place}
 use Rattle.gil_values.specs.Printed.{numeral}
-use Rattle.gil_values.specs.declared.places.Place.{Place}
-use Rattle.gil_lexer.specs.Bytes.{begins}
 use Rattle.gillian_words.specs.declared.tasks.Language.{Language}
 use Rattle.gillian_words.specs.declared.tasks.Language.TheVariants as languages
 use Rattle.gillian_words.specs.Tasks.{language_word}
-use Rattle.value_text.specs.Reading.{behind, natural_at}
-use Rattle.value_text.proofs.NumberLaws.{natural_again}
+use Rattle.value_text.specs.Reading.{behind}
 use Rattle.value_text.proofs.TextLaws.{name_again}
 use Rattle.value_text.proofs.WordLaws.{behind_again}
+use Rattle.report_parts.proofs.PartLaws.{small_again}
 use Rattle.gil_report.specs.declared.heads.EntryMode.{EntryMode}
 use Rattle.gil_report.specs.declared.heads.EntryMode.TheVariants as modes
 use Rattle.gil_report.specs.declared.heads.Head.{Head}
 use Rattle.gil_report.specs.Lines.{head_line, mode_word}
-use Rattle.report_text.specs.Plain.{IsPlainHead, IsPlainPlace}
-use Rattle.report_text.specs.Reading.{place_at, language_at, mode_at, check_at, sweep_at, entry_at, asked_at, head_at}
-
-pub small_again : (n : ℕ) (rest : List ℕ) → n < 2 ^ 32 → begins is_ascii_digit rest ≡ false → natural_at 32 (numeral n ++ rest) ≡ Some (n, rest)
-small_again n rest small stops = natural_again 32 n rest small (omega arith) stops
-
-pub three : (a b c rest : List ℕ) → ((a ++ b) ++ c) ++ rest ≡ a ++ (b ++ (c ++ rest))
-three a b c rest = simp append_assoc
-
-place_parts : (name rest : List ℕ) (n : ℕ) → IsPlainPlace (record { proc = name; at = n }) → begins is_ascii_digit rest ≡ false
-    → place_at (name ++ (58 ∷ (numeral n ++ rest))) ≡ Some (record { proc = name; at = n }, rest)
-unfolding place_at
-place_parts name rest n is stops =
-    rw (name_again name (58 ∷ (numeral n ++ rest)) is.0 refl, behind_again (58 ∷ []) (numeral n ++ rest), small_again n rest is.1 stops) refl
-
-pub place_again : (p : Place) (rest : List ℕ) → IsPlainPlace p → begins is_ascii_digit rest ≡ false → place_at (printed_place p ++ rest) ≡ Some (p, rest)
-place_again p rest is stops = ap place_at (three p.proc (58 ∷ []) (numeral p.at) rest) ∙ place_parts p.proc rest p.at is stops
+use Rattle.report_text.specs.Plain.{IsPlainHead}
+use Rattle.report_text.specs.Reading.{language_at, mode_at, check_at, sweep_at, entry_at, asked_at, head_at}
 
 language_again : (l : Language) (rest : List ℕ) → language_at (language_word l ++ rest) ≡ Some (l, rest)
 unfolding behind

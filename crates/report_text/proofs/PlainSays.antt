@@ -3,21 +3,18 @@ use Rattle.std.proofs.Common.{◌≡◌, ℕ, List, length, Some, subst, inl, in
 use Rattle.std.specs.Prelude.{codes}
 use Rattle.std.specs.List.{AllByRecursion}
 use Rattle.std.proofs.lemmas.Option.{same_Some}
-use Rattle.gil_values.specs.declared.places.Place.{Place}
 use Rattle.value_text.specs.Reading.{Reading, ◌>>=◌, behind, behind_or, many_at, name_at, natural_at, any_value_at, bracketed_values_at}
-use Rattle.value_text.proofs.Says.{step, behind_or_says, natural_says, name_says, any_says, bracketed_says, many_says}
+use Rattle.value_text.proofs.Says.{step, branch, behind_or_says, natural_says, name_says, any_says, bracketed_says, many_says}
+use Rattle.gil_lexer.specs.Bytes.{begins, is_name_start}
+use Rattle.gil_lexer.specs.Spelling.{IsName}
+use Rattle.proof_text.specs.Reading.{any_proof_at}
+use Rattle.proof_text.proofs.ProofSays.{only_writable_proofs}
+use Rattle.report_parts.specs.Reading.{place_at, bindings_at, question_at, cause_at}
+use Rattle.report_parts.proofs.PartSays.{place_says, bindings_say, question_says, cause_says}
 use Rattle.gil_report.specs.declared.heads.Head.{Head}
-use Rattle.gil_report.specs.Pure.{PureAnswer, returned, vanished, cut, no_input, bad_input, number, clean, bytes as length_of, PureReport}
-use Rattle.report_text.specs.Plain.{IsPlainHead, IsPlainPlace, IsPlainAnswer, IsPlain}
-use Rattle.report_text.specs.Reading.{place_at, language_at, mode_at, check_at, sweep_at, entry_at, asked_at, head_at, returned_at, failed_at, no_input_at, bad_input_at, number_at, bug_at, length_at, rarer_at, body_at, answer_at, is_at_end, lines_at, answers_at, report_at}
-
-place_says : (bytes : List ℕ) (y : Place × List ℕ) → place_at bytes ≡ Some y → IsPlainPlace y.0
-unfolding place_at
-place_says bytes y e =
-    let a = step (name_at bytes) _ y e in
-    let b = step (behind (codes ":") a.first.1) _ y a.then_read in
-    let c = step (natural_at 32 b.first) _ y b.then_read in
-    subst (λ p. IsPlainPlace p.0) (same_Some _ _ c.then_read) (name_says bytes a.first a.read, natural_says 32 b.first c.first c.read)
+use Rattle.gil_report.specs.Pure.{PureAnswer, returned, vanished, cut, no_input, bad_input, number, clean, undecided, verified, vacuous, unproved, sat, unsat, unknown, bytes as length_of, PureReport}
+use Rattle.report_text.specs.Plain.{IsPlainHead, IsPlainAnswer, IsPlain}
+use Rattle.report_text.specs.Reading.{language_at, mode_at, check_at, sweep_at, entry_at, asked_at, head_at, returned_at, failed_at, no_input_at, bad_input_at, number_at, bug_at, sat_at, unsat_at, undecided_at, outside_at, unknown_at, length_at, solved_at, rarer_at, body_at, vacuous_at, unproved_at, status_at, specification_at, is_of_specification, any_at, answer_at, is_at_end, lines_at, answers_at, report_at}
 
 -- ---- heads
 
@@ -130,12 +127,52 @@ bug_says bytes y e =
     let f = step (bracketed_values_at d.first) _ y d.then_read in
     subst (λ p. IsPlainAnswer p.0) (same_Some _ _ f.then_read) (place_says bytes a.first a.read, any_says b.first c.first c.read, bracketed_says d.first f.first f.read)
 
+sat_says : (bytes : List ℕ) → OnlyPlain (sat_at bytes)
+unfolding sat_at
+sat_says bytes y e = made_says (bindings_at bytes) sat (λ z f. bindings_say bytes z f) y e
+
+unsat_says : (bytes : List ℕ) → OnlyPlain (unsat_at bytes)
+unfolding unsat_at
+unsat_says bytes y e = made_says (any_proof_at bytes) unsat (λ z f. only_writable_proofs bytes z.0 z.1 f) y e
+
+undecided_says : (bytes : List ℕ) → OnlyPlain (undecided_at bytes)
+unfolding undecided_at
+undecided_says bytes y e = made_says (question_at bytes) undecided (λ z f. question_says bytes z f) y e
+
+outside_says : (bytes : List ℕ) → OnlyPlain (outside_at bytes)
+unfolding outside_at
+outside_says bytes y e = made_says (natural_at 64 bytes) unknown (λ z f. natural_says 64 bytes z f) y e
+
+unknown_says : (bytes : List ℕ) → OnlyPlain (unknown_at bytes)
+unknown_says bytes y e = elim (branch {A = PureAnswer × List ℕ} (begins is_name_start bytes) (undecided_at bytes) (outside_at bytes) y e) [
+  | inl (test, is) ↦ undecided_says bytes y is
+  | inr (test, is) ↦ outside_says bytes y is
+]
+
 -- what is read where none of the words so far stands at the front
-abbrev after_bug : List ℕ → Reading PureAnswer
-after_bug bytes = behind (codes "bytes ") bytes >>= length_at
+abbrev after_unknown : List ℕ → Reading PureAnswer
+after_unknown bytes = behind (codes "bytes ") bytes >>= length_at
+
+abbrev after_unsat : List ℕ → Reading PureAnswer
+after_unsat bytes = behind_or (behind (codes "unknown ") bytes) unknown_at (after_unknown bytes)
+
+abbrev after_sat : List ℕ → Reading PureAnswer
+after_sat bytes = behind_or (behind (codes "unsat ") bytes) unsat_at (after_unsat bytes)
+
+solved_says : (bytes : List ℕ) → OnlyPlain (solved_at bytes)
+solved_says bytes y e = elim (behind_or_says {X = PureAnswer} (behind (codes "sat ") bytes) sat_at (after_sat bytes) y e) [
+  | inl (rest, is) ↦ sat_says rest y is
+  | inr e1 ↦ elim (behind_or_says {X = PureAnswer} (behind (codes "unsat ") bytes) unsat_at (after_unsat bytes) y e1) [
+    | inl (rest, is) ↦ unsat_says rest y is
+    | inr e2 ↦ elim (behind_or_says {X = PureAnswer} (behind (codes "unknown ") bytes) unknown_at (after_unknown bytes) y e2) [
+      | inl (rest, is) ↦ unknown_says rest y is
+      | inr e3 ↦ let a = step (behind (codes "bytes ") bytes) length_at y e3 in length_says a.first y a.then_read
+    ]
+  ]
+]
 
 abbrev after_clean : List ℕ → Reading PureAnswer
-after_clean bytes = behind_or (behind (codes "bug ") bytes) bug_at (after_bug bytes)
+after_clean bytes = behind_or (behind (codes "bug ") bytes) bug_at (solved_at bytes)
 
 abbrev after_number : List ℕ → Reading PureAnswer
 after_number bytes = behind_or (behind (codes "clean") bytes) (λ rest. Some (clean, rest)) (after_clean bytes)
@@ -150,9 +187,9 @@ rarer_says bytes y e = elim (behind_or_says {X = PureAnswer} (behind (codes "bad
     | inl (rest, is) ↦ number_says rest y is
     | inr e2 ↦ elim (behind_or_says {X = PureAnswer} (behind (codes "clean") bytes) (λ rest. Some (clean, rest)) (after_clean bytes) y e2) [
       | inl (rest, is) ↦ alone_says clean rest tt y is
-      | inr e3 ↦ elim (behind_or_says {X = PureAnswer} (behind (codes "bug ") bytes) bug_at (after_bug bytes) y e3) [
+      | inr e3 ↦ elim (behind_or_says {X = PureAnswer} (behind (codes "bug ") bytes) bug_at (solved_at bytes) y e3) [
         | inl (rest, is) ↦ bug_says rest y is
-        | inr e4 ↦ let a = step (behind (codes "bytes ") bytes) length_at y e4 in length_says a.first y a.then_read
+        | inr is ↦ solved_says bytes y is
       ]
     ]
   ]
@@ -188,12 +225,51 @@ body_says bytes y e = elim (behind_or_says {X = PureAnswer} (behind (codes "retu
   ]
 ]
 
+-- ---- specifications
+
+unproved_says : (x bytes : List ℕ) → IsName x → OnlyPlain (unproved_at x bytes)
+unfolding unproved_at
+unproved_says x bytes named y e = made_says (cause_at bytes) (unproved x) (λ z f. (named, cause_says bytes z f)) y e
+
+vacuous_says : (x bytes : List ℕ) → IsName x → OnlyPlain (vacuous_at x bytes)
+unfolding vacuous_at
+vacuous_says x bytes named y e = made_says (any_proof_at bytes) (vacuous x) (λ z f. (named, only_writable_proofs bytes z.0 z.1 f)) y e
+
+abbrev after_vacuous : List ℕ → List ℕ → Reading PureAnswer
+after_vacuous x bytes = behind (codes " unproved ") bytes >>= unproved_at x
+
+abbrev after_verified : List ℕ → List ℕ → Reading PureAnswer
+after_verified x bytes = behind_or (behind (codes " vacuous ") bytes) (vacuous_at x) (after_vacuous x bytes)
+
+status_says : (x bytes : List ℕ) → IsName x → OnlyPlain (status_at x bytes)
+status_says x bytes named y e =
+    elim (behind_or_says {X = PureAnswer} (behind (codes " verified") bytes) (λ rest. Some (verified x, rest)) (after_verified x bytes) y e) [
+      | inl (rest, is) ↦ alone_says (verified x) rest named y is
+      | inr e1 ↦ elim (behind_or_says {X = PureAnswer} (behind (codes " vacuous ") bytes) (vacuous_at x) (after_vacuous x bytes) y e1) [
+        | inl (rest, is) ↦ vacuous_says x rest named y is
+        | inr e2 ↦ let a = step (behind (codes " unproved ") bytes) (unproved_at x) y e2 in unproved_says x a.first named y a.then_read
+      ]
+    ]
+
+specification_says : (bytes : List ℕ) → OnlyPlain (specification_at bytes)
+unfolding specification_at
+specification_says bytes y e =
+    let a = step (name_at bytes) _ y e in status_says a.first.0 a.first.1 (name_says bytes a.first a.read) y a.then_read
+
+-- ---- lines
+
+any_answer_says : (bytes : List ℕ) → OnlyPlain (any_at bytes)
+any_answer_says bytes y e = elim (branch {A = PureAnswer × List ℕ} (is_of_specification bytes) (specification_at bytes) (body_at bytes) y e) [
+  | inl (test, is) ↦ specification_says bytes y is
+  | inr (test, is) ↦ body_says bytes y is
+]
+
 answer_says : (bytes : List ℕ) (y : PureAnswer × List ℕ) → answer_at bytes ≡ Some y → IsPlainAnswer y.0
 unfolding answer_at
 answer_says bytes y e =
-    let a = step (body_at bytes) _ y e in
+    let a = step (any_at bytes) _ y e in
     let b = step (behind (codes "\n") a.first.1) _ y a.then_read in
-    subst (λ p. IsPlainAnswer p.0) (same_Some _ _ b.then_read) (body_says bytes a.first a.read)
+    subst (λ p. IsPlainAnswer p.0) (same_Some _ _ b.then_read) (any_answer_says bytes a.first a.read)
 
 -- ---- reports
 

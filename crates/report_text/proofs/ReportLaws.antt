@@ -1,12 +1,15 @@
 -- Reports that were printed are read again.
 use Rattle.std.proofs.Common.{◌≡◌, ℕ, ◌≤◌, false, List, [], ◌∷◌, ◌++◌, length, Some, None, refl, sym, ap, subst, ◌∙◌, arith, append-nil, length-append}
+use Rattle.std.specs.Prelude.{codes}
 use Rattle.std.specs.List.{AllByRecursion, flat_map}
 use Rattle.std.proofs.lemmas.Option.{same_Some}
 use Rattle.value_text.specs.declared.faults.ReadFault.{ReadFault}
 use Rattle.value_text.specs.declared.faults.ReadFault.TheVariants as faults
 use Rattle.value_text.specs.Reading.{Fails, many_at}
 use Rattle.value_text.proofs.Many.{Again, many_again}
-use Rattle.gil_report.specs.Lines.{answer_line, report_text}
+use Rattle.gil_lexer.specs.Spelling.{IsName}
+use Rattle.gil_report.specs.Proofs.{printed_proof}
+use Rattle.gil_report.specs.Lines.{answer_line, printed_cause, report_text}
 use Rattle.gil_report.specs.Pure.{PureAnswer, returned, failed, vanished, cut, no_input, bad_input, number, clean, bug, undecided}
 use Rattle.gil_report.specs.Pure.{verified, vacuous, unproved, found, sat, unsat, unknown, bytes as length_of, PureReport}
 use Rattle.report_text.specs.Laws.{PrintingTellsReports}
@@ -14,6 +17,14 @@ use Rattle.report_text.specs.Plain.{IsPlainAnswer, IsPlain}
 use Rattle.report_text.specs.Reading.{is_at_end, answer_at, report_at}
 use Rattle.report_text.proofs.AnswerLaws.{answer_again}
 use Rattle.report_text.proofs.HeadLaws.{head_again}
+
+some_name : (x a b rest : List ℕ) → IsName x → is_at_end (((x ++ a) ++ b) ++ rest) ≡ false
+some_name [] a b rest is = absurd (cc is.0)
+some_name (c ∷ x) a b rest is = refl
+
+some_more : (x a b c rest : List ℕ) → IsName x → is_at_end ((((x ++ a) ++ b) ++ c) ++ rest) ≡ false
+some_more [] a b c rest is = absurd (cc is.0)
+some_more (d ∷ x) a b c rest is = refl
 
 some_line : (x : PureAnswer) (rest : List ℕ) → IsPlainAnswer x → is_at_end (answer_line x ++ rest) ≡ false
 some_line (returned v) rest is = refl
@@ -25,14 +36,14 @@ some_line (bad_input n) rest is = refl
 some_line (number place) rest is = refl
 some_line clean rest is = refl
 some_line (bug place v inputs) rest is = refl
-some_line (undecided o) rest is = absurd is
-some_line (verified name) rest is = absurd is
-some_line (vacuous name proof) rest is = absurd is
-some_line (unproved name cause) rest is = absurd is
+some_line (undecided o) rest is = refl
+some_line (verified name) rest is = some_name name (codes " verified") (10 ∷ []) rest is
+some_line (vacuous name proof) rest is = some_more name (codes " vacuous ") (printed_proof proof) (10 ∷ []) rest is.0
+some_line (unproved name cause) rest is = some_more name (codes " unproved ") (printed_cause cause) (10 ∷ []) rest is.0
 some_line (found spec is_cut) rest is = absurd is
-some_line (sat bindings) rest is = absurd is
-some_line (unsat proof) rest is = absurd is
-some_line (unknown place) rest is = absurd is
+some_line (sat bindings) rest is = refl
+some_line (unsat proof) rest is = refl
+some_line (unknown place) rest is = refl
 some_line (length_of n) rest is = refl
 
 all_again : (xs : List PureAnswer) → AllByRecursion IsPlainAnswer xs → AllByRecursion (Again is_at_end answer_at answer_line (λ r. Unit {0})) xs

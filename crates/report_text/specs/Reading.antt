@@ -1,21 +1,15 @@
 -- Reading the lines of reports, as functions: what the readers answer.
-use Rattle.std.specs.Prelude.{ℕ, Bool, true, false, List, [], ◌∷◌, length, Option, Some, codes}
-use Rattle.gil_values.specs.declared.places.Place.{Place}
+use Rattle.std.specs.Prelude.{ℕ, Bool, true, false, ◌||◌, if◌then◌else◌, List, [], ◌∷◌, length, Option, Some, is_some, codes}
+use Rattle.gil_lexer.specs.Bytes.{begins, is_name_start}
 use Rattle.gillian_words.specs.declared.tasks.Language.{Language}
 use Rattle.gillian_words.specs.declared.tasks.Language.TheVariants as languages
-use Rattle.value_text.specs.Reading.{Reading, ◌>>=◌, ◌or_else◌, behind, behind_or, word_by, many_at, with_front, name_at, natural_at, any_value_at, bracketed_values_at}
+use Rattle.value_text.specs.Reading.{Reading, ◌>>=◌, ◌or_else◌, behind, behind_or, word_by, many_at, with_front, name_at, past_name, natural_at, any_value_at, bracketed_values_at}
+use Rattle.proof_text.specs.Reading.{any_proof_at}
+use Rattle.report_parts.specs.Reading.{place_at, bindings_at, question_at, cause_at}
 use Rattle.gil_report.specs.declared.heads.EntryMode.{EntryMode}
 use Rattle.gil_report.specs.declared.heads.EntryMode.TheVariants as modes
 use Rattle.gil_report.specs.declared.heads.Head.{Head}
-use Rattle.gil_report.specs.Pure.{PureAnswer, returned, failed, vanished, cut, no_input, bad_input, number, clean, bug, bytes as length_of, PureReport}
-
--- `main:4`
-unfoldable pub place_at : List ℕ → Reading Place
-place_at bytes = do
-  x ← name_at bytes
-  inner ← behind (codes ":") x.1
-  n ← natural_at 32 inner
-  Some (record { proc = x.0; at = n.0 }, n.1)
+use Rattle.gil_report.specs.Pure.{PureAnswer, returned, failed, vanished, cut, no_input, bad_input, number, clean, bug, undecided, verified, vacuous, unproved, sat, unsat, unknown, bytes as length_of, PureReport}
 
 -- ---- heads
 
@@ -98,13 +92,36 @@ bug_at bytes = do
 unfoldable pub length_at : List ℕ → Reading PureAnswer
 length_at bytes = natural_at 64 bytes >>= λ n. Some (length_of n.0, n.1)
 
+unfoldable pub sat_at : List ℕ → Reading PureAnswer
+sat_at bytes = bindings_at bytes >>= λ bound. Some (sat bound.0, bound.1)
+
+unfoldable pub unsat_at : List ℕ → Reading PureAnswer
+unsat_at bytes = any_proof_at bytes >>= λ p. Some (unsat p.0, p.1)
+
+unfoldable pub undecided_at : List ℕ → Reading PureAnswer
+undecided_at bytes = question_at bytes >>= λ o. Some (undecided o.0, o.1)
+
+unfoldable pub outside_at : List ℕ → Reading PureAnswer
+outside_at bytes = natural_at 64 bytes >>= λ n. Some (unknown n.0, n.1)
+
+-- conditions begin with the name of a procedure, and the place of an atom is a number
+abbrev pub unknown_at : List ℕ → Reading PureAnswer
+unknown_at bytes = if begins is_name_start bytes then undecided_at bytes else outside_at bytes
+
+abbrev pub solved_at : List ℕ → Reading PureAnswer
+solved_at bytes =
+    behind_or (behind (codes "sat ") bytes) sat_at
+    (behind_or (behind (codes "unsat ") bytes) unsat_at
+    (behind_or (behind (codes "unknown ") bytes) unknown_at
+    (behind (codes "bytes ") bytes >>= length_at)))
+
 abbrev pub rarer_at : List ℕ → Reading PureAnswer
 rarer_at bytes =
     behind_or (behind (codes "bad input ") bytes) bad_input_at
     (behind_or (behind (codes "number ") bytes) number_at
     (behind_or (behind (codes "clean") bytes) (λ rest. Some (clean, rest))
     (behind_or (behind (codes "bug ") bytes) bug_at
-    (behind (codes "bytes ") bytes >>= length_at))))
+    (solved_at bytes))))
 
 abbrev pub body_at : List ℕ → Reading PureAnswer
 body_at bytes =
@@ -115,10 +132,39 @@ body_at bytes =
     (behind_or (behind (codes "no input ") bytes) no_input_at
     (rarer_at bytes)))))
 
+-- ---- specifications
+
+unfoldable pub unproved_at : List ℕ → List ℕ → Reading PureAnswer
+unproved_at x bytes = cause_at bytes >>= λ k. Some (unproved x k.0, k.1)
+
+unfoldable pub vacuous_at : List ℕ → List ℕ → Reading PureAnswer
+vacuous_at x bytes = any_proof_at bytes >>= λ p. Some (vacuous x p.0, p.1)
+
+abbrev pub status_at : List ℕ → List ℕ → Reading PureAnswer
+status_at x bytes =
+    behind_or (behind (codes " verified") bytes) (λ rest. Some (verified x, rest))
+    (behind_or (behind (codes " vacuous ") bytes) (vacuous_at x)
+    (behind (codes " unproved ") bytes >>= unproved_at x))
+
+unfoldable pub specification_at : List ℕ → Reading PureAnswer
+specification_at bytes = name_at bytes >>= λ x. status_at x.0 x.1
+
+-- whether the status of a specification stands behind its name
+abbrev pub tells : List ℕ → Bool
+tells bytes = is_some (behind (codes " verified\n") bytes) || is_some (behind (codes " vacuous ") bytes) || is_some (behind (codes " unproved ") bytes)
+
+abbrev pub is_of_specification : List ℕ → Bool
+is_of_specification bytes = tells (past_name bytes)
+
+-- ---- lines
+
+abbrev pub any_at : List ℕ → Reading PureAnswer
+any_at bytes = if is_of_specification bytes then specification_at bytes else body_at bytes
+
 -- a whole line
 unfoldable pub answer_at : List ℕ → Reading PureAnswer
 answer_at bytes = do
-  x ← body_at bytes
+  x ← any_at bytes
   rest ← behind (codes "\n") x.1
   Some (x.0, rest)
 

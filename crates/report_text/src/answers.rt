@@ -4,23 +4,14 @@ ghost use Rattle.value_text.specs.Reading.{Gives};
 ghost use Rattle.gil_report.specs.View.{answer_view};
 ghost use Rattle.report_text.specs.Reading as spec;
 
-use crate::heads::place_at;
 use gil_report::Answer;
+use proof_text::proof_at;
+use report_parts::{bindings_at, place_at, question_at};
 use std::alloc::Global;
-use value_text::{ReadFault, behind, expect, long_at, small_at, value_at, values_at};
-
-/// The line of an answer at the front.
-#[tactic(auto, unfolding(crate::specs::Reading::answer_at))]
-pub(crate) fn answer_at(alloc: Global, bytes: &[u8]) -> Result<(Answer, &[u8]), ReadFault>
-    ensures { Gives (λ x. (answer_view x.0, x.1.now)) result (spec.answer_at bytes.now) }
-{
-    let (answer, rest) = body_at(alloc, bytes)?;
-    let rest = expect("\n", rest)?;
-    Ok((answer, rest))
-}
+use value_text::{ReadFault, begins_name, behind, expect, long_at, small_at, value_at, values_at};
 
 /// The answer at the front, without the end of its line.
-fn body_at(alloc: Global, bytes: &[u8]) -> Result<(Answer, &[u8]), ReadFault>
+pub(crate) fn body_at(alloc: Global, bytes: &[u8]) -> Result<(Answer, &[u8]), ReadFault>
     ensures { Gives (λ x. (answer_view x.0, x.1.now)) result (spec.body_at bytes.now) }
 {
     if let Some(rest) = behind("returned ", bytes) {
@@ -56,6 +47,22 @@ fn rarer_at(alloc: Global, bytes: &[u8]) -> Result<(Answer, &[u8]), ReadFault>
     }
     if let Some(rest) = behind("bug ", bytes) {
         return bug_at(alloc, rest);
+    }
+    solved_at(alloc, bytes)
+}
+
+/// The answer at the front, if it is about a list of atoms, or a verdict that isn't decided, or a length.
+fn solved_at(alloc: Global, bytes: &[u8]) -> Result<(Answer, &[u8]), ReadFault>
+    ensures { Gives (λ x. (answer_view x.0, x.1.now)) result (spec.solved_at bytes.now) }
+{
+    if let Some(rest) = behind("sat ", bytes) {
+        return sat_at(alloc, rest);
+    }
+    if let Some(rest) = behind("unsat ", bytes) {
+        return unsat_at(alloc, rest);
+    }
+    if let Some(rest) = behind("unknown ", bytes) {
+        return unknown_at(alloc, rest);
     }
     let rest = expect("bytes ", bytes)?;
     length_at(rest)
@@ -133,4 +140,50 @@ fn length_at(bytes: &[u8]) -> Result<(Answer, &[u8]), ReadFault>
 {
     let (length, rest) = long_at(bytes)?;
     Ok((Answer::Bytes(length), rest))
+}
+
+/// Values that make every atom true.
+#[tactic(auto, unfolding(crate::specs::Reading::sat_at))]
+fn sat_at(alloc: Global, bytes: &[u8]) -> Result<(Answer, &[u8]), ReadFault>
+    ensures { Gives (λ x. (answer_view x.0, x.1.now)) result (spec.sat_at bytes.now) }
+{
+    let (bindings, rest) = bindings_at(alloc, bytes)?;
+    Ok((Answer::Sat(bindings), rest))
+}
+
+/// A proof that no values make every atom true.
+#[tactic(auto, unfolding(crate::specs::Reading::unsat_at))]
+fn unsat_at(alloc: Global, bytes: &[u8]) -> Result<(Answer, &[u8]), ReadFault>
+    ensures { Gives (λ x. (answer_view x.0, x.1.now)) result (spec.unsat_at bytes.now) }
+{
+    let (proof, rest) = proof_at(alloc, bytes)?;
+    Ok((Answer::Unsat(proof), rest))
+}
+
+/// What isn't decided.
+fn unknown_at(alloc: Global, bytes: &[u8]) -> Result<(Answer, &[u8]), ReadFault>
+    ensures { Gives (λ x. (answer_view x.0, x.1.now)) result (spec.unknown_at bytes.now) }
+{
+    if begins_name(bytes) {
+        return undecided_at(alloc, bytes);
+    }
+    outside_at(bytes)
+}
+
+/// Conditions that aren't decided.
+#[tactic(auto, unfolding(crate::specs::Reading::undecided_at))]
+fn undecided_at(alloc: Global, bytes: &[u8]) -> Result<(Answer, &[u8]), ReadFault>
+    ensures { Gives (λ x. (answer_view x.0, x.1.now)) result (spec.undecided_at bytes.now) }
+{
+    let (question, rest) = question_at(alloc, bytes)?;
+    Ok((Answer::Undecided(question), rest))
+}
+
+/// The place of an atom that keeps a list out of the fragment.
+#[tactic(auto, unfolding(crate::specs::Reading::outside_at))]
+fn outside_at(bytes: &[u8]) -> Result<(Answer, &[u8]), ReadFault>
+    ensures { Gives (λ x. (answer_view x.0, x.1.now)) result (spec.outside_at bytes.now) }
+{
+    let (place, rest) = long_at(bytes)?;
+    Ok((Answer::Unknown(place), rest))
 }

@@ -1,24 +1,12 @@
-//! Head lines, and places.
+//! Head lines.
 ghost use Rattle.std.specs.Prelude.{◌≡◌};
 ghost use Rattle.value_text.specs.Reading.{Gives};
 ghost use Rattle.report_text.specs.Reading as spec;
 
 use gil_report::{EntryMode, Head};
-use gil_values::Place;
 use gillian_words::Language;
 use std::alloc::Global;
 use value_text::{ReadFault, behind, expect, name_at, small_at};
-
-/// The place at the front.
-#[tactic(auto, unfolding(crate::specs::Reading::place_at))]
-pub(crate) fn place_at(alloc: Global, bytes: &[u8]) -> Result<(Place, &[u8]), ReadFault>
-    ensures { Gives (λ x. (x.0, x.1.now)) result (spec.place_at bytes.now) }
-{
-    let (proc, rest) = name_at(alloc, bytes)?;
-    let rest = expect(":", rest)?;
-    let (at, rest) = small_at(rest)?;
-    Ok((Place { proc, at }, rest))
-}
 
 /// The language at the front.
 fn language_at(bytes: &[u8]) -> Result<(Language, &[u8]), ReadFault>

@@ -4,7 +4,9 @@
 mod answers;
 mod heads;
 mod laws;
+mod lines;
 mod reading;
+mod specifications;
 
 pub use laws::printing_tells_reports;
 pub use reading::read_plain_report;

@@ -7,13 +7,13 @@ ghost use Rattle.gil_report.specs.View.{answer_view, report_view};
 ghost use Rattle.report_text.specs.Reading as spec;
 ghost use Rattle.report_text.specs.Plain.{IsPlain};
 
-use crate::answers::answer_at;
 use crate::heads::head_at;
+use crate::lines::answer_at;
 use gil_report::{Answers, Report, text};
 use std::alloc::Global;
 use value_text::ReadFault;
 
-/// The report whose lines the bytes are, if it is plain: a report without conditions, proofs, specifications and solutions.
+/// The report whose lines the bytes are, if it is plain: a report without specifications that were found.
 pub fn read_plain_report(alloc: Global, bytes: &[u8]) -> Result<Report, ReadFault>
     // The report that is read is plain, and the bytes are its lines.
     ensures lines { IfOk result (λ report. bytes.now ≡ report_text (report_view report)) }
