@@ -1,0 +1,4 @@
+pub mod Matching
+pub mod Meaning
+pub mod Pure
+pub mod View
