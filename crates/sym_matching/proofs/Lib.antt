@@ -1,0 +1,12 @@
+pub mod Binding
+pub mod CaseLaws
+pub mod Conditions
+pub mod Evaluated
+pub mod KnownLaws
+pub mod Lists
+pub mod Reading
+pub mod SplitLaws
+pub mod StoreLaws
+pub mod TestLaws
+pub mod TestLists
+pub mod ValueLaws

@@ -1,4 +1,6 @@
 pub mod Matching
 pub mod Meaning
+pub mod Parts
 pub mod Pure
+pub mod Splitting
 pub mod View

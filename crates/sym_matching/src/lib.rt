@@ -4,12 +4,13 @@
 
 mod cases;
 mod items;
+mod names;
 mod outs;
 mod splits;
 mod tests;
 mod values;
 
-pub use cases::{case_store, terms_of};
+pub use cases::{case_store, scope_of, terms_of};
 pub use items::match_pure;
 pub use outs::known_outs;
 pub use splits::{KnownOuts, KnownSplit, Split, StoreSplit, Test};

@@ -1,0 +1,114 @@
+-- Stores one after another: expressions with terms, and parameters with terms.
+use Rattle.std.proofs.Common.{◌≡◌, ℕ, List, [], ◌∷◌, ◌++◌, length, Bool, Option, Some, None, refl, sym, ap, subst, ◌∙◌}
+use Rattle.std.specs.Option.{option_map, option_and_then}
+use Rattle.gil_values.specs.Pure.{PureValue}
+use Rattle.gil_syntax.specs.declared.assertions.Param.{Param}
+use Rattle.gil_syntax.specs.Evaluation.{Store}
+use Rattle.gil_syntax.specs.Pure.{PureExpr}
+use Rattle.assert_logic.specs.Matching.{match_value, match_values, bound_to}
+use Rattle.pure_terms.specs.declared.variables.Sort.{Sort}
+use Rattle.pure_terms.specs.Meaning.{IsOver}
+use Rattle.pure_terms.specs.Pure.{PureTerm}
+use Rattle.sym_conditions.specs.Alternatives.{always}
+use Rattle.sym_evaluation.specs.Meaning.{AreSame, HasValue, HaveValues, StandsFor, Serves, IsStoreOver}
+use Rattle.sym_evaluation.specs.Pure.{PureStore, PureGoodCase}
+use Rattle.sym_evaluation.specs.Questions.{AreEachOver}
+use Rattle.sym_model.specs.Lists.{Each}
+use Rattle.sym_model.proofs.ListLaws.{same_some}
+use Rattle.sym_matching.specs.Meaning.{SaysSplit, IsFoundOver, IsSplitOver, AreOuts, IsOutOver, AreOutsOver}
+use Rattle.sym_matching.specs.Parts.{AreStores, MatchesTerm, BindsParam, BindsParams, Continues}
+use Rattle.sym_matching.specs.Pure.{PureSplit, PureOuts}
+use Rattle.sym_matching.specs.Splitting.{sure, nothing}
+use Rattle.sym_matching.proofs.Lists.{each_last, values_last, values_count, values_more, values_differ, outs_last, outs_count, bound_more, bound_differs}
+use Rattle.sym_matching.proofs.SplitLaws.{continues_says, continues_over, never_says, never_over, sure_says, sure_over}
+
+-- what c has of both parts, and what it gives then
+pub record Chained {A B C : Type 0} (Has : List PureValue → A → Type 0) (Later : List PureValue → B → Type 0) (f : A → Store → Option Store) (g : B → Store → Option Store) (h : C → Store → Option Store)
+    (v : List PureValue) (c : C) : Type 0 where
+  pub first : A
+  pub second : B
+  pub has : Has v first
+  pub later : Later v second
+  pub gives : (s : Store) → h c s ≡ option_and_then (g second) (f first s)
+
+module _ {A B C : Type 0} (Over : List Sort → Type 0) (Has : List PureValue → A → Type 0) (f : A → Store → Option Store) (LaterOver : List Sort → Type 0) (Later : List PureValue → B → Type 0) (g : B → Store → Option Store)
+    (WholeOver : List Sort → Type 0) (Whole : List PureValue → C → Type 0) (h : C → Store → Option Store) (bs : PureStore) (split whole : PureSplit PureStore) where
+  pub stores_chained : AreStores Over Has f bs split → Continues (AreStores LaterOver Later g) split.found split.none whole → ((vars : List Sort) → WholeOver vars → Over vars × LaterOver vars)
+      → ((v : List PureValue) (c : C) → Whole v c → Chained Has Later f g h v c) → AreStores WholeOver Whole h bs whole
+  stores_chained are is overs has = record {
+    says = λ vars v s c serves over has_c.
+        let parts = overs vars over in
+        let chain = has v c has_c in
+        let first_over = are.over vars serves.over parts.0 in
+        subst (SaysSplit v (StandsFor v) whole) (sym (chain.gives s))
+        (continues_says v (StandsFor v) (StandsFor v) (AreStores LaterOver Later g) (f chain.first s) (g chain.second) split whole (are.says vars v s chain.first serves parts.0 chain.has) is
+        (λ k next a there cont stands. cont.says vars v a chain.second
+        (record { proper = serves.proper; over = (subst (λ (o : Option (PureGoodCase PureStore)). IsFoundOver (IsStoreOver vars) vars o) there first_over.found).1; stands = stands }) parts.1 chain.later));
+    over = λ vars store over.
+        let parts = overs vars over in
+        continues_over vars (IsStoreOver vars) (IsStoreOver vars) (AreStores LaterOver Later g) split whole (are.over vars store parts.0) is (λ k next there cont over_k. cont.over vars over_k parts.1);
+  }
+
+-- ---- expressions and terms
+
+abbrev pub MatchesTerms : List Param → List PureExpr → List PureTerm → PureStore → PureSplit PureStore → Type 0
+MatchesTerms scope es ts bs split = AreStores (λ vars. AreEachOver vars ts) (λ v ws. HaveValues v ts ws) (match_values scope es) bs split
+
+module _ (scope : List Param) (bs : PureStore) where
+  pub terms_begin : MatchesTerms scope [] [] bs (sure bs)
+  terms_begin = record {
+    says = λ vars v s ws serves over has. subst (λ us. SaysSplit v (StandsFor v) (sure bs) (match_values scope [] us s)) (same_some has) (sure_says v (StandsFor v) bs s serves.stands);
+    over = λ vars store over. sure_over vars (IsStoreOver vars) bs store;
+  }
+
+  pub terms_step : (es : List PureExpr) (ts : List PureTerm) (e : PureExpr) (t : PureTerm) (split whole : PureSplit PureStore) → length es ≡ length ts → MatchesTerms scope es ts bs split
+      → Continues (MatchesTerm scope e t) split.found split.none whole → MatchesTerms scope (es ++ e ∷ []) (ts ++ t ∷ []) bs whole
+  terms_step es ts e t split whole same are is =
+      stores_chained (λ vars. AreEachOver vars ts) (λ v ws. HaveValues v ts ws) (match_values scope es) (λ vars. IsOver vars t) (λ v w. HasValue v t w) (match_value scope e)
+      (λ vars. AreEachOver vars (ts ++ t ∷ [])) (λ v ws. HaveValues v (ts ++ t ∷ []) ws) (match_values scope (es ++ e ∷ [])) bs split whole are is
+      (λ vars over. each_last (IsOver vars) ts t over)
+      (λ v ws has. let (us, (w, (before, last, joined))) = values_last v ts t ws has in record {
+        first = us;
+        second = w;
+        has = before;
+        later = last;
+        gives = λ s. ap (λ zs. match_values scope (es ++ e ∷ []) zs s) joined ∙ values_more scope es us e w s (same ∙ sym (values_count v ts us before));
+      })
+
+  pub terms_differ : (es : List PureExpr) (ts : List PureTerm) → ¬ (length es ≡ length ts) → MatchesTerms scope es ts bs (nothing always)
+  terms_differ es ts differ = record {
+    says = λ vars v s ws serves over has. subst (λ (o : Option Store). SaysSplit v (StandsFor v) (nothing always) o) (sym (values_differ scope es ws s (λ same. differ (same ∙ values_count v ts ws has)))) (never_says v (StandsFor v));
+    over = λ vars store over. never_over vars (IsStoreOver vars);
+  }
+
+  -- ---- parameters
+
+  pub params_begin : BindsParams scope [] [] bs (sure bs)
+  params_begin = record {
+    says = λ vars v s os serves over are. by vars v s serves os are;
+    over = λ vars store over. sure_over vars (IsStoreOver vars) bs store;
+  }
+    where
+      by : (vars : List Sort) (v : List PureValue) (s : Store) → Serves vars v bs s → (os : List (Option PureValue)) → AreOuts v [] os → SaysSplit v (StandsFor v) (sure bs) (bound_to scope [] os s)
+      by vars v s serves [] are = sure_says v (StandsFor v) bs s serves.stands
+      by vars v s serves (o ∷ os) are = absurd are
+
+  pub params_step : (qs : List Param) (ks : PureOuts) (q : Param) (k : Option PureTerm) (split whole : PureSplit PureStore) → length qs ≡ length ks → BindsParams scope qs ks bs split
+      → Continues (BindsParam scope q k) split.found split.none whole → BindsParams scope (qs ++ q ∷ []) (ks ++ k ∷ []) bs whole
+  params_step qs ks q k split whole same are is =
+      stores_chained (λ vars. AreOutsOver vars ks) (λ v os. AreOuts v ks os) (bound_to scope qs) (λ vars. IsOutOver vars k) (λ v o. AreSame v k o) (λ o s. bound_to scope (q ∷ []) (o ∷ []) s)
+      (λ vars. AreOutsOver vars (ks ++ k ∷ [])) (λ v os. AreOuts v (ks ++ k ∷ []) os) (bound_to scope (qs ++ q ∷ [])) bs split whole are is
+      (λ vars over. each_last (IsOutOver vars) ks k over)
+      (λ v os has. let (ps, (o, (before, last, joined))) = outs_last v ks k os has in record {
+        first = ps;
+        second = o;
+        has = before;
+        later = last;
+        gives = λ s. ap (λ zs. bound_to scope (qs ++ q ∷ []) zs s) joined ∙ bound_more scope qs ps q o s (same ∙ sym (outs_count v ks ps before));
+      })
+
+  pub params_differ : (qs : List Param) (ks : PureOuts) → ¬ (length qs ≡ length ks) → BindsParams scope qs ks bs (nothing always)
+  params_differ qs ks differ = record {
+    says = λ vars v s os serves over are. subst (λ (o : Option Store). SaysSplit v (StandsFor v) (nothing always) o) (sym (bound_differs scope qs os s (λ same. differ (same ∙ outs_count v ks os are)))) (never_says v (StandsFor v));
+    over = λ vars store over. never_over vars (IsStoreOver vars);
+  }

@@ -1,0 +1,84 @@
+-- What the parts of matching answer.
+use Rattle.std.specs.Prelude.{◌≡◌, ℕ, List, [], ◌∷◌, ◌++◌, Bool, ◌&&◌, if◌then◌else◌, Option, Some, None}
+use Rattle.std.specs.Option.{option_map}
+use Rattle.std.specs.Result.{result_ok}
+use Rattle.gil_values.specs.Pure.{PureValue}
+use Rattle.gil_syntax.specs.declared.assertions.Param.{Param}
+use Rattle.gil_syntax.specs.Evaluation.{Store, bind, value_of, evaluate}
+use Rattle.gil_syntax.specs.Pure.{PureExpr}
+use Rattle.assert_logic.specs.Matching.{given, match_value, is_known, agrees_with, bound_to}
+use Rattle.assert_logic.specs.Sorts.{fits_sorts}
+use Rattle.pure_terms.specs.declared.variables.Sort.{Sort}
+use Rattle.pure_terms.specs.Meaning.{IsProper, IsOver}
+use Rattle.pure_terms.specs.Pure.{PureTerm}
+use Rattle.sym_conditions.specs.Alternatives.{Alternatives}
+use Rattle.sym_evaluation.specs.Meaning.{AreSame, HasValue, StandsFor, Serves, IsStoreOver}
+use Rattle.sym_evaluation.specs.Pure.{PureStore, PureGoodCase}
+use Rattle.sym_matching.specs.Matching.{TestsTerm, TermStaysOver}
+use Rattle.sym_matching.specs.Meaning.{SaysSplit, IsSplitOver, AreOuts, IsOutOver, AreOutsOver}
+use Rattle.sym_matching.specs.Pure.{PureTest, PureSplit, PureOuts}
+use Rattle.sym_matching.specs.Splitting.{nothing, behind}
+
+-- whether the value of a term is such a one
+pub record IsTestOf (f : PureValue → Bool) (t : PureTerm) (test : PureTest) : Type 0 where
+  pub says : TestsTerm f t test
+  pub over : TermStaysOver t test
+
+-- the value of an expression
+pub record AreValues (bs : PureStore) (e : PureExpr) (split : PureSplit PureTerm) : Type 0 where
+  pub says : (vars : List Sort) (v : List PureValue) (s : Store) → Serves vars v bs s → SaysSplit v (HasValue v) split (result_ok (evaluate e s))
+  pub over : (vars : List Sort) → IsStoreOver vars bs → IsSplitOver (IsOver vars) vars split
+
+-- The stores that f gives from a store and what terms stand for.
+pub record AreStores {A : Type 0} (Over : List Sort → Type 0) (Has : List PureValue → A → Type 0) (f : A → Store → Option Store)
+    (bs : PureStore) (split : PureSplit PureStore) : Type 0 where
+  pub says : (vars : List Sort) (v : List PureValue) (s : Store) (a : A) → Serves vars v bs s → Over vars → Has v a
+      → SaysSplit v (StandsFor v) split (f a s)
+  pub over : (vars : List Sort) → IsStoreOver vars bs → Over vars → IsSplitOver (IsStoreOver vars) vars split
+
+abbrev pub ByTerm : PureTerm → (PureValue → Store → Option Store) → PureStore → PureSplit PureStore → Type 0
+ByTerm t f bs split = AreStores (λ vars. IsOver vars t) (λ v w. HasValue v t w) f bs split
+
+-- a name that may become known gets the term
+abbrev pub GivesTerm : List Param → List ℕ → PureTerm → PureStore → PureSplit PureStore → Type 0
+GivesTerm scope x t bs split = ByTerm t (given scope x) bs split
+
+-- an expression is matched with a term
+abbrev pub MatchesTerm : List Param → PureExpr → PureTerm → PureStore → PureSplit PureStore → Type 0
+MatchesTerm scope e t bs split = ByTerm t (match_value scope e) bs split
+
+-- a parameter gets a term, where there is one
+abbrev pub BindsParam : List Param → Param → Option PureTerm → PureStore → PureSplit PureStore → Type 0
+BindsParam sorts q k bs split =
+    AreStores (λ vars. IsOutOver vars k) (λ v o. AreSame v k o) (λ o s. bound_to sorts (q ∷ []) (o ∷ []) s) bs split
+
+abbrev pub bound_where : List Param → List ℕ → PureValue → Store → Option Store
+bound_where sorts x w s = if fits_sorts sorts x w && agrees_with (value_of s x) w then Some (bind x w s) else None
+
+-- a name gets the term, which agrees with one that it has
+abbrev pub BindsTerm : List Param → List ℕ → PureTerm → PureStore → PureSplit PureStore → Type 0
+BindsTerm sorts x t bs split = ByTerm t (bound_where sorts x) bs split
+
+-- parameters get terms, where there are any
+abbrev pub BindsParams : List Param → List Param → PureOuts → PureStore → PureSplit PureStore → Type 0
+BindsParams sorts qs ks bs split = AreStores (λ vars. AreOutsOver vars ks) (λ v os. AreOuts v ks os) (bound_to sorts qs) bs split
+
+-- what comes after a result, where one is found
+abbrev pub Continues : {X Y : Type 0} → (X → PureSplit Y → Type 0) → Option (PureGoodCase X) → Alternatives → PureSplit Y → Type 0
+Continues {X} {Y} Is None none whole = whole ≡ nothing none
+Continues {X} {Y} Is (Some g) none whole = (next : PureSplit Y) × (Is g.result next × (whole ≡ behind g.conds none next))
+
+-- the values of outs, and then of one more
+abbrev pub one_out : Store → PureExpr → Option (Option PureValue)
+one_out s e = if is_known s e then option_map Some (result_ok (evaluate e s)) else Some None
+
+-- an out behind the others
+pub record AddsOut (bs : PureStore) (e : PureExpr) (outs : PureOuts) (split : PureSplit PureOuts) : Type 0 where
+  pub says : (vars : List Sort) (v : List PureValue) (s : Store) (os : List (Option PureValue)) → Serves vars v bs s → AreOuts v outs os
+      → SaysSplit v (AreOuts v) split (option_map (λ o. os ++ o ∷ []) (one_out s e))
+  pub over : (vars : List Sort) → IsStoreOver vars bs → AreOutsOver vars outs → IsSplitOver (AreOutsOver vars) vars split
+
+-- the stores that f gives from a store alone
+pub record Alone (f : Store → Option Store) (bs : PureStore) (split : PureSplit PureStore) : Type 0 where
+  pub says : (vars : List Sort) (v : List PureValue) (s : Store) → Serves vars v bs s → SaysSplit v (StandsFor v) split (f s)
+  pub over : (vars : List Sort) → IsStoreOver vars bs → IsSplitOver (IsStoreOver vars) vars split
