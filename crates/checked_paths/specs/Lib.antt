@@ -1,0 +1,4 @@
+pub mod Pure
+pub mod Meaning
+pub mod Covering
+pub mod View
