@@ -1,4 +1,5 @@
 pub mod Pure
 pub mod Meaning
 pub mod Covering
+pub mod Following
 pub mod View

@@ -1,5 +1,5 @@
 -- What a checked path stands for under a valuation: checked states of plain values.
-use Rattle.std.specs.Prelude.{◌≡◌, List, [], ◌∷◌, ◌++◌, None, ⊤}
+use Rattle.std.specs.Prelude.{◌≡◌, ℕ, ◌-◌, List, [], ◌∷◌, ◌++◌, length, drop, nat_lt, if◌then◌else◌, None, ⊤}
 use Rattle.gil_values.specs.Pure.{PureValue}
 use Rattle.gil_syntax.specs.Pure.{PureParts}
 use Rattle.mem_model.specs.Heaps.{Heap}
@@ -20,6 +20,12 @@ pub record IsEntered (v : List PureValue) (e : PureEntry) (entry : Entry) : Type
   pub args : HaveValues v e.args entry.args
   pub variables : StandsFor v e.variables entry.variables
 
+-- as many elements, and each pair of them is related
+abbrev pub EachWith : {A B : Type 0} → (A → B → Type 0) → List A → List B → Type 0
+EachWith R [] [] = ⊤
+EachWith R (x ∷ xs) (y ∷ ys) = R x y × EachWith R xs ys
+EachWith R _ _ = ⊥
+
 module _ {S : Type 0} (stands : S → List PureValue → Heap → Type 0) (v : List PureValue) where
   -- the same command, memory and facts of what was left, and terms of what was left and of the variables that weren't listed
   pub record IsPassed (q : PurePassed S) (r : Passed) : Type 0 where
@@ -29,15 +35,11 @@ module _ {S : Type 0} (stands : S → List PureValue → Heap → Type 0) (v : L
     pub unlisted : StandsFor v q.unlisted r.unlisted
 
   abbrev pub ArePassed : List (PurePassed S) → List Passed → Type 0
-  ArePassed [] [] = ⊤
-  ArePassed (q ∷ qs) (r ∷ rs) = IsPassed q r × ArePassed qs rs
-  ArePassed _ _ = ⊥
+  ArePassed qs rs = EachWith IsPassed qs rs
 
   -- the same of each frame
   abbrev pub ArePassedBy : List (List (PurePassed S)) → List (List Passed) → Type 0
-  ArePassedBy [] [] = ⊤
-  ArePassedBy (qs ∷ later) (rs ∷ others) = ArePassed qs rs × ArePassedBy later others
-  ArePassedBy _ _ = ⊥
+  ArePassedBy later others = EachWith ArePassed later others
 
 -- The checked path stands for the checked state: the terms of the entry have its values, the path stands for the machine's state, and
 -- facts and passed invariants are those of the state.
@@ -75,7 +77,18 @@ pub record MayGoOn {S : Type 0} (p : PureParts) (terms : S → StateTerms) (e : 
   pub placed : AreAtCommands p x.path.stack
   pub over : IsCheckedOver terms e x
 
--- Passed invariants that say of every valuation what others say.
+-- ---- what is kept of passed invariants
+
+-- one list for each of so many frames: a frame that began has passed none, and those that ended are forgotten
+abbrev pub kept_by : {A : Type 0} → ℕ → List (List A) → List (List A)
+kept_by n passed = if nat_lt (length passed) n then [] ∷ passed else drop (length passed - n) passed
+
+-- Passed invariants of a frame, and of all frames, that say of every valuation what others say.
+pub record SaySame {S : Type 0} (stands : S → List PureValue → Heap → Type 0) (terms : S → StateTerms) (ps qs : List (PurePassed S))
+    : Type 0 where
+  pub stand : (v : List PureValue) (rs : List Passed) → ArePassed stands v ps rs → ArePassed stands v qs rs
+  pub over : (vars : List Sort) → Each (IsPassedOver terms vars) ps → Each (IsPassedOver terms vars) qs
+
 pub record SayTheSame {S : Type 0} (stands : S → List PureValue → Heap → Type 0) (terms : S → StateTerms)
     (ps qs : List (List (PurePassed S))) : Type 0 where
   pub stand : (v : List PureValue) (rs : List (List Passed)) → ArePassedBy stands v ps rs → ArePassedBy stands v qs rs

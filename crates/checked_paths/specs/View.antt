@@ -1,5 +1,5 @@
 -- The pure data of entries, checked paths and of what a step of one answers.
-use Rattle.std.specs.Prelude.{List, map, reverse}
+use Rattle.std.specs.Prelude.{List, map}
 use Rattle.gil_syntax.specs.declared.parts.Spec.{Spec}
 use Rattle.gil_syntax.specs.View.{spec_view}
 use Rattle.pure_terms.specs.View.{terms_view}
@@ -18,13 +18,11 @@ entry_view spec e = record { spec = spec_view spec; args = terms_view e.args; va
 abbrev pub passed_view : {S : Type 0} → Passed S → PurePassed S
 passed_view q = record { at = q.at; memory = q.memory; facts = facts_view q.preds; unlisted = store_view q.unlisted }
 
--- the latest first
 abbrev pub all_passed_view : {S : Type 0} → List (Passed S) → List (PurePassed S)
-all_passed_view qs = reverse (map passed_view qs)
+all_passed_view qs = map passed_view qs
 
--- those of the latest frame first
 abbrev pub passed_by_view : {S : Type 0} → List (List (Passed S)) → List (List (PurePassed S))
-passed_by_view frames = reverse (map all_passed_view frames)
+passed_by_view frames = map all_passed_view frames
 
 abbrev pub checking_view : {S : Type 0} → Checking S → PureChecking S
 checking_view x = record { path = path_view x.path; facts = facts_view x.preds; passed = passed_by_view x.passed }

@@ -1,7 +1,9 @@
 //! Checked paths.
-ghost use Rattle.std.specs.Prelude.{◌≡◌, IfOk};
-ghost use Rattle.checked_paths.specs.Meaning.{SayTheSame};
-ghost use Rattle.checked_paths.specs.View.{passed_by_view};
+ghost use Rattle.std.specs.Prelude.{◌≡◌, ◌++◌, IfOk};
+ghost use Rattle.checked_paths.specs.Meaning.{kept_by, SaySame, SayTheSame};
+ghost use Rattle.checked_paths.specs.View.{all_passed_view, passed_by_view, passed_view};
+ghost use Rattle.sym_model.specs.Laws.{IsCopy};
+ghost use Rattle.sym_states.specs.View.{facts_view};
 
 use pure_terms::Terms;
 use sequence::Sequence;
@@ -44,10 +46,10 @@ impl<M: Drop> Drop for Passed<M> {
     }
 }
 
-/// The invariants that a frame passed, the latest last. Contracts see them by `all_passed_view`, the latest first.
+/// The invariants that a frame passed, the latest first. Contracts see them by `all_passed_view`.
 pub type AllPassed<M> = Sequence<Passed<M>>;
 
-/// Those of each frame, the latest frame last. Contracts see them by `passed_by_view`, the latest frame first.
+/// Those of each frame, the latest frame first. Contracts see them by `passed_by_view`.
 pub type PassedByFrames<M> = Sequence<AllPassed<M>>;
 
 /// A checked path: a path beside facts, and for each frame the invariants that it passed. Contracts see it as its pure data over the
@@ -67,5 +69,78 @@ impl<M: Drop> Drop for Checking<M> {
             preds: _,
             passed: _,
         } = self;
+    }
+}
+
+/// Equal facts.
+pub fn copy_facts(alloc: Global, facts: &PredChunks) -> Result<PredChunks, AllocError>
+    ensures { IfOk result (λ cs. facts_view cs ≡ facts_view facts.now) }
+{
+    let mut copied = Sequence::new(alloc);
+    for fact in facts.as_slice() {
+        copied.push(fact.copy(alloc)?)?;
+    }
+    Ok(copied)
+}
+
+impl<M: SymMemory> Passed<M> {
+    /// An invariant that is equal but for its memory, which stands for the same heaps.
+    pub fn copy(&self, alloc: Global) -> Result<Passed<M>, AllocError>
+        ensures passed { IfOk result (λ q. passed_view q ≡ record (passed_view self.now) { memory = q.memory }) }
+        ensures memory { IfOk result (λ q. IsCopy M.stands M.terms M.depends M.plain self.now.memory q.memory) }
+    {
+        let memory = self.memory.copy(alloc)?;
+        let preds = copy_facts(alloc, &self.preds)?;
+        let unlisted = self.unlisted.copy(alloc)?;
+        Ok(Passed {
+            at: self.at,
+            memory,
+            preds,
+            unlisted,
+        })
+    }
+}
+
+/// Copies of the invariants that a frame passed.
+pub fn copy_all<M: SymMemory>(alloc: Global, all: &AllPassed<M>) -> Result<AllPassed<M>, AllocError>
+    ensures { IfOk result (λ qs. SaySame M.stands M.terms (all_passed_view all.now) (all_passed_view qs)) }
+{
+    let mut copied = Sequence::new(alloc);
+    for passed in all.as_slice() {
+        copied.push(passed.copy(alloc)?)?;
+    }
+    Ok(copied)
+}
+
+/// The frames with copies of others behind them.
+pub fn push_copies<M: SymMemory>(
+    alloc: Global,
+    frames: PassedByFrames<M>,
+    others: &[AllPassed<M>],
+) -> Result<PassedByFrames<M>, AllocError>
+    ensures { IfOk result (λ qs. SayTheSame M.stands M.terms (passed_by_view frames ++ passed_by_view others.now) (passed_by_view qs)) }
+{
+    let mut copied = frames;
+    for all in others {
+        copied.push(copy_all(alloc, all)?)?;
+    }
+    Ok(copied)
+}
+
+/// Copies of what is kept of passed invariants where there are so many frames.
+pub fn passed_for<M: SymMemory>(
+    alloc: Global,
+    passed: &PassedByFrames<M>,
+    frames: usize,
+) -> Result<PassedByFrames<M>, AllocError>
+    ensures { IfOk result (λ qs. SayTheSame M.stands M.terms (kept_by frames (passed_by_view passed.now)) (passed_by_view qs)) }
+{
+    let mut kept = Sequence::new(alloc);
+    let all = passed.as_slice();
+    if all.len() < frames {
+        kept.push(Sequence::new(alloc))?;
+        push_copies(alloc, kept, all)
+    } else {
+        push_copies(alloc, kept, &all[all.len() - frames..])
     }
 }

@@ -2,7 +2,12 @@
 #![tactic(auto)]
 
 mod checking;
+mod following;
 mod nexts;
 
-pub use checking::{AllPassed, Checking, Entered, Passed, PassedByFrames};
+pub use checking::{
+    AllPassed, Checking, Entered, Passed, PassedByFrames, copy_all, copy_facts, passed_for,
+    push_copies,
+};
+pub use following::{follow, follow_all, step_machine};
 pub use nexts::{Cause, FaultKind, Next, Nexts, Stepped};

@@ -1,0 +1,113 @@
+//! Checked paths of the next paths of a step of the machine.
+ghost use Rattle.std.specs.Prelude.{◌≡◌, [], IfOk};
+ghost use Rattle.std.specs.Option.{option_map};
+ghost use Rattle.checked_paths.specs.Covering.{AreNexts};
+ghost use Rattle.checked_paths.specs.Following.{EachIsAnswered, IsAnswered, IsStop, IsAtMachineCommand};
+ghost use Rattle.checked_paths.specs.Meaning.{MayGoOn};
+ghost use Rattle.checked_paths.specs.Pure.{PureEntry};
+ghost use Rattle.checked_paths.specs.View.{checking_view, next_view, nexts_view, passed_by_view};
+ghost use Rattle.gil_program.specs.Program.{prog_view};
+ghost use Rattle.sym_paths.specs.View.{end_view, path_view, paths_view};
+ghost use Rattle.sym_states.specs.View.{facts_view};
+ghost use Rattle.sym_step.specs.Stepping.{MayStep};
+
+use crate::checking::{Checking, PassedByFrames, copy_facts, passed_for};
+use crate::nexts::{Cause, FaultKind, Next, Nexts};
+use gil_program::Prog;
+use gil_values::Place;
+use pure_terms::Decider;
+use rewrite_book::RuleBook;
+use sequence::Sequence;
+use std::alloc::{AllocError, Global};
+use sym_model::SymMemory;
+use sym_paths::{Path, PathEnd, Paths, copy_place};
+use sym_states::PredChunks;
+use sym_step::step;
+
+/// What is answered of a path that has an end.
+fn stop_of<M: SymMemory>(
+    alloc: Global,
+    end: &Option<PathEnd>,
+    here: &Place,
+) -> Result<Option<Next<M>>, AllocError>
+    ensures { IfOk result (λ o. IsStop (option_map end_view end.now) (option_map next_view o)) }
+{
+    let Some(end) = end else {
+        return Ok(None);
+    };
+    let place = copy_place(alloc, here)?;
+    let cause = match end {
+        PathEnd::Vanished => return Ok(Some(Next::Over)),
+        PathEnd::Failed(_, _) => Cause::Fault(FaultKind::Fails, place),
+        PathEnd::Missed(_, _) => Cause::Fault(FaultKind::Missing, place),
+        PathEnd::Returned(_) | PathEnd::Threw(_, _) => Cause::Fault(FaultKind::Post, place),
+        PathEnd::Cut => Cause::Cut(place),
+        PathEnd::Unknown(_, reason) => Cause::Unknown(place, *reason),
+    };
+    Ok(Some(Next::Caused(cause)))
+}
+
+/// What is answered of a next path, from facts and passed invariants as they were before its step: without an end it goes on with them,
+/// and the frames that began have passed no invariant. An end of the entry is answered as one that no postcondition tells.
+pub fn follow<M: SymMemory>(
+    alloc: Global,
+    preds: &PredChunks,
+    passed: &PassedByFrames<M>,
+    here: &Place,
+    path: Path<M>,
+) -> Result<Next<M>, AllocError>
+    ensures { IfOk result (λ n. IsAnswered M.stands M.terms (facts_view preds.now) (passed_by_view passed.now) (path_view path)
+        (next_view n)) }
+{
+    if let Some(next) = stop_of(alloc, &path.end, here)? {
+        return Ok(next);
+    }
+    let preds = copy_facts(alloc, preds)?;
+    let passed = passed_for(alloc, passed, path.stack.len())?;
+    Ok(Next::Further(Checking {
+        path,
+        preds,
+        passed,
+    }))
+}
+
+/// What is answered of all next paths, in order.
+pub fn follow_all<M: SymMemory>(
+    alloc: Global,
+    preds: &PredChunks,
+    passed: &PassedByFrames<M>,
+    here: &Place,
+    paths: Paths<M>,
+) -> Result<Nexts<M>, AllocError>
+    ensures { IfOk result (λ ns. EachIsAnswered M.stands M.terms (facts_view preds.now) (passed_by_view passed.now) (paths_view paths)
+        (nexts_view ns)) }
+{
+    let mut nexts = Sequence::new(alloc);
+    for path in paths.into_vec() {
+        nexts.push(follow(alloc, preds, passed, here, path)?)?;
+    }
+    Ok(nexts)
+}
+
+/// The step of a checked path at a command of the machine that is no call: the paths of the step with facts and passed invariants.
+pub fn step_machine<M: SymMemory, D: Decider>(
+    alloc: Global,
+    prog: &Prog,
+    rules: &RuleBook,
+    checking: Checking<M>,
+    here: &Place,
+    decider: &mut D,
+) -> Result<Nexts<M>, AllocError>
+    requires may { MayStep (prog_view prog.now) M.terms (path_view checking.path) }
+    requires machine { IsAtMachineCommand (prog_view prog.now) (path_view checking.path) }
+    ensures { IfOk result (λ ns. (e : PureEntry) → MayGoOn (prog_view prog.now) M.terms e (checking_view checking)
+        → AreNexts (prog_view prog.now) M.Local.memory M.Local.actions M.stands M.terms e (checking_view checking) [] (nexts_view ns)) }
+{
+    let Checking {
+        path,
+        preds,
+        passed,
+    } = checking;
+    let paths = step(alloc, prog, path, rules, decider)?;
+    follow_all(alloc, &preds, &passed, here, paths)
+}
