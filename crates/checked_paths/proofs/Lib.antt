@@ -1,0 +1,7 @@
+pub mod Lists
+pub mod Copies
+pub mod Growing
+pub mod Inputs
+pub mod Answering
+pub mod Accounting
+pub mod Above

@@ -60,5 +60,5 @@ FollowsOn p terms e x (caused cause) = ⊤
 pub record AreNexts {S : Type 0} (p : PureParts) (memory : MemoryName) (m : Actions) (stands : S → List PureValue → Heap → Type 0)
     (terms : S → StateTerms) (e : PureEntry) (x : PureChecking S) (names : List (List ℕ)) (nexts : List (PureNext S)) : Type 0 where
   pub cover : CoversLeads p memory m stands e x nexts
-  pub uses : NamesUses p m stands e x names nexts
+  pub uses : NamesUses p memory m stands e x names nexts
   pub follow : Each (FollowsOn p terms e x) nexts

@@ -72,6 +72,20 @@ impl<M: Drop> Drop for Checking<M> {
     }
 }
 
+impl<M: Drop> Checking<M> {
+    /// The path, the facts and the passed invariants.
+    pub fn into_parts(self) -> (Path<M>, PredChunks, PassedByFrames<M>)
+        ensures { result ≡ (self.path, self.preds, self.passed) }
+    {
+        let Checking {
+            path,
+            preds,
+            passed,
+        } = self;
+        (path, preds, passed)
+    }
+}
+
 /// Equal facts.
 pub fn copy_facts(alloc: Global, facts: &PredChunks) -> Result<PredChunks, AllocError>
     ensures { IfOk result (λ cs. facts_view cs ≡ facts_view facts.now) }

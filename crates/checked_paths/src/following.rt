@@ -103,11 +103,7 @@ pub fn step_machine<M: SymMemory, D: Decider>(
     ensures { IfOk result (λ ns. (e : PureEntry) → MayGoOn (prog_view prog.now) M.terms e (checking_view checking)
         → AreNexts (prog_view prog.now) M.Local.memory M.Local.actions M.stands M.terms e (checking_view checking) [] (nexts_view ns)) }
 {
-    let Checking {
-        path,
-        preds,
-        passed,
-    } = checking;
+    let (path, preds, passed) = checking.into_parts();
     let paths = step(alloc, prog, path, rules, decider)?;
     follow_all(alloc, &preds, &passed, here, paths)
 }

@@ -3,6 +3,7 @@
 
 mod checking;
 mod following;
+mod laws;
 mod nexts;
 
 pub use checking::{
@@ -10,4 +11,5 @@ pub use checking::{
     push_copies,
 };
 pub use following::{follow, follow_all, step_machine};
+pub use laws::{accounted_runs_have_no_fault, answers_cover, standing_is_above};
 pub use nexts::{Cause, FaultKind, Next, Nexts, Stepped};
