@@ -1,5 +1,5 @@
 -- What a checked path stands for is above all symbols: each symbol of heap, frames and facts comes from the valuation.
-use Rattle.std.proofs.Common.{◌≡◌, ◌⊎◌, ⊎_elim, inl, inr, ℕ, zero, suc, ◌<◌, List, [], ◌∷◌, ◌++◌, Option, Some, None, slice_get, length, refl, sym, ap, subst, ◌∙◌, arith}
+use Rattle.std.proofs.Common.{◌≡◌, ⊎_elim, inl, inr, ℕ, zero, suc, ◌<◌, List, [], ◌∷◌, Option, Some, None, slice_get, refl, sym, subst, ◌∙◌, arith}
 use Rattle.std.specs.List.{All}
 use Rattle.std.proofs.lemmas.List.Elements.{Contains-append_left, Contains-append_right, Contains-append_cases}
 use Rattle.gil_values.specs.Pure.{PureValue}
@@ -7,11 +7,11 @@ use Rattle.gil_values.specs.Symbols.{symbols, symbols_of_all, OccursIn, OccursAm
 use Rattle.gil_values.proofs.OperatorSymbols.{none_contained}
 use Rattle.gil_syntax.specs.Evaluation.{Store, value_of}
 use Rattle.gil_machine.specs.Proper.{IsStoreBelow, IsFrameBelow}
-use Rattle.gil_machine.specs.State.{Frame, State}
+use Rattle.gil_machine.specs.State.{Frame}
 use Rattle.mem_model.specs.declared.keys.MemoryName.{MemoryName}
-use Rattle.mem_model.specs.Heaps.{Heap, OccursInHeap, IsHeapBelow}
+use Rattle.mem_model.specs.Heaps.{Heap, IsHeapBelow}
 use Rattle.assert_logic.specs.LogicStates.{Fact}
-use Rattle.checked_runs.specs.Checked.{Checked, Entry, IsAbove, IsFactBelow}
+use Rattle.checked_runs.specs.Checked.{IsFactBelow}
 use Rattle.pure_terms.specs.Meaning.{value, values, both}
 use Rattle.pure_terms.specs.Pure.{PureTerm, from_list}
 use Rattle.pure_terms.proofs.SymbolLaws.{invents_no_symbol}
@@ -21,12 +21,11 @@ use Rattle.sym_model.specs.Laws.{IsMeaning, ComesFrom}
 use Rattle.sym_model.specs.Lists.{OneOf}
 use Rattle.sym_model.specs.Terms.{StateTerms, all_of}
 use Rattle.sym_model.proofs.ListLaws.{same_some, not_none}
-use Rattle.sym_paths.specs.Meaning.{AreFrames, Stands}
+use Rattle.sym_paths.specs.Meaning.{AreFrames}
 use Rattle.sym_paths.specs.Pure.{PureFrame}
 use Rattle.sym_states.specs.Meaning.{AreFacts}
 use Rattle.sym_states.specs.Pure.{PureFact}
 use Rattle.checked_paths.specs.Accounting.{StandsAbove}
-use Rattle.checked_paths.specs.Meaning.{StandsForChecked}
 
 among : (v : List PureValue) (y : ℕ) (w : PureValue) (n : ℕ) → slice_get v y ≡ Some w → OccursIn n w → OccursAmong n v
 among [] y w n at occurs = not_none at

@@ -1,5 +1,5 @@
 -- Where each path that comes of the starts is accounted for, no checked run has a fault.
-use Rattle.std.proofs.Common.{◌≡◌, ◌⊎◌, ⊎_elim, inl, inr, ℕ, zero, suc, List, [], ◌∷◌, ◌++◌, Bool, Some, IsTrue, refl, sym, ap, subst, ◌∙◌}
+use Rattle.std.proofs.Common.{◌≡◌, ⊎_elim, ℕ, zero, suc, List, [], Bool, Some, IsTrue, sym, subst}
 use Rattle.gil_values.specs.Pure.{PureValue}
 use Rattle.gil_syntax.specs.Evaluation.{Store}
 use Rattle.gil_syntax.specs.Pure.{PureParts, PureSpec}
@@ -7,10 +7,10 @@ use Rattle.gil_machine.specs.Step.{command_at}
 use Rattle.mem_model.specs.declared.keys.MemoryName.{MemoryName}
 use Rattle.mem_model.specs.Actions.{Actions}
 use Rattle.mem_model.specs.Heaps.{Heap}
-use Rattle.checked_runs.specs.Checked.{Checked, Outcome, goes_on_to, is_over, has_fault, Fault, Entry, IsAbove, Leads, IsStart, IsReachedIn, HasNoFault, UsesOnly, used_by}
-use Rattle.sym_model.specs.Lists.{Each, OneOf}
+use Rattle.checked_runs.specs.Checked.{Checked, goes_on_to, is_over, has_fault, Fault, Entry, Leads, IsReachedIn, used_by}
+use Rattle.sym_model.specs.Lists.{Each}
 use Rattle.sym_model.proofs.ListLaws.{one_with}
-use Rattle.checked_paths.specs.Accounting.{entry_of, OfFurther, CoversStarts, IsAccountedBy, IsAccounted, StandsAbove, AccountedRunsHaveNoFault}
+use Rattle.checked_paths.specs.Accounting.{entry_of, OfFurther, CoversStarts, IsAccounted, StandsAbove, AccountedRunsHaveNoFault}
 use Rattle.checked_paths.specs.Covering.{CoversOutcome, IsCaused}
 use Rattle.checked_paths.specs.Meaning.{StandsForChecked}
 use Rattle.checked_paths.specs.Pure.{PureEntry, PureChecking, PureNext, further, over, caused}

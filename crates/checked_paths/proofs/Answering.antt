@@ -1,33 +1,36 @@
 -- What is answered of the next paths of a step covers what the checked state leads to.
-use Rattle.std.proofs.Common.{◌≡◌, ◌⊎◌, ⊎_elim, inl, inr, ℕ, suc, ◌+◌, List, [], ◌∷◌, ◌++◌, length, Bool, true, false, cond, Option, Some, None, IsSome, IsTrue, refl, sym, ap, subst, ◌∙◌, true≢false, arith}
+use Rattle.std.proofs.Common.{◌≡◌, ◌⊎◌, inl, inr, ℕ, suc, ◌+◌, List, [], ◌∷◌, ◌++◌, length, Bool, true, false, cond, Option, Some, None, IsTrue, refl, sym, ap, subst, ◌∙◌, true≢false, arith}
 use Rattle.gil_values.specs.Pure.{PureValue}
 use Rattle.gil_syntax.specs.Pure.{PureParts, PureCommand, assign, call, act, usym, isym, ifgoto, return, fail, throw, vanish, fold_use, unfold_use, assert_that, loop_invariant, PureNumberedCommand, PureSpec}
-use Rattle.gil_syntax.specs.Valid.{is_among}
-use Rattle.gil_machine.specs.State.{Frame, State, End, Step, goes_on, ends}
+use Rattle.gil_machine.specs.State.{Frame, State, Step, goes_on, ends}
 use Rattle.gil_machine.specs.Step.{command_at, do_command, step}
 use Rattle.mem_model.specs.declared.keys.MemoryName.{MemoryName}
 use Rattle.mem_model.specs.Actions.{Actions}
 use Rattle.mem_model.specs.Heaps.{Heap}
-use Rattle.checked_runs.specs.Checked.{Checked, Outcome, goes_on_to, is_over, Entry, IsAbove, Passed, moved, kept_for, ended, stepped, Leads, LeadsAt, used_in, used_by, is_call}
-use Rattle.pure_terms.specs.declared.variables.Sort.{Sort}
+use Rattle.checked_runs.specs.Checked.{Checked, Outcome, goes_on_to, Entry, moved, kept_for, ended, stepped, LeadsAt, used_in, used_by, is_call}
 use Rattle.pure_terms.specs.Meaning.{Satisfies}
-use Rattle.sym_engine.specs.Placed.{AreAtCommands}
+use Rattle.pure_terms.specs.Pure.{PureAtom}
+use Rattle.sym_engine.specs.Placed.{AreAtCommands, GoesOnAtCommands}
 use Rattle.sym_model.specs.Laws.{IsMeaning}
-use Rattle.sym_model.specs.Lists.{Each, OneOf}
+use Rattle.sym_model.specs.Lists.{Each}
 use Rattle.sym_model.specs.Terms.{StateTerms}
-use Rattle.sym_model.proofs.ListLaws.{same_some, not_none}
+use Rattle.sym_model.proofs.ListLaws.{not_none}
 use Rattle.sym_paths.specs.Meaning.{AreFrames, frames_of, Stands, StandsForStep, IsOverTable, command_of_path}
 use Rattle.sym_paths.specs.Pure.{PureFrame, PureEnd, returned, failed, threw, missed, vanished, cut, unknown, PurePath}
-use Rattle.sym_paths.specs.Steps.{Extends, IsUnknown, HasInput, Covers, Grows}
+use Rattle.sym_paths.specs.Steps.{Extends, IsUnknown, HasInput, Covers, Grows, AreNextPaths}
 use Rattle.sym_paths.proofs.Silent.{stands_at, step-is}
 use Rattle.sym_states.specs.Meaning.{AreFacts}
-use Rattle.checked_paths.specs.Covering.{IsLonger, StandsForNext, CoversOutcome, IsCaused, CoversLeads, NamesUses, FollowsOn, AreNexts}
+use Rattle.checked_paths.specs.Covering.{CoversOutcome, IsCaused, CoversLeads, NamesUses, FollowsOn, AreNexts}
 use Rattle.checked_paths.specs.Following.{GoesOnWith, IsAnswerTo, IsAnswered, EachIsAnswered, IsAtMachineCommand, is_of_machine}
 use Rattle.checked_paths.specs.Meaning.{StandsForChecked, IsEntered, ArePassed, ArePassedBy, AreFactsOver, IsEntryOver, IsPassedOver, IsCheckedOver, MayGoOn, kept_by}
 use Rattle.checked_paths.specs.Pure.{PureEntry, PureChecking, PureNext, further, over, caused}
 use Rattle.checked_paths.proofs.Growing.{entered_more, facts_more, passed_by_more, entry_over_more, facts_over_more, passed_by_over_more}
-use Rattle.checked_paths.proofs.Inputs.{IsStepTo, step_to}
+use Rattle.checked_paths.proofs.Inputs.{step_to}
 use Rattle.checked_paths.proofs.Lists.{kept_related, kept_each, one_across, each_across}
+
+each_both : {A : Type 0} (P Q : A → Type 0) (xs : List A) → Each P xs → Each Q xs → Each (λ x. P x × Q x) xs
+each_both P Q [] first second = tt
+each_both P Q (x ∷ xs) first second = ((first.0, second.0), each_both P Q xs first.1 second.1)
 
 frames_length : (v : List PureValue) (fs : List PureFrame) (gs : List Frame) → AreFrames v fs gs → length fs ≡ length gs
 frames_length v [] [] are = refl
@@ -176,3 +179,13 @@ module _ {S : Type 0} (p : PureParts) (memory : MemoryName) (m : Actions) (stand
         by : (b : Bool) (o : Option PureSpec) → b ≡ false → cond b o None ≡ Some used → ⊥
         by true o is some = true≢false is
         by false o is some = not_none some
+
+-- the paths of a step at a command of the machine, where each is answered
+pub machine_nexts : {S : Type 0} (p : PureParts) (memory : MemoryName) (m : Actions) (stands : S → List PureValue → Heap → Type 0) (terms : S → StateTerms) → IsMeaning memory stands terms
+    → (own by_memory : PureAtom → Type 0) (x : PureChecking S) (nexts : List (PurePath S)) (ns : List (PureNext S)) → AreNextPaths p m stands terms own by_memory x.path nexts → Each (GoesOnAtCommands p) nexts
+    → IsAtMachineCommand p x.path → EachIsAnswered stands terms x.facts x.passed nexts ns → (e : PureEntry) → MayGoOn p terms e x → AreNexts p memory m stands terms e x [] ns
+machine_nexts p memory m stands terms meaning own by_memory x nexts ns laws placed (n, (at, machine)) are e may = record {
+  cover = covers_machine p memory m stands terms meaning e x may.over nexts ns are laws.cover n at machine;
+  uses = names_none p memory m stands terms meaning e x may.over nexts ns are laws.cover n at machine [];
+  follow = answers_follow p memory m stands terms meaning e x may.over nexts ns are (each_both (Grows terms x.path) (GoesOnAtCommands p) nexts laws.growth placed);
+}

@@ -1,5 +1,5 @@
 -- Copies of passed invariants say the same.
-use Rattle.std.proofs.Common.{◌≡◌, ℕ, ℤ, List, [], ◌∷◌, ◌++◌, refl, sym, ap, subst, ◌∙◌}
+use Rattle.std.proofs.Common.{◌≡◌, ℕ, ℤ, List, [], ◌∷◌, ◌++◌, sym, subst}
 use Rattle.gil_values.specs.Pure.{PureValue}
 use Rattle.mem_model.specs.Heaps.{Heap}
 use Rattle.checked_runs.specs.Checked.{Passed}
@@ -9,7 +9,7 @@ use Rattle.sym_model.specs.Laws.{IsCopy}
 use Rattle.sym_model.specs.Lists.{Each}
 use Rattle.sym_model.specs.Terms.{StateTerms, all_of, AreEachOver}
 use Rattle.sym_model.proofs.ListLaws.{each_append, each_left, each_right}
-use Rattle.checked_paths.specs.Meaning.{EachWith, IsPassed, ArePassed, IsPassedOver, SaySame, SayTheSame}
+use Rattle.checked_paths.specs.Meaning.{IsPassed, ArePassed, IsPassedOver, SaySame, SayTheSame}
 use Rattle.checked_paths.specs.Pure.{PurePassed}
 use Rattle.checked_paths.proofs.Lists.{pushed_stand}
 

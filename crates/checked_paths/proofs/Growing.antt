@@ -1,5 +1,5 @@
 -- What a checked path stands for stays where the valuation grows.
-use Rattle.std.proofs.Common.{◌≡◌, ℕ, List, [], ◌∷◌, ◌++◌, length, Option, Some, None, refl, sym, ap, subst, ◌∙◌}
+use Rattle.std.proofs.Common.{◌≡◌, List, [], ◌∷◌, ◌++◌, length, Option, Some, None, refl, sym, ◌∙◌}
 use Rattle.gil_values.specs.Pure.{PureValue}
 use Rattle.gil_syntax.specs.Evaluation.{Store, value_of}
 use Rattle.mem_model.specs.declared.keys.MemoryName.{MemoryName}
@@ -19,9 +19,9 @@ use Rattle.sym_model.specs.Laws.{IsMeaning}
 use Rattle.sym_model.specs.Lists.{Each}
 use Rattle.sym_model.specs.Terms.{StateTerms, all_of, AreEachOver}
 use Rattle.sym_model.proofs.ListLaws.{each_left, each_right, each_to}
-use Rattle.sym_states.specs.Meaning.{IsFact, AreFacts}
+use Rattle.sym_states.specs.Meaning.{AreFacts}
 use Rattle.sym_states.specs.Pure.{PureFact}
-use Rattle.checked_paths.specs.Meaning.{IsEntered, EachWith, IsPassed, ArePassed, ArePassedBy, AreFactsOver, IsEntryOver, IsPassedOver}
+use Rattle.checked_paths.specs.Meaning.{IsEntered, IsPassed, ArePassed, ArePassedBy, AreFactsOver, IsEntryOver, IsPassedOver}
 use Rattle.checked_paths.specs.Pure.{PureEntry, PurePassed}
 use Rattle.checked_paths.proofs.Lists.{each_with_if}
 

@@ -1,15 +1,14 @@
 -- A command that draws nothing never ends for want of a fitting input, and a draw leads to any value of its kind.
-use Rattle.std.proofs.Common.{◌≡◌, ℕ, zero, suc, ◌+◌, ℤ, pos, negsuc, List, [], ◌∷◌, Bool, true, false, cond, Option, Some, None, Ok, Err, length, slice_get, IsTrue, refl, sym, ap, subst, ◌∙◌, true≢false}
-use Rattle.std.specs.Prelude.{◌==◌, codes, ⊤}
+use Rattle.std.proofs.Common.{◌≡◌, ℕ, zero, suc, ◌+◌, ℤ, pos, negsuc, List, [], ◌∷◌, Bool, true, false, cond, Option, Some, None, Ok, Err, slice_get, IsTrue, refl, sym, ap, subst, ◌∙◌, true≢false}
 use Rattle.gil_values.specs.declared.kinds.Kind.{Kind}
 use Rattle.gil_values.specs.declared.places.Place.{Place}
 use Rattle.gil_values.specs.Equality.{same_kind}
 use Rattle.gil_values.specs.Operators.{Outcome}
 use Rattle.gil_values.specs.Pure.{PureValue, integer, boolean, text, symbol, kind, procedure, list, kind_of}
-use Rattle.gil_syntax.specs.Pure.{PureCommand, assign, call, act, usym, isym, ifgoto, return, fail, throw, vanish, fold_use, unfold_use, assert_that, loop_invariant, PureNumberedCommand, PureParts}
+use Rattle.gil_syntax.specs.Pure.{PureCommand, assign, call, act, usym, isym, ifgoto, return, fail, throw, vanish, fold_use, unfold_use, assert_that, loop_invariant, PureParts}
 use Rattle.gil_syntax.specs.Evaluation.{Outcomes, evaluate, evaluate_all}
-use Rattle.gil_machine.specs.State.{Frame, State, End, bad_input, Step, goes_on, ends, end_at}
-use Rattle.gil_machine.specs.Step.{to_label, assigned, with_value, with_values, branch, leave, Handling, handling, throw_to, after_action, do_action, draw, do_command, step}
+use Rattle.gil_machine.specs.State.{Frame, State, End, bad_input, Step, ends, end_at}
+use Rattle.gil_machine.specs.Step.{to_label, assigned, with_value, with_values, branch, leave, Handling, handling, throw_to, after_action, do_action, draw, do_command}
 use Rattle.mem_model.specs.Actions.{Actions}
 use Rattle.mem_model.specs.Pure.{PureOutcome, done, failed as action_failed, miss}
 use Rattle.mem_model.specs.declared.keys.MemoryName.{MemoryName}

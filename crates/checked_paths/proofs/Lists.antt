@@ -1,6 +1,8 @@
 -- Pairs of elements of two lists, and what holds of one list by the other.
-use Rattle.std.proofs.Common.{◌≡◌, ◌⊎◌, inl, inr, ℕ, zero, suc, ◌-◌, List, [], ◌∷◌, ◌++◌, length, drop, Bool, true, false, cond, refl, sym, ap, subst, ◌∙◌}
+use Rattle.std.proofs.Common.{◌≡◌, inl, inr, ℕ, zero, suc, ◌-◌, ◌≤◌, List, [], ◌∷◌, ◌++◌, length, map, drop, Bool, true, false, cond, refl, sym, ap, subst, ◌∙◌, true≢false}
 use Rattle.std.specs.Prelude.{nat_lt}
+use Rattle.std.proofs.lemmas.Bool.{le-ltb}
+use Rattle.std.proofs.lemmas.List.{length-map, drop-map}
 use Rattle.sym_model.specs.Lists.{Each, OneOf}
 use Rattle.checked_paths.specs.Meaning.{EachWith, kept_by}
 
@@ -97,3 +99,14 @@ kept_each P none n xs each = by (nat_lt (length xs) n)
     by : (b : Bool) → Each P (cond b ([] ∷ xs) (drop (length xs - n) xs))
     by true = (none, each)
     by false = each_drop P (length xs - n) xs each
+
+-- with as many lists as frames, those of the later frames are forgotten
+kept_by_else : {A : Type 0} (n : ℕ) (xs : List (List A)) (b : Bool) → b ≡ false → cond b ([] ∷ xs) (drop (length xs - n) xs) ≡ drop (length xs - n) xs
+kept_by_else n xs false is = refl
+kept_by_else n xs true is = absurd (true≢false is)
+
+pub kept_later : {A B : Type 0} (f : A → List B) (n : ℕ) (xs : List A) → n ≤ length xs → map f (drop (length xs - n) xs) ≡ kept_by n (map f xs)
+kept_later f n xs enough =
+    let counted = length-map xs f in
+    sym (drop-map f (length xs - n) xs) ∙ ap (λ k. drop (k - n) (map f xs)) (sym counted)
+    ∙ sym (kept_by_else n (map f xs) (nat_lt (length (map f xs)) n) (le-ltb (length (map f xs)) n (subst (λ k. n ≤ k) (sym counted) enough)))

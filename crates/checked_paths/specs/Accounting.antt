@@ -1,16 +1,15 @@
 -- Checked paths that account for checked runs: where each path that comes of the starts ends with nothing left to be looked at, no checked
 -- run of the specification has a fault.
-use Rattle.std.specs.Prelude.{◌≡◌, ℕ, zero, suc, List, [], Bool, IsTrue, ⊤}
+use Rattle.std.specs.Prelude.{ℕ, zero, suc, List, [], Bool, IsTrue, ⊤}
 use Rattle.gil_values.specs.Pure.{PureValue}
 use Rattle.gil_syntax.specs.Evaluation.{Store}
-use Rattle.gil_syntax.specs.Pure.{PureParts, PureSpec}
+use Rattle.gil_syntax.specs.Pure.{PureParts}
 use Rattle.gil_syntax.specs.Valid.{is_among}
 use Rattle.mem_model.specs.declared.keys.MemoryName.{MemoryName}
 use Rattle.mem_model.specs.Actions.{Actions}
 use Rattle.mem_model.specs.Heaps.{Heap}
 use Rattle.checked_runs.specs.Checked.{Checked, goes_on_to, Entry, IsAbove, IsStart, HasNoFault, UsesOnly}
 use Rattle.sym_model.specs.Lists.{Each, OneOf}
-use Rattle.sym_model.specs.Terms.{StateTerms}
 use Rattle.checked_paths.specs.Covering.{CoversOutcome, CoversLeads, NamesUses}
 use Rattle.checked_paths.specs.Meaning.{StandsForChecked}
 use Rattle.checked_paths.specs.Pure.{PureEntry, PureChecking, PureNext, further, over, caused}

@@ -2,12 +2,11 @@
 use Rattle.std.specs.Prelude.{◌≡◌, ◌⊎◌, List, length, Bool, true, false, Option, Some, None, IsTrue, ⊤}
 use Rattle.gil_values.specs.Pure.{PureValue}
 use Rattle.gil_syntax.specs.Pure.{PureParts, PureCommand, assign, call, act, usym, isym, ifgoto, return, fail, throw, vanish, fold_use, unfold_use, assert_that, loop_invariant, PureNumberedCommand}
-use Rattle.gil_machine.specs.State.{State}
 use Rattle.gil_machine.specs.Step.{step}
 use Rattle.mem_model.specs.Actions.{Actions}
 use Rattle.mem_model.specs.declared.keys.MemoryName.{MemoryName}
 use Rattle.mem_model.specs.Heaps.{Heap}
-use Rattle.checked_runs.specs.Checked.{Checked, Outcome, Entry, stepped}
+use Rattle.checked_runs.specs.Checked.{Checked, Entry, stepped}
 use Rattle.pure_terms.specs.Meaning.{Satisfies}
 use Rattle.sym_model.specs.Terms.{StateTerms}
 use Rattle.sym_paths.specs.Meaning.{StandsForStep, command_of_path}
@@ -18,18 +17,21 @@ use Rattle.checked_paths.specs.Covering.{CoversOutcome, IsCaused}
 use Rattle.checked_paths.specs.Meaning.{EachWith, StandsForChecked, IsCheckedOver, kept_by, SayTheSame}
 use Rattle.checked_paths.specs.Pure.{PureEntry, PurePassed, PureChecking, PureNext, further, over}
 
--- what is answered of this end, if there is one
+-- what is answered of a path that ends so: one that vanished is over, and any other one is a cause
+abbrev pub IsStopOf : {S : Type 0} → PureEnd → PureNext S → Type 0
+IsStopOf vanished n = n ≡ over
+IsStopOf (returned t) n = IsCaused n
+IsStopOf (failed t place) n = IsCaused n
+IsStopOf (threw t place) n = IsCaused n
+IsStopOf (missed k place) n = IsCaused n
+IsStopOf cut n = IsCaused n
+IsStopOf (unknown place reason) n = IsCaused n
+
+-- the same where there is an end
 abbrev pub IsStop : {S : Type 0} → Option PureEnd → Option (PureNext S) → Type 0
 IsStop None None = ⊤
-IsStop None (Some n) = ⊥
-IsStop (Some how) None = ⊥
-IsStop (Some vanished) (Some n) = n ≡ over
-IsStop (Some (returned t)) (Some n) = IsCaused n
-IsStop (Some (failed t place)) (Some n) = IsCaused n
-IsStop (Some (threw t place)) (Some n) = IsCaused n
-IsStop (Some (missed k place)) (Some n) = IsCaused n
-IsStop (Some cut) (Some n) = IsCaused n
-IsStop (Some (unknown place reason)) (Some n) = IsCaused n
+IsStop (Some how) (Some n) = IsStopOf how n
+IsStop _ _ = ⊥
 
 module _ {S : Type 0} (stands : S → List PureValue → Heap → Type 0) (terms : S → StateTerms) (facts : List PureFact)
     (passed : List (List (PurePassed S))) where
@@ -41,7 +43,7 @@ module _ {S : Type 0} (stands : S → List PureValue → Heap → Type 0) (terms
 
   abbrev pub IsAnswerTo : PurePath S → Option PureEnd → PureNext S → Type 0
   IsAnswerTo path None n = (y : PureChecking S) × ((n ≡ further y) × GoesOnWith path y)
-  IsAnswerTo path (Some how) n = IsStop (Some how) (Some n)
+  IsAnswerTo path (Some how) n = IsStopOf how n
 
   -- What is answered of a next path: without an end it goes on, one that vanished is over, and any other one is a cause.
   abbrev pub IsAnswered : PurePath S → PureNext S → Type 0

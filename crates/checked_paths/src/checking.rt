@@ -155,6 +155,7 @@ pub fn passed_for<M: SymMemory>(
         kept.push(Sequence::new(alloc))?;
         push_copies(alloc, kept, all)
     } else {
-        push_copies(alloc, kept, &all[all.len() - frames..])
+        let (_ended, kept_frames) = all.split_at(all.len() - frames);
+        push_copies(alloc, kept, kept_frames)
     }
 }
