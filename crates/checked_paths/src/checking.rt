@@ -75,7 +75,9 @@ impl<M: Drop> Drop for Checking<M> {
 impl<M: Drop> Checking<M> {
     /// The path, the facts and the passed invariants.
     pub fn into_parts(self) -> (Path<M>, PredChunks, PassedByFrames<M>)
-        ensures { result ≡ (self.path, self.preds, self.passed) }
+        ensures path { result.0 ≡ self.path }
+        ensures preds { result.1 ≡ self.preds }
+        ensures passed { result.2 ≡ self.passed }
     {
         let Checking {
             path,

@@ -12,7 +12,7 @@ ghost use Rattle.sym_states.specs.View.{facts_view};
 ghost use Rattle.sym_step.specs.Stepping.{MayStep};
 
 use crate::checking::{Checking, PassedByFrames, copy_facts, passed_for};
-use crate::nexts::{Cause, FaultKind, Next, Nexts};
+use crate::nexts::{Cause, FaultKind, Next, Nexts, Shown};
 use gil_program::Prog;
 use gil_values::Place;
 use pure_terms::Decider;
@@ -20,31 +20,54 @@ use rewrite_book::RuleBook;
 use sequence::Sequence;
 use std::alloc::{AllocError, Global};
 use sym_model::SymMemory;
-use sym_paths::{Path, PathEnd, Paths, copy_place};
+use sym_paths::{Ended, Path, PathEnd, Paths, copy_place};
 use sym_states::PredChunks;
 use sym_step::step;
 
-/// What is answered of a path that has an end.
-fn stop_of<M: SymMemory>(
-    alloc: Global,
-    end: &Option<PathEnd>,
-    here: &Place,
-) -> Result<Option<Next<M>>, AllocError>
-    ensures { IfOk result (λ o. IsStop (option_map end_view end.now) (option_map next_view o)) }
+/// What is answered of a path that ends so, if it has an end.
+fn stop_of<M: SymMemory>(end: Option<PathEnd>, shown: Shown) -> Option<Next<M>>
+    ensures { IsStop (option_map end_view end) (option_map next_view result) }
 {
-    let Some(end) = end else {
-        return Ok(None);
-    };
+    match end {
+        None => None,
+        Some(PathEnd::Vanished) => Some(Next::Over),
+        Some(PathEnd::Failed(term, _)) => Some(Next::Caused(Cause::Fails(term, shown))),
+        Some(PathEnd::Missed(_, _)) => {
+            Some(Next::Caused(Cause::Fault(FaultKind::Missing, shown)))
+        }
+        Some(PathEnd::Returned(_) | PathEnd::Threw(_, _)) => {
+            Some(Next::Caused(Cause::Fault(FaultKind::Post, shown)))
+        }
+        Some(PathEnd::Cut) => Some(Next::Caused(Cause::Cut(shown))),
+        Some(PathEnd::Unknown(_, reason)) => Some(Next::Caused(Cause::Unknown(reason, shown))),
+    }
+}
+
+/// What is answered of a path that has ended.
+fn stop<M: SymMemory>(
+    alloc: Global,
+    here: &Place,
+    path: Path<M>,
+) -> Result<Option<Next<M>>, AllocError>
+    ensures { IfOk result (λ o. IsStop (path_view path).ending (option_map next_view o)) }
+{
     let place = copy_place(alloc, here)?;
-    let cause = match end {
-        PathEnd::Vanished => return Ok(Some(Next::Over)),
-        PathEnd::Failed(_, _) => Cause::Fault(FaultKind::Fails, place),
-        PathEnd::Missed(_, _) => Cause::Fault(FaultKind::Missing, place),
-        PathEnd::Returned(_) | PathEnd::Threw(_, _) => Cause::Fault(FaultKind::Post, place),
-        PathEnd::Cut => Cause::Cut(place),
-        PathEnd::Unknown(_, reason) => Cause::Unknown(place, *reason),
+    let Ended {
+        vars,
+        conds,
+        given,
+        choices,
+        end,
+    } = path.into_ended();
+    let shown = Shown {
+        place,
+        path: choices,
+        vars,
+        given,
+        conds,
+        valuation: None,
     };
-    Ok(Some(Next::Caused(cause)))
+    Ok(stop_of(end, shown))
 }
 
 /// What is answered of a next path, from facts and passed invariants as they were before its step: without an end it goes on with them,
@@ -59,8 +82,11 @@ pub fn follow<M: SymMemory>(
     ensures { IfOk result (λ n. IsAnswered M.stands M.terms (facts_view preds.now) (passed_by_view passed.now) (path_view path)
         (next_view n)) }
 {
-    if let Some(next) = stop_of(alloc, &path.end, here)? {
-        return Ok(next);
+    if path.end.is_some() {
+        return match stop(alloc, here, path)? {
+            Some(next) => Ok(next),
+            None => unreachable!(),
+        };
     }
     let preds = copy_facts(alloc, preds)?;
     let passed = passed_for(alloc, passed, path.stack.len())?;

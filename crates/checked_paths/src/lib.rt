@@ -12,4 +12,4 @@ pub use checking::{
 };
 pub use following::{follow, follow_all, step_machine};
 pub use laws::{accounted_runs_have_no_fault, answers_cover, standing_is_above};
-pub use nexts::{Cause, FaultKind, Next, Nexts, Stepped};
+pub use nexts::{Cause, FaultKind, Next, Nexts, Shown, Stepped};

@@ -2,13 +2,16 @@
 use crate::checking::Checking;
 use gil_syntax::Texts;
 use gil_values::Place;
-use pure_terms::Reason;
+use pure_terms::{Atoms, Choices, Reason, Term, Valuation, VarTable};
 use sequence::Sequence;
+use std::alloc::{AllocError, Global};
+use sym_conditions::copy_conditions;
+use sym_paths::{Path, copy_place};
 
-/// Which fault a checked run meets.
+/// Which fault a checked run meets, beside a failure.
 #[derive(Clone, Copy, Debug, PartialEq, Eq)]
 pub enum FaultKind {
-    Fails,
+    /// An action misses a key.
     Missing,
     /// A return or a throw meets no postcondition, or leaves something over.
     Post,
@@ -17,15 +20,51 @@ pub enum FaultKind {
     FoldBody,
 }
 
+/// The command at which a path came to a cause, and what a question about the path needs: its choices, its table, what was assumed and
+/// its conditions; and a valuation that leads there, where one is known.
+#[derive(Debug, Drop)]
+pub struct Shown {
+    pub place: Place,
+    pub path: Choices,
+    pub vars: VarTable,
+    pub given: Atoms,
+    pub conds: Atoms,
+    pub valuation: Option<Valuation>,
+}
+
 /// Why a specification isn't verified.
 #[derive(Debug, Drop)]
 pub enum Cause {
-    /// The command at the place has a fault.
-    Fault(FaultKind, Place),
+    /// The command fails with this.
+    Fails(Term, Shown),
+    /// The command has another fault.
+    Fault(FaultKind, Shown),
     /// The bound was reached.
-    Cut(Place),
-    /// At the place the conditions are outside the fragment, for this reason.
-    Unknown(Place, Reason),
+    Cut(Shown),
+    /// The conditions are outside the fragment, for this reason.
+    Unknown(Reason, Shown),
+}
+
+impl Shown {
+    /// What is shown of a path that stands at a place.
+    pub fn of<M: Drop>(alloc: Global, place: &Place, path: &Path<M>) -> Result<Shown, AllocError> {
+        let mut choices = Choices::new(alloc);
+        for choice in path.choices.as_slice() {
+            choices.push(*choice)?;
+        }
+        let mut vars = VarTable::new(alloc);
+        for sort in path.vars.as_slice() {
+            vars.push(*sort)?;
+        }
+        Ok(Shown {
+            place: copy_place(alloc, place)?,
+            path: choices,
+            vars,
+            given: copy_conditions(alloc, &path.given)?,
+            conds: copy_conditions(alloc, path.conds.atoms())?,
+            valuation: None,
+        })
+    }
 }
 
 /// What a step answers. Contracts see it as its pure data, by `next_view`.
