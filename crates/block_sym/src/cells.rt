@@ -170,8 +170,8 @@ pub fn act_on_cell(
 {
     let found = found_cell(alloc, access, l, offset, chunks)?;
     if has_sure_case(&found) {
-        return choose(alloc, branches, when, &found);
+        return choose(alloc, branches, when, found);
     }
     let cases = with_unfound(alloc, found, l, offset, chunks)?;
-    choose(alloc, branches, when, &cases)
+    choose(alloc, branches, when, cases)
 }

@@ -259,5 +259,5 @@ pub fn free(
     let refused = with_other_offset(alloc, branches, when, offset, chunks)?;
     let first = at_first_cell(alloc, when, offset)?;
     let cases = free_cases(alloc, l, chunks)?;
-    choose(alloc, refused, first, &cases)
+    choose(alloc, refused, first, cases)
 }

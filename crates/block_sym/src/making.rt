@@ -21,7 +21,7 @@ use mem_model::Failure;
 use pure_terms::{Literal, Term, Terms, Var};
 use sequence::Sequence;
 use std::alloc::{AllocError, Global};
-use sym_chunks::{form_needed, with_branches, with_failure};
+use sym_chunks::{form_needed, with_branches, with_failure, with_last_branches};
 use sym_conditions::{always, kind_is, kind_is_not};
 use sym_model::{Branches, Chunk, SymFrag, SymResult, SymSub};
 
@@ -106,7 +106,7 @@ fn make_sized(
     }
     let made = with_block(alloc, location, cells, chunks)?;
     let outcome = SymResult::Done(address_of(alloc, location)?);
-    with_branches(alloc, Sequence::new(alloc), when, &made, &outcome)
+    with_last_branches(alloc, Sequence::new(alloc), when, made, outcome)
 }
 
 /// The branches of a new block whose size is the value of a term that is no number.

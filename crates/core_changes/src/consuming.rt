@@ -75,7 +75,7 @@ fn consume_key(
         chunks,
     )?;
     let cases = with_missed(alloc, found, key, chunks)?;
-    choose(alloc, Sequence::new(alloc), always(alloc)?, &cases)
+    choose(alloc, Sequence::new(alloc), always(alloc)?, cases)
 }
 
 /// The branches of consuming a core predicate with these ins.

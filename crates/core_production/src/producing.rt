@@ -26,7 +26,7 @@ use mem_model::Core;
 use pure_terms::{Literal, Term, Terms};
 use sequence::Sequence;
 use std::alloc::{AllocError, Global};
-use sym_chunks::{ChunkTest, all_by_place, form_needed, with_branches};
+use sym_chunks::{ChunkTest, all_by_place, form_needed, with_last_branches};
 use sym_conditions::{Alternatives, both};
 use sym_model::{Branches, Chunk, SymFrag, SymKey, SymResult, SymSub};
 
@@ -80,7 +80,7 @@ fn with_added(
     let mut after = chunks.copy(alloc)?;
     after.push(given.copy(alloc)?)?;
     let outcome = SymResult::Done(Term::Lit(Literal::Bool(true)));
-    with_branches(alloc, branches, when, &after, &outcome)
+    with_last_branches(alloc, branches, when, after, outcome)
 }
 
 /// Besides, the literal form of the list of names is needed, where it is no list term.

@@ -51,7 +51,7 @@ fn make(
     let cases = new_cases(alloc, location, val, chunks)?;
     let wrong = is_no_prototype(alloc, val)?;
     let right = is_prototype(alloc, val)?;
-    checked(alloc, wrong, right, chunks, &cases)
+    checked(alloc, wrong, right, chunks, cases)
 }
 
 /// `new`, with the variable of the new object's location.
@@ -83,7 +83,7 @@ fn get_of(
         (frag_view chunks.now))) }
 {
     let cases = get_cases(alloc, l, p, chunks)?;
-    of_property(alloc, l, p, chunks, &cases)
+    of_property(alloc, l, p, chunks, cases)
 }
 
 /// `get`.
@@ -109,7 +109,7 @@ fn set_of(
         (term_view val.now) (frag_view chunks.now))) }
 {
     let cases = set_cases(alloc, l, p, val, chunks)?;
-    of_property(alloc, l, p, chunks, &cases)
+    of_property(alloc, l, p, chunks, cases)
 }
 
 /// `set`.
@@ -133,7 +133,7 @@ fn delete_of(
         (frag_view chunks.now))) }
 {
     let cases = delete_cases(alloc, l, p, chunks)?;
-    of_property(alloc, l, p, chunks, &cases)
+    of_property(alloc, l, p, chunks, cases)
 }
 
 /// `delete`.
@@ -162,7 +162,7 @@ fn has_of(
         (frag_view chunks.now))) }
 {
     let cases = has_cases(alloc, l, p, chunks)?;
-    of_property(alloc, l, p, chunks, &cases)
+    of_property(alloc, l, p, chunks, cases)
 }
 
 /// `has`.
@@ -183,7 +183,7 @@ fn getproto_of(alloc: Global, l: &Term, chunks: &SymFrag) -> Result<Branches<Sym
     let cases = prototype_cases(alloc, &Access::Read, l, chunks)?;
     let wrong = kind_is_not(alloc, l, Kind::Sym)?;
     let right = kind_is(alloc, l, Kind::Sym)?;
-    checked(alloc, wrong, right, chunks, &cases)
+    checked(alloc, wrong, right, chunks, cases)
 }
 
 /// `getproto`.
@@ -219,7 +219,7 @@ fn setproto_of(
     let symbol = kind_is(alloc, l, Kind::Sym)?;
     let prototype = is_prototype(alloc, val)?;
     let right = both(alloc, &symbol, &prototype)?;
-    checked(alloc, wrong, right, chunks, &cases)
+    checked(alloc, wrong, right, chunks, cases)
 }
 
 /// `setproto`.

@@ -18,7 +18,9 @@ use mem_model::Failure;
 use pure_terms::{Literal, Term, Terms, Var};
 use sequence::Sequence;
 use std::alloc::{AllocError, Global};
-use sym_chunks::{distinct_names, equal_to_one, form_needed, with_branches, with_failure};
+use sym_chunks::{
+    distinct_names, equal_to_one, form_needed, with_branches, with_failure, with_last_branches,
+};
 use sym_conditions::{Alternatives, always, extend, kind_is, kind_is_not, never};
 use sym_model::{Branches, Chunk, SymFrag, SymResult, SymSub};
 
@@ -102,7 +104,7 @@ fn with_made(
     let when = distinct_names(alloc, first, names.as_slice())?;
     let made = with_record(alloc, location, names, chunks)?;
     let outcome = SymResult::Done(Term::Var(location));
-    with_branches(alloc, branches, when, &made, &outcome)
+    with_last_branches(alloc, branches, when, made, outcome)
 }
 
 /// The branches of a new record with the names of a list term.

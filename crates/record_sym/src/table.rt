@@ -65,7 +65,7 @@ fn access_name(
         (term_view p.now) (frag_view chunks.now))) }
 {
     let cases = name_cases(alloc, access, l, p, chunks)?;
-    of_property(alloc, l, p, chunks, &cases)
+    of_property(alloc, l, p, chunks, cases)
 }
 
 /// `lookup`.
@@ -120,7 +120,7 @@ fn dispose(alloc: Global, l: &Term, chunks: &SymFrag) -> Result<Branches<SymFrag
     let cases = dispose_cases(alloc, l, chunks)?;
     let wrong = kind_is_not(alloc, l, Kind::Sym)?;
     let right = kind_is(alloc, l, Kind::Sym)?;
-    checked(alloc, wrong, right, chunks, &cases)
+    checked(alloc, wrong, right, chunks, cases)
 }
 
 /// `dispose`.

@@ -5,7 +5,7 @@ use Rattle.gil_values.specs.declared.kinds.Kind.{Kind}
 use Rattle.mem_model.specs.declared.failures.Failure.{Failure}
 use Rattle.mem_model.specs.Tables.{failure_text}
 use Rattle.pure_terms.specs.declared.literals.Literal.{Literal}
-use Rattle.pure_terms.specs.Pure.{PureTerm, literal, list_of, from_list}
+use Rattle.pure_terms.specs.Pure.{PureTerm, literal, list_of, from_list, PureAtom}
 use Rattle.sym_chunks.specs.Keys.{at_key}
 use Rattle.sym_conditions.specs.Alternatives.{Alternatives, both, any, settled, is_empty}
 use Rattle.sym_model.specs.Chunks.{with_held}
@@ -43,9 +43,12 @@ abbrev pub case_of : Alternatives → List PureChunk → PureResult → List Pur
 case_of [] cs r = []
 case_of (conds ∷ x) cs r = record { when = conds ∷ x; after = cs; result = r } ∷ []
 
+abbrev pub branch_with : List PureChunk → PureResult → List PureAtom → PureBranch (List PureChunk)
+branch_with cs r conds = record { conds = conds; state = cs; result = r }
+
 -- a branch for each alternative; one alone where one has no condition
 abbrev pub branches_of : Alternatives → List PureChunk → PureResult → ChunkBranches
-branches_of when cs r = map (λ conds. record { conds = conds; state = cs; result = r }) (settled when)
+branches_of when cs r = map (λ conds. branch_with cs r conds) (settled when)
 
 abbrev pub case_branches : Alternatives → PureCase → ChunkBranches
 case_branches when c = branches_of (both when c.when) c.after c.result

@@ -28,10 +28,10 @@ pub fn checked(
     wrong: Alternatives,
     right: Alternatives,
     chunks: &SymFrag,
-    cases: &Cases,
+    cases: Cases,
 ) -> Result<Branches<SymFrag>, AllocError>
     ensures { IfOk result (λ bs. chunk_branches_view bs ≡ checked_of (alternatives_view wrong) (alternatives_view right)
-        (frag_view chunks.now) (cases_view cases.now)) }
+        (frag_view chunks.now) (cases_view cases)) }
 {
     let refused = with_failure(alloc, Sequence::new(alloc), wrong, chunks, Failure::Kind)?;
     choose(alloc, refused, right, cases)
@@ -59,10 +59,10 @@ pub fn of_property(
     l: &Term,
     p: &Term,
     chunks: &SymFrag,
-    cases: &Cases,
+    cases: Cases,
 ) -> Result<Branches<SymFrag>, AllocError>
     ensures { IfOk result (λ bs. chunk_branches_view bs ≡ checked_of (no_property_of (term_view l.now) (term_view p.now)) (is_property_of
-        (term_view l.now) (term_view p.now)) (frag_view chunks.now) (cases_view cases.now)) }
+        (term_view l.now) (term_view p.now)) (frag_view chunks.now) (cases_view cases)) }
 {
     let wrong = no_property(alloc, l, p)?;
     let right = is_property(alloc, l, p)?;

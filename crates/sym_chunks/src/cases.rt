@@ -1,14 +1,16 @@
 //! Cases of actions, and their branches.
-ghost use Rattle.std.specs.Prelude.{◌≡◌, ◌++◌, IfOk};
+ghost use Rattle.std.specs.Prelude.{◌≡◌, [], ◌∷◌, ◌++◌, map, IfOk};
 ghost use Rattle.std.specs.Option.{option_map};
 ghost use Rattle.std.specs.List.{flat_map, list_any};
 ghost use Rattle.mem_model.specs.declared.failures.Failure.{Failure};
-ghost use Rattle.sym_chunks.specs.Cases.{branches_of, case_of, case_branches, choose as choose_of, failure, sure_case};
+ghost use Rattle.sym_chunks.specs.Cases.{branch_with, branches_of, case_of, case_branches, choose as choose_of, failure, sure_case};
+ghost use Rattle.pure_terms.specs.View.{atoms_view};
 ghost use Rattle.sym_chunks.specs.View.{case_view, cases_view, chunk_branches_view};
 ghost use Rattle.sym_conditions.specs.Alternatives.{alternatives_view, is_empty};
 ghost use Rattle.sym_model.specs.View.{frag_view, result_view};
 
 use mem_model::Failure;
+use pure_terms::Atoms;
 use sequence::Sequence;
 use std::alloc::{AllocError, Global};
 use sym_conditions::{Alternatives, both, copy_conditions, settle};
@@ -93,18 +95,17 @@ pub fn with_failure_case(
 }
 
 /// The branches, and one for each of these alternatives, with equal chunks and results.
-pub fn with_branches(
+fn with_each_alternative(
     alloc: Global,
     branches: Branches<SymFrag>,
-    when: Alternatives,
+    when: &Alternatives,
     chunks: &SymFrag,
     outcome: &SymResult,
 ) -> Result<Branches<SymFrag>, AllocError>
-    ensures { IfOk result (λ bs. chunk_branches_view bs ≡ chunk_branches_view branches ++ branches_of (alternatives_view when)
-        (frag_view chunks.now) (result_view outcome.now)) }
+    ensures { IfOk result (λ bs. chunk_branches_view bs ≡ chunk_branches_view branches ++ map (branch_with (frag_view chunks.now)
+        (result_view outcome.now)) (alternatives_view when.now)) }
 {
     let mut branches = branches;
-    let when = settle(alloc, when)?;
     for conditions in when.as_slice() {
         let conds = copy_conditions(alloc, conditions)?;
         let state = chunks.copy(alloc)?;
@@ -116,6 +117,62 @@ pub fn with_branches(
         })?;
     }
     Ok(branches)
+}
+
+/// The branches, and those of these alternatives, with equal chunks and results.
+pub fn with_branches(
+    alloc: Global,
+    branches: Branches<SymFrag>,
+    when: Alternatives,
+    chunks: &SymFrag,
+    outcome: &SymResult,
+) -> Result<Branches<SymFrag>, AllocError>
+    ensures { IfOk result (λ bs. chunk_branches_view bs ≡ chunk_branches_view branches ++ branches_of (alternatives_view when)
+        (frag_view chunks.now) (result_view outcome.now)) }
+{
+    let when = settle(alloc, when)?;
+    with_each_alternative(alloc, branches, &when, chunks, outcome)
+}
+
+/// The branches and one more.
+fn with_branch(
+    branches: Branches<SymFrag>,
+    conds: Atoms,
+    chunks: SymFrag,
+    outcome: SymResult,
+) -> Result<Branches<SymFrag>, AllocError>
+    ensures { IfOk result (λ bs. chunk_branches_view bs ≡ chunk_branches_view branches ++ branch_with (frag_view chunks)
+        (result_view outcome) (atoms_view conds) ∷ []) }
+{
+    let mut branches = branches;
+    branches.push(Branch {
+        conds,
+        state: chunks,
+        result: outcome,
+    })?;
+    Ok(branches)
+}
+
+/// The branches, and those of these alternatives. The last one has the chunks and the result themselves, so that one alternative
+/// copies none.
+pub fn with_last_branches(
+    alloc: Global,
+    branches: Branches<SymFrag>,
+    when: Alternatives,
+    chunks: SymFrag,
+    outcome: SymResult,
+) -> Result<Branches<SymFrag>, AllocError>
+    ensures { IfOk result (λ bs. chunk_branches_view bs ≡ chunk_branches_view branches ++ branches_of (alternatives_view when)
+        (frag_view chunks) (result_view outcome)) }
+{
+    let mut when = settle(alloc, when)?;
+    match when.pop() {
+        Some(last) => {
+            let before = with_each_alternative(alloc, branches, &when, &chunks, &outcome)?;
+            with_branch(before, last, chunks, outcome)
+        }
+        None => Ok(branches),
+    }
 }
 
 /// The branches, and those in which the action fails.
@@ -189,7 +246,7 @@ fn with_each(
 }
 
 /// The branches, and where the alternatives hold those of a case that surely comes, or else of every case.
-pub fn choose(
+fn choose_among(
     alloc: Global,
     branches: Branches<SymFrag>,
     when: Alternatives,
@@ -201,5 +258,48 @@ pub fn choose(
     match sure(cases) {
         Some(case) => with_branches(alloc, branches, when, &case.after, &case.result),
         None => with_each(alloc, branches, &when, cases),
+    }
+}
+
+/// The branches, and where the alternatives hold those of the only case there is, which has its chunks and its result itself.
+fn choose_only(
+    alloc: Global,
+    branches: Branches<SymFrag>,
+    when: Alternatives,
+    case: Case,
+) -> Result<Branches<SymFrag>, AllocError>
+    ensures { IfOk result (λ bs. chunk_branches_view bs ≡ chunk_branches_view branches ++ choose_of (alternatives_view when) (case_view case
+        ∷ [])) }
+{
+    let Case {
+        when: comes,
+        after,
+        result: outcome,
+    } = case;
+    if is_sure(&comes) {
+        return with_last_branches(alloc, branches, when, after, outcome);
+    }
+    let both = both(alloc, &when, &comes)?;
+    with_last_branches(alloc, branches, both, after, outcome)
+}
+
+/// The branches, and where the alternatives hold those of a case that surely comes, or else of every case. Where there is one
+/// case alone, nothing is copied for its last branch.
+pub fn choose(
+    alloc: Global,
+    branches: Branches<SymFrag>,
+    when: Alternatives,
+    cases: Cases,
+) -> Result<Branches<SymFrag>, AllocError>
+    ensures { IfOk result (λ bs. chunk_branches_view bs ≡ chunk_branches_view branches ++ choose_of (alternatives_view when)
+        (cases_view cases)) }
+{
+    let mut cases = cases;
+    if cases.len() > 1 {
+        return choose_among(alloc, branches, when, &cases);
+    }
+    match cases.pop() {
+        Some(case) => choose_only(alloc, branches, when, case),
+        None => Ok(branches),
     }
 }

@@ -15,7 +15,7 @@ mod walking;
 pub use arguments::{checked, is_property, no_property, of_property, unknown_action, wrong_number};
 pub use cases::{
     Case, Cases, choose, has_sure_case, is_sure, with_branches, with_case, with_failure,
-    with_failure_case, with_made_case,
+    with_failure_case, with_last_branches, with_made_case,
 };
 pub use finding::{Access, with_found};
 pub use forms::form_needed;
