@@ -1,0 +1,2 @@
+pub mod SpecificationLaws
+pub mod SpecificationSays
