@@ -1,0 +1,4 @@
+pub mod Beginning
+pub mod Entering
+pub mod Starting
+pub mod View
