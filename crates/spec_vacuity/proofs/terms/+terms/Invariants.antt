@@ -1,0 +1,19 @@
+use Rattle.std.proofs.Common.{◌≡◌, ◌+◌, ◌*◌, drop}
+use Rattle.gil_program.proofs.ExpressionLemmas.{node_count, nodes_count}
+use Rattle.gil_syntax.specs.Pure.{from_list}
+use Rattle.gil_syntax.specs.View.{expr_view, exprs_view}
+use Rattle.pure_terms.specs.View.{terms_view}
+use Rattle.spec_vacuity.specs.Translation.{variable_from, terms_of}
+use Rattle.spec_vacuity.proofs.Lists.{rest_of}
+use Rattle.spec_vacuity.proofs.terms.+terms.Given as goal
+
+abbrev pub decreases-term_of : goal.decreases-term_of
+decreases-term_of l = 2 * node_count (expr_view l.expression.now)
+
+abbrev pub decreases-terms_of : goal.decreases-terms_of
+decreases-terms_of l = 2 * nodes_count (exprs_view l.expressions.now) + 1
+
+abbrev pub invariant-terms_of-loop-expression : goal.invariant-terms_of-loop-expression
+invariant-terms_of-loop-expression l =
+    rest_of (variable_from 0 l.variables) (terms_view l.terms) (drop l.expression-index (exprs_view l.fn.expressions))
+    ≡ terms_of (variable_from 0 l.variables) (from_list (exprs_view l.fn.expressions))
