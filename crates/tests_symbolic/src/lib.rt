@@ -1,7 +1,7 @@
 //! Tests of symbolic memories, evaluation, paths and exploration; the library is empty. `chunks` tests `sym_model`, `notes` tests
 //! `least_memory`, `consuming` tests `core_changes`, `producing` tests `core_production`, `blocks` tests `block_sym`, `records` tests
-//! `record_sym`, `evaluation` tests `sym_evaluation`, `paths` tests `sym_paths`, and `exploration` tests `sym_explore`. `core_words`
-//! reads chunks and terms in words.
+//! `record_sym`, `listed` tests the three memories as a `ListedMemory`, `evaluation` tests `sym_evaluation`, `paths` tests `sym_paths`, and
+//! `exploration` tests `sym_explore`. `core_words` reads chunks and terms in words.
 #![tactic(auto)]
 
 #[cfg(test)]
@@ -16,6 +16,8 @@ mod core_words;
 mod evaluation;
 #[cfg(test)]
 mod exploration;
+#[cfg(test)]
+mod listed;
 #[cfg(test)]
 mod notes;
 #[cfg(test)]
