@@ -22,18 +22,23 @@ use Rattle.gil_lexer.specs.Bytes.{begins, is_name_start, is_name_byte}
 use Rattle.gil_lexer.specs.Spelling.{IsName}
 use Rattle.gil_lexer.proofs.ByteLemmas.{name_start_no_digit}
 use Rattle.gil_lexer.proofs.RunLemmas.{run_is}
+use Rattle.gil_syntax.specs.Pure.{PureSpec}
+use Rattle.syntax_print.specs.Assertions.{printed_block, printed_params, printed_posts, printed_variables}
+use Rattle.specification_text.specs.Reading as specifications
+use Rattle.specification_text.specs.Writable.{IsWritableSpec}
+use Rattle.specification_text.proofs.SpecificationLaws.{EndsSpec, named_first, specification_again, specification_rest}
 use Rattle.proof_text.specs.Writable.{IsWritableProof}
 use Rattle.proof_text.proofs.ProofLaws.{proofs_again}
 use Rattle.gil_report.specs.Proofs.{printed_proof}
 use Rattle.report_parts.specs.Writable.{IsWritablePlace, IsWritableBinding, IsWritableQuestion, IsWritableCause}
 use Rattle.report_parts.proofs.PartLaws.{bindings_again, cause_again, eleven, name_apart, other_first, place_again, question_again, small_again}
 use Rattle.gil_report.specs.Pure as proofs
-use Rattle.gil_report.specs.Lines.{answer_line, printed_cause, printed_question}
-use Rattle.gil_report.specs.Printed.{bracketed, printed_binding, printed_condition, printed_sort}
+use Rattle.gil_report.specs.Lines.{answer_line, cut_mark, printed_cause, printed_question}
+use Rattle.gil_report.specs.Printed.{printed_specification, bracketed, printed_binding, printed_condition, printed_sort}
 use Rattle.gil_report.specs.Pure.{PureBinding, PureCause, PureNamedProof, PureQuestion, PureAnswer, returned, failed, vanished, cut, no_input, bad_input, number, clean, bug, undecided}
 use Rattle.gil_report.specs.Pure.{verified, vacuous, unproved, found, sat, unsat, unknown, bytes as length_of}
-use Rattle.report_text.specs.Plain.{IsPlainAnswer}
-use Rattle.report_text.specs.Reading.{returned_at, failed_at, no_input_at, bad_input_at, number_at, bug_at, sat_at, unsat_at, undecided_at, outside_at, unknown_at, length_at, body_at, vacuous_at, unproved_at, status_at, specification_at, tells, is_of_specification, answer_at}
+use Rattle.report_text.specs.Writable.{IsWritableAnswer}
+use Rattle.report_text.specs.Reading.{returned_at, failed_at, no_input_at, bad_input_at, number_at, bug_at, sat_at, unsat_at, marked_at, found_at, undecided_at, outside_at, unknown_at, length_at, body_at, vacuous_at, unproved_at, status_at, specification_at, tells, is_of_specification, answer_at}
 
 -- ---- groups
 
@@ -93,6 +98,21 @@ sat_again bs rest all = rw (bindings_again bs (10 ∷ rest) all) refl
 unsat_again : (p : PureNamedProof) (rest : List ℕ) → IsWritableProof p → unsat_at (printed_proof p ++ (10 ∷ rest)) ≡ Some (unsat p, 10 ∷ rest)
 unfolding unsat_at
 unsat_again p rest is = rw (proofs_again p (10 ∷ rest) is refl) refl
+
+mark_ends : (b : Bool) (rest : List ℕ) → EndsSpec (cut_mark b ++ (10 ∷ rest))
+unfolding behind
+mark_ends true rest = record { no_post = refl; no_error = refl }
+mark_ends false rest = record { no_post = refl; no_error = refl }
+
+mark_again : (s : PureSpec) (b : Bool) (rest : List ℕ) → marked_at s (cut_mark b ++ (10 ∷ rest)) ≡ Some (found s b, 10 ∷ rest)
+unfolding behind
+mark_again s true rest = refl
+mark_again s false rest = refl
+
+found_again : (s : PureSpec) (b : Bool) (rest : List ℕ) → IsWritableSpec s
+    → found_at (specification_rest s ++ (cut_mark b ++ (10 ∷ rest))) ≡ Some (found s b, 10 ∷ rest)
+unfolding found_at
+found_again s b rest is = rw (specification_again s (cut_mark b ++ (10 ∷ rest)) is (mark_ends b rest), mark_again s b rest) refl
 
 undecided_again : (o : PureQuestion) (rest : List ℕ) → IsWritableQuestion o → undecided_at (printed_question o ++ (10 ∷ rest)) ≡ Some (undecided o, 10 ∷ rest)
 unfolding undecided_at
@@ -174,6 +194,11 @@ tells_no_proof (proofs.parts_at i p) rest = refl
 tells_no_proof (proofs.differ_at i ps) rest = refl
 tells_no_proof (proofs.split_on e p q) rest = refl
 tells_no_proof (proofs.meet_at i j k) rest = refl
+
+tells_no_found : (s : PureSpec) (rest : List ℕ) → IsWritableSpec s → tells (32 ∷ (specification_rest s ++ rest)) ≡ false
+tells_no_found s rest is =
+    let named = named_first s rest in
+    ap (λ t. tells (32 ∷ t)) named.1 ∙ tells_no_name s.name (40 ∷ named.0) is.named refl refl refl
 
 tells_no_line : (rest : List ℕ) → tells (10 ∷ rest) ≡ false
 unfolding behind
@@ -282,6 +307,10 @@ unsat_body : (t rest : List ℕ) → body_at ((codes "unsat " ++ t) ++ rest) ≡
 unfolding behind
 unsat_body t rest = refl
 
+found_body : (t : List ℕ) → body_at (codes "spec " ++ t) ≡ found_at t
+unfolding behind
+found_body t = refl
+
 unknown_body : (t rest : List ℕ) → body_at ((codes "unknown " ++ t) ++ rest) ≡ unknown_at (t ++ rest)
 unfolding behind
 unknown_body t rest = refl
@@ -338,7 +367,7 @@ unproved_again : (x : List ℕ) (k : PureCause) (rest : List ℕ) → IsWritable
 unfolding unproved_at
 unproved_again x k rest is = rw (cause_again k (10 ∷ rest) is refl) refl
 
-pub answer_again : (x : PureAnswer) (rest : List ℕ) → IsPlainAnswer x → answer_at (answer_line x ++ rest) ≡ Some (x, rest)
+pub answer_again : (x : PureAnswer) (rest : List ℕ) → IsWritableAnswer x → answer_at (answer_line x ++ rest) ≡ Some (x, rest)
 answer_again (returned v) rest is =
     line_again (returned v) (codes "returned " ++ printed_value v) rest
     (other_line (codes "returned") (32 ∷ (printed_value v ++ (10 ∷ rest))) (refl, refl) refl (tells_no_value v (10 ∷ rest)))
@@ -390,7 +419,11 @@ answer_again (unproved x k) rest is =
     (ap is_of_specification grouped ∙ unproved_tells x (printed_cause k ++ (10 ∷ rest)) is.0)
     (ap specification_at grouped ∙ unproved_named x (printed_cause k ++ (10 ∷ rest)) is.0 ∙ unproved_status x (printed_cause k ++ (10 ∷ rest))
     ∙ unproved_again x k rest is.1)
-answer_again (found spec is_cut) rest is = absurd is
+answer_again (found s b) rest is =
+    let grouped = append_assoc (printed_specification s) (cut_mark b) (10 ∷ rest) in
+    line_again (found s b) (printed_specification s ++ cut_mark b) rest
+    (ap is_of_specification grouped ∙ other_line (codes "spec") (32 ∷ (specification_rest s ++ (cut_mark b ++ (10 ∷ rest)))) (refl, refl) refl (tells_no_found s (cut_mark b ++ (10 ∷ rest)) is))
+    (ap body_at grouped ∙ found_body (specification_rest s ++ (cut_mark b ++ (10 ∷ rest))) ∙ found_again s b rest is)
 answer_again (sat bs) rest is =
     line_again (sat bs) (codes "sat " ++ bracketed printed_binding bs) rest
     (other_line (codes "sat") (32 ∷ (bracketed printed_binding bs ++ (10 ∷ rest))) (refl, refl) refl (tells_no (bracketed printed_binding bs ++ (10 ∷ rest)) refl refl))

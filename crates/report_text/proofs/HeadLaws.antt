@@ -13,7 +13,7 @@ use Rattle.gil_report.specs.declared.heads.EntryMode.{EntryMode}
 use Rattle.gil_report.specs.declared.heads.EntryMode.TheVariants as modes
 use Rattle.gil_report.specs.declared.heads.Head.{Head}
 use Rattle.gil_report.specs.Lines.{head_line, mode_word}
-use Rattle.report_text.specs.Plain.{IsPlainHead}
+use Rattle.report_text.specs.Writable.{IsWritableHead}
 use Rattle.report_text.specs.Reading.{language_at, mode_at, check_at, sweep_at, entry_at, asked_at, head_at}
 
 language_again : (l : Language) (rest : List ℕ) → language_at (language_word l ++ rest) ≡ Some (l, rest)
@@ -37,7 +37,7 @@ asked_entry modes.Run rest = refl
 asked_entry modes.Test rest = refl
 asked_entry modes.Infer rest = refl
 
-entry_parts : (m : EntryMode) (l : Language) (name rest : List ℕ) (n : ℕ) → IsPlainHead (Head.Entry m l name n)
+entry_parts : (m : EntryMode) (l : Language) (name rest : List ℕ) (n : ℕ) → IsWritableHead (Head.Entry m l name n)
     → entry_at (mode_word m ++ (codes " " ++ (language_word l ++ (codes " entry " ++ (name ++ (codes " bound " ++ (numeral n ++ (codes "\n" ++ rest))))))))
     ≡ Some (Head.Entry m l name n, rest)
 unfolding entry_at
@@ -92,7 +92,7 @@ solve_heading : (rest : List ℕ) → head_at (codes "gillian solve atoms\n" ++ 
 unfolding head_at behind
 solve_heading rest = refl
 
-pub head_again : (h : Head) (rest : List ℕ) → IsPlainHead h → head_at (head_line h ++ rest) ≡ Some (h, rest)
+pub head_again : (h : Head) (rest : List ℕ) → IsWritableHead h → head_at (head_line h ++ rest) ≡ Some (h, rest)
 head_again (Head.Entry m l name n) rest is =
     let a = codes " " ++ (language_word l ++ (codes " entry " ++ (name ++ (codes " bound " ++ (numeral n ++ (codes "\n" ++ rest)))))) in
     ap head_at (nine (codes "gillian ") (mode_word m) (codes " ") (language_word l) (codes " entry ") name (codes " bound ") (numeral n) (10 ∷ []) rest)

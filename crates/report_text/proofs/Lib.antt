@@ -1,4 +1,4 @@
 pub mod AnswerLaws
 pub mod HeadLaws
-pub mod PlainSays
+pub mod WritableSays
 pub mod ReportLaws

@@ -1,3 +1,3 @@
 pub mod Laws
-pub mod Plain
+pub mod Writable
 pub mod Reading

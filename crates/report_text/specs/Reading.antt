@@ -1,15 +1,17 @@
 -- Reading the lines of reports, as functions: what the readers answer.
 use Rattle.std.specs.Prelude.{ℕ, Bool, true, false, ◌||◌, if◌then◌else◌, List, [], ◌∷◌, length, Option, Some, is_some, codes}
 use Rattle.gil_lexer.specs.Bytes.{begins, is_name_start}
+use Rattle.gil_syntax.specs.Pure.{PureSpec}
 use Rattle.gillian_words.specs.declared.tasks.Language.{Language}
 use Rattle.gillian_words.specs.declared.tasks.Language.TheVariants as languages
 use Rattle.value_text.specs.Reading.{Reading, ◌>>=◌, ◌or_else◌, behind, behind_or, word_by, many_at, with_front, name_at, past_name, natural_at, any_value_at, bracketed_values_at}
 use Rattle.proof_text.specs.Reading.{any_proof_at}
 use Rattle.report_parts.specs.Reading.{place_at, bindings_at, question_at, cause_at}
+use Rattle.specification_text.specs.Reading as specifications
 use Rattle.gil_report.specs.declared.heads.EntryMode.{EntryMode}
 use Rattle.gil_report.specs.declared.heads.EntryMode.TheVariants as modes
 use Rattle.gil_report.specs.declared.heads.Head.{Head}
-use Rattle.gil_report.specs.Pure.{PureAnswer, returned, failed, vanished, cut, no_input, bad_input, number, clean, bug, undecided, verified, vacuous, unproved, sat, unsat, unknown, bytes as length_of, PureReport}
+use Rattle.gil_report.specs.Pure.{PureAnswer, returned, failed, vanished, cut, no_input, bad_input, number, clean, bug, undecided, verified, vacuous, unproved, found, sat, unsat, unknown, bytes as length_of, PureReport}
 
 -- ---- heads
 
@@ -108,12 +110,19 @@ outside_at bytes = natural_at 64 bytes >>= λ n. Some (unknown n.0, n.1)
 abbrev pub unknown_at : List ℕ → Reading PureAnswer
 unknown_at bytes = if begins is_name_start bytes then undecided_at bytes else outside_at bytes
 
+abbrev pub marked_at : PureSpec → List ℕ → Reading PureAnswer
+marked_at s bytes = behind_or (behind (codes " cut") bytes) (λ rest. Some (found s true, rest)) (Some (found s false, bytes))
+
+unfoldable pub found_at : List ℕ → Reading PureAnswer
+found_at bytes = specifications.specification_at bytes >>= λ s. marked_at s.0 s.1
+
 abbrev pub solved_at : List ℕ → Reading PureAnswer
 solved_at bytes =
     behind_or (behind (codes "sat ") bytes) sat_at
     (behind_or (behind (codes "unsat ") bytes) unsat_at
     (behind_or (behind (codes "unknown ") bytes) unknown_at
-    (behind (codes "bytes ") bytes >>= length_at)))
+    (behind_or (behind (codes "spec ") bytes) found_at
+    (behind (codes "bytes ") bytes >>= length_at))))
 
 abbrev pub rarer_at : List ℕ → Reading PureAnswer
 rarer_at bytes =

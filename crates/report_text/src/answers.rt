@@ -1,12 +1,15 @@
 //! The lines of answers.
-ghost use Rattle.std.specs.Prelude.{◌≡◌};
+ghost use Rattle.std.specs.Prelude.{◌≡◌, Some};
+ghost use Rattle.gil_syntax.specs.View.{spec_view};
 ghost use Rattle.value_text.specs.Reading.{Gives};
 ghost use Rattle.gil_report.specs.View.{answer_view};
 ghost use Rattle.report_text.specs.Reading as spec;
 
 use gil_report::Answer;
+use gil_syntax::Spec;
 use proof_text::proof_at;
 use report_parts::{bindings_at, place_at, question_at};
+use specification_text::specification_at;
 use std::alloc::Global;
 use value_text::{ReadFault, begins_name, behind, expect, long_at, small_at, value_at, values_at};
 
@@ -51,7 +54,7 @@ fn rarer_at(alloc: Global, bytes: &[u8]) -> Result<(Answer, &[u8]), ReadFault>
     solved_at(alloc, bytes)
 }
 
-/// The answer at the front, if it is about a list of atoms, or a verdict that isn't decided, or a length.
+/// The answer at the front, if it is about a list of atoms, a verdict that isn't decided, a specification that was found or a length.
 fn solved_at(alloc: Global, bytes: &[u8]) -> Result<(Answer, &[u8]), ReadFault>
     ensures { Gives (λ x. (answer_view x.0, x.1.now)) result (spec.solved_at bytes.now) }
 {
@@ -63,6 +66,9 @@ fn solved_at(alloc: Global, bytes: &[u8]) -> Result<(Answer, &[u8]), ReadFault>
     }
     if let Some(rest) = behind("unknown ", bytes) {
         return unknown_at(alloc, rest);
+    }
+    if let Some(rest) = behind("spec ", bytes) {
+        return found_at(alloc, rest);
     }
     let rest = expect("bytes ", bytes)?;
     length_at(rest)
@@ -158,6 +164,37 @@ fn unsat_at(alloc: Global, bytes: &[u8]) -> Result<(Answer, &[u8]), ReadFault>
 {
     let (proof, rest) = proof_at(alloc, bytes)?;
     Ok((Answer::Unsat(proof), rest))
+}
+
+/// A specification that was found.
+#[tactic(auto, unfolding(crate::specs::Reading::found_at))]
+fn found_at(alloc: Global, bytes: &[u8]) -> Result<(Answer, &[u8]), ReadFault>
+    ensures { Gives (λ x. (answer_view x.0, x.1.now)) result (spec.found_at bytes.now) }
+{
+    let (found, rest) = specification_at(alloc, bytes)?;
+    Ok(marked_at(found, rest))
+}
+
+/// A specification that was found, cut or not, and what follows.
+fn marked_at(found: Spec, bytes: &[u8]) -> (Answer, &[u8])
+    ensures { spec.marked_at (spec_view found) bytes.now ≡ Some (answer_view result.0, result.1.now) }
+{
+    match behind(" cut", bytes) {
+        Some(rest) => (
+            Answer::Found {
+                spec: found,
+                cut: true,
+            },
+            rest,
+        ),
+        None => (
+            Answer::Found {
+                spec: found,
+                cut: false,
+            },
+            bytes,
+        ),
+    }
 }
 
 /// What isn't decided.

@@ -9,4 +9,4 @@ mod reading;
 mod specifications;
 
 pub use laws::printing_tells_reports;
-pub use reading::read_plain_report;
+pub use reading::read_report;

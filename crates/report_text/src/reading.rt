@@ -5,7 +5,7 @@ ghost use Rattle.gil_report.specs.Lines.{report_text};
 ghost use Rattle.gil_report.specs.Pure.{PureReport};
 ghost use Rattle.gil_report.specs.View.{answer_view, report_view};
 ghost use Rattle.report_text.specs.Reading as spec;
-ghost use Rattle.report_text.specs.Plain.{IsPlain};
+ghost use Rattle.report_text.specs.Writable.{IsWritable};
 
 use crate::heads::head_at;
 use crate::lines::answer_at;
@@ -13,13 +13,13 @@ use gil_report::{Answers, Report, text};
 use std::alloc::Global;
 use value_text::ReadFault;
 
-/// The report whose lines the bytes are, if it is plain: a report without specifications that were found.
-pub fn read_plain_report(alloc: Global, bytes: &[u8]) -> Result<Report, ReadFault>
-    // The report that is read is plain, and the bytes are its lines.
+/// The report whose lines the bytes are.
+pub fn read_report(alloc: Global, bytes: &[u8]) -> Result<Report, ReadFault>
+    // The report that is read is writable, and the bytes are its lines.
     ensures lines { IfOk result (λ report. bytes.now ≡ report_text (report_view report)) }
-    ensures plain { IfOk result (λ report. IsPlain (report_view report)) }
-    // Every plain report is read back from its lines, so bytes are refused only where no plain report has them.
-    ensures again { (r : PureReport) → IsPlain r → bytes.now ≡ report_text r → Gives report_view result (Some r) }
+    ensures writable { IfOk result (λ report. IsWritable (report_view report)) }
+    // Every writable report is read back from its lines, so bytes are refused only where no report has them.
+    ensures again { (r : PureReport) → IsWritable r → bytes.now ≡ report_text r → Gives report_view result (Some r) }
 {
     let report = report_at(alloc, bytes)?;
     let lines = text(alloc, &report)?;
