@@ -1,13 +1,13 @@
 //! Reports that are read back from their lines, and lines that are nearly those of a report.
 use gil_report::text;
-use report_text::read_plain_report;
+use report_text::read_report;
 use std::alloc::Global;
 use std::test::Fail;
 use value_text::ReadFault;
 
 /// Whether the lines are read, as a report that has these lines.
 fn is_read(alloc: Global, lines: &str) -> Result<bool, Fail> {
-    match read_plain_report(alloc, lines.as_bytes()) {
+    match read_report(alloc, lines.as_bytes()) {
         Ok(report) => {
             let again = text(alloc, &report)?;
             Ok(again.as_slice() == lines.as_bytes())
@@ -75,6 +75,150 @@ fn verdicts(rt: HostRuntime) -> Result<(), Fail> {
     assert!(rt; is_read(alloc, "gillian sweep 3\nbytes 164\nclean\n")?);
     assert!(rt; is_read(alloc, "gillian solve atoms\n")?);
     assert!(rt; is_read(alloc, "gillian check while bound 20\n")?);
+    Ok(())
+}
+
+#[test]
+fn undecided(rt: HostRuntime) -> Result<(), Fail> {
+    let alloc = rt.alloc();
+    assert!(rt;
+        is_read(
+            alloc,
+            "gillian test while entry main bound 20\nunknown main:2 path [1, 0] vars [int, any, fresh] given [(v0 <= 9), not(v1)] query [((v0 * v1) = 6), open(nth([v0, -1], 0))] outside 0\n"
+        )?
+    );
+    assert!(rt;
+        is_read(
+            alloc,
+            "gillian test while entry main bound 20\nunknown open:0 path [] vars [] given [] query [open, open(open)] outside 18446744073709551615\n"
+        )?
+    );
+    Ok(())
+}
+
+#[test]
+fn solutions(rt: HostRuntime) -> Result<(), Fail> {
+    let alloc = rt.alloc();
+    assert!(rt;
+        is_read(
+            alloc,
+            "gillian solve atoms\nsat [x = 7, y = [\"a\", @f, Int]]\n"
+        )?
+    );
+    assert!(rt; is_read(alloc, "gillian solve atoms\nsat []\n")?);
+    assert!(rt; is_read(alloc, "gillian solve atoms\nunknown 3\n")?);
+    Ok(())
+}
+
+#[test]
+fn proofs(rt: HostRuntime) -> Result<(), Fail> {
+    let alloc = rt.alloc();
+    assert!(rt; is_read(alloc, "gillian solve atoms\nunsat sum [0:1, 1:-2]\n")?);
+    assert!(rt;
+        is_read(
+            alloc,
+            "gillian solve atoms\nunsat split (x < 3) (false 4) (chain [0, 2] kind 3 5)\n"
+        )?
+    );
+    assert!(rt;
+        is_read(
+            alloc,
+            "gillian check while bound 20\nf vacuous cases x [meet 0 1 2, parts 3, parts 3 differ 1 [], values 0 [chain [] fresh]]\n"
+        )?
+    );
+    Ok(())
+}
+
+#[test]
+fn specifications(rt: HostRuntime) -> Result<(), Fail> {
+    let alloc = rt.alloc();
+    assert!(rt;
+        is_read(
+            alloc,
+            "gillian check while bound 20\nswap verified\nreturned verified\nbug unproved depends unknown\n"
+        )?
+    );
+    assert!(rt;
+        is_read(
+            alloc,
+            "gillian check while bound 20\nf unproved fails \"zero\" g:2 path [1] with [n = -7, #x = 0]\nodd unproved callpre odd:4 path [] with []\n"
+        )?
+    );
+    assert!(rt;
+        is_read(
+            alloc,
+            "gillian check while bound 20\nf unproved unknown f:1 path [0] vars [int] given [] query [((v0 * v0) = 4)] outside 0\n"
+        )?
+    );
+    Ok(())
+}
+
+#[test]
+fn found(rt: HostRuntime) -> Result<(), Fail> {
+    let alloc = rt.alloc();
+    assert!(rt;
+        is_read(
+            alloc,
+            "gillian infer gil-record entry f bound 20\nspec f(a: sym, b) [] { prop(a, \"v\"; 1) * empty(b;) } { prop(a, \"v\"; 1) * (ret = 0) }\n"
+        )?
+    );
+    assert!(rt;
+        is_read(
+            alloc,
+            "gillian infer gil-record entry f bound 20\nspec f() [#x: int, #y] { emp } { not((#x = #y)) } throw { emp }\nspec f() [] { emp } cut\n"
+        )?
+    );
+    Ok(())
+}
+
+#[test]
+fn many_answers(rt: HostRuntime) -> Result<(), Fail> {
+    let alloc = rt.alloc();
+    let mut lines = String::from_str(alloc, "gillian solve atoms\n")?;
+    for _ in 0..100000 {
+        lines.push_str("sat [x = 7, y = \"a\"]\n")?;
+    }
+    assert!(rt; is_read(alloc, lines.as_str())?);
+    Ok(())
+}
+
+#[test]
+fn near_parts(rt: HostRuntime) -> Result<(), Fail> {
+    let alloc = rt.alloc();
+    assert!(rt; !is_read(alloc, "gillian solve atoms\nsat [x = 7,y = 8]\n")?);
+    assert!(rt; !is_read(alloc, "gillian solve atoms\nsat [x=7]\n")?);
+    assert!(rt; !is_read(alloc, "gillian solve atoms\nunknown -3\n")?);
+    assert!(rt; !is_read(alloc, "gillian solve atoms\nunsat sum [0:1.5]\n")?);
+    assert!(rt; !is_read(alloc, "gillian solve atoms\nunsat parts 3 \n")?);
+    assert!(rt; !is_read(alloc, "gillian solve atoms\nspec f() [] { emp }  cut\n")?);
+    assert!(rt; !is_read(alloc, "gillian solve atoms\nspec f() [] { nth(x, y) }\n")?);
+    assert!(rt; !is_read(alloc, "gillian solve atoms\nspec f(x: any) [] { emp }\n")?);
+    assert!(rt; !is_read(alloc, "gillian solve atoms\nunsat split x (false 4)\n")?);
+    assert!(rt; !is_read(alloc, "gillian check while bound 20\nswap Verified\n")?);
+    assert!(rt;
+        !is_read(
+            alloc,
+            "gillian check while bound 20\nf unproved Post f:1 path [] with []\n"
+        )?
+    );
+    assert!(rt;
+        !is_read(
+            alloc,
+            "gillian check while bound 20\nf unproved unknown f:1 path [0] vars [Int] given [] query [] outside 0\n"
+        )?
+    );
+    assert!(rt;
+        !is_read(
+            alloc,
+            "gillian check while bound 20\nf unproved unknown f:1 path [0] vars [] given [] query [$1] outside 0\n"
+        )?
+    );
+    assert!(rt;
+        !is_read(
+            alloc,
+            "gillian check while bound 20\nf unproved unknown f:1 path [0] vars [] given [] query [while] outside 0\n"
+        )?
+    );
     Ok(())
 }
 
