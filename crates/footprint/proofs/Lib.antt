@@ -1,0 +1,12 @@
+pub mod AnswerLaws
+pub mod AssertionLaws
+pub mod CaseLaws
+pub mod CoreItems
+pub mod FirstFact
+pub mod FoldingLaws
+pub mod ItemsLaw
+pub mod Loops
+pub mod Outs
+pub mod Parts
+pub mod PureItems
+pub mod UseLaws

@@ -1,0 +1,21 @@
+use Rattle.gil_syntax.specs.View.{pred_use_view}
+use Rattle.pure_terms.specs.View.{terms_view}
+use Rattle.sym_evaluation.specs.View.{store_view}
+use Rattle.sym_model.specs.View.{branches_view}
+use Rattle.sym_states.specs.View.{state_view}
+use Rattle.sym_states.proofs.Values.{ok_to}
+use Rattle.footprint.specs.Items.{AsksIns, CoreGives, CoreStops}
+use Rattle.footprint.specs.Leaves.{AreLeaves}
+use Rattle.footprint.specs.View.{leaves_view}
+use Rattle.footprint.proofs.CoreItems.{core_leaves}
+use Rattle.footprint.proofs.items.match_core.Goals as goal
+
+pub returns : goal.returns
+returns g c =
+    let s = state_view c.args.state.now in
+    let bs = store_view c.args.store.now in
+    let u = pred_use_view c.args.used.now in
+    let ins = terms_view c.args.ins.now in
+    ok_to c.match_branches.result _ (λ r. AreLeaves g.M.SymMemory.stands g.M.SymMemory.terms g.M.SymMemory.kept s (AsksIns g.M.SymMemory.stands g.M.SymMemory.terms s bs ins) (CoreGives c.args.scope.now u ins) (CoreStops c.args.number c.args.scope.now u ins) (leaves_view r))
+    (λ r gathers. core_leaves g.M.Local.LocalMemory.memory g.M.SymMemory.stands g.M.SymMemory.terms g.M.SymMemory.kept c.args.number c.args.scope.now u s bs ins c.requires.takes c.requires.over c.requires.store_over c.requires.ins_over
+    (branches_view c.in_ok-branches.branches) (leaves_view r) c.in_ok-branches.ensures.laws c.in_ok-branches.ensures.kept gathers) c.match_branches.ensures

@@ -1,0 +1,11 @@
+pub mod Answers
+pub mod Assertions
+pub mod Cases
+pub mod Choosing
+pub mod Consuming
+pub mod Items
+pub mod Leaves
+pub mod Pure
+pub mod Spreading
+pub mod Uses
+pub mod View
