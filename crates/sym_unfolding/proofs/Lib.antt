@@ -1,0 +1,3 @@
+pub mod AddLaws
+pub mod SearchLaws
+pub mod UnfoldLaws

@@ -1,0 +1,10 @@
+//! Unfolding a predicate in a state of terms: a case of it in place of a fact.
+#![tactic(auto)]
+
+mod adding;
+mod searching;
+mod taking;
+mod unfolding;
+
+pub use adding::{UnfoldedCase, UnfoldedCases};
+pub use unfolding::{Unfolding, unfold};
