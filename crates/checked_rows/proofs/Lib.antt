@@ -1,0 +1,10 @@
+pub mod EndRowLaws
+pub mod EndLaws
+pub mod FoldLaws
+pub mod AssertLaws
+pub mod MatchLaws
+pub mod NameLaws
+pub mod ReadLaws
+pub mod RowLaws
+pub mod StateLaws
+pub mod StepLaws

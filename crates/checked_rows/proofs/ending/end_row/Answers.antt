@@ -1,0 +1,47 @@
+use Rattle.std.proofs.Common.{[], ap, subst}
+use Rattle.gil_program.specs.Program.{prog_view}
+use Rattle.gil_syntax.specs.Pure.{PureCommand}
+use Rattle.sym_model.proofs.ListLaws.{each_to}
+use Rattle.sym_model.specs.Lists.{Each}
+use Rattle.sym_paths.specs.Steps.{Covers, Grows}
+use Rattle.sym_paths.specs.View.{path_view, paths_view}
+use Rattle.sym_states.proofs.Values.{ok_to}
+use Rattle.sym_states.specs.View.{facts_view, state_view}
+use Rattle.checked_paths.specs.View.{checking_view, entry_view, nexts_view, passed_by_view}
+use Rattle.checked_rows.specs.Ending.{EachIsEnded, IsLeaving, MayEnd}
+use Rattle.checked_rows.specs.Rows.{AreRowOf}
+use Rattle.checked_rows.proofs.EndRowLaws.{may_end, end_covers}
+use Rattle.checked_rows.proofs.ending.end_row.Goals as goal
+
+pub end_all-requires-clause-end : goal.end_all-requires-clause-end
+end_all-requires-clause-end g c =
+    let stands = g.M.SymMemory.stands in
+    let terms = g.M.SymMemory.terms in
+    let e = entry_view c.args.spec.now c.args.entered.now in
+    let x = checking_view c.args.checking in
+    let s = state_view c.in_ok-state.state in
+    let nexts = paths_view c.in_ok-paths.paths in
+    let growth : Each (Grows terms x.path) nexts = subst (λ q. Each (Grows terms q) nexts) (ap path_view c.into_parts-path.ensures.path) c.in_ok-paths.ensures.next.growth in
+    each_to (Grows terms x.path) (MayEnd terms e s) nexts (may_end stands terms e x s c.in_ok-state.ensures c.requires.over) growth
+
+pub returns : goal.returns
+returns g c =
+    let stands = g.M.SymMemory.stands in
+    let terms = g.M.SymMemory.terms in
+    let memory = g.M.Local.LocalMemory.memory in
+    let m = g.M.Local.LocalMemory.actions in
+    let p = prog_view c.args.prog.now in
+    let e = entry_view c.args.spec.now c.args.entered.now in
+    let x = checking_view c.args.checking in
+    let s = state_view c.in_ok-state.state in
+    let nexts = paths_view c.in_ok-paths.paths in
+    let parts = c.into_parts-path.result in
+    let growth : Each (Grows terms x.path) nexts = subst (λ q. Each (Grows terms q) nexts) (ap path_view c.into_parts-path.ensures.path) c.in_ok-paths.ensures.next.growth in
+    let cover : Covers p m stands x.path nexts = subst (λ q. Covers p m stands q nexts) (ap path_view c.into_parts-path.ensures.path) c.in_ok-paths.ensures.next.cover in
+    ok_to c.end_all.result (λ ns. EachIsEnded p stands terms e s (facts_view parts.1) (passed_by_view parts.2) nexts (nexts_view ns))
+    (λ ns. (command : PureCommand) → IsLeaving command → AreRowOf p memory m stands terms e x command [] (nexts_view ns))
+    (λ ns are. end_covers p memory m stands terms g.met.M.SymMemory.meaning e x c.requires.over s c.in_ok-state.ensures nexts (nexts_view ns)
+    (subst (λ qs. EachIsEnded p stands terms e s x.facts qs nexts (nexts_view ns)) (ap passed_by_view c.into_parts-path.ensures.passed)
+    (subst (λ fs. EachIsEnded p stands terms e s fs (passed_by_view parts.2) nexts (nexts_view ns)) (ap facts_view c.into_parts-path.ensures.preds) are))
+    cover growth c.in_ok-paths.ensures.placed)
+    c.end_all.ensures

@@ -1,0 +1,73 @@
+use Rattle.std.proofs.Common.{◌≡◌, [], sym, subst}
+use Rattle.gil_program.specs.Program.{prog_view}
+use Rattle.gil_syntax.specs.Pure.{fold_use}
+use Rattle.gil_syntax.specs.View.{exprs_view, pred_use_view}
+use Rattle.pure_terms.specs.View.{terms_view}
+use Rattle.sym_evaluation.specs.Meaning.{IsStoreOver}
+use Rattle.sym_evaluation.specs.View.{store_view}
+use Rattle.sym_states.proofs.Values.{ok_to}
+use Rattle.sym_states.specs.View.{state_view}
+use Rattle.checked_paths.specs.View.{checking_view, entry_view, nexts_view}
+use Rattle.checked_rows.specs.Folding.{FoldsOuts}
+use Rattle.checked_rows.specs.Reading.{Reads}
+use Rattle.checked_rows.specs.Rows.{AreRowOf}
+use Rattle.checked_rows.specs.View.{reading_view}
+use Rattle.checked_rows.proofs.FoldLaws.{read_vars, never_covers, serves_first, fold_covers}
+use Rattle.checked_rows.proofs.MatchLaws.{names_over, over_there}
+use Rattle.checked_rows.proofs.folding.fold_user.Goals as goal
+
+pub read_all-requires-clause-over : goal.read_all-requires-clause-over
+read_all-requires-clause-over g c =
+    over_there g.M.SymMemory.stands g.M.SymMemory.terms g.M.SymMemory.kept (entry_view c.args.spec.now c.args.entered.now) (checking_view c.args.checking) (state_view c.in_ok-state.state) (store_view c.in_ok-names.names) c.requires.over c.in_ok-state.ensures c.in_ok-names.ensures
+
+pub read_all-requires-clause-store_over : goal.read_all-requires-clause-store_over
+read_all-requires-clause-store_over g c =
+    names_over g.M.SymMemory.stands g.M.SymMemory.terms g.M.SymMemory.kept (entry_view c.args.spec.now c.args.entered.now) (checking_view c.args.checking) (state_view c.in_ok-state.state) (store_view c.in_ok-names.names) c.requires.over c.in_ok-state.ensures c.in_ok-names.ensures
+
+pub fold_outs-requires-clause-store_over : goal.fold_outs-requires-clause-store_over
+fold_outs-requires-clause-store_over g c =
+    let stands = g.M.SymMemory.stands in
+    let terms = g.M.SymMemory.terms in
+    let s = state_view c.in_ok-state.state in
+    let bs = store_view c.in_ok-names.names in
+    let es = exprs_view c.args.used.now.ins in
+    let read = subst (λ r. Reads stands terms s bs es (reading_view r)) c.in-Values.is c.in_ok-state-2.ensures in
+    subst (λ vars. IsStoreOver vars bs) (sym (read_vars stands terms s (state_view c.in-Values.state) bs es (terms_view c.in-Values.ins) read))
+    (names_over stands terms g.M.SymMemory.kept (entry_view c.args.spec.now c.args.entered.now) (checking_view c.args.checking) s bs c.requires.over c.in_ok-state.ensures c.in_ok-names.ensures)
+
+pub returns-in-Values : goal.returns-in-Values
+returns-in-Values g c =
+    let stands = g.M.SymMemory.stands in
+    let terms = g.M.SymMemory.terms in
+    let kept = g.M.SymMemory.kept in
+    let p = prog_view c.args.prog.now in
+    let memory = g.M.Local.LocalMemory.memory in
+    let m = g.M.Local.LocalMemory.actions in
+    let e = entry_view c.args.spec.now c.args.entered.now in
+    let x = checking_view c.args.checking in
+    let s = state_view c.in_ok-state.state in
+    let bs = store_view c.in_ok-names.names in
+    let u = pred_use_view c.args.used.now in
+    let r = state_view c.in-Values.state in
+    let ins = terms_view c.in-Values.ins in
+    let read = subst (λ k. Reads stands terms s bs u.ins (reading_view k)) c.in-Values.is c.in_ok-state-2.ensures in
+    ok_to c.fold_outs.result (λ ns. FoldsOuts stands terms kept p.preds x bs u r ins (nexts_view ns)) (λ ns. AreRowOf p memory m stands terms e x (fold_use u) [] (nexts_view ns))
+    (λ ns folds. fold_covers p memory m stands terms g.met.M.SymMemory.meaning kept e x u c.requires.user s bs c.in_ok-state.ensures c.in_ok-names.ensures c.args.prog.now.valid r ins read (nexts_view ns) folds) c.fold_outs.ensures
+
+pub returns-in-Never : goal.returns-in-Never
+returns-in-Never g c =
+    let stands = g.M.SymMemory.stands in
+    let terms = g.M.SymMemory.terms in
+    let kept = g.M.SymMemory.kept in
+    let p = prog_view c.args.prog.now in
+    let memory = g.M.Local.LocalMemory.memory in
+    let m = g.M.Local.LocalMemory.actions in
+    let e = entry_view c.args.spec.now c.args.entered.now in
+    let x = checking_view c.args.checking in
+    let s = state_view c.in_ok-state.state in
+    let bs = store_view c.in_ok-names.names in
+    let u = pred_use_view c.args.used.now in
+    let never = subst (λ k. Reads stands terms s bs u.ins (reading_view k)) c.in-Never.is c.in_ok-state-2.ensures in
+    ok_to c.nothing.result (λ ns. nexts_view ns ≡ []) (λ ns. AreRowOf p memory m stands terms e x (fold_use u) [] (nexts_view ns))
+    (λ ns none. subst (AreRowOf p memory m stands terms e x (fold_use u) []) (sym none) (never_covers p memory m stands terms g.met.M.SymMemory.meaning kept e x u c.requires.user s bs c.in_ok-state.ensures c.in_ok-names.ensures s
+    (serves_first p memory m stands terms g.met.M.SymMemory.meaning kept e x u c.requires.user s bs c.in_ok-state.ensures c.in_ok-names.ensures) never)) c.nothing.ensures

@@ -1,0 +1,38 @@
+-- What matching an assertion where a checked path stands comes to: what it matches in the checked states for which the path stands.
+use Rattle.std.specs.Prelude.{◌≡◌, List, ⊤}
+use Rattle.gil_values.specs.Pure.{PureValue}
+use Rattle.gil_syntax.specs.declared.assertions.Param.{Param}
+use Rattle.gil_syntax.specs.Pure.{PureItem, PurePredDef}
+use Rattle.mem_model.specs.Heaps.{Heap}
+use Rattle.assert_logic.specs.Matching.{Match, matched, match_assertion}
+use Rattle.checked_runs.specs.Checked.{Checked, Entry, names_at, logic_state}
+use Rattle.sym_evaluation.specs.Meaning.{StandsFor, IsStoreOver}
+use Rattle.sym_model.specs.Lists.{Each, OneOf}
+use Rattle.sym_model.specs.Terms.{StateTerms}
+use Rattle.sym_states.specs.Meaning.{Stands, IsOverTable}
+use Rattle.sym_states.specs.Pure.{PureState}
+use Rattle.checked_paths.specs.Meaning.{StandsForChecked}
+use Rattle.checked_paths.specs.Pure.{PureEntry, PureChecking}
+use Rattle.footprint.specs.Pure.{PureMatch, PureMatching, all_match, unmatched, unknown}
+
+-- the state has the path's variables, and names no others
+pub record IsOfPath {S : Type 0} (terms : S → StateTerms) (x : PureChecking S) (s : PureState S) : Type 0 where
+  pub vars : s.vars ≡ x.path.vars
+  pub over : IsOverTable terms s
+
+module _ {S : Type 0} (stands : S → List PureValue → Heap → Type 0) (terms : S → StateTerms) (e : PureEntry) (x : PureChecking S)
+    (preds : List PurePredDef) (scope : List Param) (items : List PureItem) where
+  -- in the checked state the assertion is matched, and the match stands for what is found
+  pub record IsFound (v : List PureValue) (entry : Entry) (c : Checked) (m : PureMatch S) : Type 0 where
+    pub found : Match
+    pub matches : match_assertion preds scope items (names_at entry c) (logic_state c) ≡ matched found
+    pub state : Stands stands m.state v found.state
+    pub store : StandsFor v m.store found.store
+
+  -- where it is always matched, each checked state matches as one of these says
+  abbrev pub MatchesThere : PureMatching S → Type 0
+  MatchesThere (all_match ms) =
+      ((v : List PureValue) (entry : Entry) (c : Checked) → StandsForChecked stands e x v entry c → OneOf (IsFound v entry c) ms)
+      × Each (λ m. IsOfPath terms x m.state × IsStoreOver x.path.vars m.store) ms
+  MatchesThere (unmatched item v) = ⊤
+  MatchesThere (unknown conds reason) = ⊤

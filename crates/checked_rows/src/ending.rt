@@ -1,0 +1,315 @@
+//! Returns and throws that end the entry: a postcondition is matched, and nothing is left.
+ghost use Rattle.std.specs.Prelude.{◌≡◌, [], ◌++◌, length, map, IfOk, IfSome};
+ghost use Rattle.std.specs.Option.{option_map};
+ghost use Rattle.checked_paths.specs.Meaning.{IsCheckedOver, IsEntryOver};
+ghost use Rattle.checked_paths.specs.View.{checking_view, entry_view, next_view, nexts_view, passed_by_view};
+ghost use Rattle.checked_rows.specs.Ending.{AreEntryNames, AreResultNames, EachIsEnded, Finishes, IsEnded, IsLeaving, IsThere, MayEnd, at_end, finish_at};
+ghost use Rattle.checked_rows.specs.Rows.{AreRowOf};
+ghost use Rattle.checked_rows.specs.View.{finish_view};
+ghost use Rattle.gil_syntax.specs.Pure.{PureCommand};
+ghost use Rattle.sym_paths.specs.View.{end_view, path_view, paths_view};
+ghost use Rattle.sym_step.specs.Stepping.{MayStep};
+ghost use Rattle.checked_runs.specs.Specifications.{result_name as pure_result_name};
+ghost use Rattle.footprint.specs.Consuming.{MayMatch, CasesMayMatch};
+ghost use Rattle.gil_program.specs.Program.{prog_view};
+ghost use Rattle.gil_syntax.specs.Valid.{param_names};
+ghost use Rattle.gil_syntax.specs.View.{assertion_view, proc_view};
+ghost use Rattle.pure_terms.specs.Meaning.{IsOver};
+ghost use Rattle.pure_terms.specs.View.{term_view, terms_view};
+ghost use Rattle.sym_evaluation.specs.View.{store_view};
+ghost use Rattle.sym_model.specs.Lists.{Each};
+ghost use Rattle.sym_states.specs.Meaning.{IsOverTable};
+ghost use Rattle.sym_states.specs.View.{facts_view, state_view};
+
+use crate::names::set_all;
+use crate::nexts::{Doubt, doubted_next};
+use crate::states::state_of;
+use checked_paths::{Checking, Entered, FaultKind, Next, Nexts, PassedByFrames, follow};
+use footprint::{Matching, consume_whole};
+use gil_program::Prog;
+use gil_syntax::{Assertions, Param, Params, Proc, Spec};
+use gil_values::{Place, Text};
+use pure_terms::{Decider, Term};
+use rewrite_book::RuleBook;
+use sequence::Sequence;
+use std::alloc::{AllocError, Global};
+use std::mem;
+use sym_evaluation::SymStore;
+use sym_model::ListedMemory;
+use sym_paths::{Frame, Path, PathEnd, Paths};
+use sym_states::{PredChunks, SymState};
+use sym_step::step;
+
+/// The names of the entry: its parameters, and the variables of its precondition.
+fn entry_names(alloc: Global, proc: &Proc, entered: &Entered) -> Result<SymStore, AllocError>
+    requires { length (terms_view entered.now.args) ≡ length (proc_view proc.now).params }
+    ensures { IfOk result (λ s. AreEntryNames (proc_view proc.now).params (terms_view entered.now.args) (store_view entered.now.variables)
+        (store_view s)) }
+{
+    let frame = Frame::begin(alloc, proc, entered.args.as_slice())?;
+    let mut names = entered.variables.copy(alloc)?;
+    set_all(alloc, &mut names, &frame.store)?;
+    Ok(names)
+}
+
+/// The parameters, and then the logical variables.
+fn scope_of(alloc: Global, spec: &Spec) -> Result<Params, AllocError>
+    ensures { IfOk result (λ ps. ps ≡ spec.now.params ++ spec.now.logicals) }
+{
+    let mut scope = copy_params(alloc, Sequence::new(alloc), &spec.params)?;
+    scope = copy_params(alloc, scope, &spec.logicals)?;
+    Ok(scope)
+}
+
+/// The parameters with copies of others behind them.
+fn copy_params(alloc: Global, first: Params, second: &Params) -> Result<Params, AllocError>
+    ensures { IfOk result (λ ps. ps ≡ first ++ second.now) }
+{
+    let mut joined = first;
+    for param in second.as_slice() {
+        let name = param.name.copy(alloc)?;
+        joined.push(Param {
+            name,
+            sort: param.sort,
+        })?;
+    }
+    Ok(joined)
+}
+
+/// The name of the result in postconditions.
+fn result_name(alloc: Global) -> Result<Text, AllocError>
+    ensures { IfOk result (λ t. t ≡ pure_result_name) }
+{
+    match Text::from_str(alloc, "ret")? {
+        Some(name) => Ok(name),
+        None => unreachable!(),
+    }
+}
+
+/// The names of the entry and the result, unless one of them has the result's name.
+fn result_names(
+    alloc: Global,
+    proc: &Proc,
+    entered: &Entered,
+    term: &Term,
+) -> Result<Option<SymStore>, AllocError>
+    requires { length (terms_view entered.now.args) ≡ length (proc_view proc.now).params }
+    ensures { IfOk result (λ o. IfSome o (λ s. AreResultNames (proc_view proc.now).params (terms_view entered.now.args)
+        (store_view entered.now.variables) (term_view term.now) (store_view s))) }
+{
+    let mut names = entry_names(alloc, proc, entered)?;
+    let name = result_name(alloc)?;
+    match names.get(&name) {
+        Some(_) => Ok(None),
+        None => {
+            names.set(name, term.copy(alloc)?)?;
+            Ok(Some(names))
+        }
+    }
+}
+
+/// The entry ends with a result: one of the postconditions is matched, and nothing is left. Where a name of the entry is the result's,
+/// that is left undecided as a fault.
+fn finish<M: ListedMemory, D: Decider>(
+    alloc: Global,
+    prog: &Prog,
+    spec: &Spec,
+    entered: &Entered,
+    proc: &Proc,
+    state: SymState<M>,
+    term: &Term,
+    posts: &Assertions,
+    here: &Place,
+    path: &Path<M>,
+    decider: &mut D,
+) -> Result<Next<M>, AllocError>
+    requires params { (proc_view proc.now).params ≡ param_names spec.now.params }
+    requires count { length (terms_view entered.now.args) ≡ length (proc_view proc.now).params }
+    requires over { IsOverTable M.terms (state_view state) }
+    requires entry { IsEntryOver (state_view state).vars (entry_view spec.now entered.now) }
+    requires term { IsOver (state_view state).vars (term_view term.now) }
+    requires may { Each (MayMatch M.Local.memory) (map assertion_view posts.now) }
+    requires cases { CasesMayMatch M.Local.memory (prog_view prog.now).preds }
+    ensures { IfOk result (λ n. Finishes (prog_view prog.now) M.stands (entry_view spec.now entered.now) (map assertion_view posts.now)
+        (term_view term.now) (state_view state) (next_view n)) }
+{
+    let Some(names) = result_names(alloc, proc, entered, term)? else {
+        return doubted_next(alloc, FaultKind::Post, here, path, Doubt::Always);
+    };
+    let scope = scope_of(alloc, spec)?;
+    match consume_whole(alloc, state, prog, &scope, posts, names, decider)? {
+        Matching::All(_) => Ok(Next::Over),
+        Matching::Unmatched { item: _, valuation } => {
+            let doubt = Doubt::Under(valuation);
+            doubted_next(alloc, FaultKind::Post, here, path, doubt)
+        }
+        Matching::Unknown { conds, reason } => {
+            let doubt = Doubt::Undecided(conds, reason);
+            doubted_next(alloc, FaultKind::Post, here, path, doubt)
+        }
+    }
+}
+
+/// How a path ends the entry. Contracts see it as its pure data, by `finish_view`.
+#[derive(Debug, Drop)]
+pub(crate) enum EntryEnd {
+    Return(Term),
+    Throw(Term),
+}
+
+fn finish_of(alloc: Global, end: &Option<PathEnd>) -> Result<Option<EntryEnd>, AllocError>
+    ensures { IfOk result (λ o. option_map finish_view o ≡ finish_at (option_map end_view end.now)) }
+{
+    match end {
+        Some(PathEnd::Returned(term)) => Ok(Some(EntryEnd::Return(term.copy(alloc)?))),
+        Some(PathEnd::Threw(term, _)) => Ok(Some(EntryEnd::Throw(term.copy(alloc)?))),
+        _ => Ok(None),
+    }
+}
+
+/// The state where a path ends, from that before its step.
+fn state_there<M: ListedMemory>(
+    alloc: Global,
+    state: &SymState<M>,
+    path: &Path<M>,
+) -> Result<SymState<M>, AllocError>
+    ensures { IfOk result (λ s. IsThere M.stands M.terms (at_end (state_view state.now) (path_view path.now)) (state_view s)) }
+{
+    let memory = state.memory.copy(alloc)?;
+    let mut there = state.over_memory(alloc, memory)?;
+    let mut copy = path.copy(alloc)?;
+    mem::swap(&mut there.vars, &mut copy.vars);
+    mem::swap(&mut there.conds, &mut copy.conds);
+    Ok(there)
+}
+
+/// A path ends the entry with a result, from the state before its step.
+fn finish_there<M: ListedMemory, D: Decider>(
+    alloc: Global,
+    prog: &Prog,
+    spec: &Spec,
+    entered: &Entered,
+    proc: &Proc,
+    state: &SymState<M>,
+    term: &Term,
+    posts: &Assertions,
+    here: &Place,
+    path: &Path<M>,
+    decider: &mut D,
+) -> Result<Next<M>, AllocError>
+    requires params { (proc_view proc.now).params ≡ param_names spec.now.params }
+    requires count { length (terms_view entered.now.args) ≡ length (proc_view proc.now).params }
+    requires end { MayEnd M.terms (entry_view spec.now entered.now) (state_view state.now) (path_view path.now) }
+    requires term { IsOver (path_view path.now).vars (term_view term.now) }
+    requires may { Each (MayMatch M.Local.memory) (map assertion_view posts.now) }
+    requires cases { CasesMayMatch M.Local.memory (prog_view prog.now).preds }
+    ensures { IfOk result (λ n. Finishes (prog_view prog.now) M.stands (entry_view spec.now entered.now) (map assertion_view posts.now)
+        (term_view term.now) (at_end (state_view state.now) (path_view path.now)) (next_view n)) }
+{
+    let there = state_there(alloc, state, path)?;
+    finish(
+        alloc, prog, spec, entered, proc, there, term, posts, here, path, decider,
+    )
+}
+
+/// What is answered of one next path.
+fn end_one<M: ListedMemory, D: Decider>(
+    alloc: Global,
+    prog: &Prog,
+    spec: &Spec,
+    entered: &Entered,
+    proc: &Proc,
+    state: &SymState<M>,
+    preds: &PredChunks,
+    passed: &PassedByFrames<M>,
+    here: &Place,
+    path: Path<M>,
+    decider: &mut D,
+) -> Result<Next<M>, AllocError>
+    requires params { (proc_view proc.now).params ≡ param_names spec.now.params }
+    requires count { length (terms_view entered.now.args) ≡ length (proc_view proc.now).params }
+    requires end { MayEnd M.terms (entry_view spec.now entered.now) (state_view state.now) (path_view path) }
+    requires posts { Each (MayMatch M.Local.memory) (map assertion_view spec.now.posts) }
+    requires errors { Each (MayMatch M.Local.memory) (map assertion_view spec.now.errors) }
+    requires cases { CasesMayMatch M.Local.memory (prog_view prog.now).preds }
+    ensures { IfOk result (λ n. IsEnded (prog_view prog.now) M.stands M.terms (entry_view spec.now entered.now) (state_view state.now)
+        (facts_view preds.now) (passed_by_view passed.now) (path_view path) (next_view n)) }
+{
+    match finish_of(alloc, &path.end)? {
+        Some(EntryEnd::Return(term)) => {
+            let posts = &spec.posts;
+            finish_there(
+                alloc, prog, spec, entered, proc, state, &term, posts, here, &path, decider,
+            )
+        }
+        Some(EntryEnd::Throw(term)) => {
+            let errors = &spec.errors;
+            finish_there(
+                alloc, prog, spec, entered, proc, state, &term, errors, here, &path, decider,
+            )
+        }
+        None => follow(alloc, preds, passed, here, path),
+    }
+}
+
+/// What is answered of all of them, in order.
+fn end_all<M: ListedMemory, D: Decider>(
+    alloc: Global,
+    prog: &Prog,
+    spec: &Spec,
+    entered: &Entered,
+    proc: &Proc,
+    state: &SymState<M>,
+    preds: &PredChunks,
+    passed: &PassedByFrames<M>,
+    here: &Place,
+    paths: Paths<M>,
+    decider: &mut D,
+) -> Result<Nexts<M>, AllocError>
+    requires params { (proc_view proc.now).params ≡ param_names spec.now.params }
+    requires count { length (terms_view entered.now.args) ≡ length (proc_view proc.now).params }
+    requires end { Each (MayEnd M.terms (entry_view spec.now entered.now) (state_view state.now)) (paths_view paths) }
+    requires posts { Each (MayMatch M.Local.memory) (map assertion_view spec.now.posts) }
+    requires errors { Each (MayMatch M.Local.memory) (map assertion_view spec.now.errors) }
+    requires cases { CasesMayMatch M.Local.memory (prog_view prog.now).preds }
+    ensures { IfOk result (λ ns. EachIsEnded (prog_view prog.now) M.stands M.terms (entry_view spec.now entered.now) (state_view state.now)
+        (facts_view preds.now) (passed_by_view passed.now) (paths_view paths) (nexts_view ns)) }
+{
+    let mut nexts = Sequence::new(alloc);
+    for path in paths.into_vec() {
+        nexts.push(end_one(
+            alloc, prog, spec, entered, proc, state, preds, passed, here, path, decider,
+        )?)?;
+    }
+    Ok(nexts)
+}
+
+/// The answers at `return` and at `throw`. Where the entry ends so, one of its postconditions is to be matched, with nothing left.
+pub fn end_row<M: ListedMemory, D: Decider>(
+    alloc: Global,
+    prog: &Prog,
+    rules: &RuleBook,
+    spec: &Spec,
+    entered: &Entered,
+    proc: &Proc,
+    checking: Checking<M>,
+    here: &Place,
+    decider: &mut D,
+) -> Result<Nexts<M>, AllocError>
+    requires params { (proc_view proc.now).params ≡ param_names spec.now.params }
+    requires count { length (terms_view entered.now.args) ≡ length (proc_view proc.now).params }
+    requires over { IsCheckedOver M.terms (entry_view spec.now entered.now) (checking_view checking) }
+    requires may { MayStep (prog_view prog.now) M.terms (path_view checking.path) }
+    requires posts { Each (MayMatch M.Local.memory) (map assertion_view spec.now.posts) }
+    requires errors { Each (MayMatch M.Local.memory) (map assertion_view spec.now.errors) }
+    requires cases { CasesMayMatch M.Local.memory (prog_view prog.now).preds }
+    ensures { IfOk result (λ ns. (command : PureCommand) → IsLeaving command → AreRowOf (prog_view prog.now) M.Local.memory M.Local.actions
+        M.stands M.terms (entry_view spec.now entered.now) (checking_view checking) command [] (nexts_view ns)) }
+{
+    let state = state_of(alloc, &checking.path, &checking.preds, here)?;
+    let (path, preds, passed) = checking.into_parts();
+    let paths = step(alloc, prog, path, rules, decider)?;
+    end_all(
+        alloc, prog, spec, entered, proc, &state, &preds, &passed, here, paths, decider,
+    )
+}
