@@ -26,17 +26,17 @@ use Rattle.sym_paths.specs.Steps.{Extends, IsUnknown, HasInput, Covers, Grows}
 use Rattle.sym_states.specs.Meaning as states
 use Rattle.sym_states.specs.Pure.{PureState}
 use Rattle.checked_paths.proofs.Answering.{answer_covers}
-use Rattle.checked_paths.proofs.Growing.{entered_more, passed_by_more, entry_over_more, facts_over_more, passed_by_over_more}
+use Rattle.checked_paths.proofs.Growing.{entered_more, passed_by_more, entry_over_more, facts_over_more}
 use Rattle.checked_paths.proofs.Inputs.{step_to}
 use Rattle.checked_paths.proofs.Lists.{one_across, each_across}
-use Rattle.checked_paths.specs.Covering.{CoversOutcome, IsCaused, FollowsOn}
-use Rattle.checked_paths.specs.Following.{IsAnswerTo, IsAnswered, is_of_machine}
+use Rattle.checked_paths.specs.Covering.{CoversOutcome, FollowsOn}
+use Rattle.checked_paths.specs.Following.{IsAnswered, is_of_machine}
 use Rattle.checked_paths.specs.Meaning.{StandsForChecked, IsEntered, IsPassed, IsPassedOver, IsEntryOver, AreFactsOver, IsCheckedOver, MayGoOn}
-use Rattle.checked_paths.specs.Pure.{PureEntry, PurePassed, PureChecking, PureNext, further, over as done_over, caused}
+use Rattle.checked_paths.specs.Pure.{PureEntry, PurePassed, PureChecking, PureNext}
 use Rattle.checked_rows.specs.Ending.{Finishes, at_end, PureFinish, by_return, by_throw, finish_at, MayEnd, IsThere, IsEndedBy, IsEnded, EachIsEnded, IsLeaving}
 use Rattle.checked_rows.specs.Rows.{AreRowOf}
 use Rattle.checked_rows.specs.States.{IsStateOf}
-use Rattle.checked_rows.proofs.RowLaws.{goes_on_next, uses_nothing}
+use Rattle.checked_rows.proofs.RowLaws.{answer_of_cause, cause_follows, answered_follows, uses_nothing}
 
 leaving_is_of_machine : (k : PureCommand) → IsLeaving k → IsTrue (is_of_machine k)
 leaving_is_of_machine (return e) is = refl
@@ -47,16 +47,6 @@ leaving_is_no_call : (k : PureCommand) → IsLeaving k → is_call k ≡ false
 leaving_is_no_call (return e) is = refl
 leaving_is_no_call (throw e) is = refl
 leaving_is_no_call k is = absurd is
-
-cause_covers : {S : Type 0} (stands : S → List PureValue → Heap → Type 0) (e : PureEntry) (entry : Entry) (v : List PureValue) (out : Outcome) (n : PureNext S) → IsCaused n → CoversOutcome stands e entry v out n
-cause_covers stands e entry v out (caused cause) is = tt
-cause_covers stands e entry v out (further x) is = absurd is
-cause_covers stands e entry v out done_over is = absurd is
-
-cause_follows : {S : Type 0} (p : PureParts) (terms : S → StateTerms) (e : PureEntry) (x : PureChecking S) (n : PureNext S) → IsCaused n → FollowsOn p terms e x n
-cause_follows p terms e x (caused cause) is = tt
-cause_follows p terms e x done_over is = tt
-cause_follows p terms e x (further y) is = absurd is
 
 module _ {S : Type 0} (stands : S → List PureValue → Heap → Type 0) (terms : S → StateTerms) (e : PureEntry) (x : PureChecking S) (s : PureState S) (is : IsStateOf stands terms x.path x.facts s) (over : IsCheckedOver terms e x) where
   -- the state where a next path ends names only variables of its table
@@ -109,7 +99,7 @@ module _ {S : Type 0} (p : PureParts) (memory : MemoryName) (m : Actions) (stand
     -- the entry ends with a result
     finishes : (posts : List (List PureItem)) (t : PureTerm) (out : Outcome) (a : PureValue) → Finishes p stands e posts t (at_end s next) k → IsProper next.vars w → IsTrue (all_true w next.conds) → value w t ≡ Some a
         → out ≡ over_or (some_matches p entry posts (result_store entry a) (logic_state c)) post → CoversOutcome stands e entry v out k
-    finishes posts t out a (inl cause) proper met val leads = cause_covers stands e entry v out k cause
+    finishes posts t out a (inl cause) proper met val leads = answer_of_cause stands e entry v out k cause
     finishes posts t out a (inr (done, law)) proper met val leads =
         subst (CoversOutcome stands e entry v out) (sym done) (leads ∙ ap (λ b. over_or b post) (law w entry (logic_state c) a entered_there (stands_there proper met) val))
 
@@ -153,24 +143,10 @@ module _ {S : Type 0} (p : PureParts) (memory : MemoryName) (m : Actions) (stand
     finish_follows posts t next k (inl cause) = cause_follows p terms e x k cause
     finish_follows posts t next k (inr (done, law)) = subst (FollowsOn p terms e x) (sym done) tt
 
-    answered_follows : (o : Option PureEnd) (next : PurePath S) (k : PureNext S) → next.ending ≡ o → IsAnswerTo stands terms x.facts x.passed next o k → Grows terms x.path next → GoesOnAtCommands p next → FollowsOn p terms e x k
-    answered_follows None next k still (y, (same, with_it)) grows placed =
-        subst (FollowsOn p terms e x) (sym same)
-        (goes_on_next memory stands terms meaning e x is_over_table next x.facts x.passed y with_it p grows.new_vars still (placed still) grows.over
-        (subst (λ vars. AreFactsOver vars x.facts) (sym grows.vars) (facts_over_more x.path.vars grows.new_vars x.facts is_over_table.facts))
-        (subst (λ vars. Each (Each (IsPassedOver terms vars)) x.passed) (sym grows.vars) (passed_by_over_more x.path.vars grows.new_vars terms x.passed is_over_table.passed)) grows.vars grows.steps)
-    answered_follows (Some vanished) next k still answer grows placed = subst (FollowsOn p terms e x) (sym answer) tt
-    answered_follows (Some (returned t)) next k still answer grows placed = cause_follows p terms e x k answer
-    answered_follows (Some (failed t place)) next k still answer grows placed = cause_follows p terms e x k answer
-    answered_follows (Some (threw t place)) next k still answer grows placed = cause_follows p terms e x k answer
-    answered_follows (Some (missed q place)) next k still answer grows placed = cause_follows p terms e x k answer
-    answered_follows (Some cut) next k still answer grows placed = cause_follows p terms e x k answer
-    answered_follows (Some (unknown place reason)) next k still answer grows placed = cause_follows p terms e x k answer
-
     follows_by : (f : Option PureFinish) (next : PurePath S) (k : PureNext S) → IsEndedBy p stands terms e s x.facts x.passed next f k → Grows terms x.path next → GoesOnAtCommands p next → FollowsOn p terms e x k
     follows_by (Some (by_return t)) next k by grows placed = finish_follows e.spec.posts t next k by
     follows_by (Some (by_throw t)) next k by grows placed = finish_follows e.spec.errors t next k by
-    follows_by None next k by grows placed = answered_follows next.ending next k refl by grows placed
+    follows_by None next k by grows placed = answered_follows p memory stands terms meaning e x is_over_table next.ending next k refl by grows placed
 
   each_and : (qs : List (PurePath S)) → Each (Grows terms x.path) qs → Each (GoesOnAtCommands p) qs → Each (λ next. Grows terms x.path next × GoesOnAtCommands p next) qs
   each_and [] first second = tt

@@ -1,3 +1,4 @@
+pub mod CallLaws
 pub mod EndRowLaws
 pub mod EndLaws
 pub mod FoldLaws

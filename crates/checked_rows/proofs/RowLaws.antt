@@ -1,5 +1,6 @@
 -- What every row needs: what its command leads to, and what the checked path stands for that goes on.
-use Rattle.std.proofs.Common.{◌≡◌, inl, inr, ℕ, suc, ◌+◌, List, [], ◌∷◌, ◌++◌, length, false, if◌then◌else◌, Some, None, refl, sym, ap, subst, ◌∙◌, arith}
+use Rattle.sym_paths.specs.Steps.{Grows}
+use Rattle.std.proofs.Common.{◌≡◌, inl, inr, ℕ, suc, ◌+◌, List, [], ◌∷◌, ◌++◌, length, false, if◌then◌else◌, Some, None, refl, sym, ap, subst, ◌∙◌, arith, Option}
 use Rattle.std.proofs.lemmas.List.{append-nil}
 use Rattle.gil_values.specs.Pure.{PureValue}
 use Rattle.gil_syntax.specs.Pure.{PureParts, PureCommand, PureNumberedCommand}
@@ -11,7 +12,7 @@ use Rattle.mem_model.specs.Actions.{Actions}
 use Rattle.mem_model.specs.Heaps.{Heap}
 use Rattle.checked_runs.specs.Checked.{Checked, Outcome, goes_on_to, Entry, kept_for, moved, LeadsBy, LeadsAt, Leads, is_call, used_in, used_by}
 use Rattle.pure_terms.specs.declared.variables.Sort.{Sort}
-use Rattle.sym_engine.specs.Placed.{AreAtCommands}
+use Rattle.sym_engine.specs.Placed.{AreAtCommands, GoesOnAtCommands}
 use Rattle.sym_engine.proofs.Placing.{advanced_there}
 use Rattle.sym_model.proofs.ListLaws.{not_none}
 use Rattle.sym_model.specs.Laws.{IsMeaning}
@@ -20,16 +21,16 @@ use Rattle.sym_model.specs.Terms.{StateTerms}
 use Rattle.sym_paths.specs.Frames.{running_store}
 use Rattle.sym_paths.specs.Meaning.{AreFrames, frames_of, Stands, IsOverTable, command_of_path}
 use Rattle.sym_paths.specs.Moves.{passing}
-use Rattle.sym_paths.specs.Pure.{PureFrame, PurePath}
+use Rattle.sym_paths.specs.Pure.{PureFrame, PurePath, PureEnd, returned, failed, threw, missed, vanished, cut, unknown}
 use Rattle.sym_paths.proofs.Silent.{stands_at}
 use Rattle.sym_states.specs.Meaning.{AreFacts}
 use Rattle.sym_states.specs.Pure.{PureFact}
-use Rattle.checked_paths.proofs.Growing.{entered_more, passed_by_more, entry_over_more}
+use Rattle.checked_paths.proofs.Growing.{entered_more, passed_by_more, entry_over_more, facts_over_more, passed_by_over_more}
 use Rattle.checked_paths.proofs.Lists.{kept_related, kept_each}
-use Rattle.checked_paths.specs.Covering.{CoversOutcome, NamesUses, FollowsOn, AreNexts}
-use Rattle.checked_paths.specs.Following.{GoesOnWith}
+use Rattle.checked_paths.specs.Covering.{CoversOutcome, NamesUses, FollowsOn, AreNexts, IsCaused}
+use Rattle.checked_paths.specs.Following.{GoesOnWith, IsAnswerTo}
 use Rattle.checked_paths.specs.Meaning.{ArePassed, ArePassedBy, IsEntered, StandsForChecked, AreFactsOver, IsEntryOver, IsPassedOver, IsCheckedOver, kept_by}
-use Rattle.checked_paths.specs.Pure.{PureEntry, PurePassed, PureChecking, PureNext, further}
+use Rattle.checked_paths.specs.Pure.{PureEntry, PurePassed, PureChecking, PureNext, further, over as done_over, caused}
 use Rattle.checked_rows.specs.Rows.{AreRowOf, IsCauseAlone}
 
 frame_count : (v : List PureValue) (fs : List PureFrame) (gs : List Frame) → AreFrames v fs gs → length fs ≡ length gs
@@ -122,3 +123,31 @@ uses_nothing p memory m stands e x n names nexts at none v entry c used stand us
 -- the frames where a command was passed
 pub passed_there : {S : Type 0} (p : PureParts) (path : PurePath S) (n : PureNumberedCommand) → IsValid p → command_of_path p path ≡ Some n → ends_body n.command ≡ false → AreAtCommands p path.stack → AreAtCommands p (passing path).stack
 passed_there p path n valid at stays placed = advanced_there p valid path.stack (running_store path.stack) n at stays placed
+
+-- ---- answers
+
+pub answer_of_cause : {S : Type 0} (stands : S → List PureValue → Heap → Type 0) (e : PureEntry) (entry : Entry) (v : List PureValue) (out : Outcome) (n : PureNext S) → IsCaused n → CoversOutcome stands e entry v out n
+answer_of_cause stands e entry v out (caused cause) is = tt
+answer_of_cause stands e entry v out (further x) is = absurd is
+answer_of_cause stands e entry v out done_over is = absurd is
+
+pub cause_follows : {S : Type 0} (p : PureParts) (terms : S → StateTerms) (e : PureEntry) (x : PureChecking S) (n : PureNext S) → IsCaused n → FollowsOn p terms e x n
+cause_follows p terms e x (caused cause) is = tt
+cause_follows p terms e x done_over is = tt
+cause_follows p terms e x (further y) is = absurd is
+
+-- what is answered of a next path of the engine's step may go on
+pub answered_follows : {S : Type 0} (p : PureParts) (memory : MemoryName) (stands : S → List PureValue → Heap → Type 0) (terms : S → StateTerms) (meaning : IsMeaning memory stands terms) (e : PureEntry) (x : PureChecking S) (over : IsCheckedOver terms e x)
+    (o : Option PureEnd) (next : PurePath S) (k : PureNext S) → next.ending ≡ o → IsAnswerTo stands terms x.facts x.passed next o k → Grows terms x.path next → GoesOnAtCommands p next → FollowsOn p terms e x k
+answered_follows p memory stands terms meaning e x over None next k still (y, (same, with_it)) grows placed =
+    subst (FollowsOn p terms e x) (sym same)
+    (goes_on_next memory stands terms meaning e x over next x.facts x.passed y with_it p grows.new_vars still (placed still) grows.over
+    (subst (λ vars. AreFactsOver vars x.facts) (sym grows.vars) (facts_over_more x.path.vars grows.new_vars x.facts over.facts))
+    (subst (λ vars. Each (Each (IsPassedOver terms vars)) x.passed) (sym grows.vars) (passed_by_over_more x.path.vars grows.new_vars terms x.passed over.passed)) grows.vars grows.steps)
+answered_follows p memory stands terms meaning e x over (Some vanished) next k still answer grows placed = subst (FollowsOn p terms e x) (sym answer) tt
+answered_follows p memory stands terms meaning e x over (Some (returned t)) next k still answer grows placed = cause_follows p terms e x k answer
+answered_follows p memory stands terms meaning e x over (Some (failed t place)) next k still answer grows placed = cause_follows p terms e x k answer
+answered_follows p memory stands terms meaning e x over (Some (threw t place)) next k still answer grows placed = cause_follows p terms e x k answer
+answered_follows p memory stands terms meaning e x over (Some (missed q place)) next k still answer grows placed = cause_follows p terms e x k answer
+answered_follows p memory stands terms meaning e x over (Some cut) next k still answer grows placed = cause_follows p terms e x k answer
+answered_follows p memory stands terms meaning e x over (Some (unknown place reason)) next k still answer grows placed = cause_follows p terms e x k answer

@@ -1,3 +1,4 @@
+pub mod Calling
 pub mod Ending
 pub mod Folding
 pub mod Matching

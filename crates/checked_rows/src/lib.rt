@@ -2,6 +2,7 @@
 #![tactic(auto)]
 
 mod asserting;
+mod calling;
 mod ending;
 mod folding;
 mod matching;
@@ -11,5 +12,6 @@ mod reading;
 mod states;
 
 pub use asserting::assert_row;
+pub use calling::call_row;
 pub use ending::end_row;
 pub use folding::fold_row;
