@@ -1,6 +1,5 @@
 //! From what was found out of each specification to the answers.
 ghost use Rattle.std.specs.Prelude.{◌≡◌, IfOk, OnOk, map};
-ghost use Rattle.spec_dependencies.specs.Settling.{IsSettling};
 ghost use Rattle.spec_answers.specs.Answering.{entry_of, verdict_of, answer_of, answers_of, AddsAnswer};
 ghost use Rattle.spec_answers.specs.Holding.{AnswersAreRight};
 

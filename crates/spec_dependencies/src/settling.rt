@@ -1,6 +1,5 @@
 //! The greatest set of sound specifications that is closed under use.
-ghost use Rattle.std.specs.Prelude.{◌≡◌, IfOk, OnOk, length, ◌<◌, slice_get};
-ghost use Rattle.std.specs.List.{list_any};
+ghost use Rattle.std.specs.Prelude.{◌≡◌, ◌<◌, length, IfOk};
 ghost use Rattle.std.specs.Option.{option_map};
 ghost use Rattle.spec_dependencies.specs.Settling.{is_sound, is_unsound, first_unsound, unsound_use, AreNew, IsMarking, IsRound, IsSettling};
 

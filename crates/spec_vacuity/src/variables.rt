@@ -1,6 +1,5 @@
 //! The variables of a specification.
 ghost use Rattle.std.specs.Prelude.{◌≡◌, [], ◌∷◌, ◌++◌, IfOk, OnOk};
-ghost use Rattle.std.specs.List.{filter};
 ghost use Rattle.gil_syntax.specs.Valid.{is_among, param_names};
 ghost use Rattle.gil_syntax.specs.View.{spec_view};
 ghost use Rattle.spec_vacuity.specs.Translation.{is_own_variable, sort_of, table_of, variable_from, variables_of};
