@@ -506,12 +506,3 @@ module _ {S : Type 0} (stands : S → List PureValue → Heap → Type 0) (terms
       (all_stop_part stands terms kept n s (AsksUse stands terms s bs a) (CaseStops n cases scope u a) over (CaseGives cases scope u a)
       (λ v t l asks met. record { number = refl; values = asks.values; are = asks.are; is = ap (λ o. match_case scope u.outs o t) (none asks.values.0 asks.values.1 l) }))
       (λ v t l asks. asks.serves.state.meets))
-
--- the cases of a predicate that is found may be matched
-pub found_may : (memory : MemoryName) (preds : List PurePredDef) (x : List ℕ) (d : PurePredDef) → CasesMayMatch memory preds → find_pred preds x ≡ Some d → Each (MayMatch memory) d.cases
-found_may memory [] x d may is = not_none is
-found_may memory (e ∷ preds) x d may is = by (bytes_eq e.name x) (λ later. found_may memory preds x d may.1 later) is
-  where
-    by : (b : Bool) → (find_pred preds x ≡ Some d → Each (MayMatch memory) d.cases) → cond b (Some e) (find_pred preds x) ≡ Some d → Each (MayMatch memory) d.cases
-    by true later found = subst (λ (y : PurePredDef). Each (MayMatch memory) y.cases) (same_some found) may.0
-    by false later found = later found

@@ -10,3 +10,4 @@ pub mod Outs
 pub mod Parts
 pub mod PureItems
 pub mod UseLaws
+pub mod WholeLaws

@@ -4,6 +4,7 @@ use Rattle.std.specs.List.{list_any}
 use Rattle.gil_values.specs.Pure.{PureValue}
 use Rattle.gil_syntax.specs.declared.assertions.Param.{Param}
 use Rattle.gil_syntax.specs.Evaluation.{Store}
+use Rattle.gil_syntax.specs.Programs.{find_pred}
 use Rattle.gil_syntax.specs.Pure.{PureItem, PurePredDef}
 use Rattle.mem_model.specs.declared.keys.MemoryName.{MemoryName}
 use Rattle.mem_model.specs.Heaps.{Heap}
@@ -25,9 +26,9 @@ use Rattle.footprint.specs.Uses.{PureAsked}
 abbrev pub MayMatch : MemoryName → List PureItem → Type 0
 MayMatch memory items = Each (MayAdd memory) items
 
--- and the cases of predicates
+-- and the cases of each predicate that a name finds
 abbrev pub CasesMayMatch : MemoryName → List PurePredDef → Type 0
-CasesMayMatch memory preds = Each (λ d. Each (MayMatch memory) d.cases) preds
+CasesMayMatch memory preds = (d : PurePredDef) (x : List ℕ) → find_pred preds x ≡ Some d → Each (MayMatch memory) d.cases
 
 -- ---- assertions
 

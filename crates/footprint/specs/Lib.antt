@@ -9,3 +9,4 @@ pub mod Pure
 pub mod Spreading
 pub mod Uses
 pub mod View
+pub mod Whole

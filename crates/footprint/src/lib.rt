@@ -12,7 +12,9 @@ mod matching;
 mod pruning;
 mod states;
 mod uses;
+mod whole;
 
 pub use consuming::consume_all;
 pub use folding::fold;
 pub use leaves::{Match, Matches, Matching};
+pub use whole::consume_whole;

@@ -21,7 +21,7 @@ try_pred-requires-clause-asked g c =
 
 pub try_pred-requires-clause-pred : goal.try_pred-requires-clause-pred
 try_pred-requires-clause-pred g c =
-    found_each (λ d. Each (MayMatch g.M.Local.LocalMemory.memory) d.cases) (map pred_def_view c.args.preds.now) c.args.name.now (pred_def_view c.in-Some.pred.now) (sym c.in-Some.ensures) c.requires.cases
+    c.requires.cases (pred_def_view c.in-Some.pred.now) c.args.name.now (sym c.in-Some.ensures)
 
 pub returns-in_ok-asked-in-Some : goal.returns-in_ok-asked-in-Some
 returns-in_ok-asked-in-Some g c =

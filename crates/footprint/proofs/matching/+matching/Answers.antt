@@ -32,7 +32,7 @@ use Rattle.footprint.specs.Uses.{AsksUse, HasAllIns}
 use Rattle.sym_states.specs.Pure.{PureState}
 use Rattle.footprint.specs.View.{choice_view, match_view, matches_view, stop_view, stops_view, asked_view, leaves_view}
 use Rattle.footprint.proofs.AssertionLaws.{unasked_leaves, asked_leaves, q_over, q_asked_over, core_use, user_leaves, are_without_fit, is_open, IsWithoutFit}
-use Rattle.footprint.proofs.CaseLaws.{end_leaves, next_case_leaves, no_case_leaves, renewed_over, renewed_store_over, misfit_leaves, pred_leaves, case_over, case_store_over, finish_leaves, cases_found, cases_unfound, found_may}
+use Rattle.footprint.proofs.CaseLaws.{end_leaves, next_case_leaves, no_case_leaves, renewed_over, renewed_store_over, misfit_leaves, pred_leaves, case_over, case_store_over, finish_leaves, cases_found, cases_unfound}
 use Rattle.footprint.proofs.ItemsLaw.{next_leaves, start_leaves, matchable_each, stops_in_each, items_over, guard_item}
 use Rattle.footprint.proofs.Loops.{taken_more, taken_all, taken_has, each_read}
 use Rattle.footprint.proofs.Parts.{gathers_more}
@@ -172,7 +172,7 @@ match_cases-match_found-requires g t c κs within =
     let a = asked_view c.args.asked.now in
     let preds = map pred_def_view c.args.preds.now in
     let found : find_pred preds u.pred ≡ Some (pred_def_view c.in-Some.pred.now) = sym c.pred_of.ensures ∙ ap (option_map (λ d. pred_def_view d.now)) c.in-Some.is in
-    (omega (arith, c.if-depth-eq0.false), (within.0, (within.1.0, (within.1.1, (c.requires.open, (c.requires.may, (found_may g.M.Local.LocalMemory.memory preds u.pred (pred_def_view c.in-Some.pred.now) c.requires.cases found, c.requires.cases)))))))
+    (omega (arith, c.if-depth-eq0.false), (within.0, (within.1.0, (within.1.1, (c.requires.open, (c.requires.may, (c.requires.cases (pred_def_view c.in-Some.pred.now) u.pred found, c.requires.cases)))))))
 
 pub match_cases-returns-in-Some : goal.match_cases-returns-in-Some
 match_cases-returns-in-Some g t c =
