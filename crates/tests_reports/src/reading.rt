@@ -172,17 +172,6 @@ fn found(rt: HostRuntime) -> Result<(), Fail> {
 }
 
 #[test]
-fn many_answers(rt: HostRuntime) -> Result<(), Fail> {
-    let alloc = rt.alloc();
-    let mut lines = String::from_str(alloc, "gillian solve atoms\n")?;
-    for _ in 0..100000 {
-        lines.push_str("sat [x = 7, y = \"a\"]\n")?;
-    }
-    assert!(rt; is_read(alloc, lines.as_str())?);
-    Ok(())
-}
-
-#[test]
 fn near_parts(rt: HostRuntime) -> Result<(), Fail> {
     let alloc = rt.alloc();
     assert!(rt; !is_read(alloc, "gillian solve atoms\nsat [x = 7,y = 8]\n")?);
