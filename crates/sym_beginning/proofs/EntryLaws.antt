@@ -1,6 +1,6 @@
 -- The terms of an entry, under valuations.
-use Rattle.std.proofs.Common.{◌≡◌, ◌⊎◌, ⊎_elim, inl, inr, ℕ, zero, suc, ◌+◌, ◌<◌, List, [], ◌∷◌, ◌++◌, map, length, slice_get, Bool, true, false, not, ◌&&◌, ◌||◌, cond, Option, Some, None, is_some, IsSome, IsTrue, refl, sym, ap, subst, ◌∙◌, true≢false, arith, append_assoc}
-use Rattle.std.specs.List.{list_all, filter}
+use Rattle.std.proofs.Common.{◌≡◌, ◌⊎◌, ⊎_elim, inl, inr, ℕ, zero, suc, List, [], ◌∷◌, ◌++◌, length, Bool, true, false, not, ◌&&◌, ◌||◌, cond, Option, Some, None, is_some, IsTrue, refl, sym, ap, subst, ◌∙◌, true≢false, arith, append_assoc}
+use Rattle.std.specs.List.{filter}
 use Rattle.std.specs.Option.{option_or}
 use Rattle.std.specs.Str.{bytes_eq}
 use Rattle.std.proofs.lemmas.Bool.{and_parts}
@@ -8,15 +8,15 @@ use Rattle.std.proofs.lemmas.List.Folds.{list_all-append}
 use Rattle.std.proofs.lemmas.Option.{slice_get_within}
 use Rattle.gil_values.specs.Pure.{PureValue}
 use Rattle.gil_syntax.specs.declared.assertions.Param.{Param}
-use Rattle.gil_syntax.specs.Evaluation.{Store, bind, value_of, Agrees}
+use Rattle.gil_syntax.specs.Evaluation.{Store, value_of, Agrees}
 use Rattle.gil_syntax.specs.Pure.{PureSpec}
 use Rattle.gil_syntax.specs.Valid.{param_names, is_among, has_twice}
 use Rattle.gil_syntax.specs.WellMade.{has_hash, are_program_names}
 use Rattle.gil_machine.specs.Step.{bind_all}
 use Rattle.assert_logic.specs.Modes.{is_variable_of}
 use Rattle.assert_logic.specs.Names.{named_by_items}
-use Rattle.assert_logic.specs.Sorts.{has_sort, fits_sorts, HasSorts, Extends}
-use Rattle.checked_runs.specs.Specifications.{fit_params, IsEntry, entry_store}
+use Rattle.assert_logic.specs.Sorts.{has_sort, fits_sorts, Extends}
+use Rattle.checked_runs.specs.Specifications.{fit_params, IsEntry}
 use Rattle.checked_runs.proofs.Stores.{first_value, second_value, among_at, bound_at, args_agree, no_param, undeclared_fits, fits_both, fit_length, args_sorted, program_name}
 use Rattle.pure_terms.specs.declared.variables.Sort.{Sort}
 use Rattle.pure_terms.specs.Meaning.{both, value, values, IsProper, IsOver}
@@ -24,11 +24,11 @@ use Rattle.pure_terms.specs.Pure.{PureTerm, from_list}
 use Rattle.pure_terms.proofs.VariableLaws.{slice_get-append, stay_when_tables_grow}
 use Rattle.sym_evaluation.specs.Meaning.{AreSame, HaveValues, StandsFor, IsStoreOver}
 use Rattle.sym_evaluation.specs.Pure.{PureStore, term_at}
-use Rattle.sym_model.specs.Lists.{Each, OneOf, IsAmong}
+use Rattle.sym_model.specs.Lists.{Each, OneOf}
 use Rattle.sym_model.specs.Terms.{AreEachOver}
 use Rattle.sym_model.proofs.ListLaws.{same_some, not_none, each_append, each_to, one_at}
-use Rattle.sym_naming.specs.Naming.{PureNamed, HaveSorts, MayName, IsNamedAs, AddsNames, IsNaming, NamesAll}
-use Rattle.sym_naming.proofs.Names.{one_of_two, none_of_two, or_left, or_right, names_same, same_name, turned}
+use Rattle.sym_naming.specs.Naming.{PureNamed, HaveSorts, MayName, IsNamedAs, IsNaming, NamesAll}
+use Rattle.sym_naming.proofs.Names.{one_of_two, names_same, same_name, turned}
 use Rattle.sym_naming.proofs.NamingLaws.{proper_sorts, store_longer}
 use Rattle.sym_beginning.specs.Entering.{AreTermsAt, PureEntryTerms, IsFullEntry, AreEntryValues, IsValueOfEntry, Enters}
 

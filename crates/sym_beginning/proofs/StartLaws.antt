@@ -1,13 +1,12 @@
 -- The paths that begin in the states that adding a precondition gives.
-use Rattle.std.proofs.Common.{◌≡◌, ◌⊎◌, ⊎_elim, inl, inr, ℕ, zero, suc, ◌<◌, List, [], ◌∷◌, ◌++◌, map, length, drop, slice_get, Bool, true, false, Option, Some, None, Result, Ok, Err, IfOk, is_some, IsSome, IsTrue, refl, sym, ap, subst, ◌∙◌, true≢false, if◌then◌else◌, arith}
-use Rattle.std.specs.FinMap.{empty}
+use Rattle.std.proofs.Common.{◌≡◌, ◌⊎◌, ⊎_elim, inl, inr, ℕ, zero, suc, List, [], ◌∷◌, ◌++◌, length, drop, slice_get, Bool, true, false, Option, Some, None, Result, Ok, Err, IfOk, is_some, IsTrue, refl, sym, ap, subst, ◌∙◌, true≢false, if◌then◌else◌, arith}
 use Rattle.std.specs.Option.{option_map}
 use Rattle.std.specs.Str.{bytes_eq}
 use Rattle.std.proofs.lemmas.Bool.{and_parts}
 use Rattle.std.proofs.lemmas.List.Elements.{Contains-append_cases}
 use Rattle.std.proofs.lemmas.Slice.Eq.{bytes_eq-Decides}
 use Rattle.gil_values.specs.Pure.{PureValue}
-use Rattle.gil_values.specs.Symbols.{symbols, symbols_of_all, OccursAmong, IsBelow, AreBelow}
+use Rattle.gil_values.specs.Symbols.{symbols, symbols_of_all, IsBelow, AreBelow}
 use Rattle.gil_values.proofs.OperatorSymbols.{none_contained}
 use Rattle.gil_syntax.specs.Evaluation.{Store, value_of}
 use Rattle.gil_syntax.specs.Programs.{find_proc}
@@ -16,16 +15,14 @@ use Rattle.gil_syntax.specs.Valid.{param_names, is_among, has_twice}
 use Rattle.gil_syntax.specs.WellMade.{has_hash, are_program_names}
 use Rattle.gil_machine.specs.Proper.{IsStoreBelow}
 use Rattle.gil_machine.specs.Run.{start, params_of}
-use Rattle.gil_machine.specs.State.{State}
 use Rattle.gil_machine.specs.Step.{bind_all}
 use Rattle.mem_model.specs.declared.keys.MemoryName.{MemoryName}
 use Rattle.mem_model.specs.Actions.{Actions}
 use Rattle.mem_model.specs.Heaps.{Heap}
 use Rattle.assert_logic.specs.Adding.{IsAdding}
 use Rattle.assert_logic.specs.LogicStates.{LogicState, nothing}
-use Rattle.assert_logic.specs.Modes.{is_variable_of}
 use Rattle.assert_logic.specs.Names.{named_by_items}
-use Rattle.checked_runs.specs.Checked.{Checked, Entry, IsStart}
+use Rattle.checked_runs.specs.Checked.{Checked, IsStart}
 use Rattle.checked_runs.specs.Specifications.{IsEntry, entry_store}
 use Rattle.checked_runs.proofs.Stores.{second_value, args_agree, fit_length, program_name}
 use Rattle.pure_terms.specs.declared.variables.Sort.{Sort}
@@ -39,15 +36,15 @@ use Rattle.sym_model.specs.Terms.{StateTerms, all_of, AreEachOver}
 use Rattle.sym_model.proofs.ListLaws.{same_some, not_none, each_to}
 use Rattle.sym_naming.proofs.AddedNames.{added_known}
 use Rattle.sym_paths.specs.Beginning.{Begins, BeginningsStand}
-use Rattle.sym_paths.specs.Meaning.{Stands as PathStands, IsOverTable as IsPathOver}
+use Rattle.sym_paths.specs.Meaning.{Stands as PathStands}
 use Rattle.sym_paths.specs.Pure.{PurePath}
-use Rattle.sym_states.specs.Laws.{CoversAddings, AreAddings, ComeFromItems, StayOverTable, AreKept}
+use Rattle.sym_states.specs.Laws.{ComeFromItems}
 use Rattle.sym_states.specs.Meaning.{Stands, Serves, IsOverTable, AreFacts}
 use Rattle.sym_states.specs.Producing.{IsProduced, is_begun, is_added, IsStopped, added_conds}
 use Rattle.sym_states.specs.Pure.{PureFact, PureState}
 use Rattle.sym_beginning.specs.Beginning.{PureStart, PureBeginnings, IsEntryUnder, IsBegunFrom, CoversStarts, IsRealStart, AreStarts, IsBeginning, AreBeginnings}
 use Rattle.sym_beginning.specs.Entering.{PureEntryTerms, IsFullEntry, AreEntryValues, IsValueOfEntry, Enters}
-use Rattle.sym_beginning.specs.Starting.{IsFirstState, StartsFrom, EachWith, BeginsEach, BeginsWith, no_beginnings}
+use Rattle.sym_beginning.specs.Starting.{StartsFrom, EachWith, BeginsWith, no_beginnings}
 use Rattle.sym_beginning.proofs.EntryLaws.{nothing_over, unbound}
 
 -- ---- pairs of elements

@@ -1,5 +1,5 @@
 -- Where the checked runs of a specification begin, in terms.
-use Rattle.std.specs.Prelude.{◌≡◌, ◌⊎◌, List, [], ◌∷◌, ◌++◌, Some, IsTrue, false}
+use Rattle.std.specs.Prelude.{◌≡◌, ◌⊎◌, List, ◌++◌, Some, IsTrue, false}
 use Rattle.gil_values.specs.Pure.{PureValue}
 use Rattle.gil_syntax.specs.Evaluation.{Store}
 use Rattle.gil_syntax.specs.Programs.{find_proc}
@@ -9,7 +9,7 @@ use Rattle.mem_model.specs.Actions.{Actions}
 use Rattle.mem_model.specs.Heaps.{Heap}
 use Rattle.assert_logic.specs.Adding.{IsAdding}
 use Rattle.assert_logic.specs.LogicStates.{LogicState, nothing}
-use Rattle.checked_runs.specs.Checked.{Checked, Entry, IsStart}
+use Rattle.checked_runs.specs.Checked.{Checked, IsStart}
 use Rattle.checked_runs.specs.Specifications.{IsEntry, entry_store}
 use Rattle.pure_terms.specs.declared.variables.Sort.{Sort}
 use Rattle.pure_terms.specs.Meaning.{all_true, IsProper}

@@ -1,14 +1,13 @@
 -- Adding invents no symbol: each item is read by what is known before it and what it adds.
-use Rattle.std.proofs.Common.{◌≡◌, ◌⊎◌, ⊎_elim, inl, inr, ℕ, ◌<◌, List, [], ◌∷◌, ◌++◌, Bool, true, false, ◌&&◌, ◌||◌, cond, Option, Some, None, is_some, Ok, Err, IsTrue, refl, sym, ap, subst, ◌∙◌, true≢false, append_assoc}
+use Rattle.std.proofs.Common.{◌≡◌, ⊎_elim, ℕ, ◌<◌, List, [], ◌∷◌, ◌++◌, Bool, true, false, ◌&&◌, cond, Option, Some, None, is_some, Ok, Err, refl, sym, ap, subst, ◌∙◌, true≢false, append_assoc}
 use Rattle.std.specs.List.{list_all}
 use Rattle.std.specs.Option.{option_map}
 use Rattle.std.specs.FinMap.{empty, insert, contains_key, get-empty}
 use Rattle.std.proofs.lemmas.Bool.{and_parts}
 use Rattle.std.proofs.lemmas.List.{append-nil}
-use Rattle.std.proofs.lemmas.List.Folds.{list_any-append}
-use Rattle.gil_values.specs.Pure.{PureValue, boolean}
+use Rattle.gil_values.specs.Pure.{PureValue}
 use Rattle.gil_values.specs.Symbols.{IsBelow, AreBelow}
-use Rattle.gil_syntax.specs.Evaluation.{Store, value_of, evaluate, evaluate_all}
+use Rattle.gil_syntax.specs.Evaluation.{Store, evaluate, evaluate_all}
 use Rattle.gil_syntax.specs.Pure.{PurePredUse, PureItem, pure, uses}
 use Rattle.gil_syntax.specs.Subexpressions.{exprs_of_item}
 use Rattle.gil_syntax.specs.WellMade.{is_well_made_expr, is_well_made_assertion}
@@ -26,15 +25,15 @@ use Rattle.assert_logic.specs.declared.checking.ModeKind.{ModeKind}
 use Rattle.assert_logic.specs.Adding.{with_key, with_use, with_values, with_item, added}
 use Rattle.assert_logic.specs.LogicStates.{Fact, LogicState}
 use Rattle.assert_logic.specs.Meets.{Predicates, UseHolds, ItemMeets, Meets}
-use Rattle.assert_logic.specs.Modes.{Scope, either, known_at_first, known_after, item_fault, items_fault, assertion_fault}
-use Rattle.assert_logic.specs.Names.{named_by_item, named_by_items}
-use Rattle.assert_logic.proofs.InventionLaws.{KnownHold, HeapHolds, OutsHold, items_hold}
+use Rattle.assert_logic.specs.Modes.{Scope, either, known_at_first, known_after, item_fault, items_fault}
+use Rattle.assert_logic.specs.Names.{named_by_items}
+use Rattle.assert_logic.proofs.InventionLaws.{KnownHold, OutsHold, items_hold}
 use Rattle.assert_logic.proofs.UnionLaws.{union_with_none}
 use Rattle.sym_model.specs.Lists.{Each}
 use Rattle.sym_model.proofs.ListLaws.{each_left, each_right}
 use Rattle.sym_naming.specs.Laws.{IsLogicBelow, AddingInventsNothing}
 use Rattle.sym_naming.proofs.AddedNames.{true_there, step_there}
-use Rattle.sym_naming.proofs.Names.{or_left, or_right}
+use Rattle.sym_naming.proofs.Names.{or_left}
 
 no_value : {X P : Type 0} (x : X) → None ≡ Some x → P
 no_value x is = absurd (cc)

@@ -1,7 +1,7 @@
 -- Names get new variables one after another.
-use Rattle.std.proofs.Common.{◌≡◌, ◌⊎◌, ⊎_elim, inl, inr, ℕ, zero, suc, ◌+◌, ◌<◌, List, [], ◌∷◌, ◌++◌, length, take, get_or, slice_get, Bool, true, false, if◌then◌else◌, ◌||◌, cond, Option, Some, None, is_some, IsSome, IsTrue, refl, sym, ap, subst, ◌∙◌, append_assoc, true≢false, arith}
+use Rattle.std.proofs.Common.{◌≡◌, ◌⊎◌, ⊎_elim, inl, inr, ℕ, zero, suc, ◌<◌, List, [], ◌∷◌, ◌++◌, length, slice_get, Bool, true, false, if◌then◌else◌, ◌||◌, Option, Some, None, is_some, IsSome, IsTrue, refl, sym, ap, subst, ◌∙◌, append_assoc, true≢false, arith}
 use Rattle.std.specs.Str.{bytes_eq}
-use Rattle.std.proofs.lemmas.List.{append-nil, take_more, take-append-drop}
+use Rattle.std.proofs.lemmas.List.{append-nil}
 use Rattle.std.proofs.lemmas.List.Elements.{Contains-push_cases}
 use Rattle.std.proofs.lemmas.Option.{slice_get_within}
 use Rattle.gil_values.specs.Pure.{PureValue}
@@ -9,7 +9,7 @@ use Rattle.gil_values.proofs.OperatorSymbols.{none_contained}
 use Rattle.gil_syntax.specs.declared.assertions.Param.{Param}
 use Rattle.gil_syntax.specs.Evaluation.{Store, bind, value_of}
 use Rattle.gil_syntax.specs.Valid.{is_among}
-use Rattle.assert_logic.specs.Sorts.{fits_sorts, HasSorts, Extends}
+use Rattle.assert_logic.specs.Sorts.{fits_sorts}
 use Rattle.pure_terms.specs.declared.variables.Sort.{Sort}
 use Rattle.pure_terms.specs.declared.variables.Var.{Var}
 use Rattle.pure_terms.specs.Kinds.{has_sort}
@@ -18,13 +18,13 @@ use Rattle.pure_terms.specs.Pure.{PureTerm, variable}
 use Rattle.pure_terms.proofs.VariableLaws.{slice_get-append, stay_when_tables_grow}
 use Rattle.sym_evaluation.specs.Meaning.{AreSame, StandsFor, IsStoreOver}
 use Rattle.sym_evaluation.specs.Pure.{PureStore, term_at}
-use Rattle.sym_model.specs.Lists.{Each, OneOf}
-use Rattle.sym_model.proofs.ListLaws.{same_some, not_none, each_append, each_to, one_left, one_right, one_to}
+use Rattle.sym_model.specs.Lists.{OneOf}
+use Rattle.sym_model.proofs.ListLaws.{same_some, not_none, each_append, each_to, one_left, one_right}
 use Rattle.sym_paths.proofs.Binding.{agree_bound, each_bound}
 use Rattle.sym_paths.proofs.Valuations.{later_variables_are_proper}
 use Rattle.sym_naming.specs.Naming.{PureNamed, HaveSorts, AddsVariable, MayName, IsNamedAs, AddsNames, IsNaming, NamesAll}
 use Rattle.sym_naming.specs.Sorts.{IsSortOf}
-use Rattle.sym_naming.proofs.Names.{one_of_two, none_of_two, or_left, or_right, names_same, same_name, turned, among_left, among_right, among_parts, only_name, only_other, is_only}
+use Rattle.sym_naming.proofs.Names.{one_of_two, none_of_two, names_same, same_name, among_left, among_right, among_parts, only_name, only_other, is_only}
 
 -- ---- valuations and stores
 

@@ -1,5 +1,5 @@
 -- What adding an assertion tells of the values of the names that stand in it.
-use Rattle.std.specs.Prelude.{◌≡◌, ℕ, List, Option, Some, None, IsSome, IsTrue}
+use Rattle.std.specs.Prelude.{◌≡◌, ℕ, List, Some, None, IsSome, IsTrue}
 use Rattle.gil_values.specs.Pure.{PureValue}
 use Rattle.gil_values.specs.Symbols.{IsBelow, AreBelow}
 use Rattle.gil_syntax.specs.Evaluation.{Store, value_of}
@@ -8,7 +8,7 @@ use Rattle.gil_syntax.specs.WellMade.{is_well_made_assertion}
 use Rattle.mem_model.specs.declared.keys.MemoryName.{MemoryName}
 use Rattle.mem_model.specs.Heaps.{IsHeapBelow}
 use Rattle.assert_logic.specs.Adding.{added}
-use Rattle.assert_logic.specs.LogicStates.{LogicState, Fact}
+use Rattle.assert_logic.specs.LogicStates.{LogicState}
 use Rattle.assert_logic.specs.Modes.{Scope, known_at_first, assertion_fault}
 use Rattle.assert_logic.specs.Names.{named_by_items}
 use Rattle.sym_model.specs.Lists.{Each}

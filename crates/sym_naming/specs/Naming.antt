@@ -1,5 +1,5 @@
 -- New variables for names that have no term: whatever values of their sorts the names have, they are values of the variables.
-use Rattle.std.specs.Prelude.{◌≡◌, ◌⊎◌, ℕ, List, [], ◌∷◌, ◌++◌, length, slice_get, Bool, false, if◌then◌else◌, Option, Some, None, IsSome, IsTrue}
+use Rattle.std.specs.Prelude.{◌≡◌, ◌⊎◌, ℕ, List, [], ◌∷◌, ◌++◌, length, slice_get, false, if◌then◌else◌, Option, Some, None, IsSome, IsTrue}
 use Rattle.std.specs.Str.{bytes_eq}
 use Rattle.gil_values.specs.Pure.{PureValue}
 use Rattle.gil_syntax.specs.declared.assertions.Param.{Param}

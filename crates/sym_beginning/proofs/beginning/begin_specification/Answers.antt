@@ -1,4 +1,4 @@
-use Rattle.std.proofs.Common.{◌≡◌, ℕ, List, [], Option, Some, None, length, refl, sym, ap, subst, ◌∙◌}
+use Rattle.std.proofs.Common.{length, sym, ap, subst, ◌∙◌}
 use Rattle.std.specs.Option.{option_map}
 use Rattle.gil_program.specs.Program.{prog_view}
 use Rattle.gil_syntax.specs.Programs.{find_proc}
@@ -9,7 +9,6 @@ use Rattle.addable_programs.proofs.AddableLaws.{programs_are_addable}
 use Rattle.sym_paths.proofs.Beginning.{beginnings_stand}
 use Rattle.sym_beginning.specs.Beginning.{CoversStarts, AreStarts, AreBeginnings}
 use Rattle.sym_beginning.specs.Entering.{Enters, EntersIfAny}
-use Rattle.sym_beginning.specs.Starting.{no_beginnings}
 use Rattle.sym_beginning.specs.View.{entry_view, beginnings_view}
 use Rattle.sym_beginning.proofs.EntryLaws.{names_length}
 use Rattle.sym_beginning.proofs.StartLaws.{ok_to, found_there, proc_params, not_found, covers_starts, are_starts, are_beginnings, none_covers}

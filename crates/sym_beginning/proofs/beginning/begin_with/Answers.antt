@@ -1,4 +1,4 @@
-use Rattle.std.proofs.Common.{refl, sym, ap, subst, ◌∙◌}
+use Rattle.std.proofs.Common.{refl, subst}
 use Rattle.sym_states.specs.View.{state_view, states_view}
 use Rattle.sym_beginning.specs.Starting.{IsFirstState}
 use Rattle.sym_beginning.proofs.beginning.begin_with.Goals as goal

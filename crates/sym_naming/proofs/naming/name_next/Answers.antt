@@ -1,4 +1,4 @@
-use Rattle.std.proofs.Common.{◌∷◌, Some, None, is_some, sym, subst, ◌∙◌}
+use Rattle.std.proofs.Common.{sym, ◌∙◌}
 use Rattle.pure_terms.specs.View.{term_view}
 use Rattle.sym_evaluation.specs.Pure.{term_at}
 use Rattle.sym_evaluation.specs.View.{store_view}

@@ -1,4 +1,4 @@
-use Rattle.std.proofs.Common.{None, sym, subst}
+use Rattle.std.proofs.Common.{None, subst}
 use Rattle.sym_naming.specs.Sorts.{IsSortOf}
 use Rattle.sym_naming.proofs.SortLaws.{narrowed_more, none_left}
 use Rattle.sym_naming.proofs.sorts.sort_of.Goals as goal
