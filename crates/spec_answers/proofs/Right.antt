@@ -1,5 +1,5 @@
 -- Settled entries make answers that are right.
-use Rattle.std.proofs.Common.{◌≡◌, ℕ, zero, suc, List, [], ◌∷◌, map, length, slice_get, Bool, true, false, ◌&&◌, ◌||◌, if◌then◌else◌, Option, Some, None, IsTrue, bytes_eq, refl, sym, ap, subst, ◌∙◌, arith, true≢false}
+use Rattle.std.proofs.Common.{◌≡◌, ℕ, zero, suc, List, [], ◌∷◌, map, length, slice_get, Bool, true, false, ◌&&◌, ◌||◌, if◌then◌else◌, Option, Some, None, bytes_eq, refl, sym, ap, subst, ◌∙◌, arith, true≢false}
 use Rattle.std.specs.List.{list_any}
 use Rattle.std.specs.Option.{option_map}
 use Rattle.std.proofs.lemmas.Bool.{and_parts, and_from}
@@ -7,15 +7,13 @@ use Rattle.std.proofs.lemmas.Option.{slice_get-map}
 use Rattle.std.proofs.lemmas.Slice.Eq.{bytes_eq-Decides}
 use Rattle.gil_syntax.specs.Programs.{find_spec}
 use Rattle.gil_syntax.specs.Pure.{PureSpec, PureParts, PureNumberedCommand}
-use Rattle.gil_syntax.specs.Valid.{IsValid, is_among}
-use Rattle.gil_syntax.specs.WellMade.{is_well_made}
+use Rattle.gil_syntax.specs.Valid.{is_among}
 use Rattle.mem_model.specs.declared.keys.MemoryName.{MemoryName}
-use Rattle.mem_model.specs.Actions.{Actions, IsMemory}
+use Rattle.mem_model.specs.Actions.{Actions}
 use Rattle.gil_machine.specs.State.{State, Step, goes_on, ends}
 use Rattle.gil_machine.specs.Step.{step}
-use Rattle.assert_logic.specs.Modes.{HasModes}
 use Rattle.checked_runs.specs.Checked.{HasNoFault, UsesOnly, is_call, used_in, used_by}
-use Rattle.checked_runs.specs.Laws.{IsChosen, AreVerified}
+use Rattle.checked_runs.specs.Laws.{AreVerified}
 use Rattle.checked_runs.proofs.FrameTheorem.{verified_specifications_hold}
 use Rattle.checked_runs.proofs.Stores.{spec_at}
 use Rattle.spec_dependencies.specs.declared.entries.Entry.{Entry}
@@ -26,8 +24,8 @@ use Rattle.spec_answers.specs.declared.answers.Finding.{Finding}
 use Rattle.spec_answers.specs.declared.answers.SpecAnswer.{SpecAnswer}
 use Rattle.spec_answers.specs.declared.answers.Verdict.{Verdict}
 use Rattle.spec_answers.specs.Answering.{uses_of, standing_of, entry_of, verdict_of, answer_of, answers_of}
-use Rattle.spec_answers.specs.Holding.{is_verified, is_verified_name, FindingHolds, AreFindings, AreTrue, LeadsToCause, has_cause, depends, Fits, IsAnswerTo, AnswersAreRight}
-use Rattle.spec_answers.proofs.Places.{entry_at, as_many_entries, as_many_answers, ComesOf, comes_of, answer_at}
+use Rattle.spec_answers.specs.Holding.{is_verified, is_verified_name, FindingHolds, AreFindings, LeadsToCause, has_cause, depends, Fits, IsAnswerTo, AnswersAreRight}
+use Rattle.spec_answers.proofs.Places.{entry_at, as_many_entries, as_many_answers, comes_of, answer_at}
 
 same_some : {A : Type 0} {x y : A} → Some x ≡ Some y → x ≡ y
 same_some is = cc

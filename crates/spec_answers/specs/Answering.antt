@@ -1,5 +1,5 @@
 -- What is answered of specifications, place by place.
-use Rattle.std.specs.Prelude.{◌≡◌, ℕ, List, [], ◌∷◌, ◌++◌, map, Bool, true, false}
+use Rattle.std.specs.Prelude.{◌≡◌, ℕ, List, [], ◌∷◌, ◌++◌}
 use Rattle.spec_dependencies.specs.declared.entries.Entry.{Entry}
 use Rattle.spec_dependencies.specs.declared.entries.Standing.{Standing}
 use Rattle.spec_answers.specs.declared.answers.Examined.{Examined}
