@@ -1,12 +1,12 @@
 -- What the answer of leaves says.
-use Rattle.std.proofs.Common.{◌≡◌, ◌⊎◌, ⊎_elim, inl, inr, ℕ, List, [], ◌∷◌, ◌++◌, false, IsTrue, refl, sym, ap, subst, ◌∙◌}
+use Rattle.std.proofs.Common.{◌≡◌, ⊎_elim, ℕ, List, [], ◌∷◌, ◌++◌, false, IsTrue, sym, subst}
 use Rattle.gil_values.specs.Pure.{PureValue}
 use Rattle.gil_syntax.specs.Evaluation.{Store}
 use Rattle.mem_model.specs.Heaps.{Heap}
 use Rattle.assert_logic.specs.LogicStates.{LogicState}
 use Rattle.pure_terms.specs.declared.variables.Sort.{Sort}
-use Rattle.pure_terms.specs.Meaning.{all_true, IsProper, IsOver, AreOver, IsUnsatisfiable, Satisfies}
-use Rattle.pure_terms.specs.Pure.{PureAtom, term_of}
+use Rattle.pure_terms.specs.Meaning.{all_true, IsProper, AreOver, IsUnsatisfiable}
+use Rattle.pure_terms.specs.Pure.{PureAtom}
 use Rattle.sym_asking.specs.Asking.{IsSolution, IsOutside}
 use Rattle.sym_asking.proofs.Fragments.{each_over_all}
 use Rattle.sym_model.specs.Lists.{Each, OneOf}
@@ -16,8 +16,8 @@ use Rattle.sym_model.proofs.ListLaws.{each_append, each_to, one_left, one_right,
 use Rattle.sym_states.specs.Pure.{PureState}
 use Rattle.sym_states.proofs.Conditions.{met_parts, none_open}
 use Rattle.footprint.specs.Answers.{PureTold, met, outside, never, TellsStops, first_told, AnswersTold, AnswersLeaves}
-use Rattle.footprint.specs.Leaves.{IsLonger, Premise, Giving, Stopping, IsMatch, IsStop, IsUndecided, AreLeaves, AreAll, IsUnmatched, IsAnswer}
-use Rattle.footprint.specs.Pure.{PureMatch, PureStop, PureUndecided, PureLeaves, PureMatching, all_match, unmatched, unknown}
+use Rattle.footprint.specs.Leaves.{IsLonger, Premise, Giving, Stopping, IsStop, IsUndecided, AreLeaves, IsUnmatched, IsAnswer}
+use Rattle.footprint.specs.Pure.{PureStop, PureLeaves, PureMatching, unknown}
 
 -- ---- stops one after another
 

@@ -1,38 +1,38 @@
 -- How leaves of uses and items are put together.
-use Rattle.std.proofs.Common.{◌≡◌, ◌⊎◌, ⊎_elim, inl, inr, ℕ, zero, suc, ◌+◌, List, [], ◌∷◌, ◌++◌, length, Option, Some, None, Result, Ok, Err, IsTrue, refl, sym, ap, subst, ◌∙◌, append_assoc}
+use Rattle.std.proofs.Common.{◌≡◌, ◌⊎◌, ⊎_elim, inl, inr, ℕ, List, [], ◌∷◌, ◌++◌, Option, Some, None, Result, Ok, Err, IsTrue, refl, sym, ap, subst, ◌∙◌}
 use Rattle.std.proofs.lemmas.List.{append-nil}
 use Rattle.gil_values.specs.Operators.{Fault}
 use Rattle.gil_values.specs.Pure.{PureValue}
 use Rattle.gil_syntax.specs.declared.assertions.Param.{Param}
 use Rattle.gil_syntax.specs.Evaluation.{Store, Outcomes, evaluate_all}
-use Rattle.gil_syntax.specs.Pure.{PurePredUse, PureItem, uses}
+use Rattle.gil_syntax.specs.Pure.{PurePredUse, uses}
 use Rattle.mem_model.specs.declared.cores.Core.{Core}
 use Rattle.mem_model.specs.CoreNames.{core_of}
 use Rattle.mem_model.specs.Heaps.{Heap}
-use Rattle.assert_logic.specs.LogicStates.{Fact, LogicState}
-use Rattle.assert_logic.specs.Matching.{Taken, took_fact, Match, ItemMatch, Matching, matched, stops, FoundFact, Cases, no_cases, first_fact, fits_fact, fact_match, known_outs, match_values, match_fact_or, match_use, match_case, match_outcomes, match_item, go_on, taken_before, match_from}
+use Rattle.assert_logic.specs.LogicStates.{LogicState}
+use Rattle.assert_logic.specs.Matching.{took_fact, FoundFact, Cases, no_cases, first_fact, fits_fact, fact_match, known_outs, match_fact_or, match_use, match_outcomes, match_item}
 use Rattle.pure_terms.specs.Meaning.{all_true, IsProper, IsOver}
 use Rattle.pure_terms.specs.Pure.{PureTerm, PureAtom, term_of}
 use Rattle.sym_conditions.specs.Alternatives.{Hold}
-use Rattle.sym_evaluation.specs.Meaning.{AreSame, HaveValues, IsStoreOver, Serves as StoreServes}
+use Rattle.sym_evaluation.specs.Meaning.{AreSame, IsStoreOver}
 use Rattle.sym_evaluation.specs.Pure.{PureStore, PureGoodCase}
-use Rattle.sym_matching.specs.Meaning.{IsReached, Gives as SplitGives, SaysSplit, IsCondition, AreConditions, AreOuts, AreOutsOver}
+use Rattle.sym_matching.specs.Meaning.{IsReached, Gives as SplitGives, SaysSplit, AreConditions, AreOuts, AreOutsOver}
 use Rattle.sym_matching.specs.Pure.{PureSplit, PureOuts}
 use Rattle.sym_model.specs.Lists.{Each, OneOf}
 use Rattle.sym_model.specs.Terms.{StateTerms, all_of, AreEachOver}
-use Rattle.sym_model.proofs.ListLaws.{same_some, not_none, each_append, each_to, each_by_place, each_at}
-use Rattle.sym_states.specs.Meaning.{Stands, Serves, AreFacts, IsOverTable}
+use Rattle.sym_model.proofs.ListLaws.{same_some, not_none, each_append, each_by_place, each_at}
+use Rattle.sym_states.specs.Meaning.{Serves, AreFacts, IsOverTable}
 use Rattle.sym_states.specs.Pure.{PureState}
 use Rattle.sym_states.proofs.Conditions.{met_parts, met_both}
 use Rattle.sym_states.proofs.PureItems.{store_serves}
-use Rattle.footprint.specs.Assertions.{ItemsGive, ItemsStop, MatchesItem, NextMatched, AreAskedOver, UseGives, UseStops, CaseGives, CaseStops, IsOpen, CasesMatched}
+use Rattle.footprint.specs.Assertions.{AreAskedOver, UseGives, UseStops, CaseGives, CaseStops, IsOpen, CasesMatched}
 use Rattle.footprint.specs.Choosing.{PureFactCase, PureChoice, SaysFirst, ChoosesFact, ChoiceStaysOver}
-use Rattle.footprint.specs.Items.{ItemGives, ItemStops, PureGives, PureStops, AsksIns, CoreGives, CoreStops}
-use Rattle.footprint.specs.Leaves.{Premise, Giving, Stopping, IsLater, IsMatch, IsStop, IsUndecided, IsCovered, AreLeaves}
-use Rattle.footprint.specs.Pure.{PureMatch, PureStop, PureLeaves}
-use Rattle.footprint.specs.Spreading.{no_leaves, joined, stops_at, with_conds, all_stop, Gathers, IsCopyUnder}
+use Rattle.footprint.specs.Items.{ItemGives, ItemStops, AsksIns, CoreGives, CoreStops}
+use Rattle.footprint.specs.Leaves.{Premise, Giving, Stopping, IsLater, AreLeaves}
+use Rattle.footprint.specs.Pure.{PureLeaves}
+use Rattle.footprint.specs.Spreading.{joined, stops_at, with_conds, Gathers, IsCopyUnder}
 use Rattle.footprint.specs.Uses.{PureAsked, AskedValues, asked_values, AreAsked, SplitsUse, IsAskedOver, UseStaysOver, AsksUse, FactGives, FactStops, TakesFact, AreCopiesUnder}
-use Rattle.footprint.proofs.Parts.{AreOverTable, over_of, longer_both, met_before, same_vars, later_both, IsPart, part_leaves, part_both, part_where, said_by, gathered, Onward, lifted, stops_each, stops_cover, all_stop_part}
+use Rattle.footprint.proofs.Parts.{AreOverTable, over_of, IsPart, part_leaves, part_both, said_by, gathered, lifted, stops_each, stops_cover}
 use Rattle.footprint.proofs.UseLaws.{fact_part}
 
 -- ---- the values of what is asked are one

@@ -1,44 +1,40 @@
 -- How leaves of cases are put together.
-use Rattle.std.proofs.Common.{◌≡◌, ◌⊎◌, ⊎_elim, inl, inr, ℕ, suc, ◌+◌, List, [], ◌∷◌, ◌++◌, length, map, Bool, true, false, cond, Option, Some, None, IsTrue, refl, sym, ap, subst, ◌∙◌, arith}
+use Rattle.std.proofs.Common.{◌≡◌, ◌⊎◌, ⊎_elim, inl, inr, ℕ, suc, ◌+◌, List, [], ◌∷◌, ◌++◌, length, map, Option, Some, None, IsTrue, refl, sym, ap, subst, ◌∙◌, arith}
 use Rattle.std.proofs.lemmas.List.{append-nil}
 use Rattle.std.specs.Option.{option_and_then}
-use Rattle.std.specs.Str.{bytes_eq}
 use Rattle.gil_values.specs.Pure.{PureValue}
 use Rattle.gil_syntax.specs.declared.assertions.Param.{Param}
 use Rattle.gil_syntax.specs.Evaluation.{Store}
-use Rattle.gil_syntax.specs.Pure.{PureExpr, PurePredUse, PureItem, PurePredDef}
+use Rattle.gil_syntax.specs.Pure.{PurePredUse, PureItem, PurePredDef}
 use Rattle.gil_syntax.specs.Programs.{find_pred}
 use Rattle.gil_syntax.specs.Valid.{param_names}
-use Rattle.mem_model.specs.declared.keys.MemoryName.{MemoryName}
 use Rattle.mem_model.specs.Heaps.{Heap}
 use Rattle.assert_logic.specs.LogicStates.{LogicState}
-use Rattle.assert_logic.specs.Matching.{Taken, took_case, place_taken, Match, Matching, CaseMatch, Cases, match_values, match_from, match_case, case_match, case_of, case_from, first_of, try_cases, try_pred, scope_of, values_of, case_store}
-use Rattle.pure_terms.specs.declared.variables.Sort.{Sort}
+use Rattle.assert_logic.specs.Matching.{took_case, place_taken, CaseMatch, Cases, match_values, match_from, match_case, case_match, case_of, case_from, first_of, try_cases, try_pred, scope_of, values_of, case_store}
 use Rattle.pure_terms.specs.Meaning.{all_true, IsProper, IsOver}
 use Rattle.pure_terms.specs.Pure.{PureTerm, PureAtom, term_of}
 use Rattle.sym_conditions.specs.Alternatives.{Hold}
 use Rattle.sym_evaluation.specs.Meaning.{StandsFor, HaveValues, IsStoreOver}
 use Rattle.sym_evaluation.specs.Pure.{PureStore, PureGoodCase}
 use Rattle.sym_matching.specs.Matching.{SplitsCase, CaseStaysOver, AreTermsAt, TermsStayOver}
-use Rattle.sym_matching.specs.Meaning.{IsReached, Gives as SplitGives, SaysSplit, AreConditions, IsFoundOver, AreTermsOfAll, AreEachOverIfAny, AreOutsOver}
+use Rattle.sym_matching.specs.Meaning.{IsReached, Gives as SplitGives, SaysSplit, AreConditions, IsFoundOver, AreTermsOfAll}
 use Rattle.sym_matching.specs.Pure.{PureSplit}
-use Rattle.sym_model.specs.Lists.{Each, OneOf}
+use Rattle.sym_model.specs.Lists.{OneOf}
 use Rattle.sym_model.specs.Terms.{StateTerms, all_of, AreEachOver}
-use Rattle.sym_model.proofs.ListLaws.{same_some, not_none, each_append, each_to, each_map, one_map, one_to}
-use Rattle.sym_states.specs.Meaning.{Stands, Serves, AreFacts, IsOverTable}
+use Rattle.sym_model.proofs.ListLaws.{each_append, each_to, each_map, one_map}
+use Rattle.sym_states.specs.Meaning.{Serves, AreFacts, IsOverTable}
 use Rattle.sym_states.specs.Pure.{PureState}
 use Rattle.sym_states.proofs.Conditions.{met_parts, met_both}
-use Rattle.footprint.specs.Assertions.{cases_at, ItemsGive, ItemsStop, AreAskedOver, CaseGives, CaseStops, IsOpen, CasesMatched}
-use Rattle.footprint.specs.Consuming.{MayMatch, CasesMayMatch}
-use Rattle.footprint.specs.Cases.{AreOverTable, at_number, renumbered, EndsAs, EndsMatch, EndsCase, FinishesAs, FinishesMatch, Finishes, CaseGive, CaseStop, CasesGive, CasesStop, CaseTried, NextCase, AsksPred, PredGives, PredStops, FoundGives, FoundStops, PredTried, PredMatched}
+use Rattle.footprint.specs.Assertions.{cases_at, ItemsGive, ItemsStop, AreAskedOver, CaseGives, CaseStops, CasesMatched}
+use Rattle.footprint.specs.Cases.{AreOverTable, at_number, renumbered, EndsMatch, EndsCase, FinishesMatch, Finishes, CaseGive, CaseStop, CasesGive, CasesStop, CaseTried, NextCase, AsksPred, PredGives, PredStops, FoundGives, FoundStops, PredTried, PredMatched}
 use Rattle.footprint.specs.Items.{SpreadsValues}
-use Rattle.footprint.specs.Leaves.{Premise, Giving, Stopping, IsLater, IsMatch, IsStop, IsUndecided, IsCovered, AreLeaves}
+use Rattle.footprint.specs.Leaves.{Premise, Giving, Stopping, IsLater, IsMatch, IsStop, IsUndecided, AreLeaves}
 use Rattle.footprint.specs.Pure.{PureMatch, PureStop, PureLeaves}
-use Rattle.footprint.specs.Spreading.{joined, with_conds, spread, all_stop, stops_at, Gathers, IsRenewed}
-use Rattle.footprint.specs.Uses.{PureAsked, AskedValues, AreAsked, AsksUse}
+use Rattle.footprint.specs.Spreading.{joined, with_conds, spread, all_stop, stops_at, IsRenewed}
+use Rattle.footprint.specs.Uses.{PureAsked, AsksUse}
 use Rattle.footprint.proofs.AssertionLaws.{said_otherwise}
 use Rattle.footprint.proofs.Outs.{same_values, Holding, OutsGive, OutsStop, outs_leaves}
-use Rattle.footprint.proofs.Parts.{over_of, longer_both, same_vars, IsPart, part_leaves, part_both, part_where, said_by, gathered, Onward, lifted, stops_each, stops_cover, all_stop_part}
+use Rattle.footprint.proofs.Parts.{over_of, same_vars, IsPart, part_leaves, part_both, part_where, said_by, gathered, lifted, stops_each, stops_cover, all_stop_part}
 
 -- ---- on values
 

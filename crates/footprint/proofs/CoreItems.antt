@@ -1,5 +1,5 @@
 -- What matching a use of a core predicate gives.
-use Rattle.std.proofs.Common.{◌≡◌, ◌⊎◌, ⊎_elim, inl, inr, ℕ, suc, List, [], ◌∷◌, ◌++◌, length, Bool, true, false, ◌&&◌, cond, Option, Some, None, is_some, IsTrue, refl, sym, ap, subst, ◌∙◌, true≢false}
+use Rattle.std.proofs.Common.{◌≡◌, inl, inr, ℕ, suc, List, [], ◌∷◌, ◌++◌, length, Bool, true, false, ◌&&◌, cond, Option, Some, None, IsTrue, refl, sym, ap, subst, ◌∙◌, true≢false}
 use Rattle.std.specs.FinMap.{get, remove}
 use Rattle.std.proofs.lemmas.Bool.{and_parts}
 use Rattle.std.proofs.lemmas.List.Elements.{Contains-append_left, Contains-append_right}
@@ -19,32 +19,31 @@ use Rattle.mem_model.specs.KeyOrder.{key_eq}
 use Rattle.mem_model.proofs.Holding.{same_key, itself}
 use Rattle.mem_model.proofs.Joins.{has_key}
 use Rattle.assert_logic.specs.LogicStates.{LogicState}
-use Rattle.assert_logic.specs.Matching.{Taken, took_key, ItemMatch, no_cases, held, key_of, key_match, where_entry_is, match_held, match_core, match_use, match_values}
+use Rattle.assert_logic.specs.Matching.{took_key, ItemMatch, no_cases, held, key_of, key_match, where_entry_is, match_held, match_core, match_use, match_values}
 use Rattle.assert_logic.proofs.CoreMatching.{entry_splits}
 use Rattle.pure_terms.specs.declared.variables.Sort.{Sort}
-use Rattle.pure_terms.specs.Meaning.{both, value, values, all_true, IsOver}
-use Rattle.pure_terms.specs.Pure.{PureTerm, literal, variable, list_of, unary_of, binary_of, PureTerms, no_terms, term_and, from_list, to_list, to_list-from_list, PureAtom, term_of, variables, variables_of_all}
-use Rattle.sym_evaluation.specs.Meaning.{StandsFor, HaveValues, IsStoreOver, Serves as StoreServes}
+use Rattle.pure_terms.specs.Meaning.{value, values, all_true, IsOver}
+use Rattle.pure_terms.specs.Pure.{PureTerm, literal, variable, list_of, unary_of, binary_of, PureTerms, no_terms, term_and, from_list, to_list, to_list-from_list, term_of, variables, variables_of_all}
+use Rattle.sym_evaluation.specs.Meaning.{HaveValues, IsStoreOver}
 use Rattle.sym_evaluation.specs.Pure.{PureStore}
 use Rattle.sym_matching.specs.Matching.{SplitsValues, StoresStayOver}
 use Rattle.sym_matching.specs.Pure.{PureSplit}
-use Rattle.sym_model.specs.CoreLaws.{ConsumeLaw, IsTaken, IsLacking, IsConsumed}
+use Rattle.sym_model.specs.CoreLaws.{ConsumeLaw, IsTaken, IsConsumed}
 use Rattle.sym_model.specs.Cores.{TakesIns}
 use Rattle.sym_model.specs.Laws.{Serves as MemoryServes, EachTerm}
 use Rattle.sym_model.specs.Lists.{Each, OneOf}
 use Rattle.sym_model.specs.Pure.{PureResult, done, failed, missed, result_terms, PureBranch}
 use Rattle.sym_model.specs.Terms.{StateTerms, all_of, AreEachOver, is_list_term}
 use Rattle.sym_model.proofs.Asking.{both_parts}
-use Rattle.sym_model.proofs.ListLaws.{same_some, not_none, each_append, each_to, each_by_place, each_at}
-use Rattle.sym_states.specs.Meaning.{Stands, Serves, IsOverTable}
+use Rattle.sym_model.proofs.ListLaws.{same_some, each_append, each_by_place, each_at}
+use Rattle.sym_states.specs.Meaning.{Serves, IsOverTable}
 use Rattle.sym_states.specs.Pure.{PureState}
 use Rattle.sym_states.proofs.Conditions.{met_parts, met_both}
-use Rattle.sym_states.proofs.PureItems.{store_serves}
 use Rattle.footprint.specs.Items.{SpreadsValues, MatchesDone, MatchesResult, branch_state, MatchesBranch, AsksIns, CoreGives, CoreStops}
 use Rattle.footprint.specs.Leaves.{Premise, Giving, Stopping, IsLater, AreLeaves}
 use Rattle.footprint.specs.Pure.{PureLeaves}
 use Rattle.footprint.specs.Spreading.{spread, all_stop, Gathers}
-use Rattle.footprint.proofs.Parts.{IsPart, part_leaves, part_where, gathered, Onward, lifted, all_stop_part, SaysStore, spread_leaves}
+use Rattle.footprint.proofs.Parts.{IsPart, part_leaves, part_where, gathered, Onward, lifted, spread_leaves}
 
 -- ---- on values
 

@@ -1,12 +1,10 @@
 -- What folding gives, from the cases of the predicate.
-use Rattle.std.proofs.Common.{◌≡◌, ℕ, List, [], ◌∷◌, map, Bool, true, false, if◌then◌else◌, Option, Some, None, IsTrue, refl, sym, ap, subst, ◌∙◌}
+use Rattle.std.proofs.Common.{◌≡◌, ℕ, List, [], ◌∷◌, map, Bool, true, false, if◌then◌else◌, Some, None, IsTrue, refl, sym, ap, subst, ◌∙◌}
 use Rattle.std.specs.Str.{bytes_eq}
 use Rattle.gil_values.specs.Pure.{PureValue}
-use Rattle.gil_syntax.specs.Evaluation.{Store}
 use Rattle.gil_syntax.specs.Programs.{find_pred}
 use Rattle.gil_syntax.specs.Pure.{PurePredDef}
 use Rattle.mem_model.specs.Heaps.{Heap}
-use Rattle.assert_logic.specs.LogicStates.{LogicState}
 use Rattle.assert_logic.specs.Matching.{Cases, try_pred, once}
 use Rattle.pure_terms.specs.declared.variables.Sort.{Sort}
 use Rattle.pure_terms.specs.Meaning.{value, values, all_true}

@@ -1,28 +1,28 @@
 -- How leaves of items are put together from left to right.
-use Rattle.std.proofs.Common.{◌≡◌, ◌⊎◌, ⊎_elim, inl, inr, ℕ, suc, ◌+◌, List, [], ◌∷◌, ◌++◌, length, Option, Some, None, IsTrue, refl, sym, ap, subst, ◌∙◌, arith}
+use Rattle.std.proofs.Common.{◌≡◌, ◌⊎◌, ⊎_elim, inl, inr, ℕ, ◌+◌, List, [], ◌∷◌, ◌++◌, length, Option, Some, None, IsTrue, refl, sym, ap, subst, ◌∙◌, arith}
 use Rattle.gil_values.specs.Pure.{PureValue}
 use Rattle.gil_syntax.specs.declared.assertions.Param.{Param}
 use Rattle.gil_syntax.specs.Evaluation.{Store}
 use Rattle.gil_syntax.specs.Pure.{PureExpr, PureItem, pure}
 use Rattle.mem_model.specs.Heaps.{Heap}
 use Rattle.assert_logic.specs.LogicStates.{LogicState}
-use Rattle.assert_logic.specs.Matching.{Taken, took_nothing, pure_match, ItemMatch, Match, Matching, matched, stops, Cases, match_item, go_on, taken_before, match_from}
+use Rattle.assert_logic.specs.Matching.{Taken, took_nothing, pure_match, ItemMatch, Matching, matched, stops, Cases, match_item, go_on, taken_before, match_from}
 use Rattle.pure_terms.specs.Meaning.{all_true, AreOver}
 use Rattle.sym_asking.proofs.Fragments.{each_over_all}
 use Rattle.sym_model.specs.Lists.{Each, OneOf}
 use Rattle.sym_model.specs.Terms.{StateTerms}
 use Rattle.sym_model.proofs.ListLaws.{each_append, each_to}
-use Rattle.sym_states.specs.Meaning.{Stands, Serves, IsOverTable}
+use Rattle.sym_states.specs.Meaning.{Serves, IsOverTable}
 use Rattle.sym_states.specs.Pure.{PureState}
 use Rattle.sym_evaluation.specs.Meaning.{IsStoreOver}
 use Rattle.sym_evaluation.specs.Pure.{PureStore}
 use Rattle.footprint.specs.Assertions.{ItemsGive, ItemsStop, MatchesItem, PrunesMatch, Prunes, NextMatched, IsMatchable}
 use Rattle.footprint.specs.Cases.{StopsIn}
 use Rattle.footprint.specs.Items.{ItemGives, ItemStops, PureGives, PureStops}
-use Rattle.footprint.specs.Leaves.{Premise, Giving, Stopping, IsLater, IsMatch, IsStop, IsUndecided, IsCovered, AreLeaves}
+use Rattle.footprint.specs.Leaves.{Premise, Giving, Stopping, IsMatch, IsStop, AreLeaves}
 use Rattle.footprint.specs.Pure.{PureMatch, PureStop, PureLeaves}
-use Rattle.footprint.specs.Spreading.{no_leaves, joined, Gathers}
-use Rattle.footprint.proofs.Parts.{IsPart, part_leaves, part_both, covered_left, covered_right, gathered, lifted, same_vars}
+use Rattle.footprint.specs.Spreading.{joined, Gathers}
+use Rattle.footprint.proofs.Parts.{IsPart, part_leaves, part_both, gathered, lifted, same_vars}
 use Rattle.footprint.proofs.AssertionLaws.{later_itself, said_otherwise}
 
 -- ---- on values

@@ -1,5 +1,5 @@
 -- Loops that take the elements of a list.
-use Rattle.std.proofs.Common.{◌≡◌, ℕ, suc, ◌+◌, ◌<◌, get_or, List, [], ◌∷◌, ◌++◌, length, map, drop, cond, Some, refl, sym, ap, subst, ◌∙◌, append_assoc, arith}
+use Rattle.std.proofs.Common.{◌≡◌, ℕ, ◌+◌, ◌<◌, get_or, List, [], ◌∷◌, ◌++◌, length, map, drop, cond, Some, sym, ap, subst, ◌∙◌, append_assoc}
 use Rattle.std.proofs.lemmas.List.{append-nil, nil_from_length, map-append, drop_more}
 use Rattle.std.specs.Str.{bytes_eq}
 use Rattle.gil_syntax.specs.declared.parts.PredDef.{PredDef}

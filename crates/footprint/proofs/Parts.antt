@@ -16,7 +16,7 @@ use Rattle.sym_matching.specs.Pure.{PureSplit}
 use Rattle.sym_model.specs.Lists.{Each, OneOf}
 use Rattle.sym_model.specs.Terms.{StateTerms}
 use Rattle.sym_model.proofs.ListLaws.{each_append, each_to, one_left, one_right}
-use Rattle.sym_states.specs.Meaning.{Stands, Serves, IsOverTable}
+use Rattle.sym_states.specs.Meaning.{Stands, IsOverTable}
 use Rattle.sym_states.specs.Pure.{PureState}
 use Rattle.sym_states.proofs.Conditions.{met_parts, met_both}
 pub use Rattle.footprint.specs.Cases.{AreOverTable}

@@ -1,5 +1,5 @@
 -- What is asked of a use, and what taking facts gives.
-use Rattle.std.proofs.Common.{◌≡◌, ◌⊎◌, ⊎_elim, inl, inr, ℕ, zero, suc, ◌+◌, List, [], ◌∷◌, ◌++◌, length, map, remove, slice_get, Bool, true, false, cond, Option, Some, None, Result, Ok, Err, IsTrue, refl, sym, ap, subst, ◌∙◌, true≢false, add-one}
+use Rattle.std.proofs.Common.{◌≡◌, ⊎_elim, inl, inr, ℕ, zero, suc, List, [], ◌∷◌, ◌++◌, map, remove, slice_get, Bool, true, false, cond, Option, Some, None, Result, Ok, Err, IsTrue, refl, sym, ap, subst, ◌∙◌, true≢false, add-one}
 use Rattle.std.specs.Option.{option_map}
 use Rattle.std.specs.Result.{result_ok}
 use Rattle.gil_values.specs.Operators.{Fault}
@@ -13,26 +13,25 @@ use Rattle.assert_logic.specs.Matching.{FoundFact, found_after, first_fact, fits
 use Rattle.pure_terms.specs.declared.variables.Sort.{Sort}
 use Rattle.pure_terms.specs.Meaning.{all_true, IsOver}
 use Rattle.pure_terms.specs.Pure.{PureTerm, PureAtom, term_of}
-use Rattle.sym_conditions.specs.Alternatives.{Hold}
-use Rattle.sym_evaluation.specs.Meaning.{HaveValues, IsStoreOver, AreCasesOfAll, SayOutcome, IsGood, IsClosed, IsTaken, Serves as StoreServes}
+use Rattle.sym_evaluation.specs.Meaning.{HaveValues, IsStoreOver, AreCasesOfAll, SayOutcome, IsGood, IsClosed}
 use Rattle.sym_evaluation.specs.Pure.{PureStore, PureFaultCase, PureGoodCase, PureCases}
 use Rattle.sym_evaluation.specs.Questions.{NameNoOthers, OnConditions, OnResult, AreTermsOf, AreEachOver as AreAllOver}
-use Rattle.sym_matching.specs.Matching.{SplitsOuts, OutsStayOver, SplitsValues, StoresStayOver}
-use Rattle.sym_matching.specs.Meaning.{IsReached, Gives as SplitGives, SaysSplit, IsCondition, AreConditions, IsFoundOver, IsSplitOver, AreOuts, AreOutsOver}
+use Rattle.sym_matching.specs.Matching.{SplitsOuts, OutsStayOver}
+use Rattle.sym_matching.specs.Meaning.{IsReached, Gives as SplitGives, SaysSplit, AreConditions, IsFoundOver, AreOuts, AreOutsOver}
 use Rattle.sym_matching.specs.Pure.{PureSplit, PureOuts}
 use Rattle.sym_model.specs.Lists.{Each, OneOf}
 use Rattle.sym_model.specs.Terms.{StateTerms, all_of, AreEachOver}
 use Rattle.sym_model.proofs.ListLaws.{same_some, not_none, each_append, each_to, each_at, each_map, one_left, one_right, one_parts, one_map, one_mapped}
-use Rattle.sym_states.specs.Meaning.{Stands, Serves, IsFact, AreFacts, IsOverTable}
+use Rattle.sym_states.specs.Meaning.{IsFact, AreFacts, IsOverTable}
 use Rattle.sym_states.specs.Pure.{PureFact, PureState}
 use Rattle.sym_states.proofs.ArgumentLaws.{terms_count}
 use Rattle.sym_states.proofs.Conditions.{met_parts, met_both}
 use Rattle.footprint.specs.Choosing.{PureFactCase}
 use Rattle.footprint.specs.Items.{SpreadsValues}
-use Rattle.footprint.specs.Leaves.{Premise, Giving, Stopping, IsLater, AreLeaves}
+use Rattle.footprint.specs.Leaves.{Premise, IsLater}
 use Rattle.footprint.specs.Pure.{PureLeaves}
-use Rattle.footprint.specs.Spreading.{no_leaves, with_conds, spread, IsCopyUnder}
-use Rattle.footprint.specs.Uses.{PureAsked, both_asked, AskedValues, asked_values, AreAsked, SplitsUse, IsAskedOver, UseStaysOver, HasAllIns, AsksUse, FactGives, FactStops, IsWithoutFact, TakesFactAt, TakesFact, AreCopiesUnder}
+use Rattle.footprint.specs.Spreading.{with_conds, spread, IsCopyUnder}
+use Rattle.footprint.specs.Uses.{PureAsked, both_asked, asked_values, AreAsked, SplitsUse, IsAskedOver, UseStaysOver, HasAllIns, AsksUse, FactGives, FactStops, IsWithoutFact, TakesFactAt, TakesFact, AreCopiesUnder}
 use Rattle.footprint.proofs.Outs.{same_values, Holding, OutsGive, OutsStop, outs_leaves}
 use Rattle.footprint.proofs.Parts.{AreOverTable, over_of, IsPart, part_where, Onward, lifted}
 

@@ -14,7 +14,7 @@ use Rattle.assert_logic.specs.LogicStates.{Fact, LogicState}
 use Rattle.assert_logic.specs.Matching.{Cases}
 use Rattle.checked_runs.specs.Checked.{leaves_nothing}
 use Rattle.pure_terms.specs.Meaning.{all_true, IsProper, IsOver}
-use Rattle.pure_terms.specs.Pure.{PureAtom, term_of}
+use Rattle.pure_terms.specs.Pure.{term_of}
 use Rattle.sym_evaluation.specs.Meaning.{IsStoreOver}
 use Rattle.sym_evaluation.specs.Pure.{PureStore}
 use Rattle.sym_model.specs.Listing.{AreUnion}
@@ -22,7 +22,7 @@ use Rattle.sym_model.specs.Lists.{Each, OneOf}
 use Rattle.sym_model.specs.Pure.{PureUse}
 use Rattle.sym_model.specs.Terms.{StateTerms, all_of, AreEachOver}
 use Rattle.sym_model.proofs.ListLaws.{not_none, each_to}
-use Rattle.sym_states.specs.Meaning.{Stands, Serves, AreFacts, IsOverTable}
+use Rattle.sym_states.specs.Meaning.{Serves, AreFacts, IsOverTable}
 use Rattle.sym_states.specs.Pure.{PureFact, PureState}
 use Rattle.footprint.specs.Assertions.{ItemsGive, ItemsStop}
 use Rattle.footprint.specs.Cases.{StopsIn}

@@ -1,12 +1,11 @@
 -- Matching assertions and uses of user predicates, on values and on terms.
-use Rattle.std.specs.Prelude.{◌≡◌, ◌⊎◌, ℕ, zero, suc, List, [], ◌∷◌, ◌++◌, map, length, Option, Some, None}
+use Rattle.std.specs.Prelude.{◌≡◌, ◌⊎◌, ℕ, zero, suc, List, [], ◌∷◌, Option, Some, None}
 use Rattle.gil_values.specs.Pure.{PureValue}
 use Rattle.gil_syntax.specs.declared.assertions.Param.{Param}
 use Rattle.gil_syntax.specs.Evaluation.{Store}
 use Rattle.gil_syntax.specs.Programs.{find_pred}
 use Rattle.gil_syntax.specs.Pure.{PurePredUse, PureItem, PurePredDef}
 use Rattle.mem_model.specs.declared.cores.Core.{Core}
-use Rattle.mem_model.specs.CoreNames.{core_of}
 use Rattle.mem_model.specs.Heaps.{Heap}
 use Rattle.assert_logic.specs.LogicStates.{LogicState}
 use Rattle.assert_logic.specs.Matching.{Taken, Cases, no_cases, matched, stops, match_from, match_use, match_case, try_pred}

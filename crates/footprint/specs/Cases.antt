@@ -1,5 +1,5 @@
 -- Matching the cases of predicates, on values and on terms.
-use Rattle.std.specs.Prelude.{◌≡◌, ℕ, List, [], ◌∷◌, map, Option, Some, None, ⊤}
+use Rattle.std.specs.Prelude.{◌≡◌, ℕ, List, [], ◌∷◌, map, Option, Some, None}
 use Rattle.gil_values.specs.Pure.{PureValue}
 use Rattle.gil_syntax.specs.declared.assertions.Param.{Param}
 use Rattle.gil_syntax.specs.Evaluation.{Store}
@@ -7,7 +7,7 @@ use Rattle.gil_syntax.specs.Pure.{PureExpr, PurePredUse, PureItem, PurePredDef}
 use Rattle.gil_syntax.specs.Valid.{param_names}
 use Rattle.mem_model.specs.Heaps.{Heap}
 use Rattle.assert_logic.specs.LogicStates.{LogicState}
-use Rattle.assert_logic.specs.Matching.{Taken, CaseMatch, Cases, match_from, match_case, case_of, try_cases, try_pred, scope_of, values_of}
+use Rattle.assert_logic.specs.Matching.{Taken, Cases, match_from, match_case, case_of, try_cases, try_pred, scope_of, values_of}
 use Rattle.pure_terms.specs.declared.variables.Sort.{Sort}
 use Rattle.pure_terms.specs.Meaning.{IsOver}
 use Rattle.pure_terms.specs.Pure.{PureTerm, PureAtom, term_of}
@@ -18,9 +18,9 @@ use Rattle.sym_model.specs.Terms.{StateTerms}
 use Rattle.sym_states.specs.Meaning.{Stands, Serves, IsOverTable}
 use Rattle.sym_states.specs.Pure.{PureState}
 use Rattle.footprint.specs.Items.{SpreadsValues}
-use Rattle.footprint.specs.Leaves.{Premise, Giving, Stopping, AreLeaves}
+use Rattle.footprint.specs.Leaves.{Stopping, AreLeaves}
 use Rattle.footprint.specs.Pure.{PureMatch, PureStop, PureLeaves}
-use Rattle.footprint.specs.Spreading.{no_leaves, joined, all_stop, Gathers, IsRenewed}
+use Rattle.footprint.specs.Spreading.{joined, all_stop, Gathers, IsRenewed}
 use Rattle.footprint.specs.Uses.{PureAsked, AskedValues, AreAsked, AsksUse}
 
 -- the conditions name only variables of the table

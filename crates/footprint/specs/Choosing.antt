@@ -1,5 +1,5 @@
 -- Which fact a use takes, on terms.
-use Rattle.std.specs.Prelude.{◌≡◌, ◌⊎◌, ℕ, List, [], ◌∷◌, ◌++◌, map, Option, Some, None, IsTrue, Bool}
+use Rattle.std.specs.Prelude.{◌≡◌, ◌⊎◌, ℕ, List, [], ◌++◌, map, Option, Some, None, IsTrue, Bool}
 use Rattle.gil_values.specs.Pure.{PureValue}
 use Rattle.assert_logic.specs.LogicStates.{Fact}
 use Rattle.assert_logic.specs.Matching.{FoundFact, first_fact, fits_fact}

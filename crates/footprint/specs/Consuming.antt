@@ -1,5 +1,5 @@
 -- What consuming assertions, and folding, gives.
-use Rattle.std.specs.Prelude.{◌≡◌, ℕ, ◌∷◌, [], List, map, Bool, true, false, Some, None}
+use Rattle.std.specs.Prelude.{◌≡◌, ℕ, [], List, map, Bool, true, false, Some, None}
 use Rattle.std.specs.List.{list_any}
 use Rattle.gil_values.specs.Pure.{PureValue}
 use Rattle.gil_syntax.specs.declared.assertions.Param.{Param}
@@ -9,17 +9,16 @@ use Rattle.gil_syntax.specs.Pure.{PureItem, PurePredDef}
 use Rattle.mem_model.specs.declared.keys.MemoryName.{MemoryName}
 use Rattle.mem_model.specs.Heaps.{Heap}
 use Rattle.assert_logic.specs.LogicStates.{LogicState}
-use Rattle.assert_logic.specs.Matching.{Taken, Match, matched, stops, CaseMatch, match_assertion, match_fold}
+use Rattle.assert_logic.specs.Matching.{Taken, matched, stops, CaseMatch, match_assertion, match_fold}
 use Rattle.checked_runs.specs.Checked.{leaves_nothing}
 use Rattle.pure_terms.specs.Pure.{PureTerm}
 use Rattle.sym_evaluation.specs.Meaning.{HaveValues}
-use Rattle.sym_evaluation.specs.Pure.{PureStore}
 use Rattle.sym_model.specs.Lists.{Each}
 use Rattle.sym_model.specs.Terms.{StateTerms}
 use Rattle.sym_states.specs.Meaning.{Serves}
 use Rattle.sym_states.specs.Producing.{MayAdd}
 use Rattle.sym_states.specs.Pure.{PureState}
-use Rattle.footprint.specs.Leaves.{Premise, Giving, Stopping}
+use Rattle.footprint.specs.Leaves.{Giving, Stopping}
 use Rattle.footprint.specs.Uses.{PureAsked}
 
 -- what items must be, so that they can be matched on states of this memory

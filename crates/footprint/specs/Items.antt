@@ -1,25 +1,23 @@
 -- What matching one item gives, on values and on terms.
-use Rattle.std.specs.Prelude.{◌≡◌, ℕ, List, [], ◌∷◌, ◌++◌, Option, Some, None, Ok}
+use Rattle.std.specs.Prelude.{◌≡◌, ℕ, List, [], Some, None}
 use Rattle.gil_values.specs.Pure.{PureValue}
 use Rattle.gil_syntax.specs.declared.assertions.Param.{Param}
-use Rattle.gil_syntax.specs.Evaluation.{Store, evaluate_all}
+use Rattle.gil_syntax.specs.Evaluation.{Store}
 use Rattle.gil_syntax.specs.Pure.{PureExpr, PurePredUse, PureItem}
 use Rattle.mem_model.specs.CoreNames.{core_of}
 use Rattle.mem_model.specs.Heaps.{Heap}
 use Rattle.assert_logic.specs.LogicStates.{LogicState}
-use Rattle.assert_logic.specs.Matching.{Taken, ItemMatch, FoundFact, Cases, no_cases, first_fact, fits_fact, known_outs, match_values, match_pure, match_use, fact_match, match_case, match_item}
-use Rattle.pure_terms.specs.Meaning.{IsOver}
+use Rattle.assert_logic.specs.Matching.{Taken, Cases, no_cases, match_pure, match_use, match_item}
 use Rattle.pure_terms.specs.Pure.{PureTerm, list_of, to_list}
 use Rattle.sym_evaluation.specs.Meaning.{HaveValues}
 use Rattle.sym_evaluation.specs.Pure.{PureStore}
 use Rattle.sym_matching.specs.Matching.{SplitsValues, StoresStayOver}
-use Rattle.sym_matching.specs.Meaning.{AreOuts, AreOutsOver}
-use Rattle.sym_matching.specs.Pure.{PureSplit, PureOuts}
+use Rattle.sym_matching.specs.Pure.{PureSplit}
 use Rattle.sym_model.specs.Pure.{PureResult, done, failed, missed, PureBranch}
-use Rattle.sym_model.specs.Terms.{StateTerms, AreEachOver}
+use Rattle.sym_model.specs.Terms.{StateTerms}
 use Rattle.sym_states.specs.Meaning.{Serves}
 use Rattle.sym_states.specs.Pure.{PureState}
-use Rattle.footprint.specs.Leaves.{Premise, Giving, Stopping}
+use Rattle.footprint.specs.Leaves.{Giving, Stopping}
 use Rattle.footprint.specs.Pure.{PureLeaves}
 use Rattle.footprint.specs.Spreading.{with_conds, spread, all_stop}
 

@@ -5,16 +5,14 @@ use Rattle.gil_values.specs.Pure.{PureValue}
 use Rattle.gil_syntax.specs.Evaluation.{Store}
 use Rattle.mem_model.specs.Heaps.{Heap}
 use Rattle.assert_logic.specs.LogicStates.{LogicState}
-use Rattle.pure_terms.specs.declared.deciders.Reason.{Reason}
 use Rattle.pure_terms.specs.Meaning.{all_true, IsOver, Satisfies}
 use Rattle.pure_terms.specs.Pure.{PureAtom, term_of}
 use Rattle.sym_asking.specs.Asking.{IsOutside}
 use Rattle.sym_evaluation.specs.Meaning.{IsStoreOver}
-use Rattle.sym_evaluation.specs.Pure.{PureStore}
 use Rattle.sym_model.specs.Lists.{Each, OneOf}
 use Rattle.sym_model.specs.Meaning.{has_open}
 use Rattle.sym_model.specs.Terms.{StateTerms}
-use Rattle.sym_states.specs.Meaning.{Stands, Serves, IsOverTable}
+use Rattle.sym_states.specs.Meaning.{Serves, IsOverTable}
 use Rattle.sym_states.specs.Pure.{PureState}
 use Rattle.footprint.specs.Pure.{PureMatch, PureStop, PureUndecided, PureLeaves, PureMatching, all_match, unmatched, unknown}
 

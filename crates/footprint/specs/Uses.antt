@@ -1,5 +1,5 @@
 -- Matching uses with facts, on values and on terms.
-use Rattle.std.specs.Prelude.{◌≡◌, ℕ, List, [], ◌∷◌, ◌++◌, length, remove, slice_get, Option, Some, None, Result, Ok, Err, ⊤}
+use Rattle.std.specs.Prelude.{◌≡◌, ℕ, List, [], ◌∷◌, ◌++◌, length, remove, slice_get, Option, Some, None, Result, Ok, ⊤}
 use Rattle.gil_values.specs.Operators.{Fault}
 use Rattle.gil_values.specs.Pure.{PureValue}
 use Rattle.gil_syntax.specs.declared.assertions.Param.{Param}
@@ -7,7 +7,7 @@ use Rattle.gil_syntax.specs.Evaluation.{Store, Outcomes, evaluate_all}
 use Rattle.gil_syntax.specs.Pure.{PureExpr, PurePredUse}
 use Rattle.mem_model.specs.Heaps.{Heap}
 use Rattle.assert_logic.specs.LogicStates.{LogicState}
-use Rattle.assert_logic.specs.Matching.{Taken, FoundFact, first_fact, fits_fact, known_outs, match_values, fact_match}
+use Rattle.assert_logic.specs.Matching.{FoundFact, first_fact, fits_fact, known_outs, match_values}
 use Rattle.pure_terms.specs.declared.variables.Sort.{Sort}
 use Rattle.pure_terms.specs.Meaning.{IsOver}
 use Rattle.pure_terms.specs.Pure.{PureTerm, PureAtom, term_of}
@@ -21,7 +21,6 @@ use Rattle.sym_states.specs.Meaning.{Serves}
 use Rattle.sym_states.specs.Pure.{PureFact, PureState}
 use Rattle.footprint.specs.Choosing.{PureFactCase}
 use Rattle.footprint.specs.Items.{SpreadsValues}
-use Rattle.footprint.specs.Leaves.{Premise, Giving, Stopping}
 use Rattle.footprint.specs.Pure.{PureLeaves}
 use Rattle.footprint.specs.Spreading.{no_leaves, with_conds, IsSameMemory, IsCopyUnder}
 

@@ -1,10 +1,10 @@
-use Rattle.std.proofs.Common.{◌≡◌, ◌⊎◌, inl, inr, [], ◌∷◌, ◌++◌, List, map, refl, sym, ap, subst, ◌∙◌}
+use Rattle.std.proofs.Common.{◌≡◌, inl, inr, [], ◌∷◌, map, refl, sym, ap, subst, ◌∙◌}
 use Rattle.std.proofs.lemmas.List.{map-append}
 use Rattle.sym_model.specs.Lists.{OneOf}
 use Rattle.sym_model.proofs.ListLaws.{one_right}
 use Rattle.footprint.specs.Answers.{AnswersTold}
 use Rattle.footprint.specs.Pure.{unknown}
-use Rattle.footprint.specs.View.{undecided_view, matches_view, told_view, matching_view}
+use Rattle.footprint.specs.View.{undecided_view, matches_view, told_view}
 use Rattle.footprint.proofs.answering.answer_told.Goals as goal
 
 pub returns-in-Some : goal.returns-in-Some

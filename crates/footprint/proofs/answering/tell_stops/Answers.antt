@@ -5,7 +5,7 @@ use Rattle.pure_terms.specs.Meaning.{AreOver}
 use Rattle.footprint.specs.Answers.{TellsStops}
 use Rattle.footprint.specs.View.{stop_view, stops_view, told_view}
 use Rattle.footprint.proofs.AnswerLaws.{tells_more}
-use Rattle.footprint.proofs.Loops.{taken_more, taken_all, taken_has}
+use Rattle.footprint.proofs.Loops.{taken_more, taken_has}
 use Rattle.footprint.proofs.answering.tell_stops.Goals as goal
 
 pub tell-requires : goal.tell-requires

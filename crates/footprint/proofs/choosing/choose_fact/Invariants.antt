@@ -1,9 +1,9 @@
-use Rattle.std.proofs.Common.{◌≡◌, take}
+use Rattle.std.proofs.Common.{take}
 use Rattle.pure_terms.specs.View.{terms_view}
 use Rattle.sym_conditions.specs.Alternatives.{alternatives_view}
 use Rattle.sym_matching.specs.View.{outs_view}
 use Rattle.sym_states.specs.View.{facts_view}
-use Rattle.footprint.specs.Choosing.{PureChoice, ChoosesFact, ChoiceStaysOver}
+use Rattle.footprint.specs.Choosing.{ChoosesFact, ChoiceStaysOver}
 use Rattle.footprint.specs.View.{fact_cases_view}
 use Rattle.footprint.proofs.choosing.choose_fact.Given as goal
 

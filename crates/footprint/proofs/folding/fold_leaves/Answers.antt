@@ -1,17 +1,15 @@
-use Rattle.std.proofs.Common.{◌≡◌, List, map, sym, subst}
-use Rattle.gil_syntax.specs.Pure.{PurePredDef}
+use Rattle.std.proofs.Common.{map, sym, subst}
 use Rattle.gil_syntax.specs.View.{pred_def_view}
 use Rattle.pure_terms.specs.View.{terms_view}
-use Rattle.sym_model.specs.Lists.{Each}
 use Rattle.sym_states.specs.View.{state_view}
 use Rattle.sym_states.proofs.Values.{ok_to}
 use Rattle.footprint.specs.Assertions.{cases_at, AreAskedOver}
 use Rattle.footprint.specs.Cases.{PredTried}
-use Rattle.footprint.specs.Consuming.{MayMatch, IsFolding, Folds, FoldsNever}
+use Rattle.footprint.specs.Consuming.{IsFolding, Folds, FoldsNever}
 use Rattle.footprint.specs.Leaves.{AreLeaves}
 use Rattle.footprint.specs.Uses.{PureAsked}
 use Rattle.footprint.specs.View.{leaves_view}
-use Rattle.footprint.proofs.FoldingLaws.{folds_at, all_over, found_each}
+use Rattle.footprint.proofs.FoldingLaws.{folds_at, all_over}
 use Rattle.footprint.proofs.folding.fold_leaves.Goals as goal
 
 pub try_pred-requires-clause-asked : goal.try_pred-requires-clause-asked

@@ -1,15 +1,13 @@
-use Rattle.std.proofs.Common.{◌≡◌, ℕ, suc, ◌+◌, ◌-◌, ◌*◌, List, [], ◌∷◌, ◌++◌, length, map, take, Option, Some, None, IsTrue, refl, sym, ap, subst, ◌∙◌, arith, length-take-le}
+use Rattle.std.proofs.Common.{◌≡◌, suc, ◌+◌, ◌-◌, [], ◌∷◌, ◌++◌, length, map, take, Some, None, sym, ap, subst, ◌∙◌, arith, length-take-le}
 use Rattle.std.specs.Option.{option_map}
 use Rattle.std.specs.Vec.Iter.{into_iter_items}
 use Rattle.std.proofs.lemmas.List.{take_all, take_more, length-map, map-append}
-use Rattle.gil_syntax.specs.declared.assertions.Item.{Item}
 use Rattle.gil_syntax.specs.Pure.{pure, uses}
 use Rattle.gil_syntax.specs.Programs.{find_pred}
 use Rattle.gil_syntax.specs.View.{assertion_view, item_view, expr_view, pred_use_view, pred_def_view}
-use Rattle.mem_model.specs.declared.cores.Core.{Core}
 use Rattle.mem_model.specs.CoreNames.{core_of}
 use Rattle.assert_logic.specs.Matching.{try_pred}
-use Rattle.pure_terms.specs.View.{atoms_view, terms_view}
+use Rattle.pure_terms.specs.View.{atoms_view}
 use Rattle.sym_evaluation.specs.Meaning.{IsStoreOver}
 use Rattle.sym_evaluation.specs.View.{good_view, store_view}
 use Rattle.sym_matching.specs.View.{split_by, stores_view}
@@ -23,7 +21,7 @@ use Rattle.sym_states.proofs.Produced.{item_more, each_item}
 use Rattle.sym_states.proofs.Values.{ok_to}
 use Rattle.footprint.specs.Assertions.{cases_at, ItemsGive, ItemsStop, IsMatchable, MatchesItem, NextMatched, AreAskedOver, UseGives, UseStops, IsOpen, CasesMatched}
 use Rattle.footprint.specs.Cases.{StopsIn, CasesGive, CasesStop, CaseTried, NextCase, PredTried, PredMatched}
-use Rattle.footprint.specs.Consuming.{MayMatch, CasesMayMatch}
+use Rattle.footprint.specs.Consuming.{MayMatch}
 use Rattle.footprint.specs.Items.{ItemGives, ItemStops}
 use Rattle.footprint.specs.Leaves.{AreLeaves}
 use Rattle.footprint.specs.Pure.{PureStop, PureLeaves}

@@ -1,4 +1,4 @@
-use Rattle.std.proofs.Common.{◌≡◌, inl, inr, subst, ◌∙◌}
+use Rattle.std.proofs.Common.{inl, inr, subst}
 use Rattle.pure_terms.specs.Meaning.{IsUnsatisfiable}
 use Rattle.pure_terms.specs.View.{atoms_view}
 use Rattle.sym_asking.specs.Asking.{IsRightly}

@@ -1,10 +1,8 @@
-use Rattle.std.proofs.Common.{◌≡◌, ◌++◌, map, sym, ap, subst, ◌∙◌}
+use Rattle.std.proofs.Common.{◌++◌, sym, ap, subst, ◌∙◌}
 use Rattle.gil_syntax.specs.View.{pred_use_view}
 use Rattle.sym_evaluation.specs.View.{store_view, all_cases_view}
-use Rattle.sym_matching.specs.View.{known_view, split_by}
-use Rattle.sym_matching.specs.Pure.{PureSplit}
-use Rattle.footprint.specs.Uses.{PureAsked, both_asked, SplitsUse, UseStaysOver, HasAllIns}
-use Rattle.footprint.specs.View.{asked_view}
+use Rattle.sym_matching.specs.View.{known_view}
+use Rattle.footprint.specs.Uses.{SplitsUse, UseStaysOver, HasAllIns}
 use Rattle.footprint.proofs.UseLaws.{splits_use, use_over, has_all_ins}
 use Rattle.footprint.proofs.uses.ask_use.Goals as goal
 

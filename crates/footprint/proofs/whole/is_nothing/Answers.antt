@@ -1,4 +1,4 @@
-use Rattle.std.proofs.Common.{◌≡◌, ◌&&◌, Bool, length, nat_eq, sym, ap, subst, ◌∙◌}
+use Rattle.std.proofs.Common.{◌&&◌, Bool, nat_eq, sym, subst, ◌∙◌}
 use Rattle.std.proofs.lemmas.List.{length-map}
 use Rattle.sym_model.specs.View.{use_view, uses_view}
 use Rattle.sym_states.specs.View.{fact_view, state_view}

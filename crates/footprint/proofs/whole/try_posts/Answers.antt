@@ -1,4 +1,4 @@
-use Rattle.std.proofs.Common.{◌≡◌, ◌+◌, [], ◌∷◌, ◌++◌, List, map, take, Some, slice_get, sym, ap, subst, ◌∙◌}
+use Rattle.std.proofs.Common.{◌≡◌, [], List, map, take, Some, slice_get, sym, ap, subst, ◌∙◌}
 use Rattle.gil_values.proofs.Lists.{slice_get-read}
 use Rattle.gil_syntax.specs.Pure.{PureItem}
 use Rattle.gil_syntax.specs.View.{assertion_view, pred_def_view}

@@ -1,4 +1,4 @@
-use Rattle.std.proofs.Common.{◌≡◌, ◌+◌, [], ◌∷◌, ◌++◌, map, take, Some, slice_get, sym, subst}
+use Rattle.std.proofs.Common.{◌≡◌, [], ◌∷◌, ◌++◌, map, take, Some, slice_get, sym, subst}
 use Rattle.gil_values.proofs.Lists.{slice_get-read}
 use Rattle.gil_syntax.specs.View.{assertion_view, pred_def_view}
 use Rattle.sym_evaluation.specs.View.{store_view}
