@@ -1,6 +1,6 @@
 -- Assertions of programs can be added: their literals are spelled, and uses of core predicates are those of the memory.
-use Rattle.std.proofs.Common.{◌≡◌, ℕ, zero, suc, ◌+◌, List, [], ◌∷◌, ◌++◌, map, take, length, Bool, true, false, not, ◌&&◌, ◌||◌, cond, Option, Some, None, slice_get, refl, sym, ap, subst, ◌∙◌, true≢false, codes}
-use Rattle.std.specs.List.{list_all, list_any, flat_map}
+use Rattle.std.proofs.Common.{◌≡◌, ◌⊎◌, ⊎_elim, inl, inr, ℕ, zero, suc, ◌+◌, List, [], ◌∷◌, ◌++◌, map, take, length, Bool, true, false, not, ◌&&◌, ◌||◌, cond, Option, Some, None, is_some, slice_get, IsTrue, refl, sym, ap, subst, ◌∙◌, true≢false, codes}
+use Rattle.std.specs.List.{list_all, list_any, flat_map, find}
 use Rattle.std.specs.Option.{option_and_then}
 use Rattle.std.specs.Prelude.{◌==◌}
 use Rattle.std.specs.Str.{bytes_eq}
@@ -9,13 +9,14 @@ use Rattle.std.proofs.lemmas.Bool.{and_parts}
 use Rattle.std.proofs.lemmas.Bool.Decides.{Decides-eqb}
 use Rattle.std.proofs.lemmas.List.Folds.{list_all-append, list_any-append}
 use Rattle.std.proofs.lemmas.Slice.Eq.{bytes_eq-Decides}
+use Rattle.gil_values.specs.Pure.{PureValue}
 use Rattle.gil_syntax.specs.declared.validity.InvalidKind.{InvalidKind}
 use Rattle.gil_syntax.specs.declared.validity.InvalidKind.TheVariants.{Duplicate, UnknownName, Arity}
 use Rattle.gil_syntax.specs.declared.assertions.Param.{Param}
 use Rattle.gil_syntax.specs.Programs.{find_proc, find_spec, find_pred}
 use Rattle.gil_syntax.specs.Pure.{PureExpr, literal, name, logical, list_of, unary_of, binary_of, PurePredUse, PureItem, pure, uses, PureCommand, assign, call, act, usym, isym, ifgoto, return, fail, throw, vanish, fold_use, unfold_use, assert_that, loop_invariant, PureNumberedCommand, PureProc, PureSpec, PurePredDef, PureParts}
-use Rattle.gil_syntax.specs.Subexpressions.{subexpressions, own_literals, exprs_of_item, uses_of_item, exprs_of, uses_of, assertions_of}
-use Rattle.gil_syntax.specs.Valid.{is_among, param_names, Signature, core_predicates, signature_of, predicates_of, ProgramItem, a_proc, a_spec, a_pred, items_of, Piece, piece_of_assertion, piece_of_command, pieces_of, logicals_of_spec, misuses, some_misuses, has_other_params, differs_from, has_fault, has_fault_if_there, fault_at, IsValid}
+use Rattle.gil_syntax.specs.Subexpressions.{subexpressions, own_literals, literals_of, exprs_of_item, uses_of_item, exprs_of, uses_of, assertions_of}
+use Rattle.gil_syntax.specs.Valid.{is_among, param_names, Signature, core_predicates, signature_of, predicates_of, is_named, ProgramItem, a_proc, a_spec, a_pred, items_of, Piece, piece_of_assertion, piece_of_command, pieces_of, logicals_of_spec, fits, misuses, some_misuses, has_other_params, differs_from, has_unknown_name, has_fault, has_fault_if_there, fault_at, IsValid}
 use Rattle.gil_syntax.specs.WellMade.{is_spellable, is_well_made_node, is_well_made_expr, is_well_made_assertion, is_well_made_command, has_well_made_names, is_well_made_proc, is_well_made_spec, is_well_made_pred, is_well_made, are_program_names, are_logical, is_program_name}
 use Rattle.gil_program.specs.ByName.{find_signature}
 use Rattle.gil_program.proofs.CheckLemmas.{distinct}
@@ -28,11 +29,12 @@ use Rattle.mem_model.specs.CoreNames.{core_of, ins_of, outs_of, has_core}
 use Rattle.assert_logic.specs.declared.checking.ModeKind.{ModeKind}
 use Rattle.assert_logic.specs.declared.checking.ModeKind.TheVariants.{In, Out, Core as OfMemory}
 use Rattle.assert_logic.specs.declared.checking.ModeItem.TheVariants.{Spec, Pred, Proc}
-use Rattle.assert_logic.specs.Modes.{Scope, precondition, postcondition, case, logic_command, either, fault_if, first_fault, is_foreign, is_foreign_core, known_at_first, known_after, outs_fit, item_fault, items_fault, assertion_fault, knows_outs, case_fault, command_fault, spec_fault, pred_fault, proc_fault, HasModes}
-use Rattle.assert_logic.specs.Names.{knows_all}
+use Rattle.assert_logic.specs.Modes.{Scope, precondition, postcondition, case, logic_command, either, fault_if, first_fault, is_foreign, is_foreign_core, known_at_first, known_after, outs_fit, use_fault, item_fault, items_fault, assertion_fault, knows_outs, case_fault, command_fault, spec_fault, pred_fault, proc_fault, HasModes}
+use Rattle.assert_logic.specs.Names.{Known, knows_all}
 use Rattle.sym_model.specs.Lists.{Each}
+use Rattle.sym_model.proofs.ListLaws.{each_by_place}
 use Rattle.sym_states.specs.Producing.{are_spelled, FitsCore, IsOfMemory, MayAdd}
-use Rattle.addable_programs.specs.Addable.{IsAddableCommand, IsAddableSpec, ProgramsAreAddable}
+use Rattle.addable_programs.specs.Addable.{IsAddableUse, IsAddableCommand, IsAddableSpec, IsAddable, ProgramsAreAddable}
 
 no_value : {X P : Type 0} (x : X) → None ≡ Some x → P
 no_value x is = absurd (cc)
@@ -326,15 +328,17 @@ module _ (p : PureParts) (memory : MemoryName) (made : is_well_made p ≡ true) 
       let same : not (pointwise bytes_eq q.params (param_names s.params)) ≡ false = sym (ap (λ o. differs_from o s) there) ∙ (either_false (differs_from (find_proc p.procs s.name) s) _ fit).0 in
       (q, (ap (find_proc p.procs) (sym named) ∙ there, same_names q.params (param_names s.params) (isnt_false (pointwise bytes_eq q.params (param_names s.params)) same)))
 
-  pred_addable : (d : PurePredDef) (x : List ℕ) → find_pred p.preds x ≡ Some d → Each (Each (MayAdd memory)) d.cases
-  pred_addable d x found =
-      let (named, (i, at)) = pred_found p.preds x d found in
+  pred_at : (d : PurePredDef) (i : ℕ) → slice_get p.preds i ≡ Some d → Each (Each (MayAdd memory)) d.cases
+  pred_at d i at =
       let pred_made = all_at is_well_made_pred p.preds i d at parts_made.2 in
       let cases_made = (and_parts (are_program_names d.ins && are_program_names d.outs && are_logical d.logicals) (list_all is_well_made_assertion d.cases) pred_made).1 in
       let reads : pred_fault memory d ≡ None = sym (ap (option_and_then (pred_fault memory)) at) ∙ modes (Pred i) in
       let (there, taken) = pred_stands p (length p.procs + length p.specs + i) d i at refl in
       let right = (either_false (has_other_params p (a_pred d)) (some_misuses (predicates_of p) (pieces_of p (a_pred d))) (no_fault p valid Arity (length p.procs + length p.specs + i) (a_pred d) _ there taken)).1 in
       all_cases p valid memory d d.cases cases_made reads right
+
+  pred_addable : (d : PurePredDef) (x : List ℕ) → find_pred p.preds x ≡ Some d → Each (Each (MayAdd memory)) d.cases
+  pred_addable d x found = let (named, (i, at)) = pred_found p.preds x d found in pred_at d i at
 
   -- a use of a predicate of the program has its numbers of ins and outs
   use_fits : (u : PurePredUse) → misuses (predicates_of p) u ≡ false → (d : PurePredDef) → find_pred p.preds u.pred ≡ Some d → core_of u.pred ≡ None → (length u.ins ≡ length d.ins) × (length u.outs ≡ length d.outs)
@@ -375,5 +379,6 @@ programs_are_addable p memory made valid modes = record {
   procs = spec_proc p memory made valid modes;
   specs = spec_addable p memory made valid modes;
   preds = pred_addable p memory made valid modes;
+  cases = each_by_place (λ d. Each (Each (MayAdd memory)) d.cases) p.preds (λ i d at. pred_at p memory made valid modes d i at);
   commands = commands_addable p memory made valid modes;
 }

@@ -36,6 +36,7 @@ pub record IsAddable (p : PureParts) (memory : MemoryName) : Type 0 where
       → (q : PureProc) × ((find_proc p.procs f ≡ Some q) × (q.params ≡ param_names s.params))
   pub specs : (s : PureSpec) (f : List ℕ) → find_spec p.specs f ≡ Some s → IsAddableSpec memory s
   pub preds : (d : PurePredDef) (x : List ℕ) → find_pred p.preds x ≡ Some d → Each (Each (MayAdd memory)) d.cases
+  pub cases : Each (λ d. Each (Each (MayAdd memory)) d.cases) p.preds
   pub commands : (q : PureProc) (f : List ℕ) (i : ℕ) (c : PureNumberedCommand) → find_proc p.procs f ≡ Some q → slice_get q.body i ≡ Some c
       → IsAddableCommand p memory c.command
 

@@ -68,7 +68,7 @@ impl Shown {
 }
 
 /// What a step answers. Contracts see it as its pure data, by `next_view`.
-#[derive(Debug)]
+#[derive(Debug, Drop)]
 pub enum Next<M> {
     /// A path that goes on.
     Further(Checking<M>),
@@ -76,17 +76,6 @@ pub enum Next<M> {
     Over,
     /// The specification isn't verified.
     Caused(Cause),
-}
-
-// Written out, so that code which may drop an answer calls this, and isn't made longer by it.
-impl<M: Drop> Drop for Next<M> {
-    fn drop(self) {
-        match self {
-            Next::Further(_) => {}
-            Next::Over => {}
-            Next::Caused(_) => {}
-        }
-    }
 }
 
 /// The answers of a step, which contracts see as a list of pure data by `nexts_view`.

@@ -26,41 +26,22 @@ use sym_paths::Path;
 use sym_states::{PredChunks, SymState, SymStates, produce_items};
 
 /// A path at the first command of a procedure, with the facts that the precondition gives.
-#[derive(Debug)]
+#[derive(Debug, Drop)]
 pub struct Started<M> {
     pub path: Path<M>,
     pub preds: PredChunks,
-}
-
-// Written out, so that code which may drop one calls this, and isn't made longer by it.
-impl<M: Drop> Drop for Started<M> {
-    fn drop(self) {
-        let Started { path: _, preds: _ } = self;
-    }
 }
 
 pub type Starts<M> = Sequence<Started<M>>;
 
 /// All beginnings of a specification, over one table of variables, and the terms of the values with which it is entered: of its
 /// parameters in order, and of the variables that its precondition names. Contracts see them by `beginnings_view`.
-#[derive(Debug)]
+#[derive(Debug, Drop)]
 pub struct Beginnings<M> {
     pub vars: VarTable,
     pub args: Terms,
     pub variables: SymStore,
     pub starts: Starts<M>,
-}
-
-// Written out, as above.
-impl<M: Drop> Drop for Beginnings<M> {
-    fn drop(self) {
-        let Beginnings {
-            vars: _,
-            args: _,
-            variables: _,
-            starts: _,
-        } = self;
-    }
 }
 
 fn copy_table(alloc: Global, vars: &VarTable) -> Result<VarTable, AllocError>

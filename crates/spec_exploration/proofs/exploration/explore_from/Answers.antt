@@ -1,0 +1,60 @@
+use Rattle.std.proofs.Common.{◌≡◌, [], ◌∷◌, ◌++◌, None, map, rules, ap, subst, ◌∙◌}
+use Rattle.std.proofs.lemmas.List.{map-append}
+use Rattle.gil_program.specs.Program.{prog_view}
+use Rattle.checked_paths.specs.Meaning.{MayGoOn}
+use Rattle.checked_paths.specs.View.{checking_view, entry_view, nexts_view}
+use Rattle.spec_exploration.specs.Exploring.{AreTaken, exploration_view}
+use Rattle.spec_exploration.proofs.Taking.{starts_settle, starts_placed, settle_later, settled_runs, last_apart, if_none}
+use Rattle.spec_exploration.proofs.exploration.explore_from.Goals as goal
+
+pub loop-turn-init : goal.loop-turn-init
+loop-turn-init g c =
+    let M = g.M.SymMemory in
+    let L = g.M.Local.LocalMemory in
+    let e = entry_view c.args.spec.now c.args.entered.now in
+    let starts = nexts_view c.args.starts in
+    let first = exploration_view c.in_ok-exploration.exploration in
+    let none : record { left = map checking_view c.new.result.items; cause = None; uses = c.new-2.result } ≡ record { left = []; cause = None; uses = [] } =
+    λ i. record { left = map checking_view (c.new.ensures.items i); cause = None; uses = c.new-2.ensures i } in
+    let taken = subst (λ a. AreTaken a starts first) none c.in_ok-exploration.ensures in
+    record {
+      settles = starts_settle (prog_view c.args.prog.now) L.memory L.actions M.stands M.terms e c.args.bound starts first taken c.requires.placed;
+      placed = starts_placed (prog_view c.args.prog.now) L.memory L.actions M.stands M.terms e c.args.bound starts first taken c.requires.placed;
+    }
+
+pub returns-in_default : goal.returns-in_default
+returns-in_default g c =
+    let M = g.M.SymMemory in
+    let L = g.M.Local.LocalMemory in
+    let e = entry_view c.args.spec.now c.args.entered.now in
+    let none : c.loop-turn.exploration.left.items ≡ [] = search rules in
+    if_none c.loop-turn.exploration.found.cause _
+    (λ no_cause. settled_runs (prog_view c.args.prog.now) L.memory L.actions M.stands M.terms e c.args.bound (nexts_view c.args.starts) g.met.M.SymMemory.meaning c.requires.cover
+    (exploration_view c.loop-turn.exploration) (ap (map checking_view) none) no_cause c.loop-turn.invariant.settles)
+
+pub advance-requires-clause-may : goal.advance-requires-clause-may
+advance-requires-clause-may g c =
+    let e = entry_view c.args.spec.now c.args.entered.now in
+    let is = ap (map checking_view) c.in-Some.ensures.items ∙ map-append checking_view c.pop.new.self.items (c.in-Some.checking ∷ []) in
+    (last_apart (MayGoOn (prog_view c.args.prog.now) g.M.SymMemory.terms e) (map checking_view c.loop-turn.exploration.left.items) (map checking_view c.pop.new.self.items) (checking_view c.in-Some.checking) is c.loop-turn.invariant.placed).1
+
+pub advance-requires-clause-placed : goal.advance-requires-clause-placed
+advance-requires-clause-placed g c =
+    let e = entry_view c.args.spec.now c.args.entered.now in
+    let is = ap (map checking_view) c.in-Some.ensures.items ∙ map-append checking_view c.pop.new.self.items (c.in-Some.checking ∷ []) in
+    (last_apart (MayGoOn (prog_view c.args.prog.now) g.M.SymMemory.terms e) (map checking_view c.loop-turn.exploration.left.items) (map checking_view c.pop.new.self.items) (checking_view c.in-Some.checking) is c.loop-turn.invariant.placed).0
+
+pub loop-turn-preserved : goal.loop-turn-preserved
+loop-turn-preserved g c =
+    let M = g.M.SymMemory in
+    let L = g.M.Local.LocalMemory in
+    let e = entry_view c.args.spec.now c.args.entered.now in
+    let old = exploration_view c.loop-turn.exploration in
+    let x = checking_view c.in-Some.checking in
+    let is = ap (map checking_view) c.in-Some.ensures.items ∙ map-append checking_view c.pop.new.self.items (c.in-Some.checking ∷ []) in
+    let before = record old { left = map checking_view c.pop.new.self.items ++ x ∷ [] } in
+    record {
+      settles = settle_later (prog_view c.args.prog.now) L.memory L.actions M.stands M.terms e c.args.bound (nexts_view c.args.starts) old before (exploration_view c.in_ok-exploration-2.exploration)
+          (ap (λ xs. record old { left = xs }) is) c.in_ok-exploration-2.ensures.settled c.loop-turn.invariant.settles;
+      placed = c.in_ok-exploration-2.ensures.placed;
+    }

@@ -1,0 +1,68 @@
+use Rattle.std.proofs.Common.{◌≡◌, [], refl, sym, ap, subst, ◌∙◌, IsTrue, true}
+use Rattle.std.proofs.lemmas.Result.{IfOk-weaker}
+use Rattle.gil_program.specs.Program.{prog_view}
+use Rattle.gil_syntax.specs.Pure.{PureCommand, fold_use}
+use Rattle.gil_syntax.specs.View.{command_view, exprs_view, numbered_command_view}
+use Rattle.addable_programs.specs.Addable.{IsAddable, IsAddableCommand}
+use Rattle.addable_programs.proofs.AddableLaws.{programs_are_addable}
+use Rattle.sym_paths.specs.View.{frames_view}
+use Rattle.checked_rows.specs.Calling.{IsCall}
+use Rattle.checked_paths.specs.View.{checking_view, entry_view, nexts_view}
+use Rattle.spec_exploration.proofs.Steps.{addable_there, ins_spelled, outs_spelled, cause_alone}
+use Rattle.spec_exploration.proofs.stepping.step_at.Goals as goal
+
+pub step_machine-requires-clause-machine :
+    goal.step_machine-requires-clause-machine
+step_machine-requires-clause-machine g c = (numbered_command_view c.args.numbered.now, (c.requires.at, sym c.is_of_machine.ensures ∙ c.if-is_of_machine.true))
+
+pub returns-then-is_of_machine : goal.returns-then-is_of_machine
+returns-then-is_of_machine g c = IfOk-weaker c.step_machine.result _ _ (λ ns nexts. nexts (entry_view c.args.spec.now c.args.entered.now) c.requires.may) c.step_machine.ensures
+
+pub assert_row-requires-clause-may : goal.assert_row-requires-clause-may
+assert_row-requires-clause-may g c =
+    let p = prog_view c.args.prog.now in
+    let memory = g.M.Local.LocalMemory.memory in
+    subst (IsAddableCommand p memory) (ap command_view c.in-AssertThat.is)
+    (addable_there p memory (programs_are_addable p memory c.args.prog.now.well_made c.args.prog.now.valid c.requires.modes) (frames_view c.args.checking.path.stack) (numbered_command_view c.args.numbered.now) c.requires.at)
+
+pub assert_row-requires-clause-cases : goal.assert_row-requires-clause-cases
+assert_row-requires-clause-cases g c =
+    let p = prog_view c.args.prog.now in
+    (programs_are_addable p g.M.Local.LocalMemory.memory c.args.prog.now.well_made c.args.prog.now.valid c.requires.modes).cases
+
+pub returns-in-AssertThat : goal.returns-in-AssertThat
+returns-in-AssertThat g c =
+    IfOk-weaker c.assert_row.result _ _ (λ ns row. row (numbered_command_view c.args.numbered.now) c.requires.may c.requires.at (ap command_view c.in-AssertThat.is)) c.assert_row.ensures
+
+pub fold_row-requires-clause-ins : goal.fold_row-requires-clause-ins
+fold_row-requires-clause-ins g c =
+    let p = prog_view c.args.prog.now in
+    let memory = g.M.Local.LocalMemory.memory in
+    let used = subst (IsAddableCommand p memory) (ap command_view c.in-Fold.is)
+    (addable_there p memory (programs_are_addable p memory c.args.prog.now.well_made c.args.prog.now.valid c.requires.modes) (frames_view c.args.checking.path.stack) (numbered_command_view c.args.numbered.now) c.requires.at) in
+    ins_spelled (exprs_view c.in-Fold.used.ins) (exprs_view c.in-Fold.used.outs) used.0
+
+pub fold_row-requires-clause-outs : goal.fold_row-requires-clause-outs
+fold_row-requires-clause-outs g c =
+    let p = prog_view c.args.prog.now in
+    let memory = g.M.Local.LocalMemory.memory in
+    let used = subst (IsAddableCommand p memory) (ap command_view c.in-Fold.is)
+    (addable_there p memory (programs_are_addable p memory c.args.prog.now.well_made c.args.prog.now.valid c.requires.modes) (frames_view c.args.checking.path.stack) (numbered_command_view c.args.numbered.now) c.requires.at) in
+    outs_spelled (exprs_view c.in-Fold.used.ins) (exprs_view c.in-Fold.used.outs) used.0
+
+pub fold_row-requires-clause-cases : goal.fold_row-requires-clause-cases
+fold_row-requires-clause-cases g c =
+    let p = prog_view c.args.prog.now in
+    (programs_are_addable p g.M.Local.LocalMemory.memory c.args.prog.now.well_made c.args.prog.now.valid c.requires.modes).cases
+
+pub returns-in-Fold : goal.returns-in-Fold
+returns-in-Fold g c =
+    IfOk-weaker c.fold_row.result _ _ (λ ns row. row (numbered_command_view c.args.numbered.now) c.requires.may c.requires.at (ap command_view c.in-Fold.is)) c.fold_row.ensures
+
+pub returns-then-is_leaving : goal.returns-then-is_leaving
+returns-then-is_leaving g c =
+    IfOk-weaker c.leave.result _ _ (λ ns row. row (numbered_command_view c.args.numbered.now).command (c.is_leaving.ensures c.if-is_leaving.true) (numbered_command_view c.args.numbered.now) c.requires.may c.requires.at refl) c.leave.ensures
+
+pub returns-in-Call : goal.returns-in-Call
+returns-in-Call g c =
+    IfOk-weaker c.call_row.result _ _ (λ ns row. row (entry_view c.args.spec.now c.args.entered.now) (numbered_command_view c.args.numbered.now).command (subst IsCall (sym (ap command_view c.in-Call.is)) tt) (numbered_command_view c.args.numbered.now) c.requires.may c.requires.at refl) c.call_row.ensures

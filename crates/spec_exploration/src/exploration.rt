@@ -1,0 +1,292 @@
+//! Steps of checked paths until each has an end, or as many as the bound were done.
+ghost use Rattle.std.specs.Prelude.{◌≡◌, ◌≤◌, ◌∷◌, ◌++◌, [], Some, IfOk, IfNone};
+ghost use Rattle.std.specs.Option.{IsSome};
+ghost use Rattle.assert_logic.specs.Modes.{HasModes};
+ghost use Rattle.checked_paths.specs.Accounting.{CoversStarts};
+ghost use Rattle.checked_paths.specs.Meaning.{MayGoOn};
+ghost use Rattle.checked_paths.specs.Pure.{further, caused};
+ghost use Rattle.checked_paths.specs.View.{checking_view, entry_view, next_view, nexts_view};
+ghost use Rattle.checked_runs.specs.Checked.{HasNoFault, UsesOnly};
+ghost use Rattle.gil_program.specs.Program.{prog_view};
+ghost use Rattle.gil_syntax.specs.Programs.{find_spec};
+ghost use Rattle.gil_syntax.specs.Valid.{is_among};
+ghost use Rattle.gil_syntax.specs.View.{spec_view};
+ghost use Rattle.spec_exploration.specs.Exploring.{AreTaken, IsSettledBy, ArePlaced, StartPlaced, exploration_view};
+ghost use Rattle.sym_model.specs.Lists.{Each};
+
+use crate::beginning::starts_of;
+use crate::stepping::check_step;
+use checked_paths::{Cause, Checking, Entered, FaultKind, Next, Nexts, Shown, Stepped};
+use gil_program::Prog;
+use gil_syntax::{Spec, Texts};
+use gil_values::Place;
+use pure_terms::Decider;
+use rewrite_book::RuleBook;
+use sequence::Sequence;
+use std::alloc::{AllocError, Global};
+use sym_beginning::{Beginnings, begin_specification};
+use sym_model::ListedMemory;
+use sym_paths::{Path, running};
+
+/// What an exploration found: the first cause in the order of their kinds, if there is one; and the names of the specifications that
+/// were used.
+#[derive(Debug, Drop)]
+pub struct Explored {
+    pub cause: Option<Cause>,
+    pub uses: Texts,
+}
+
+/// Paths that are left to be explored, the next one last, and what was found so far.
+#[derive(Debug, Drop)]
+pub(crate) struct Exploration<M> {
+    left: Vec<Checking<M>>,
+    found: Explored,
+}
+
+/// The place of a cause among the kinds of causes.
+fn rank(cause: &Cause) -> u8 {
+    match cause {
+        Cause::Fails(_, _) => 0,
+        Cause::Fault(FaultKind::Missing, _) => 1,
+        Cause::Fault(FaultKind::Post, _) => 2,
+        Cause::Fault(FaultKind::Invariant, _) => 3,
+        Cause::Fault(FaultKind::CallPrecondition, _) => 4,
+        Cause::Fault(FaultKind::FoldBody, _) => 5,
+        Cause::Cut(_) => 6,
+        Cause::Unknown(_, _) => 7,
+    }
+}
+
+/// The one that is named of two causes: that of the lower rank, and else the first.
+fn named(old: Option<Cause>, new: Cause) -> Option<Cause>
+    ensures { IsSome result }
+{
+    match old {
+        Some(cause) => {
+            if rank(&cause) <= rank(&new) {
+                Some(cause)
+            } else {
+                Some(new)
+            }
+        }
+        None => Some(new),
+    }
+}
+
+/// The names with others behind them.
+fn with_names(names: Texts, more: Texts) -> Result<Texts, AllocError>
+    ensures { IfOk result (λ all. all ≡ names ++ more) }
+{
+    let mut all = names;
+    for name in more.into_vec() {
+        all.push(name)?;
+    }
+    Ok(all)
+}
+
+/// The exploration with one path more.
+fn with_path<M: ListedMemory>(
+    exploration: Exploration<M>,
+    checking: Checking<M>,
+) -> Result<Exploration<M>, AllocError>
+    ensures { IfOk result (λ after. exploration_view after
+        ≡ record (exploration_view exploration) { left = (exploration_view exploration).left ++ checking_view checking ∷ [] }) }
+{
+    let mut exploration = exploration;
+    exploration.left.push(checking)?;
+    Ok(exploration)
+}
+
+/// The exploration in which a cause was found.
+fn with_cause<M: ListedMemory>(exploration: Exploration<M>, cause: Cause) -> Exploration<M>
+    ensures left { (exploration_view result).left ≡ (exploration_view exploration).left }
+    ensures cause { IsSome (exploration_view result).cause }
+    ensures uses { (exploration_view result).uses ≡ (exploration_view exploration).uses }
+{
+    let Exploration { left, found } = exploration;
+    let Explored { cause: old, uses } = found;
+    Exploration {
+        left,
+        found: Explored {
+            cause: named(old, cause),
+            uses,
+        },
+    }
+}
+
+/// The exploration in which specifications of these names were used besides.
+fn with_uses<M: ListedMemory>(
+    exploration: Exploration<M>,
+    more: Texts,
+) -> Result<Exploration<M>, AllocError>
+    ensures { IfOk result (λ after. exploration_view after
+        ≡ record (exploration_view exploration) { uses = (exploration_view exploration).uses ++ more }) }
+{
+    let Exploration { left, found } = exploration;
+    let Explored { cause, uses } = found;
+    let uses = with_names(uses, more)?;
+    Ok(Exploration {
+        left,
+        found: Explored { cause, uses },
+    })
+}
+
+/// The exploration with one answer more.
+fn take_one<M: ListedMemory>(
+    exploration: Exploration<M>,
+    next: Next<M>,
+) -> Result<Exploration<M>, AllocError>
+    ensures { IfOk result (λ after. AreTaken (exploration_view exploration) (next_view next ∷ []) (exploration_view after)) }
+{
+    match next {
+        Next::Further(checking) => with_path(exploration, checking),
+        Next::Over => Ok(exploration),
+        Next::Caused(cause) => Ok(with_cause(exploration, cause)),
+    }
+}
+
+/// The exploration with all answers of a step.
+fn take<M: ListedMemory>(
+    exploration: Exploration<M>,
+    nexts: Nexts<M>,
+) -> Result<Exploration<M>, AllocError>
+    ensures { IfOk result (λ after. AreTaken (exploration_view exploration) (nexts_view nexts) (exploration_view after)) }
+{
+    let mut exploration = exploration;
+    for next in nexts.into_vec() {
+        exploration = take_one(exploration, next)?;
+    }
+    Ok(exploration)
+}
+
+/// The place of the command at which a path stands.
+fn place_of<M: ListedMemory>(
+    alloc: Global,
+    prog: &Prog,
+    path: &Path<M>,
+) -> Result<Place, AllocError> {
+    let Some(frame) = running(&path.stack) else {
+        return Err(AllocError);
+    };
+    let Some(proc) = prog.proc(&frame.proc) else {
+        return Err(AllocError);
+    };
+    let Some(numbered) = proc.body.as_slice().get(frame.next) else {
+        return Err(AllocError);
+    };
+    Ok(Place {
+        proc: frame.proc.copy(alloc)?,
+        at: numbered.at,
+    })
+}
+
+/// The exploration after the next step of a path, which is cut where it has done as many as the bound.
+fn advance<M: ListedMemory, D: Decider>(
+    alloc: Global,
+    prog: &Prog,
+    rules: &RuleBook,
+    spec: &Spec,
+    entered: &Entered,
+    bound: u32,
+    exploration: Exploration<M>,
+    checking: Checking<M>,
+    decider: &mut D,
+) -> Result<Exploration<M>, AllocError>
+    requires bounded { bound ≤ 10000 }
+    requires found { find_spec (prog_view prog.now).specs (spec_view spec.now).name ≡ Some (spec_view spec.now) }
+    requires modes { HasModes (prog_view prog.now) M.Local.memory }
+    requires may { MayGoOn (prog_view prog.now) M.terms (entry_view spec.now entered.now) (checking_view checking) }
+    requires placed { ArePlaced (prog_view prog.now) M.terms (entry_view spec.now entered.now) (exploration_view exploration) }
+    ensures settled { IfOk result (λ after. IsSettledBy (prog_view prog.now) M.Local.memory M.Local.actions M.stands
+        (entry_view spec.now entered.now) bound (record (exploration_view exploration) { left = (exploration_view exploration).left ++ checking_view checking ∷ [] })
+        (exploration_view after)) }
+    ensures placed { IfOk result (λ after. ArePlaced (prog_view prog.now) M.terms (entry_view spec.now entered.now) (exploration_view after)) }
+{
+    if checking.path.steps >= bound {
+        let place = place_of(alloc, prog, &checking.path)?;
+        let shown = Shown::of(alloc, &place, &checking.path)?;
+        return take_one(exploration, Next::Caused(Cause::Cut(shown)));
+    }
+    let stepped = check_step(alloc, prog, rules, spec, entered, checking, decider)?;
+    let Stepped { nexts, uses } = stepped;
+    let exploration = with_uses(exploration, uses)?;
+    take(exploration, nexts)
+}
+
+/// Does steps of the paths of a specification until nothing is left of them, from starts that cover those of its checked runs. After
+/// 2^64 - 1 steps it answers want of memory.
+pub fn explore_from<M: ListedMemory, D: Decider>(
+    alloc: Global,
+    prog: &Prog,
+    rules: &RuleBook,
+    spec: &Spec,
+    entered: &Entered,
+    starts: Nexts<M>,
+    bound: u32,
+    decider: &mut D,
+) -> Result<Explored, AllocError>
+    requires bounded { bound ≤ 10000 }
+    requires found { find_spec (prog_view prog.now).specs (spec_view spec.now).name ≡ Some (spec_view spec.now) }
+    requires modes { HasModes (prog_view prog.now) M.Local.memory }
+    requires cover { CoversStarts (prog_view prog.now) M.Local.memory M.Local.actions M.stands (entry_view spec.now entered.now)
+        (nexts_view starts) }
+    requires placed { Each (StartPlaced (prog_view prog.now) M.terms (entry_view spec.now entered.now)) (nexts_view starts) }
+    ensures { IfOk result (λ explored. IfNone explored.cause (HasNoFault (prog_view prog.now) M.Local.memory M.Local.actions (spec_view spec.now)
+        × UsesOnly (prog_view prog.now) M.Local.memory M.Local.actions (is_among explored.uses) (spec_view spec.now))) }
+{
+    let mut exploration = Exploration {
+        left: Vec::new(alloc),
+        found: Explored {
+            cause: None,
+            uses: Sequence::new(alloc),
+        },
+    };
+    exploration = take(exploration, starts)?;
+    for _turn in 0..u64::MAX {
+        let Some(checking) = exploration.left.pop() else {
+            return Ok(exploration.found);
+        };
+        exploration = advance(
+            alloc,
+            prog,
+            rules,
+            spec,
+            entered,
+            bound,
+            exploration,
+            checking,
+            decider,
+        )?;
+    }
+    Err(AllocError)
+}
+
+/// Explores the checked paths of a specification within a bound of steps.
+pub fn explore_specification<M: ListedMemory, D: Decider>(
+    alloc: Global,
+    prog: &Prog,
+    rules: &RuleBook,
+    spec: &Spec,
+    bound: u32,
+    decider: &mut D,
+) -> Result<Explored, AllocError>
+    requires bounded { bound ≤ 10000 }
+    requires found { find_spec (prog_view prog.now).specs (spec_view spec.now).name ≡ Some (spec_view spec.now) }
+    requires modes { HasModes (prog_view prog.now) M.Local.memory }
+    ensures { IfOk result (λ explored. IfNone explored.cause (HasNoFault (prog_view prog.now) M.Local.memory M.Local.actions (spec_view spec.now)
+        × UsesOnly (prog_view prog.now) M.Local.memory M.Local.actions (is_among explored.uses) (spec_view spec.now))) }
+{
+    let Beginnings {
+        vars: _,
+        args,
+        variables,
+        starts,
+    } = begin_specification::<M>(alloc, prog, spec)?;
+    let entered = Entered { args, variables };
+    let here = Place {
+        proc: spec.name.copy(alloc)?,
+        at: 0,
+    };
+    let starts = starts_of(alloc, &here, starts)?;
+    explore_from(alloc, prog, rules, spec, &entered, starts, bound, decider)
+}

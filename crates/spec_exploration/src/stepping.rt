@@ -1,0 +1,184 @@
+//! A step of a checked path.
+ghost use Rattle.std.specs.Prelude.{◌≡◌, ◌<◌, [], Some, IfOk, IsTrue};
+ghost use Rattle.assert_logic.specs.Modes.{HasModes};
+ghost use Rattle.checked_paths.specs.Covering.{AreNexts};
+ghost use Rattle.checked_paths.specs.Following.{is_of_machine as is_machine_command};
+ghost use Rattle.checked_paths.specs.Meaning.{MayGoOn};
+ghost use Rattle.checked_paths.specs.View.{checking_view, entry_view, nexts_view};
+ghost use Rattle.checked_rows.specs.Ending.{IsLeaving};
+ghost use Rattle.checked_rows.specs.Rows.{AreRowOf, IsCauseAlone};
+ghost use Rattle.gil_program.specs.Program.{prog_view};
+ghost use Rattle.gil_syntax.specs.Programs.{find_spec};
+ghost use Rattle.gil_syntax.specs.Pure.{PureCommand};
+ghost use Rattle.gil_syntax.specs.View.{command_view, numbered_command_view, spec_view};
+ghost use Rattle.sym_engine.specs.Lawful.{MayAdvance};
+ghost use Rattle.sym_paths.specs.Meaning.{command_of_path};
+ghost use Rattle.sym_paths.specs.View.{frames_view, path_view};
+ghost use Rattle.sym_step.specs.Stepping.{most_steps};
+
+use crate::finding::{command_of, place_of};
+use checked_paths::{
+    Cause, Checking, Entered, FaultKind, Next, Nexts, Shown, Stepped, step_machine,
+};
+use checked_rows::{assert_row, call_row, end_row, fold_row};
+use gil_program::Prog;
+use gil_syntax::{Command, NumberedCommand, Spec};
+use gil_values::Place;
+use pure_terms::Decider;
+use rewrite_book::RuleBook;
+use sequence::Sequence;
+use std::alloc::{AllocError, Global};
+use sym_model::ListedMemory;
+
+/// Whether a command is one of the machine and no call.
+fn is_of_machine(command: &Command) -> bool
+    ensures { result ≡ is_machine_command (command_view command.now) }
+{
+    match command {
+        Command::Assign(_, _)
+        | Command::Act(_, _, _)
+        | Command::Usym(_)
+        | Command::Isym(_, _)
+        | Command::IfGoto(_, _)
+        | Command::Return(_)
+        | Command::Fail(_)
+        | Command::Throw(_)
+        | Command::Vanish => true,
+        Command::Call(_, _, _, _)
+        | Command::Fold(_)
+        | Command::Unfold(_)
+        | Command::AssertThat(_)
+        | Command::LoopInvariant(_, _, _) => false,
+    }
+}
+
+/// The answer that a command of this kind isn't followed.
+fn give_up<M: ListedMemory>(
+    alloc: Global,
+    kind: FaultKind,
+    here: &Place,
+    checking: Checking<M>,
+) -> Result<Nexts<M>, AllocError>
+    ensures { IfOk result (λ ns. IsCauseAlone (nexts_view ns)) }
+{
+    let shown = Shown::of(alloc, here, &checking.path)?;
+    let mut nexts = Sequence::new(alloc);
+    nexts.push(Next::Caused(Cause::Fault(kind, shown)))?;
+    Ok(nexts)
+}
+
+/// Whether a command is a return or a throw.
+fn is_leaving(command: &Command) -> bool
+    ensures { IsTrue result → IsLeaving (command_view command.now) }
+{
+    match command {
+        Command::Return(_) | Command::Throw(_) => true,
+        Command::Assign(_, _)
+        | Command::Act(_, _, _)
+        | Command::Usym(_)
+        | Command::Isym(_, _)
+        | Command::IfGoto(_, _)
+        | Command::Fail(_)
+        | Command::Vanish
+        | Command::Call(_, _, _, _)
+        | Command::Fold(_)
+        | Command::Unfold(_)
+        | Command::AssertThat(_)
+        | Command::LoopInvariant(_, _, _) => false,
+    }
+}
+
+/// The answers of a checked path at a return or a throw.
+fn leave<M: ListedMemory, D: Decider>(
+    alloc: Global,
+    prog: &Prog,
+    rules: &RuleBook,
+    spec: &Spec,
+    entered: &Entered,
+    checking: Checking<M>,
+    here: &Place,
+    decider: &mut D,
+) -> Result<Nexts<M>, AllocError>
+    requires found { find_spec (prog_view prog.now).specs (spec_view spec.now).name ≡ Some (spec_view spec.now) }
+    requires modes { HasModes (prog_view prog.now) M.Local.memory }
+    requires may { MayGoOn (prog_view prog.now) M.terms (entry_view spec.now entered.now) (checking_view checking) }
+    requires early { checking.path.steps < most_steps }
+    ensures { IfOk result (λ ns. (command : PureCommand) → IsLeaving command → AreRowOf (prog_view prog.now) M.Local.memory M.Local.actions
+        M.stands M.terms (entry_view spec.now entered.now) (checking_view checking) command [] (nexts_view ns)) }
+{
+    let Some(proc) = prog.proc(&spec.name) else {
+        return give_up(alloc, FaultKind::Post, here, checking);
+    };
+    if entered.args.len() != proc.params.len() {
+        return give_up(alloc, FaultKind::Post, here, checking);
+    }
+    end_row(
+        alloc, prog, rules, spec, entered, proc, checking, here, decider,
+    )
+}
+
+/// The answers of a checked path at a command.
+fn step_at<M: ListedMemory, D: Decider>(
+    alloc: Global,
+    prog: &Prog,
+    rules: &RuleBook,
+    spec: &Spec,
+    entered: &Entered,
+    checking: Checking<M>,
+    numbered: &NumberedCommand,
+    decider: &mut D,
+) -> Result<Nexts<M>, AllocError>
+    requires found { find_spec (prog_view prog.now).specs (spec_view spec.now).name ≡ Some (spec_view spec.now) }
+    requires modes { HasModes (prog_view prog.now) M.Local.memory }
+    requires may { MayGoOn (prog_view prog.now) M.terms (entry_view spec.now entered.now) (checking_view checking) }
+    requires early { checking.path.steps < most_steps }
+    requires at { command_of_path (prog_view prog.now) (path_view checking.path) ≡ Some (numbered_command_view numbered.now) }
+    requires next { MayAdvance (frames_view checking.path.stack) }
+    ensures { IfOk result (λ ns. AreNexts (prog_view prog.now) M.Local.memory M.Local.actions M.stands M.terms (entry_view spec.now entered.now)
+        (checking_view checking) [] (nexts_view ns)) }
+{
+    let here = place_of(alloc, &checking.path.stack, numbered)?;
+    if is_leaving(&numbered.command) {
+        return leave(alloc, prog, rules, spec, entered, checking, &here, decider);
+    }
+    if is_of_machine(&numbered.command) {
+        return step_machine(alloc, prog, rules, checking, &here, decider);
+    }
+    match &numbered.command {
+        Command::AssertThat(items) => assert_row(
+            alloc, prog, spec, entered, checking, &here, items, decider,
+        ),
+        Command::Fold(used) => fold_row(alloc, prog, spec, entered, checking, &here, used, decider),
+        Command::LoopInvariant(_, _, _) => { give_up(alloc, FaultKind::Invariant, &here, checking) }
+        Command::Call(_, _, _, _) => call_row(alloc, prog, rules, checking, &here, decider),
+        _ => give_up(alloc, FaultKind::FoldBody, &here, checking),
+    }
+}
+
+/// What is answered of a step of a checked path of a specification.
+pub(crate) fn check_step<M: ListedMemory, D: Decider>(
+    alloc: Global,
+    prog: &Prog,
+    rules: &RuleBook,
+    spec: &Spec,
+    entered: &Entered,
+    checking: Checking<M>,
+    decider: &mut D,
+) -> Result<Stepped<M>, AllocError>
+    requires found { find_spec (prog_view prog.now).specs (spec_view spec.now).name ≡ Some (spec_view spec.now) }
+    requires modes { HasModes (prog_view prog.now) M.Local.memory }
+    requires may { MayGoOn (prog_view prog.now) M.terms (entry_view spec.now entered.now) (checking_view checking) }
+    requires early { checking.path.steps < most_steps }
+    ensures { IfOk result (λ s. AreNexts (prog_view prog.now) M.Local.memory M.Local.actions M.stands M.terms (entry_view spec.now entered.now)
+        (checking_view checking) s.uses (nexts_view s.nexts)) }
+{
+    let numbered = match command_of(prog, &checking.path.stack) {
+        Some(numbered) => numbered,
+        None => unreachable!(),
+    };
+    let nexts = step_at(
+        alloc, prog, rules, spec, entered, checking, numbered, decider,
+    )?;
+    let uses = Sequence::new(alloc);
+    Ok(Stepped { nexts, uses })
+}
