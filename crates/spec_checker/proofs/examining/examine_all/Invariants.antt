@@ -1,0 +1,7 @@
+use Rattle.gil_program.specs.Program.{prog_view}
+use Rattle.spec_checker.proofs.Examined.{ExaminedUntil}
+use Rattle.spec_checker.proofs.examining.examine_all.Given as goal
+
+abbrev pub invariant-loop-place : goal.invariant-loop-place
+invariant-loop-place g l =
+    ExaminedUntil (prog_view l.prog) g.M.Local.LocalMemory.memory g.M.Local.LocalMemory.actions (prog_view l.prog).specs l.place l.examined

@@ -1,0 +1,33 @@
+//! The check of a program's specifications.
+ghost use Rattle.std.specs.Prelude.{◌≤◌, IfOk};
+ghost use Rattle.assert_logic.specs.Modes.{HasModes};
+ghost use Rattle.gil_program.specs.Program.{prog_view};
+ghost use Rattle.spec_answers.specs.Holding.{AreTrue};
+ghost use Rattle.spec_checker.specs.Answers.{AnswerEach};
+
+use crate::examining::examine_all;
+use checked_paths::Cause;
+use gil_program::Prog;
+use rewrite_book::RuleBook;
+use solver_proof::Refuter;
+use spec_answers::{SpecAnswers, answer_specifications};
+use std::alloc::{AllocError, Global};
+use sym_model::ListedMemory;
+
+/// One answer for each specification of a program, in order. Each that is answered verified or vacuous holds, and uses only such
+/// ones.
+pub fn check<M: ListedMemory, D: Refuter>(
+    alloc: Global,
+    prog: &Prog,
+    rules: &RuleBook,
+    bound: u32,
+    decider: &mut D,
+) -> Result<SpecAnswers<Cause>, AllocError>
+    requires bounded { bound ≤ 10000 }
+    requires modes { HasModes (prog_view prog.now) M.Local.memory }
+    ensures answers { IfOk result (AnswerEach (prog_view prog.now).specs) }
+    ensures hold { IfOk result (AreTrue (prog_view prog.now) M.Local.memory M.Local.actions) }
+{
+    let examined = examine_all::<M, D>(alloc, prog, rules, bound, decider)?;
+    answer_specifications(alloc, examined)
+}
