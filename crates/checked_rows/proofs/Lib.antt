@@ -9,3 +9,5 @@ pub mod ReadLaws
 pub mod RowLaws
 pub mod StateLaws
 pub mod StepLaws
+pub mod BelowLaws
+pub mod UnfoldLaws

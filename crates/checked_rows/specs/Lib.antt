@@ -7,3 +7,4 @@ pub mod Reading
 pub mod Rows
 pub mod States
 pub mod View
+pub mod Unfolding

@@ -10,8 +10,10 @@ mod names;
 mod nexts;
 mod reading;
 mod states;
+mod unfolding;
 
 pub use asserting::assert_row;
 pub use calling::call_row;
 pub use ending::end_row;
 pub use folding::fold_row;
+pub use unfolding::unfold_row;

@@ -1,0 +1,74 @@
+use Rattle.std.proofs.Common.{◌≡◌, [], sym, subst}
+use Rattle.gil_program.specs.Program.{prog_view}
+use Rattle.gil_syntax.specs.Pure.{unfold_use}
+use Rattle.gil_syntax.specs.View.{exprs_view, pred_def_view, pred_use_view}
+use Rattle.pure_terms.specs.View.{terms_view}
+use Rattle.sym_evaluation.specs.Meaning.{IsStoreOver}
+use Rattle.sym_evaluation.specs.View.{store_view}
+use Rattle.sym_states.proofs.Values.{ok_to}
+use Rattle.sym_states.specs.View.{state_view}
+use Rattle.checked_paths.specs.View.{checking_view, entry_view, nexts_view}
+use Rattle.checked_rows.specs.Unfolding.{UnfoldsOuts}
+use Rattle.checked_rows.specs.Reading.{Reads}
+use Rattle.checked_rows.specs.Rows.{AreRowOf}
+use Rattle.checked_rows.specs.View.{reading_view}
+use Rattle.checked_rows.proofs.FoldLaws.{read_vars}
+use Rattle.checked_rows.proofs.UnfoldLaws.{never_unfolds, serves_before, unfold_covers}
+use Rattle.checked_rows.proofs.MatchLaws.{names_over, over_there}
+use Rattle.checked_rows.proofs.unfolding.unfold_own.Goals as goal
+
+pub read_all-requires-clause-over : goal.read_all-requires-clause-over
+read_all-requires-clause-over g c =
+    over_there g.M.SymMemory.stands g.M.SymMemory.terms g.M.SymMemory.kept (entry_view c.args.spec.now c.args.entered.now) (checking_view c.args.checking) (state_view c.in_ok-state.state) (store_view c.in_ok-names.names) c.requires.over c.in_ok-state.ensures c.in_ok-names.ensures
+
+pub read_all-requires-clause-store_over : goal.read_all-requires-clause-store_over
+read_all-requires-clause-store_over g c =
+    names_over g.M.SymMemory.stands g.M.SymMemory.terms g.M.SymMemory.kept (entry_view c.args.spec.now c.args.entered.now) (checking_view c.args.checking) (state_view c.in_ok-state.state) (store_view c.in_ok-names.names) c.requires.over c.in_ok-state.ensures c.in_ok-names.ensures
+
+pub unfold_outs-requires-clause-store_over : goal.unfold_outs-requires-clause-store_over
+unfold_outs-requires-clause-store_over g c =
+    let stands = g.M.SymMemory.stands in
+    let terms = g.M.SymMemory.terms in
+    let s = state_view c.in_ok-state.state in
+    let bs = store_view c.in_ok-names.names in
+    let es = exprs_view c.args.used.now.ins in
+    let read = subst (λ r. Reads stands terms s bs es (reading_view r)) c.in-Values.is c.in_ok-state-2.ensures in
+    subst (λ vars. IsStoreOver vars bs) (sym (read_vars stands terms s (state_view c.in-Values.state) bs es (terms_view c.in-Values.ins) read))
+    (names_over stands terms g.M.SymMemory.kept (entry_view c.args.spec.now c.args.entered.now) (checking_view c.args.checking) s bs c.requires.over c.in_ok-state.ensures c.in_ok-names.ensures)
+
+pub returns-in-Values : goal.returns-in-Values
+returns-in-Values g c =
+    let stands = g.M.SymMemory.stands in
+    let terms = g.M.SymMemory.terms in
+    let kept = g.M.SymMemory.kept in
+    let p = prog_view c.args.prog.now in
+    let memory = g.M.Local.LocalMemory.memory in
+    let m = g.M.Local.LocalMemory.actions in
+    let e = entry_view c.args.spec.now c.args.entered.now in
+    let x = checking_view c.args.checking in
+    let s = state_view c.in_ok-state.state in
+    let bs = store_view c.in_ok-names.names in
+    let u = pred_use_view c.args.used.now in
+    let r = state_view c.in-Values.state in
+    let ins = terms_view c.in-Values.ins in
+    let read = subst (λ k. Reads stands terms s bs u.ins (reading_view k)) c.in-Values.is c.in_ok-state-2.ensures in
+    ok_to c.unfold_outs.result (λ ns. UnfoldsOuts memory stands terms kept (pred_def_view c.args.pred.now) x bs u r ins (nexts_view ns)) (λ ns. AreRowOf p memory m stands terms e x (unfold_use u) [] (nexts_view ns))
+    (λ ns folds. unfold_covers p memory m stands terms g.met.M.SymMemory.meaning kept e x u c.requires.user (pred_def_view c.args.pred.now) c.requires.found c.args.prog.now.well_made c.requires.modes s bs c.in_ok-state.ensures c.in_ok-names.ensures c.args.prog.now.valid r ins read (nexts_view ns) folds) c.unfold_outs.ensures
+
+pub returns-in-Never : goal.returns-in-Never
+returns-in-Never g c =
+    let stands = g.M.SymMemory.stands in
+    let terms = g.M.SymMemory.terms in
+    let kept = g.M.SymMemory.kept in
+    let p = prog_view c.args.prog.now in
+    let memory = g.M.Local.LocalMemory.memory in
+    let m = g.M.Local.LocalMemory.actions in
+    let e = entry_view c.args.spec.now c.args.entered.now in
+    let x = checking_view c.args.checking in
+    let s = state_view c.in_ok-state.state in
+    let bs = store_view c.in_ok-names.names in
+    let u = pred_use_view c.args.used.now in
+    let never = subst (λ k. Reads stands terms s bs u.ins (reading_view k)) c.in-Never.is c.in_ok-state-2.ensures in
+    ok_to c.nothing.result (λ ns. nexts_view ns ≡ []) (λ ns. AreRowOf p memory m stands terms e x (unfold_use u) [] (nexts_view ns))
+    (λ ns none. subst (AreRowOf p memory m stands terms e x (unfold_use u) []) (sym none) (never_unfolds p memory m stands terms g.met.M.SymMemory.meaning kept e x u c.requires.user (pred_def_view c.args.pred.now) c.requires.found c.args.prog.now.well_made c.requires.modes s bs c.in_ok-state.ensures c.in_ok-names.ensures s
+    (serves_before p memory m stands terms g.met.M.SymMemory.meaning kept e x u c.requires.user (pred_def_view c.args.pred.now) c.requires.found c.args.prog.now.well_made c.requires.modes s bs c.in_ok-state.ensures c.in_ok-names.ensures) never)) c.nothing.ensures
