@@ -20,7 +20,7 @@ use crate::finding::{command_of, place_of};
 use checked_paths::{
     Cause, Checking, Entered, FaultKind, Next, Nexts, Shown, Stepped, step_machine,
 };
-use checked_rows::{assert_row, call_row, end_row, fold_row};
+use checked_rows::{assert_row, call_row, end_row, fold_row, unfold_row};
 use gil_program::Prog;
 use gil_syntax::{Command, NumberedCommand, Spec};
 use gil_values::Place;
@@ -149,6 +149,9 @@ fn step_at<M: ListedMemory, D: Decider>(
             alloc, prog, spec, entered, checking, &here, items, decider,
         ),
         Command::Fold(used) => fold_row(alloc, prog, spec, entered, checking, &here, used, decider),
+        Command::Unfold(used) => unfold_row(
+            alloc, prog, spec, entered, checking, &here, used, decider,
+        ),
         Command::LoopInvariant(_, _, _) => { give_up(alloc, FaultKind::Invariant, &here, checking) }
         Command::Call(_, _, _, _) => call_row(alloc, prog, rules, checking, &here, decider),
         _ => give_up(alloc, FaultKind::FoldBody, &here, checking),

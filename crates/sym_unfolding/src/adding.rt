@@ -21,20 +21,10 @@ use sym_naming::{Named, names_in, with_variables};
 use sym_states::{SymState, SymStates, produce_items};
 
 /// A state with a case of a predicate in place of a fact, and the number of the case.
-#[derive(Debug)]
+#[derive(Debug, Drop)]
 pub struct UnfoldedCase<M> {
     pub number: usize,
     pub state: SymState<M>,
-}
-
-// Written out, so that code which may drop one calls this, and isn't made longer by it.
-impl<M: Drop> Drop for UnfoldedCase<M> {
-    fn drop(self) {
-        let UnfoldedCase {
-            number: _,
-            state: _,
-        } = self;
-    }
 }
 
 pub type UnfoldedCases<M> = Sequence<UnfoldedCase<M>>;

@@ -30,7 +30,7 @@ use sym_model::{ListedMemory, PathCond};
 use sym_states::SymState;
 
 /// What unfolding comes to. Contracts see it as its pure data, by `unfolding_view`.
-#[derive(Debug)]
+#[derive(Debug, Drop)]
 pub enum Unfolding<M> {
     /// There is such a fact, and these states are there in its place.
     Unfolded(UnfoldedCases<M>),
@@ -75,20 +75,6 @@ fn ask_of<D: Decider>(
         Satisfiability::Unsatisfiable => Ok(None),
         Satisfiability::Satisfiable(valuation) => Ok(Some(Told::Met(valuation))),
         Satisfiability::Undecided(reason) => Ok(Some(Told::Unknown { conds, reason })),
-    }
-}
-
-// Written out, so that code which may drop one calls this, and isn't made longer by it.
-impl<M: Drop> Drop for Unfolding<M> {
-    fn drop(self) {
-        match self {
-            Unfolding::Unfolded(_) => {}
-            Unfolding::Unmatched(_) => {}
-            Unfolding::Unknown {
-                conds: _,
-                reason: _,
-            } => {}
-        }
     }
 }
 

@@ -42,6 +42,14 @@ fold_row-requires-clause-ins g c =
     (addable_there p memory (programs_are_addable p memory c.args.prog.now.well_made c.args.prog.now.valid c.requires.modes) (frames_view c.args.checking.path.stack) (numbered_command_view c.args.numbered.now) c.requires.at) in
     ins_spelled (exprs_view c.in-Fold.used.ins) (exprs_view c.in-Fold.used.outs) used.0
 
+pub unfold_row-requires-clause-ins : goal.unfold_row-requires-clause-ins
+unfold_row-requires-clause-ins g c =
+    let p = prog_view c.args.prog.now in
+    let memory = g.M.Local.LocalMemory.memory in
+    let used = subst (IsAddableCommand p memory) (ap command_view c.in-Unfold.is)
+    (addable_there p memory (programs_are_addable p memory c.args.prog.now.well_made c.args.prog.now.valid c.requires.modes) (frames_view c.args.checking.path.stack) (numbered_command_view c.args.numbered.now) c.requires.at) in
+    ins_spelled (exprs_view c.in-Unfold.used.ins) (exprs_view c.in-Unfold.used.outs) used.0
+
 pub fold_row-requires-clause-outs : goal.fold_row-requires-clause-outs
 fold_row-requires-clause-outs g c =
     let p = prog_view c.args.prog.now in
@@ -50,14 +58,31 @@ fold_row-requires-clause-outs g c =
     (addable_there p memory (programs_are_addable p memory c.args.prog.now.well_made c.args.prog.now.valid c.requires.modes) (frames_view c.args.checking.path.stack) (numbered_command_view c.args.numbered.now) c.requires.at) in
     outs_spelled (exprs_view c.in-Fold.used.ins) (exprs_view c.in-Fold.used.outs) used.0
 
+pub unfold_row-requires-clause-outs : goal.unfold_row-requires-clause-outs
+unfold_row-requires-clause-outs g c =
+    let p = prog_view c.args.prog.now in
+    let memory = g.M.Local.LocalMemory.memory in
+    let used = subst (IsAddableCommand p memory) (ap command_view c.in-Unfold.is)
+    (addable_there p memory (programs_are_addable p memory c.args.prog.now.well_made c.args.prog.now.valid c.requires.modes) (frames_view c.args.checking.path.stack) (numbered_command_view c.args.numbered.now) c.requires.at) in
+    outs_spelled (exprs_view c.in-Unfold.used.ins) (exprs_view c.in-Unfold.used.outs) used.0
+
 pub fold_row-requires-clause-cases : goal.fold_row-requires-clause-cases
 fold_row-requires-clause-cases g c =
+    let p = prog_view c.args.prog.now in
+    (programs_are_addable p g.M.Local.LocalMemory.memory c.args.prog.now.well_made c.args.prog.now.valid c.requires.modes).cases
+
+pub unfold_row-requires-clause-cases : goal.unfold_row-requires-clause-cases
+unfold_row-requires-clause-cases g c =
     let p = prog_view c.args.prog.now in
     (programs_are_addable p g.M.Local.LocalMemory.memory c.args.prog.now.well_made c.args.prog.now.valid c.requires.modes).cases
 
 pub returns-in-Fold : goal.returns-in-Fold
 returns-in-Fold g c =
     IfOk-weaker c.fold_row.result _ _ (λ ns row. row (numbered_command_view c.args.numbered.now) c.requires.may c.requires.at (ap command_view c.in-Fold.is)) c.fold_row.ensures
+
+pub returns-in-Unfold : goal.returns-in-Unfold
+returns-in-Unfold g c =
+    IfOk-weaker c.unfold_row.result _ _ (λ ns row. row (numbered_command_view c.args.numbered.now) c.requires.may c.requires.at (ap command_view c.in-Unfold.is)) c.unfold_row.ensures
 
 pub returns-then-is_leaving : goal.returns-then-is_leaving
 returns-then-is_leaving g c =
