@@ -226,11 +226,12 @@ module _ (p : PureParts) (memory : MemoryName) (m : Actions) {S : Type 0} (stand
         one_covers k next (inl cause) both = answer_of_cause stands e entry v out next cause
         one_covers k next (inr (no_form, rest)) (sc, f) = by sc.is rest
           where
-            by : IsTrue (has_open (added_conds q k.state)) ⊎ states.Stands stands k.state (v ++ sc.values) un.adds.state → ((next ≡ done_over) × IsUnsatisfiable k.state.vars k.state.conds) ⊎ GoesOnIn stands terms x k.state k.state.facts next → CoversOutcome stands e entry v out next
+            by : IsTrue (has_open (added_conds q k.state)) ⊎ states.Stands stands k.state (v ++ sc.values) un.adds.state → ((next ≡ done_over) × IsUnsatisfiable k.state.vars k.state.conds) ⊎ ((choices : List ℕ) × GoesOnIn stands terms x (record k.state { path = choices }) k.state.facts next) → CoversOutcome stands e entry v out next
             by (inl open_there) rest = absurd (true≢false (sym (subst (λ atoms. IsTrue (has_open atoms)) (sym f.conds) (open_right q.conds f.more (subst (λ atoms. IsTrue (has_open atoms)) (added_is q k.state f.more f.conds) open_there))) ∙ no_form))
             by (inr stand_k) (inl (done, unsat)) = absurd (unsat (v ++ sc.values) (record { proper = stand_k.proper; true_there = stand_k.meets }))
-            by (inr stand_k) (inr goes) =
-                state_covers p memory m stands terms meaning e x may k.state k.state.facts next goes f.sorts (vars_of k.state f) v (v ++ sc.values) sc.values entry c un.adds.state un.adds.state.facts un.counter out refl stand stand_k stand_k.facts un.adds.not_lower (values_below sc.values sc.come) leads_on
+            by (inr stand_k) (inr (choices, goes)) =
+                state_covers p memory m stands terms meaning e x may (record k.state { path = choices }) k.state.facts next goes f.sorts (vars_of k.state f) v (v ++ sc.values) sc.values entry c un.adds.state un.adds.state.facts un.counter out refl stand
+                (record { proper = stand_k.proper; meets = stand_k.meets; memory = stand_k.memory; facts = stand_k.facts }) stand_k.facts un.adds.not_lower (values_below sc.values sc.come) leads_on
 
         covers_found : OneOf (StandsForCase memory stands terms kept d ins outs q v un.number t un.adds.state) rs → OneOf (CoversOutcome stands e entry v out) nexts
         covers_found one =
@@ -260,7 +261,9 @@ module _ (p : PureParts) (memory : MemoryName) (m : Actions) {S : Type 0} (stand
       follows_one : (k : PureUnfoldedCase S) (next : PureNext S) → IsCaseAnswered stands terms x k.state next → IsFurther terms kept q k.state → FollowsOn p terms e x next
       follows_one k next (inl cause) f = cause_follows p terms e x next cause
       follows_one k next (inr (no_form, inl (done, unsat))) f = subst (FollowsOn p terms e x) (sym done) tt
-      follows_one k next (inr (no_form, inr goes)) f = state_follows p memory m stands terms meaning e x may k.state k.state.facts next goes f.sorts (vars_of k.state f) n valid at (ap (λ h. ends_body h) this) f.over f.over.facts
+      follows_one k next (inr (no_form, inr (choices, goes))) f =
+          state_follows p memory m stands terms meaning e x may (record k.state { path = choices }) k.state.facts next goes f.sorts (vars_of k.state f) n valid at (ap (λ h. ends_body h) this)
+          (record { conds = f.over.conds; given = f.over.given; memory = f.over.memory; facts = f.over.facts }) f.over.facts
 
       all_nexts : AreNexts p memory m stands terms e x [] nexts
       all_nexts = record {

@@ -25,6 +25,6 @@ pub record IsStateOf {S : Type 0} (stands : S → List PureValue → Heap → Ty
   pub stands_for : (v : List PureValue) (h : Heap) → stands path.memory v h → stands s.memory v h
   pub same_terms : terms s.memory ≡ terms path.memory
 
--- the path with variables, conditions and memory of a state
+-- the path with variables, conditions, memory and choices of a state
 abbrev pub with_state : {S : Type 0} → PurePath S → PureState S → PurePath S
-with_state path s = record path { vars = s.vars; conds = s.conds; memory = s.memory }
+with_state path s = record path { vars = s.vars; conds = s.conds; memory = s.memory; choices = s.path }

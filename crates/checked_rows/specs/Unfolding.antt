@@ -1,5 +1,5 @@
 -- What `unfold` comes to: each case in place of the fact.
-use Rattle.std.specs.Prelude.{◌≡◌, ◌⊎◌, List, [], length, false}
+use Rattle.std.specs.Prelude.{◌≡◌, ◌⊎◌, ℕ, List, [], length, false}
 use Rattle.gil_values.specs.Pure.{PureValue}
 use Rattle.gil_syntax.specs.Evaluation.{Store}
 use Rattle.gil_syntax.specs.Pure.{PurePredUse, PurePredDef}
@@ -24,11 +24,12 @@ use Rattle.checked_rows.specs.Reading.{AreRead}
 use Rattle.checked_rows.specs.Rows.{IsCauseAlone}
 
 module _ {S : Type 0} (stands : S → List PureValue → Heap → Type 0) (terms : S → StateTerms) (x : PureChecking S) where
-  -- a cause; or no literal form is needed, and the state's path goes on, or surely stands for nothing
+  -- a cause; or no literal form is needed, and the state surely stands for nothing, or its path goes on, whatever the choices
   abbrev pub IsCaseAnswered : PureState S → PureNext S → Type 0
   IsCaseAnswered s k =
       IsCaused k
-      ⊎ ((has_open s.conds ≡ false) × (((k ≡ over) × IsUnsatisfiable s.vars s.conds) ⊎ GoesOnIn stands terms x s s.facts k))
+      ⊎ ((has_open s.conds ≡ false) × (((k ≡ over) × IsUnsatisfiable s.vars s.conds)
+      ⊎ ((choices : List ℕ) × GoesOnIn stands terms x (record s { path = choices }) s.facts k)))
 
   abbrev pub EachCaseIsAnswered : List (PureUnfoldedCase S) → List (PureNext S) → Type 0
   EachCaseIsAnswered = EachWith (λ r k. IsCaseAnswered r.state k)

@@ -36,7 +36,7 @@ pub(crate) fn state_of<M: SymMemory>(
     })
 }
 
-/// The path with variables, conditions and memory of a state, and the state's facts.
+/// The path with variables, conditions, memory and choices of a state, and the state's facts.
 pub(crate) fn path_with<M: SymMemory>(
     alloc: Global,
     path: &Path<M>,
@@ -50,6 +50,7 @@ pub(crate) fn path_with<M: SymMemory>(
     mem::swap(&mut path.vars, &mut state.vars);
     mem::swap(&mut path.conds, &mut state.conds);
     mem::swap(&mut path.memory, &mut state.memory);
+    mem::swap(&mut path.choices, &mut state.path);
     let preds = mem::replace(&mut state.preds, Sequence::new(alloc));
     Ok((path, preds))
 }

@@ -73,11 +73,12 @@ fn go_on_in<M: ListedMemory>(
     follow(alloc, &preds, &checking.passed, here, pass(path)?)
 }
 
-/// What is answered of a state to which a case was added.
+/// What is answered of a state to which the case with this number was added, which is a choice.
 fn case_next<M: ListedMemory, D: Decider>(
     alloc: Global,
     here: &Place,
     checking: &Checking<M>,
+    number: usize,
     state: SymState<M>,
     decider: &mut D,
 ) -> Result<Next<M>, AllocError>
@@ -87,7 +88,11 @@ fn case_next<M: ListedMemory, D: Decider>(
     ensures { IfOk result (λ n. IsCaseAnswered M.stands M.terms (checking_view checking.now) (state_view state) (next_view n)) }
 {
     match ask(alloc, decider, &state.vars, state.conds.atoms())? {
-        Satisfiability::Satisfiable(_) => go_on_in(alloc, here, checking, state),
+        Satisfiability::Satisfiable(_) => {
+            let mut state = state;
+            state.path.push(number as u64)?;
+            go_on_in(alloc, here, checking, state)
+        }
         Satisfiability::Unsatisfiable => {
             if needs_form(state.conds.atoms()) {
                 let doubt = Doubt::Always;
@@ -126,7 +131,9 @@ fn each_case<M: ListedMemory, D: Decider>(
 {
     let mut nexts = Sequence::new(alloc);
     for case in cases.into_vec() {
-        nexts.push(case_next(alloc, here, checking, state_in(case), decider)?)?;
+        let number = case.number;
+        let state = state_in(case);
+        nexts.push(case_next(alloc, here, checking, number, state, decider)?)?;
     }
     Ok(nexts)
 }

@@ -19,7 +19,7 @@ loop-case-init g c = record {
 
 pub case_next-requires-clause-over : goal.case_next-requires-clause-over
 case_next-requires-clause-over g c =
-    subst (λ s. IsOverTable g.M.SymMemory.terms (state_view s)) (sym c.state_in.ensures)
+    subst (λ s. IsOverTable g.M.SymMemory.terms (state_view s)) (sym c.state_in-state.ensures)
     (over_next (λ r. IsOverTable g.M.SymMemory.terms r.state) case_view c.args.cases c.loop-case.yielded (into_iter_items c.loop-case.case-iterator) (into_iter_items c.next.new.self)
     c.in-Some.case c.loop-case.invariant.rest c.in-Some.ensures.steps.0 c.requires.over)
 
@@ -32,7 +32,7 @@ loop-case-preserved g c =
     let longer : length (into_iter_items c.loop-case.case-iterator) ≡ length (into_iter_items c.next.new.self) + 1 = ap length c.in-Some.ensures.steps.0 ∙ omega arith in
     let seen = map-append case_view c.loop-case.yielded (c.in-Some.case ∷ []) in
     let pushed = ap nexts_view c.in_ok-push.ensures.ok ∙ map-append next_view c.loop-case.nexts (n ∷ []) in
-    let here : IsCaseAnswered stands terms x (state_view c.in-Some.case.state) (next_view n) = subst (λ s. IsCaseAnswered stands terms x (state_view s) (next_view n)) c.state_in.ensures c.in_ok-case_next.ensures in
+    let here : IsCaseAnswered stands terms x (state_view c.in-Some.case.state) (next_view n) = subst (λ s. IsCaseAnswered stands terms x (state_view s) (next_view n)) c.state_in-state.ensures c.in_ok-case_next.ensures in
     record {
       counted = omega (arith, longer, c.in-Some.ensures.steps.1, c.loop-case.invariant.counted);
       rest = rest_more c.args.cases c.loop-case.yielded (into_iter_items c.loop-case.case-iterator) (into_iter_items c.next.new.self) c.in-Some.case c.loop-case.invariant.rest c.in-Some.ensures.steps.0;
