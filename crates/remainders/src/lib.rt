@@ -1,0 +1,7 @@
+//! What an invariant leaves of a state, compared with what it left before.
+#![tactic(auto)]
+
+mod comparing;
+mod remainders;
+
+pub use remainders::is_as_before;
