@@ -1,10 +1,10 @@
 -- What a step needs of the program, and answers that are one cause.
-use Rattle.std.proofs.Common.{◌≡◌, ◌⊎◌, inl, inr, ℕ, List, [], ◌∷◌, ◌++◌, Bool, true, false, ◌&&◌, Option, Some, None, IsTrue, refl, sym, ap, subst, ◌∙◌, true≢false}
+use Rattle.std.proofs.Common.{◌≡◌, inl, inr, ℕ, List, [], ◌∷◌, ◌++◌, Bool, true, false, ◌&&◌, Option, Some, None, IsTrue, refl, sym, ap, subst, ◌∙◌, true≢false}
 use Rattle.std.specs.List.{list_all}
 use Rattle.std.proofs.lemmas.List.Folds.{list_all-append}
 use Rattle.gil_values.specs.Pure.{PureValue}
 use Rattle.gil_syntax.specs.Programs.{find_proc, find_spec}
-use Rattle.gil_syntax.specs.Pure.{PureCommand, PureNumberedCommand, PureExpr, PureProc, PureSpec, PureParts}
+use Rattle.gil_syntax.specs.Pure.{PureNumberedCommand, PureExpr, PureProc, PureSpec, PureParts}
 use Rattle.gil_syntax.specs.Subexpressions.{literals_of}
 use Rattle.gil_syntax.specs.Valid.{param_names}
 use Rattle.gil_syntax.specs.WellMade.{is_spellable}
@@ -13,14 +13,13 @@ use Rattle.mem_model.specs.declared.keys.MemoryName.{MemoryName}
 use Rattle.mem_model.specs.Actions.{Actions}
 use Rattle.mem_model.specs.Heaps.{Heap}
 use Rattle.addable_programs.specs.Addable.{IsAddable, IsAddableCommand}
-use Rattle.sym_model.specs.Lists.{Each}
 use Rattle.sym_model.specs.Terms.{StateTerms}
 use Rattle.sym_model.proofs.ListLaws.{not_none, same_some}
-use Rattle.sym_paths.specs.Meaning.{command_of_frames, command_of_path}
-use Rattle.sym_paths.specs.Pure.{PureFrame, PurePath}
+use Rattle.sym_paths.specs.Meaning.{command_of_frames}
+use Rattle.sym_paths.specs.Pure.{PureFrame}
 use Rattle.sym_states.specs.Producing.{are_spelled}
-use Rattle.checked_paths.specs.Covering.{IsCaused, AreNexts}
-use Rattle.checked_paths.specs.Pure.{PureEntry, PureChecking, PureNext, caused}
+use Rattle.checked_paths.specs.Covering.{AreNexts}
+use Rattle.checked_paths.specs.Pure.{PureEntry, PureChecking, PureNext}
 use Rattle.checked_rows.specs.Rows.{IsCauseAlone}
 
 -- ---- what is asked of the command

@@ -15,6 +15,7 @@ ghost use Rattle.spec_exploration.specs.Exploring.{AreTaken, IsSettledBy, ArePla
 ghost use Rattle.sym_model.specs.Lists.{Each};
 
 use crate::beginning::starts_of;
+use crate::showing::show;
 use crate::stepping::check_step;
 use checked_paths::{Cause, Checking, Entered, FaultKind, Next, Nexts, Shown, Stepped};
 use gil_program::Prog;
@@ -288,5 +289,9 @@ pub fn explore_specification<M: ListedMemory, D: Decider>(
         at: 0,
     };
     let starts = starts_of(alloc, &here, starts)?;
-    explore_from(alloc, prog, rules, spec, &entered, starts, bound, decider)
+    let Explored { cause, uses } = explore_from(
+        alloc, prog, rules, spec, &entered, starts, bound, decider,
+    )?;
+    let cause = show(alloc, decider, cause)?;
+    Ok(Explored { cause, uses })
 }

@@ -4,6 +4,7 @@
 mod beginning;
 mod exploration;
 mod finding;
+mod showing;
 mod stepping;
 
 pub use exploration::{Explored, explore_from, explore_specification};

@@ -1,6 +1,5 @@
-use Rattle.std.proofs.Common.{◌≡◌, Some, sym, ap, ◌∙◌}
+use Rattle.std.proofs.Common.{sym, ap, ◌∙◌}
 use Rattle.std.specs.Option.{option_map}
-use Rattle.sym_model.proofs.ListLaws.{each_to}
 use Rattle.gil_program.specs.Program.{prog_view}
 use Rattle.gil_syntax.specs.View.{proc_view, spec_view}
 use Rattle.addable_programs.proofs.AddableLaws.{programs_are_addable}

@@ -1,14 +1,13 @@
-use Rattle.std.proofs.Common.{◌≡◌, [], refl, sym, ap, subst, ◌∙◌, IsTrue, true}
+use Rattle.std.proofs.Common.{refl, sym, ap, subst, ◌∙◌}
 use Rattle.std.proofs.lemmas.Result.{IfOk-weaker}
 use Rattle.gil_program.specs.Program.{prog_view}
-use Rattle.gil_syntax.specs.Pure.{PureCommand, fold_use}
 use Rattle.gil_syntax.specs.View.{command_view, exprs_view, numbered_command_view}
-use Rattle.addable_programs.specs.Addable.{IsAddable, IsAddableCommand}
+use Rattle.addable_programs.specs.Addable.{IsAddableCommand}
 use Rattle.addable_programs.proofs.AddableLaws.{programs_are_addable}
 use Rattle.sym_paths.specs.View.{frames_view}
 use Rattle.checked_rows.specs.Calling.{IsCall}
-use Rattle.checked_paths.specs.View.{checking_view, entry_view, nexts_view}
-use Rattle.spec_exploration.proofs.Steps.{addable_there, ins_spelled, outs_spelled, cause_alone}
+use Rattle.checked_paths.specs.View.{entry_view}
+use Rattle.spec_exploration.proofs.Steps.{addable_there, ins_spelled, outs_spelled}
 use Rattle.spec_exploration.proofs.stepping.step_at.Goals as goal
 
 pub step_machine-requires-clause-machine :
