@@ -80,14 +80,6 @@ pred_named (e ∷ ds) name d is = by (bytes_eq e.name name) refl is (pred_named 
     by true same at later = ap (λ (k : PurePredDef). k.name) (sym (same_some at)) ∙ (bytes_eq-Decides e.name name).0 same
     by false other at later = later at
 
-pub pred_each : (P : PurePredDef → Type 0) (ds : List PurePredDef) (name : List ℕ) (d : PurePredDef) → find_pred ds name ≡ Some d → Each P ds → P d
-pred_each P [] name d is all = not_none is
-pred_each P (e ∷ ds) name d is all = by (bytes_eq e.name name) is (λ at. pred_each P ds name d at all.1)
-  where
-    by : (b : Bool) → cond b (Some e) (find_pred ds name) ≡ Some d → (find_pred ds name ≡ Some d → P d) → P d
-    by true at later = subst P (same_some at) all.0
-    by false at later = later at
-
 -- ---- lists
 
 elements_length : (xs ys : List PureValue) → same_elements xs ys ≡ true → length xs ≡ length ys

@@ -28,4 +28,4 @@ end_row-requires-clause-errors g c =
 pub end_row-requires-clause-cases : goal.end_row-requires-clause-cases
 end_row-requires-clause-cases g c =
     let p = prog_view c.args.prog.now in
-    (programs_are_addable p g.M.Local.LocalMemory.memory c.args.prog.now.well_made c.args.prog.now.valid c.requires.modes).cases
+    (programs_are_addable p g.M.Local.LocalMemory.memory c.args.prog.now.well_made c.args.prog.now.valid c.requires.modes).preds

@@ -27,7 +27,7 @@ assert_row-requires-clause-may g c =
 pub assert_row-requires-clause-cases : goal.assert_row-requires-clause-cases
 assert_row-requires-clause-cases g c =
     let p = prog_view c.args.prog.now in
-    (programs_are_addable p g.M.Local.LocalMemory.memory c.args.prog.now.well_made c.args.prog.now.valid c.requires.modes).cases
+    (programs_are_addable p g.M.Local.LocalMemory.memory c.args.prog.now.well_made c.args.prog.now.valid c.requires.modes).preds
 
 pub returns-in-AssertThat : goal.returns-in-AssertThat
 returns-in-AssertThat g c =
@@ -68,12 +68,12 @@ unfold_row-requires-clause-outs g c =
 pub fold_row-requires-clause-cases : goal.fold_row-requires-clause-cases
 fold_row-requires-clause-cases g c =
     let p = prog_view c.args.prog.now in
-    (programs_are_addable p g.M.Local.LocalMemory.memory c.args.prog.now.well_made c.args.prog.now.valid c.requires.modes).cases
+    (programs_are_addable p g.M.Local.LocalMemory.memory c.args.prog.now.well_made c.args.prog.now.valid c.requires.modes).preds
 
 pub unfold_row-requires-clause-cases : goal.unfold_row-requires-clause-cases
 unfold_row-requires-clause-cases g c =
     let p = prog_view c.args.prog.now in
-    (programs_are_addable p g.M.Local.LocalMemory.memory c.args.prog.now.well_made c.args.prog.now.valid c.requires.modes).cases
+    (programs_are_addable p g.M.Local.LocalMemory.memory c.args.prog.now.well_made c.args.prog.now.valid c.requires.modes).preds
 
 pub returns-in-Fold : goal.returns-in-Fold
 returns-in-Fold g c =
