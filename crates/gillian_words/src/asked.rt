@@ -70,6 +70,7 @@ fn task_of(alloc: Global, given: &Given) -> Result<Task, WordsFault>
     match mode {
         "run" => run_of(alloc, given),
         "test" => test_of(alloc, given),
+        "check" => check_of(given),
         "compile" => compile_of(given),
         "solve" => solve_of(given),
         _ => Err(WordsFault::Refused),
@@ -109,6 +110,19 @@ fn test_of(alloc: Global, given: &Given) -> Result<Task, WordsFault>
         entry,
         bound,
     })
+}
+
+/// The check that is asked for.
+fn check_of(given: &Given) -> Result<Task, WordsFault>
+    requires mode { option_map (λ s. s.now) given.now.mode ≡ Some (codes "check") }
+    ensures asked { IfOk result (λ task. AsksTask (given_view given.now) (task_view task)) }
+    ensures refused { IsErrOf result WordsFault.Refused → (t : PureTask) → AsksTask (given_view given.now) t → ⊥ }
+{
+    let language = language_of(given.second)?;
+    no_option(given.entry)?;
+    let bound = bound_option(given.bound)?;
+    no_option(given.inputs)?;
+    Ok(Task::Check { language, bound })
 }
 
 /// The compilation that is asked for.

@@ -79,6 +79,11 @@ pub enum Task {
         entry: Text,
         bound: Bound,
     },
+    /// A check of the specifications of the program.
+    Check {
+        language: Language,
+        bound: Bound,
+    },
     /// The program as GIL text.
     Compile {
         language: Language,
@@ -106,7 +111,7 @@ impl Task {
     {
         match self {
             Task::Compile { .. } => false,
-            Task::Run { .. } | Task::Test { .. } | Task::Solve => true,
+            Task::Run { .. } | Task::Test { .. } | Task::Check { .. } | Task::Solve => true,
         }
     }
 }
