@@ -1,4 +1,5 @@
 pub mod Cases
+pub mod Checked
 pub mod Ending
 pub mod MeantTexts
 pub mod Meant

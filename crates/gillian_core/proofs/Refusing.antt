@@ -1,10 +1,11 @@
 -- Why texts aren't accepted.
-use Rattle.std.proofs.Common.{◌≡◌, inl, inr, ℕ, List, length, Option, Some, None, Result, Ok, Err, IfOk, IfErr, MatchResult, refl}
+use Rattle.std.proofs.Common.{◌≡◌, ◌≢◌, inl, inr, ℕ, List, length, Option, Some, None, Result, Ok, Err, IfOk, IfErr, MatchResult, refl}
 use Rattle.std.proofs.Common.{sym, ◌∙◌, ap, subst}
 use Rattle.gil_syntax.specs.Pure.{PureParts}
 use Rattle.gil_syntax.specs.Valid.{IsValid}
 use Rattle.gil_grammar.specs.Texts.{SpellProgram}
 use Rattle.gil_machine.specs.Run.{IsEntry}
+use Rattle.assert_logic.specs.Modes.{HasModes}
 use Rattle.gil_text.specs.Refusals.{IsRefused}
 use Rattle.gil_text.specs.declared.refused.Refused.{Refused}
 use Rattle.gil_text.specs.declared.refused.RefusedKind.{RefusedKind}
@@ -15,9 +16,9 @@ use Rattle.gillian_words.specs.Tasks.{PureTask}
 use Rattle.gillian_core.specs.Accepted.{IsAccepted}
 use Rattle.gillian_core.specs.Compiled.{IsSourceOf, SourceLanguage, definition_by_source, limit_refusal}
 use Rattle.gillian_core.specs.Definitions.{Definition}
-use Rattle.gillian_core.specs.Finishing.{IsCause, IsNoEntry, IsNoOutput, IsNoProgram}
+use Rattle.gillian_core.specs.Finishing.{IsCause, IsNoEntry, IsNoOutput, IsNoProgram, IsNoReadable}
 use Rattle.gillian_core.specs.Gil.{IsTextOf, gil_record}
-use Rattle.gillian_core.specs.Refusals.{IsFirstKind}
+use Rattle.gillian_core.specs.Refusals.{IsFirstKind, IsPlaceIn}
 use Rattle.gillian_core.specs.Right.{IsProgramOf}
 
 -- want of memory needs no cause
@@ -93,4 +94,18 @@ module _ (d : Definition) (entry bytes : List ℕ) where
   lacks_entry p text only never = record {
     never = λ k has. never (subst (λ q. IsEntry q entry) (sym (only has.0 has.1)) has.2);
     fault = λ k. inr (refl, (p, text, never), refl);
+  }
+
+-- ---- modes
+
+module _ (d : Definition) (bytes : List ℕ) where
+  -- without a program there is none whose assertions can be read
+  pub no_readable_of : (r : Refused) → IsNoProgram d bytes r → IsNoReadable d bytes r
+  no_readable_of r unread = record { never = λ k has. unread.never k (has.0, has.1); fault = λ k. inl (unread.fault k) }
+
+  pub lacks_modes : (p : PureParts) → d.IsText bytes p → ((q : PureParts) → d.IsText bytes q → p ≡ q) → (HasModes p d.memory.name → ⊥)
+      → (r : Refused) → (r.kind ≢ kinds.Memory → (r.kind ≡ kinds.Modes) × IsPlaceIn bytes r.at) → IsNoReadable d bytes r
+  lacks_modes p text only never r refused = record {
+    never = λ k has. never (subst (λ q. HasModes q d.memory.name) (sym (only has.0 has.1)) has.2);
+    fault = λ k. let (kind, place) = refused k in inr (kind, (p, text, never), place);
   }

@@ -4,6 +4,7 @@ use Rattle.gil_values.specs.declared.places.Place.{Place}
 use Rattle.gil_values.specs.Pure.{PureValue}
 use Rattle.gil_syntax.specs.Pure.{PureParts}
 use Rattle.gil_text.specs.declared.refused.RefusedKind.{RefusedKind}
+use Rattle.mem_model.specs.declared.keys.MemoryName.{MemoryName}
 use Rattle.mem_model.specs.Actions.{Actions}
 use Rattle.mem_model.specs.Heaps.{Heap}
 use Rattle.pure_terms.specs.Pure.{PureTerm}
@@ -13,20 +14,22 @@ use Rattle.sym_test.specs.Undecided.{IsUndecided}
 use Rattle.sym_test.specs.View.{PureQuery}
 use Rattle.gil_report.specs.Pure.{PureAnswer}
 
--- A memory: what its actions do to a heap; and, of tests over its symbolic states, where a bug comes from, what isn't decided, and
+-- A memory: its name; what its actions do to a heap; and, of tests over its symbolic states, where a bug comes from, what isn't decided, and
 -- whether they keep the law of plain memories, by which a command of simple form is always decided.
 pub record Memory : Type 1 where
+  pub name : MemoryName
   pub actions : Actions
   pub FindsBug : PureParts → List ℕ → ℕ → Place → PureValue → List PureValue → Type 0
   pub LeavesOpen : PureParts → List ℕ → ℕ → PureQuery → Type 0
   pub keeps_plain : Type 0
 
--- the memory with these actions and symbolic states
-module _ {S : Type 0} (actions : Actions) (stands : S → List PureValue → Heap → Type 0) (terms : S → StateTerms)
+-- the memory of this name, with these actions and symbolic states
+module _ {S : Type 0} (name : MemoryName) (actions : Actions) (stands : S → List PureValue → Heap → Type 0) (terms : S → StateTerms)
     (asked : List ℕ → List PureTerm → List PureTerm × List PureTerm) (depends : S → List ℕ → List PureTerm → List PureValue → Heap → PureTerm → Type 0)
     (keeps_plain : Type 0) where
   abbrev pub memory_of : Memory
   memory_of = record {
+    name = name;
     actions = actions;
     FindsBug = λ p entry bound place value inputs. IsFound p actions stands terms asked depends entry bound place value inputs;
     LeavesOpen = λ p entry bound query. IsUndecided p actions stands terms asked depends keeps_plain entry bound query;

@@ -1,5 +1,6 @@
 pub mod Accepted
 pub mod Answers
+pub mod Checked
 pub mod ClikeLanguage
 pub mod Codes
 pub mod Compiled

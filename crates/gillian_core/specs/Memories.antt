@@ -1,5 +1,6 @@
 -- The memories of records, of blocks and of objects.
 use Rattle.std.specs.Prelude.{⊤}
+use Rattle.mem_model.specs.declared.keys.MemoryName.TheVariants.{Record, Block, Object}
 use Rattle.block_heap.specs.Table.{block_actions}
 use Rattle.block_sym.specs.Plain.{block_stands, block_terms, block_asked, block_depends}
 use Rattle.object_heap.specs.Table.{object_actions}
@@ -9,10 +10,10 @@ use Rattle.record_sym.specs.Plain.{record_stands, record_terms, record_asked, re
 use Rattle.gillian_core.specs.Definitions.{Memory, memory_of}
 
 abbrev pub record_memory : Memory
-record_memory = memory_of record_actions record_stands record_terms record_asked record_depends ⊤
+record_memory = memory_of Record record_actions record_stands record_terms record_asked record_depends ⊤
 
 abbrev pub block_memory : Memory
-block_memory = memory_of block_actions block_stands block_terms block_asked block_depends ⊤
+block_memory = memory_of Block block_actions block_stands block_terms block_asked block_depends ⊤
 
 abbrev pub object_memory : Memory
-object_memory = memory_of object_actions object_stands object_terms object_asked object_depends ⊤
+object_memory = memory_of Object object_actions object_stands object_terms object_asked object_depends ⊤

@@ -4,12 +4,16 @@ use Rattle.gil_values.specs.Printed.{numeral}
 use Rattle.gil_syntax.specs.Pure.{PureParts}
 use Rattle.gil_syntax.specs.declared.validity.InvalidKind.{InvalidKind}
 use Rattle.gil_syntax.specs.declared.validity.InvalidKind.TheVariants as faults
+use Rattle.gil_lexer.specs.declared.forms.Token.{Token}
+use Rattle.gil_lexer.specs.Texts.{AreTokensOf}
+use Rattle.gil_text.specs.Refusals.{IsTokenPlace}
 use Rattle.gil_text.specs.declared.refused.Refused.{Refused}
 use Rattle.gil_text.specs.declared.refused.RefusedKind.{RefusedKind}
 use Rattle.gil_text.specs.declared.refused.RefusedKind.TheVariants.{Lex, Nesting, Syntax, Invalid, Limit, Entry, Modes, Memory}
 use Rattle.atom_text.specs.Refusals as atoms
 use Rattle.gil_machine.specs.Run.{IsEntry}
-use Rattle.gillian_words.specs.Tasks.{PureTask, run, test, compile, solve}
+use Rattle.assert_logic.specs.Modes.{HasModes}
+use Rattle.gillian_words.specs.Tasks.{PureTask, run, test, check, compile, solve}
 use Rattle.gillian_core.specs.Accepted.{IsAccepted}
 use Rattle.gillian_core.specs.Definitions.{Definition}
 use Rattle.gillian_core.specs.Languages.{definition_of}
@@ -46,10 +50,22 @@ IsFaultOfEntry d entry bytes at kind =
     d.IsFault bytes at kind
     ⊎ ((kind ≡ Entry) × ((p : PureParts) × d.IsText bytes p × (IsEntry p entry → ⊥)) × (at ≡ length bytes))
 
+-- a token of the text begins at the byte, or the text ends there
+abbrev pub IsPlaceIn : List ℕ → ℕ → Type 0
+IsPlaceIn bytes at = (tokens : List Token) × AreTokensOf tokens bytes × IsTokenPlace bytes tokens at
+
+-- The first fault of a text by itself; or, of a text without one, that some assertion of its program can't be read from left to right, for
+-- its memory.
+abbrev pub IsFaultOfModes : Definition → List ℕ → ℕ → RefusedKind → Type 0
+IsFaultOfModes d bytes at kind =
+    d.IsFault bytes at kind
+    ⊎ ((kind ≡ Modes) × ((p : PureParts) × d.IsText bytes p × (HasModes p d.memory.name → ⊥)) × IsPlaceIn bytes at)
+
 -- the kind is the first that applies where this is asked, at this byte
 abbrev pub IsFirstKind : PureTask → List ℕ → ℕ → RefusedKind → Type 0
 IsFirstKind (run language entry bound inputs) bytes at kind = IsFaultOfEntry (definition_of language) entry bytes at kind
 IsFirstKind (test language entry bound) bytes at kind = IsFaultOfEntry (definition_of language) entry bytes at kind
+IsFirstKind (check language bound) bytes at kind = IsFaultOfModes (definition_of language) bytes at kind
 IsFirstKind (compile language) bytes at kind = (definition_of language).IsFault bytes at kind
 IsFirstKind solve bytes at kind = (kind ≢ Memory) × atoms.IsRefusedFor bytes at kind
 

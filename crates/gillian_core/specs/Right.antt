@@ -4,6 +4,7 @@ use Rattle.std.specs.FinMap.{empty}
 use Rattle.gil_values.specs.Pure.{PureValue}
 use Rattle.gil_syntax.specs.Pure.{PureParts}
 use Rattle.mem_model.specs.Actions.{Actions}
+use Rattle.assert_logic.specs.Modes.{HasModes}
 use Rattle.gil_machine.specs.Held.{held_run_of}
 use Rattle.gil_machine.specs.Run.{IsBug, IsClean, IsEntry}
 use Rattle.pure_terms.specs.Deciding.{IsRight as IsRightDecision, sat as decided_sat, unknown as decided_unknown}
@@ -14,12 +15,13 @@ use Rattle.solver_proof.specs.Pure.{PureProof}
 use Rattle.atom_text.specs.Accepted.{PureAtomText, SpellAtoms}
 use Rattle.sym_test.specs.Undecided.{FailsSimply}
 use Rattle.sym_test.specs.View.{PureQuery}
-use Rattle.gillian_words.specs.Tasks.{PureTask, run, test, compile, solve}
+use Rattle.gillian_words.specs.Tasks.{PureTask, run, test, check, compile, solve}
 use Rattle.gil_report.specs.declared.heads.EntryMode.TheVariants.{Run, Test}
 use Rattle.gil_report.specs.declared.heads.Head.{Head}
 use Rattle.gil_report.specs.Pure.{PureAnswer, failed, clean, bug, undecided, sat, unsat, unknown, PureReport}
 use Rattle.report_names.specs.Named.{proof_of}
 use Rattle.gillian_core.specs.Answers.{question_of}
+use Rattle.gillian_core.specs.Checked.{AreRightAnswers}
 use Rattle.gillian_core.specs.Definitions.{Definition, Memory}
 use Rattle.gillian_core.specs.Ends.{end_answer}
 use Rattle.gillian_core.specs.Languages.{definition_of}
@@ -67,6 +69,17 @@ pub record IsRightTest (d : Definition) (entry : List ℕ) (bound : ℕ) (bytes 
   pub verdict : IsRightVerdict d.memory program entry bound answer
   pub meant : IsMeantVerdict d bytes entry answer
 
+-- ---- check
+
+-- The bytes are a text with a program whose assertions can be read from left to right, and there is one right answer for each of its
+-- specifications, in order. A text that is compiled has the program's ends.
+pub record IsRightCheck (d : Definition) (bytes : List ℕ) (answers : List PureAnswer) : Type 0 where
+  pub program : PureParts
+  pub text : d.IsText bytes program
+  pub keeps : d.KeepsEnds bytes program
+  pub readable : HasModes program d.memory.name
+  pub right : AreRightAnswers d.memory.name d.memory.actions program answers
+
 -- ---- solve
 
 -- the place of the atom that a reason names
@@ -109,6 +122,9 @@ IsRightOutput (run language entry bound inputs) bytes (a_program p) = ⊥
 IsRightOutput (test language entry bound) bytes (a_report r) =
     Says r (Head.Entry Test language entry bound) (IsRightTest (definition_of language) entry bound bytes)
 IsRightOutput (test language entry bound) bytes (a_program p) = ⊥
+IsRightOutput (check language bound) bytes (a_report r) =
+    (r.head ≡ Head.Check language bound) × IsRightCheck (definition_of language) bytes r.answers
+IsRightOutput (check language bound) bytes (a_program p) = ⊥
 IsRightOutput (compile language) bytes (a_report r) = ⊥
 IsRightOutput (compile language) bytes (a_program p) = IsProgramOf (definition_of language) bytes p
 IsRightOutput solve bytes (a_report r) = Says r Head.Solve (IsSolved bytes)

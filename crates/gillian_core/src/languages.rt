@@ -1,27 +1,31 @@
 //! The languages: how the texts of each are read, and the memory of its programs.
-ghost use Rattle.std.specs.Prelude.{◌≡◌, [], IfOk, IfErr};
+ghost use Rattle.std.specs.Prelude.{◌≡◌, [], map, IfOk, IfErr};
 ghost use Rattle.std.specs.FinMap.{empty};
+ghost use Rattle.assert_logic.specs.Modes.{HasModes};
 ghost use Rattle.gil_machine.specs.Held.{held_run_of};
 ghost use Rattle.gil_machine.specs.Run.{IsEntry};
 ghost use Rattle.gil_program.specs.Program.{prog_view};
 ghost use Rattle.gil_syntax.specs.Pure.{PureParts};
 ghost use Rattle.gil_values.specs.View.{values_view};
 ghost use Rattle.gil_report.specs.View.{answer_view};
+ghost use Rattle.gillian_core.specs.Checked.{AreRightAnswers};
 ghost use Rattle.gillian_core.specs.Ends.{end_answer};
 ghost use Rattle.gillian_core.specs.Finishing.{IsNoProgram};
 ghost use Rattle.gillian_core.specs.Languages.{definition_of};
 ghost use Rattle.gillian_core.specs.Right.{IsProgramOf, IsRightVerdict};
 
+use crate::checking::checked;
 use crate::running::run_answer;
 use crate::testing::verdict;
 use crate::{clike_language, gil, object_language, while_language};
 use block_heap::BlockHeap;
 use block_sym::BlockSym;
 use gil_program::Prog;
-use gil_report::Answer;
+use gil_report::{Answer, Answers};
 use gil_text::Refused;
 use gil_values::{Text, Values};
 use gillian_words::{Bound, Language};
+use mem_model::MemoryName;
 use object_heap::ObjectHeap;
 use object_sym::ObjectSym;
 use record_heap::RecordHeap;
@@ -88,5 +92,41 @@ pub fn verdict_in(
         Language::While => verdict::<RecordSym>(alloc, prog, entry, bound, rules),
         Language::Clike => verdict::<BlockSym>(alloc, prog, entry, bound, rules),
         Language::Object => verdict::<ObjectSym>(alloc, prog, entry, bound, rules),
+    }
+}
+
+/// The name of the memory of a language's programs.
+pub fn memory_name(language: Language) -> MemoryName
+    ensures { result ≡ (definition_of language).memory.name }
+{
+    match language {
+        Language::GilRecord => MemoryName::Record,
+        Language::GilBlock => MemoryName::Block,
+        Language::GilObject => MemoryName::Object,
+        Language::While => MemoryName::Record,
+        Language::Clike => MemoryName::Block,
+        Language::Object => MemoryName::Object,
+    }
+}
+
+/// An answer for each specification of a program.
+pub fn check_in(
+    alloc: Global,
+    language: Language,
+    prog: &Prog,
+    bound: Bound,
+    rules: &RuleBook,
+) -> Result<Answers, AllocError>
+    requires { HasModes (prog_view prog.now) (definition_of language).memory.name }
+    ensures { IfOk result (λ answers. AreRightAnswers (definition_of language).memory.name (definition_of language).memory.actions
+        (prog_view prog.now) (map answer_view answers)) }
+{
+    match language {
+        Language::GilRecord => checked::<RecordSym>(alloc, prog, bound, rules),
+        Language::GilBlock => checked::<BlockSym>(alloc, prog, bound, rules),
+        Language::GilObject => checked::<ObjectSym>(alloc, prog, bound, rules),
+        Language::While => checked::<RecordSym>(alloc, prog, bound, rules),
+        Language::Clike => checked::<BlockSym>(alloc, prog, bound, rules),
+        Language::Object => checked::<ObjectSym>(alloc, prog, bound, rules),
     }
 }

@@ -1,12 +1,15 @@
 //! The top call: from words and source bytes to a status and the bytes of a report.
 #![tactic(auto)]
 
+mod causes;
+mod checking;
 mod clike_language;
 mod entries;
 mod gil;
 mod in_memory;
 mod languages;
 mod limits;
+mod modes;
 mod object_language;
 mod outputs;
 mod refusals;
@@ -16,6 +19,7 @@ mod solving;
 mod status;
 mod testing;
 mod top;
+mod variables;
 mod while_language;
 mod working;
 

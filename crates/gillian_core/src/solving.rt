@@ -48,7 +48,7 @@ fn solution_of(alloc: Global, rules: &RuleBook, text: AtomText) -> Result<Answer
 }
 
 /// The place of the atom that a reason names.
-fn place_of(reason: Reason) -> usize
+pub(crate) fn place_of(reason: Reason) -> usize
     ensures { result ≡ place_of reason }
 {
     match reason {

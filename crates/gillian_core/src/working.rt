@@ -1,7 +1,7 @@
 //! The work: what is to be written of a text.
 ghost use Rattle.std.specs.Prelude.{◌≡◌, [], ◌∷◌, IfOk, IfErr};
 ghost use Rattle.gil_values.specs.View.{values_view};
-ghost use Rattle.gillian_words.specs.Tasks.{run, test, compile, solve};
+ghost use Rattle.gillian_words.specs.Tasks.{run, test, check, compile, solve};
 ghost use Rattle.gillian_words.specs.View.{task_view};
 ghost use Rattle.gil_report.specs.View.{answer_view};
 ghost use Rattle.gillian_core.specs.Answers.{output_view};
@@ -10,7 +10,8 @@ ghost use Rattle.gillian_core.specs.Outputs.{a_report};
 ghost use Rattle.gillian_core.specs.Right.{IsRightOutput};
 
 use crate::entries::program_with;
-use crate::languages::{program, run_in, verdict_in};
+use crate::languages::{check_in, program, run_in, verdict_in};
+use crate::modes::readable_program;
 use crate::outputs::Output;
 use crate::refusals::or_memory;
 use crate::solving::solution;
@@ -38,6 +39,7 @@ pub fn work(alloc: Global, task: Task, rules: &RuleBook, bytes: &[u8]) -> Result
             entry,
             bound,
         } => test_output(alloc, language, entry, bound, rules, bytes),
+        Task::Check { language, bound } => check_output(alloc, language, bound, rules, bytes),
         Task::Compile { language } => compile_output(alloc, language, bytes),
         Task::Solve => solve_output(alloc, rules, bytes),
     }
@@ -90,6 +92,26 @@ fn test_output(
     };
     let output = or_memory(report_of(alloc, head, answer))?;
     Ok(output)
+}
+
+/// The report of a check.
+fn check_output(
+    alloc: Global,
+    language: Language,
+    bound: Bound,
+    rules: &RuleBook,
+    bytes: &[u8],
+) -> Result<Output, Refused>
+    ensures output { IfOk result (λ output. IsRightOutput (check language bound.steps) bytes.now (output_view output)) }
+    ensures none { IfErr result (IsNoOutput (check language bound.steps) bytes.now) }
+{
+    let prog = readable_program(alloc, language, bytes)?;
+    let answers = or_memory(check_in(alloc, language, &prog, bound, rules))?;
+    let head = Head::Check {
+        language,
+        bound: bound.steps,
+    };
+    Ok(Output::Report(Report { head, answers }))
 }
 
 /// The program.

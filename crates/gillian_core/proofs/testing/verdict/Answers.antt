@@ -8,6 +8,7 @@ use Rattle.gillian_core.proofs.testing.verdict.Goals as goal
 
 pub returns : goal.returns
 returns g c =
+    let memory = g.M.Local.LocalMemory.memory in
     let actions = g.M.Local.LocalMemory.actions in
     let stands = g.M.SymMemory.stands in
     let terms = g.M.SymMemory.terms in
@@ -17,6 +18,6 @@ returns g c =
     let p = prog_view c.args.prog.now in
     let entry = c.args.entry.now in
     let bound = c.args.bound.steps in
-    let right = verdict_is_right actions stands terms asked depends keeps_plain p entry bound (verdict_view c.in_ok-tested.tested)
+    let right = verdict_is_right memory actions stands terms asked depends keeps_plain p entry bound (verdict_view c.in_ok-tested.tested)
     c.in_ok-tested.ensures.right c.in_ok-tested.ensures.found in
-    subst (IsRightVerdict (memory_of actions stands terms asked depends keeps_plain) p entry bound) (sym c.in_ok-answer.ensures) right
+    subst (IsRightVerdict (memory_of memory actions stands terms asked depends keeps_plain) p entry bound) (sym c.in_ok-answer.ensures) right
