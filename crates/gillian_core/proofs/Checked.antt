@@ -1,25 +1,23 @@
 -- Answers to specifications as they are reported.
-use Rattle.std.proofs.Common.{◌≡◌, ◌⊎◌, inl, inr, ⊎_elim, ℕ, zero, suc, ◌+◌, ◌<◌, get_or, List, [], ◌∷◌, ◌++◌, map, length, slice_get, Option, Some, None, Bool, true, false, ◌&&◌, ◌||◌, IsTrue, refl, sym, ap, subst, ◌∙◌, arith, length-append, bytes_eq}
+use Rattle.std.proofs.Common.{◌≡◌, ◌⊎◌, inl, inr, ⊎_elim, ℕ, zero, suc, ◌+◌, ◌<◌, get_or, List, [], ◌∷◌, ◌++◌, length, slice_get, Some, None, Bool, true, false, ◌&&◌, ◌||◌, refl, sym, ap, subst, ◌∙◌, arith, length-append, bytes_eq}
 use Rattle.std.specs.List.{list_any}
 use Rattle.std.proofs.lemmas.Slice.Eq.{bytes_eq-Decides}
-use Rattle.gil_syntax.specs.Programs.{find_spec}
 use Rattle.gil_syntax.specs.Pure.{PureSpec, PureParts}
 use Rattle.gil_syntax.specs.Valid.{IsValid}
 use Rattle.mem_model.specs.declared.keys.MemoryName.{MemoryName}
 use Rattle.mem_model.specs.Actions.{Actions}
 use Rattle.assert_logic.specs.declared.checking.ModeItem.{ModeItem}
 use Rattle.assert_logic.specs.declared.checking.ModeKind.{ModeKind}
-use Rattle.assert_logic.specs.Modes.{HasModes, IsNamedModeFault, fault_of}
+use Rattle.assert_logic.specs.Modes.{HasModes, IsNamedModeFault}
 use Rattle.checked_paths.specs.declared.nexts.Cause.{Cause}
 use Rattle.checked_runs.specs.Specifications.{SpecHolds}
-use Rattle.solver_proof.specs.declared.proofs.Proof.{Proof}
 use Rattle.solver_proof.specs.View.{proof_view}
 use Rattle.spec_answers.specs.declared.answers.SpecAnswer.{SpecAnswer}
 use Rattle.spec_answers.specs.declared.answers.Verdict.{Verdict}
 use Rattle.spec_answers.specs.Holding.{AreTrue, is_verified, is_verified_name}
 use Rattle.spec_checker.specs.Answers.{AnswerEach, Shows}
 use Rattle.spec_checker.proofs.Found.{found_at}
-use Rattle.gil_report.specs.Pure.{PureAnswer, PureCause, verified, vacuous, unproved, depends}
+use Rattle.gil_report.specs.Pure.{PureAnswer}
 use Rattle.gillian_core.specs.Checked.{AreRightAnswers, IsRightAnswer, IsReportOf, ReportsEach}
 
 some_not_none : {A : Type 0} {x : A} → Some x ≡ None → ⊥
