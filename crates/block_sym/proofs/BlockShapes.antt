@@ -12,7 +12,7 @@ use Rattle.mem_model.specs.Tables.{failure_text}
 use Rattle.block_heap.specs.declared.actions.BlockAction.{BlockAction}
 use Rattle.block_heap.specs.Table.{is_size, count_of}
 use Rattle.block_sym.specs.Asking.{may_be_address, asked_parts, asked_of_address, asked_by}
-use Rattle.block_sym.specs.Table.{number, lacks_there, lacks, past_there, past, gone_case, cell_cases, unbounded_there, unbounded, cell_subs, bounded_there, bounded_from, free_cases, PureAction, at_cell, frees, act_there, by_parts, by_address, address_term, new_cells, created, make, wrong_number, branches_by, unknown_action, table}
+use Rattle.block_sym.specs.Table.{number, is_whole, elsewhere, taken_whole, taken_by_bound, lacks_there, lacks, past_there, past, gone_case, cell_cases, unbounded_there, unbounded, cell_subs, bounded_there, bounded_from, free_cases, PureAction, at_cell, frees, act_there, by_parts, by_address, address_term, new_cells, created, make, wrong_number, branches_by, unknown_action, table}
 use Rattle.pure_terms.specs.declared.literals.Literal.{Literal}
 use Rattle.pure_terms.specs.declared.variables.Var.{Var}
 use Rattle.pure_terms.specs.Kinds.{allows, known_kind}
@@ -21,6 +21,7 @@ use Rattle.sym_chunks.specs.ByPlace.{all_by_place, any_at}
 use Rattle.sym_chunks.specs.Cases.{ChunkBranches, failure, true_term, PureCase, case_of, branches_of, choose, PureAccess, reads, writes, takes, found}
 use Rattle.sym_chunks.specs.Forms.{form_of}
 use Rattle.sym_chunks.specs.Keys.{same_sub, at_key}
+use Rattle.sym_chunks.specs.Ordering.{inside}
 use Rattle.sym_chunks.specs.Walking.{way_of, walk}
 use Rattle.sym_conditions.specs.Alternatives.{Alternatives, never, always, both, any, is_empty, same, other, of_kind, not_of_kind}
 use Rattle.sym_model.specs.Chunks.{value_where_described}
@@ -32,6 +33,7 @@ use Rattle.sym_model.proofs.ChunkMeaning.{chunk_val}
 use Rattle.sym_model.proofs.ListLaws.{each_append, each_to}
 use Rattle.sym_chunks.proofs.CaseLaws.{none_chosen}
 use Rattle.sym_chunks.proofs.Shapes.{Reading, ChunkSides, ChunkForms, IsFine, IsFineState, IsFineSub, IsFineWay, Shaped, EachAtom, limits_of, both_shaped, or_shaped, form_shaped, form_never, same_shaped, other_shaped, outside_shaped, inside_shaped, kind_shaped, not_kind_shaped, wrong_kind, any_shaped, both_never, ends_always, side_sub, literal_cell, loc_near_or_never, loc_same, key_shaped, by_place_shaped, any_at_shaped, IsFineCase, fine_case, branches_shaped, failure_shaped, surely_shaped, chosen_shaped, found_shaped, fine_chunk, way_without, walk_shaped, no_ways_walk}
+use Rattle.block_sym.proofs.WholeBlocks.{each_elsewhere}
 
 -- what a reading needs for the table of blocks
 pub record FitsBlocks (g : Reading) : Type 0 where
@@ -90,14 +92,18 @@ module _ (g : Reading) (fits : FitsBlocks g) where
       -- ---- a cell
 
       module _ (i : PureTerm) (given_i : g.Given i) (r_i : g.R i) (zero_orders : (t : PureTerm) → g.Given t → g.Ordered t zero_term × g.Ordered zero_term t) where
-        lacks_by : (s : PureSub) (t : PureTerm) → Each g.Side (sub_terms s) → Each (λ u. (w : PureTerm) → g.Given w → g.Ordered w u × g.Ordered u w) (limits_of s t) → EachQ (lacks_there i s t)
-        lacks_by (cell o) t places limits = other_shaped g i o (g.sides i o (g.given_side i given_i) places.0)
-        lacks_by gone t places limits = tt
-        lacks_by bound t places limits = inside_shaped g i t (zero_orders i given_i).1 (limits.0 i given_i).0
-        lacks_by (named p) t places limits = (tt, tt)
-        lacks_by shape t places limits = (tt, tt)
-        lacks_by dom t places limits = (tt, tt)
-        lacks_by proto t places limits = (tt, tt)
+        unless_shaped : (b : Bool) (x : Alternatives) → EachQ x → EachQ (if b then never else x)
+        unless_shaped true x is = tt
+        unless_shaped false x is = is
+
+        lacks_by : (m : PureTerm) (s : PureSub) (t : PureTerm) → Each g.Side (sub_terms s) → Each (λ u. (w : PureTerm) → g.Given w → g.Ordered w u × g.Ordered u w) (limits_of s t) → EachQ (lacks_there cs m i s t)
+        lacks_by m (cell o) t places limits = other_shaped g i o (g.sides i o (g.given_side i given_i) places.0)
+        lacks_by m gone t places limits = tt
+        lacks_by m bound t places limits = unless_shaped (is_whole m t cs) (inside i t) (inside_shaped g i t (zero_orders i given_i).1 (limits.0 i given_i).0)
+        lacks_by m (named p) t places limits = (tt, tt)
+        lacks_by m shape t places limits = (tt, tt)
+        lacks_by m dom t places limits = (tt, tt)
+        lacks_by m proto t places limits = (tt, tt)
 
         past_by : (s : PureSub) (t : PureTerm) → Each (λ u. (w : PureTerm) → g.Given w → g.Ordered w u × g.Ordered u w) (limits_of s t) → EachQ (past_there i s t)
         past_by bound t limits = outside_shaped g i t (zero_orders i given_i).0 (limits.0 i given_i).1
@@ -134,8 +140,8 @@ module _ (g : Reading) (fits : FitsBlocks g) where
             (each_append (IsFineCase g) (gone_case l cs) _ gone_shaped
             (each_append (IsFineCase g) (case_of (any_at l (past i) cs) cs (failure Failure.Bound)) _
             (failed_case (any_at l (past i) cs) Failure.Bound (any_at_shaped g l side_l near_l (past i) (λ c c_sides near. past_by c.sub c.val (c_sides.limits near)) cs sides))
-            (fine_case g (all_by_place l (lacks i) cs) cs (missed (record { loc = l; sub = cell i }))
-            (by_place_shaped g l side_l near_l (lacks i) (λ c c_sides near. lacks_by c.sub c.val (c_sides.places near) (c_sides.limits near)) cs sides)
+            (fine_case g (all_by_place l (lacks cs i) cs) cs (missed (record { loc = l; sub = cell i }))
+            (by_place_shaped g l side_l near_l (lacks cs i) (λ c c_sides near. lacks_by c.loc c.sub c.val (c_sides.places near) (c_sides.limits near)) cs sides)
             state (r_l, ((r_i, tt), fits.m_cell i)))))
 
       -- ---- `free`
@@ -162,7 +168,14 @@ module _ (g : Reading) (fits : FitsBlocks g) where
           bound_form proto e all = absurd (cc)
           bound_form gone e all = absurd (cc)
 
-      pub taken_by : (i : ℕ) (c : PureChunk) → ChunkSides g c → IsFine g c → (n : ℤ) → c.val ≡ number n → Fine (walk cs c.loc (cell_subs 0 (count_of (integer n))) (way_of (same l c.loc) (remove cs i)))
+      whole_taken : (c : PureChunk) → ChunkSides g c → IsFine g c → Fine (taken_whole l c.loc cs)
+      whole_taken c c_sides fine =
+          fine_case g (same l c.loc) (elsewhere c.loc cs ++ record { loc = c.loc; sub = gone; val = true_term } ∷ []) (done true_term) (loc_same g l side_l near_l c c_sides)
+          (each_append (IsFine g) (elsewhere c.loc cs) (record { loc = c.loc; sub = gone; val = true_term } ∷ []) (each_elsewhere (IsFine g) c.loc cs state)
+          (fine_chunk g (record { loc = c.loc; sub = gone; val = true_term }) fine.terms.places.0 tt g.r_true fits.n_gone, tt))
+          g.r_true
+
+      taken_by : (i : ℕ) (c : PureChunk) → ChunkSides g c → IsFine g c → (n : ℤ) → c.val ≡ number n → Fine (walk cs c.loc (cell_subs 0 (count_of (integer n))) (way_of (same l c.loc) (remove cs i)))
       taken_by i c c_sides fine n is =
           ⊎_elim
           (λ near. walk_shaped g fits.n_gone cs state c.loc (c_sides.loc near) near fine.terms.places.0 (cell_subs 0 (count_of (integer n)))
@@ -171,8 +184,12 @@ module _ (g : Reading) (fits : FitsBlocks g) where
           (λ e. subst (λ x. Fine (walk cs c.loc (cell_subs 0 (count_of (integer n))) (way_of x (remove cs i)))) (sym e) (subst Fine (sym (no_ways_walk g cs c.loc (cell_subs 0 (count_of (integer n))))) tt))
           (loc_near_or_never g l side_l near_l c c_sides)
 
+      pub literal_taken : (i : ℕ) (c : PureChunk) → ChunkSides g c → IsFine g c → (n : ℤ) → c.val ≡ number n → (t : Bool) → Fine (taken_by_bound t l cs i c.loc n)
+      literal_taken i c c_sides fine n is true = whole_taken c c_sides fine
+      literal_taken i c c_sides fine n is false = taken_by i c c_sides fine n is
+
       there_shaped : (i : ℕ) (c : PureChunk) → ChunkSides g c → ChunkForms g c → IsFine g c → (s : PureSub) → c.sub ≡ s → (n : PureTerm) → c.val ≡ n → Fine (bounded_there l cs i c.loc s n)
-      there_shaped i c c_sides c_forms fine bound is (literal (Literal.Int n)) val = taken_by i c c_sides fine n val
+      there_shaped i c c_sides c_forms fine bound is (literal (Literal.Int n)) val = literal_taken i c c_sides fine n val (is_whole c.loc (number n) cs)
       there_shaped i c c_sides c_forms fine bound is (literal (Literal.Bool n)) val = tt
       there_shaped i c c_sides c_forms fine bound is (literal (Literal.Str n)) val = tt
       there_shaped i c c_sides c_forms fine bound is (literal (Literal.Kind n)) val = tt

@@ -18,7 +18,7 @@ use Rattle.mem_model.specs.KeyOrder.{variant_number}
 use Rattle.mem_model.specs.Tables.{does, fails, misses, at}
 use Rattle.mem_model.proofs.Joins.{has_key, value_at}
 use Rattle.block_heap.specs.Table.{is_outside, bounded}
-use Rattle.block_sym.specs.Table.{lacks_there, lacks, past_there, past, gone_case, cell_cases}
+use Rattle.block_sym.specs.Table.{is_whole, lacks_there, lacks, past_there, past, gone_case, cell_cases}
 use Rattle.pure_terms.specs.declared.literals.Literal.{Literal}
 use Rattle.pure_terms.specs.declared.variables.Sort.{Sort}
 use Rattle.pure_terms.specs.Meaning.{value, all_true, IsProper, IsOver}
@@ -39,10 +39,11 @@ use Rattle.sym_model.specs.Pure.{PureSub, named, cell, shape, bound, dom, proto,
 use Rattle.sym_model.proofs.ChunkMeaning.{ChunkTerms, chunk_val}
 use Rattle.sym_model.proofs.ListLaws.{same_some, each_append, one_left, one_right, one_parts, one_with, one_flat, one_flattened, one_at}
 use Rattle.sym_chunks.proofs.CaseLaws.{IsFor, IsExactCase, made_exact, made_comes}
-use Rattle.sym_chunks.proofs.Facts.{Fact, each_fact, fact_sub, fact_number, kind_number, keys_equal, loc_tells, sub_tells, same_integers}
+use Rattle.sym_chunks.proofs.Facts.{Fact, each_fact, fact_loc, fact_sub, fact_number, kind_number, keys_equal, loc_tells, sub_tells, same_integers}
 use Rattle.sym_chunks.proofs.FoundLaws.{none_of_option, at_chunk, held_at, by_place_parts, by_place_from, any_key, key_any, found_exact, found_comes}
 use Rattle.sym_chunks.proofs.OrderLaws.{less_tells, at_most_tells}
 use Rattle.block_sym.proofs.Arguments.{at_some, at_none, if_true, if_false}
+use Rattle.block_sym.proofs.WholeBlocks.{whole_number, inside_count, cell_there}
 
 lt_to : (m n : ℤ) → lt_z m n ≡ true → m <ℤ n
 lt_to m n e = grind (arith, ints)
@@ -243,7 +244,11 @@ module _ (vars : List Sort) (v : List PureValue) (h : Heap) (cs : List PureChunk
       other_away : (c : PureChunk) (f : Fact vars v h c) (s : PureSub) → c.sub ≡ s → ¬ (1 ≡ kind_number s) → ¬ (3 ≡ kind_number s) → ¬ (6 ≡ kind_number s) → Away c f
       other_away c f s is no_cell no_bound no_gone = record { not_cell = not_variant c f s is (At n) no_cell; not_gone = not_variant c f s is Gone no_gone; inside_it = λ e. absurd (not_variant c f s is Bound no_bound e) }
 
-      away_by : (c : PureChunk) (f : Fact vars v h c) (s : PureSub) → c.sub ≡ s → Hold v (lacks_there i s c.val) → Away c f
+      unless_whole : (t : Bool) (y : Alternatives) → Hold v (if t then [] else y) → Hold v y
+      unless_whole true y holds = absurd holds
+      unless_whole false y holds = holds
+
+      away_by : (c : PureChunk) (f : Fact vars v h c) (s : PureSub) → c.sub ≡ s → Hold v (lacks_there cs c.loc i s c.val) → Away c f
       away_by c f (cell o) is holds = record {
         not_cell = λ e. (sub_tells vars v h proper c f l (cell i) (key a (At n)) cell_asked).0 (subst (λ s. Hold v (other_sub (cell i) s)) (sym is) holds) (ap (λ (q : Key). q.sub) e);
         not_gone = not_variant c f (cell o) is Gone (λ e. absurd (omega (arith, e)));
@@ -254,7 +259,7 @@ module _ (vars : List Sort) (v : List PureValue) (h : Heap) (cs : List PureChunk
         not_gone = not_variant c f bound is Gone (λ e. absurd (omega (arith, e)));
         inside_it = λ e.
             let (m, is_m) = stands.is_heap.well_formed.bound_is_number a f.w (held_at vars v h proper cs stands.union facts c f (key a Bound) e) in
-            ap (λ x. is_outside x n) is_m ∙ inside_parts c f m is_m holds;
+            ap (λ x. is_outside x n) is_m ∙ inside_parts c f m is_m (unless_whole (is_whole c.loc c.val cs) (inside i c.val) holds);
       }
       away_by c f gone is holds = absurd holds
       away_by c f (named p) is holds = other_away c f (named p) is (λ e. absurd (omega (arith, e))) (λ e. absurd (omega (arith, e))) (λ e. absurd (omega (arith, e)))
@@ -262,9 +267,9 @@ module _ (vars : List Sort) (v : List PureValue) (h : Heap) (cs : List PureChunk
       away_by c f dom is holds = other_away c f dom is (λ e. absurd (omega (arith, e))) (λ e. absurd (omega (arith, e))) (λ e. absurd (omega (arith, e)))
       away_by c f proto is holds = other_away c f proto is (λ e. absurd (omega (arith, e))) (λ e. absurd (omega (arith, e))) (λ e. absurd (omega (arith, e)))
 
-      missed_for : Hold v (all_by_place l (lacks i) cs) → IsFor Block v cell_result cs (missed (record { loc = l; sub = cell i }))
+      missed_for : Hold v (all_by_place l (lacks cs i) cs) → IsFor Block v cell_result cs (missed (record { loc = l; sub = cell i }))
       missed_for holds =
-          let away : (j : ℕ) (c : PureChunk) (f : Fact vars v h c) → slice_get cs j ≡ Some c → f.k.loc ≡ a → Away c f = (λ j c f there e. away_by c f c.sub refl (by_place_parts vars v h proper cs stands.union facts l a asked (lacks i) holds j c f there e)) in
+          let away : (j : ℕ) (c : PureChunk) (f : Fact vars v h c) → slice_get cs j ≡ Some c → f.k.loc ≡ a → Away c f = (λ j c f there e. away_by c f c.sub refl (by_place_parts vars v h proper cs stands.union facts l a asked (lacks cs i) holds j c f there e)) in
           let loc_of : (k : Key) (t : Sub) → k ≡ key a t → k.loc ≡ a = (λ k t e. ap (λ (q : Key). q.loc) e) in
           let no_cell : get h (key a (At n)) ≡ None = none_of_option (get h (key a (At n))) (λ has. let (w, held) = value_at h (key a (At n)) has in at_chunk vars v h proper cs stands.union facts (key a (At n)) w held (λ j c f there e is. (away j c f there (loc_of f.k (At n) e)).not_cell e)) in
           let no_gone : get h (key a Gone) ≡ None = none_of_option (get h (key a Gone)) (λ has. let (w, held) = value_at h (key a Gone) has in at_chunk vars v h proper cs stands.union facts (key a Gone) w held (λ j c f there e is. (away j c f there (loc_of f.k Gone e)).not_gone e)) in
@@ -272,7 +277,17 @@ module _ (vars : List Sort) (v : List PureValue) (h : Heap) (cs : List PureChunk
           (sym (missed_result no_gone no_cell (λ d held. at_chunk vars v h proper cs stands.union facts (key a Bound) d held (λ j c f there e is. ap (λ x. is_outside x n) (sym is) ∙ (away j c f there (loc_of f.k Bound e)).inside_it e))))
           (cell_asked.is, stands)
 
-      lacks_by : (c : PureChunk) (f : Fact vars v h c) (s : PureSub) → c.sub ≡ s → f.k.loc ≡ a → get h (key a (At n)) ≡ None → get h (key a Gone) ≡ None → ((m : ℤ) → Holds h (key a Bound) (integer m) → (pos 0 ≤ℤ n) × (n <ℤ m)) → Hold v (lacks_there i s c.val)
+      -- a cell that is inside the bound of a whole block isn't lacking
+      none_lacks : (c : PureChunk) (f : Fact vars v h c) (m : ℤ) → f.w ≡ integer m → Holds h (key f.k.loc Bound) f.w → get h (key f.k.loc (At n)) ≡ None → pos 0 ≤ℤ n → n <ℤ m → (t : Bool) → is_whole c.loc c.val cs ≡ t → Hold v (if t then [] else inside i c.val)
+      none_lacks c f m is_m held none low high false is = inside_from c f m is_m low high
+      none_lacks c f m is_m held none low high true is =
+          let (k, (is_k, enough)) = whole_number c.loc c.val cs is in
+          let same : m ≡ k = same_integers (sym is_m ∙ same_some (sym f.entry.holds ∙ ap (value v) is_k)) in
+          let (j, (is_j, below)) = inside_count n k low (subst (λ x. n <ℤ x) same high) in
+          let there = cell_there v h stands.is_heap c.loc f.k.loc (fact_loc vars v h c f).is k (subst (Holds h (key f.k.loc Bound)) (is_m ∙ ap integer same) held) cs stands.union enough j below in
+          absurd (true≢false (sym there ∙ ap (λ o. is_some (get h (key f.k.loc (At o)))) (sym is_j) ∙ ap is_some none))
+
+      lacks_by : (c : PureChunk) (f : Fact vars v h c) (s : PureSub) → c.sub ≡ s → f.k.loc ≡ a → get h (key a (At n)) ≡ None → get h (key a Gone) ≡ None → ((m : ℤ) → Holds h (key a Bound) (integer m) → (pos 0 ≤ℤ n) × (n <ℤ m)) → Hold v (lacks_there cs c.loc i s c.val)
       lacks_by c f (cell o) is e no_cell no_gone inside_it =
           subst (λ s. Hold v (other_sub (cell i) s)) is
           ((sub_tells vars v h proper c f l (cell i) (key a (At n)) cell_asked).1 (λ sub. true≢false (sym (ap is_some (held_at vars v h proper cs stands.union facts c f (key a (At n)) (keys_equal f.k a (At n) e sub))) ∙ ap is_some no_cell)))
@@ -281,14 +296,14 @@ module _ (vars : List Sort) (v : List PureValue) (h : Heap) (cs : List PureChunk
           let held = held_at vars v h proper cs stands.union facts c f (key a Bound) (descriptor_key c f a bound Bound is refl e) in
           let (m, is_m) = stands.is_heap.well_formed.bound_is_number a f.w held in
           let parts = inside_it m (subst (Holds h (key a Bound)) is_m held) in
-          inside_from c f m is_m parts.0 parts.1
+          none_lacks c f m is_m (subst (λ x. Holds h (key x Bound) f.w) (sym e) held) (ap (λ x. get h (key x (At n))) e ∙ no_cell) parts.0 parts.1 (is_whole c.loc c.val cs) refl
       lacks_by c f (named p) is e no_cell no_gone inside_it = always_true v
       lacks_by c f shape is e no_cell no_gone inside_it = always_true v
       lacks_by c f dom is e no_cell no_gone inside_it = always_true v
       lacks_by c f proto is e no_cell no_gone inside_it = always_true v
 
-      missed_holds : get h (key a (At n)) ≡ None → get h (key a Gone) ≡ None → ((m : ℤ) → Holds h (key a Bound) (integer m) → (pos 0 ≤ℤ n) × (n <ℤ m)) → Hold v (all_by_place l (lacks i) cs)
-      missed_holds no_cell no_gone inside_it = by_place_from vars v h proper cs stands.union facts l a asked (lacks i) (λ j c f there e. lacks_by c f c.sub refl e no_cell no_gone inside_it)
+      missed_holds : get h (key a (At n)) ≡ None → get h (key a Gone) ≡ None → ((m : ℤ) → Holds h (key a Bound) (integer m) → (pos 0 ≤ℤ n) × (n <ℤ m)) → Hold v (all_by_place l (lacks cs i) cs)
+      missed_holds no_cell no_gone inside_it = by_place_from vars v h proper cs stands.union facts l a asked (lacks cs i) (λ j c f there e. lacks_by c f c.sub refl e no_cell no_gone inside_it)
 
       -- ---- the cases
 
@@ -301,19 +316,19 @@ module _ (vars : List Sort) (v : List PureValue) (h : Heap) (cs : List PureChunk
             (each_append (IsExactCase Block v cell_result) (gone_case l cs) _ (gone_exact cell_result gone_result)
             (each_append (IsExactCase Block v cell_result) (case_of (any_at l (past i) cs) cs (failure Failure.Bound)) _
             (made_exact Block v cell_result (any_at l (past i) cs) cs (failure Failure.Bound) (inr past_for))
-            (made_exact Block v cell_result (all_by_place l (lacks i) cs) cs (missed (record { loc = l; sub = cell i })) (inr missed_for))))
+            (made_exact Block v cell_result (all_by_place l (lacks cs i) cs) cs (missed (record { loc = l; sub = cell i })) (inr missed_for))))
 
       abbrev Comes : PureAccess → Type 0
       Comes x = OneOf (λ d. Hold v d.when) (cell_cases x l i cs)
 
-      after_found : (x : PureAccess) → OneOf (λ d. Hold v d.when) (gone_case l cs ++ (case_of (any_at l (past i) cs) cs (failure Failure.Bound) ++ case_of (all_by_place l (lacks i) cs) cs (missed (record { loc = l; sub = cell i })))) → Comes x
+      after_found : (x : PureAccess) → OneOf (λ d. Hold v d.when) (gone_case l cs ++ (case_of (any_at l (past i) cs) cs (failure Failure.Bound) ++ case_of (all_by_place l (lacks cs i) cs) cs (missed (record { loc = l; sub = cell i })))) → Comes x
       after_found x one = one_right (λ d. Hold v d.when) (found x l (cell i) cs) _ one
 
-      after_gone : (x : PureAccess) → OneOf (λ d. Hold v d.when) (case_of (any_at l (past i) cs) cs (failure Failure.Bound) ++ case_of (all_by_place l (lacks i) cs) cs (missed (record { loc = l; sub = cell i }))) → Comes x
+      after_gone : (x : PureAccess) → OneOf (λ d. Hold v d.when) (case_of (any_at l (past i) cs) cs (failure Failure.Bound) ++ case_of (all_by_place l (lacks cs i) cs) cs (missed (record { loc = l; sub = cell i }))) → Comes x
       after_gone x one = after_found x (one_right (λ d. Hold v d.when) (gone_case l cs) _ one)
 
-      missed_comes : (x : PureAccess) → Hold v (all_by_place l (lacks i) cs) → Comes x
-      missed_comes x holds = after_gone x (one_right (λ d. Hold v d.when) (case_of (any_at l (past i) cs) cs (failure Failure.Bound)) _ (made_comes v (all_by_place l (lacks i) cs) cs (missed (record { loc = l; sub = cell i })) holds))
+      missed_comes : (x : PureAccess) → Hold v (all_by_place l (lacks cs i) cs) → Comes x
+      missed_comes x holds = after_gone x (one_right (λ d. Hold v d.when) (case_of (any_at l (past i) cs) cs (failure Failure.Bound)) _ (made_comes v (all_by_place l (lacks cs i) cs) cs (missed (record { loc = l; sub = cell i })) holds))
 
       by_bound : (x : PureAccess) → get h (key a Gone) ≡ None → get h (key a (At n)) ≡ None → (o : Option PureValue) → get h (key a Bound) ≡ o → Comes x
       by_bound x no_gone no_cell None is = missed_comes x (missed_holds no_cell no_gone (λ m held. absurd (true≢false (sym (ap is_some held) ∙ ap is_some is))))

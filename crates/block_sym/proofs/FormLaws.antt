@@ -12,7 +12,7 @@ use Rattle.mem_model.specs.Heaps.{Heap}
 use Rattle.block_heap.specs.declared.actions.BlockAction.{BlockAction}
 use Rattle.block_heap.specs.Table.{address, is_size, count_of}
 use Rattle.block_sym.specs.Asking.{IsGivenOf, IsBoundOf, DependsOn}
-use Rattle.block_sym.specs.Table.{number, lacks_there, lacks, past_there, past, gone_case, unfound_cases, cell_cases, unbounded_there, unbounded, cell_subs, bounded_there, bounded_from, free_cases, PureAction, at_cell, frees, act_there, by_parts, by_address, address_term, created, make, wrong_number, branches_by, table}
+use Rattle.block_sym.specs.Table.{number, is_whole, taken_by_bound, lacks_there, lacks, past_there, past, gone_case, unfound_cases, cell_cases, unbounded_there, unbounded, cell_subs, bounded_there, bounded_from, free_cases, PureAction, at_cell, frees, act_there, by_parts, by_address, address_term, created, make, wrong_number, branches_by, table}
 use Rattle.pure_terms.specs.declared.literals.Literal.{Literal}
 use Rattle.pure_terms.specs.declared.variables.Sort.{Sort}
 use Rattle.pure_terms.specs.declared.variables.Var.{Var}
@@ -45,7 +45,7 @@ use Rattle.sym_chunks.proofs.Opening.{OpenFor, Opens, closed_open, form_open, br
 use Rattle.sym_chunks.proofs.Readings.{NoOpen, positive_closed, negative_closed, loose_state, closed_reading, closed_sides, over_elements}
 use Rattle.sym_chunks.proofs.Shapes.{EachAtom, IsFineCase, IsFineState, IsFine, IsFineSub, IsFineWay, both_shaped, or_shaped, same_shaped, other_shaped, kind_shaped, not_kind_shaped, by_place_shaped}
 use Rattle.block_sym.proofs.Arguments.{values_one, values_two, symbol_or_not, number_or_not}
-use Rattle.block_sym.proofs.BlockShapes.{FitsBlocks, cell_shaped, gone_shaped, taken_by, unbounded_by}
+use Rattle.block_sym.proofs.BlockShapes.{FitsBlocks, cell_shaped, gone_shaped, literal_taken, unbounded_by}
 
 -- ---- what needs no form
 
@@ -89,7 +89,7 @@ module _ (v : List PureValue) (D : PureTerm → Type 0) (cs : List PureChunk) wh
         (form_open v D n (same l c.loc) (λ holds. subst D val (is_bound i c there is holds)) (same_shaped closed_reading l c.loc tt))
 
     there_open : (i : ℕ) (c : PureChunk) → slice_get cs i ≡ Some c → (s : PureSub) → c.sub ≡ s → (n : PureTerm) → c.val ≡ n → Each (λ d. OpenFor v D d.when) (bounded_there l cs i c.loc s n)
-    there_open i c there bound is (literal (Literal.Int n)) val = from_fine (walk cs c.loc (cell_subs 0 (count_of (integer n))) (way_of (same l c.loc) (remove cs i))) (taken_by closed_reading fits_closed cs (closed_sides cs) (closed_state cs) l tt tt i c (each_at _ cs i c (closed_sides cs) there) (each_at _ cs i c (closed_state cs) there) n val)
+    there_open i c there bound is (literal (Literal.Int n)) val = from_fine (taken_by_bound (is_whole c.loc (number n) cs) l cs i c.loc n) (literal_taken closed_reading fits_closed cs (closed_sides cs) (closed_state cs) l tt tt i c (each_at _ cs i c (closed_sides cs) there) (each_at _ cs i c (closed_state cs) there) n val (is_whole c.loc (number n) cs))
     there_open i c there bound is (literal (Literal.Bool n)) val = tt
     there_open i c there bound is (literal (Literal.Str n)) val = tt
     there_open i c there bound is (literal (Literal.Kind n)) val = tt

@@ -23,7 +23,7 @@ use Rattle.mem_model.proofs.Holding.{same_key, itself}
 use Rattle.mem_model.proofs.NameKeys.{or_of}
 use Rattle.block_heap.specs.Cells.{cell_among, block_whole}
 use Rattle.block_heap.specs.Table.{cells_from, cell_keys, count_of, free}
-use Rattle.block_sym.specs.Table.{number, gone_case, unbounded_there, unbounded, cell_subs, bounded_there, bounded_from, free_cases, frees, act_there}
+use Rattle.block_sym.specs.Table.{number, gone_case, unbounded_there, unbounded, cell_subs, cells_at, is_whole, elsewhere, taken_whole, taken_by_bound, bounded_there, bounded_from, free_cases, frees, act_there}
 use Rattle.pure_terms.specs.declared.literals.Literal.{Literal}
 use Rattle.pure_terms.specs.declared.variables.Sort.{Sort}
 use Rattle.pure_terms.specs.Meaning.{value, values, IsProper, IsOver}
@@ -37,7 +37,7 @@ use Rattle.sym_conditions.specs.Alternatives.{Alternatives, Hold, both, same, ot
 use Rattle.sym_conditions.specs.Laws.{HaveBoth}
 use Rattle.sym_conditions.proofs.Combined.{both_from, both_parts, always_true}
 use Rattle.sym_conditions.proofs.Telling.{same_tells, other_tells}
-use Rattle.sym_model.specs.Chunks.{IsUnion, StandFor}
+use Rattle.sym_model.specs.Chunks.{IsEntry, IsUnion, StandFor}
 use Rattle.sym_model.specs.Cores.{zero_term}
 use Rattle.sym_model.specs.Lists.{Each, OneOf}
 use Rattle.sym_model.specs.Meaning.{location_of, key_of}
@@ -48,9 +48,10 @@ use Rattle.sym_model.proofs.Unions.{taken_out}
 use Rattle.sym_chunks.proofs.CaseLaws.{IsFor, IsExactCase, IsRight, IsTaken, Exact, exact_cases, taken_case, chosen_exact, chosen_taken, made_exact, made_comes, needed_open, form_holds}
 use Rattle.sym_chunks.proofs.Facts.{Fact, fact_loc, fact_number, kind_number, loc_tells, same_integers}
 use Rattle.sym_chunks.proofs.FoundLaws.{none_of_option, at_chunk, held_at, by_place_parts, by_place_from}
-use Rattle.sym_chunks.proofs.WalkLaws.{AreDistinctKeys, AreKeysOf, Left, IsRightWay, right_way, way_so, each_removed, no_key_taken, one_more_taken, walk_exact, walk_comes}
+use Rattle.sym_chunks.proofs.WalkLaws.{disposed_stands, AreDistinctKeys, AreKeysOf, Left, IsRightWay, right_way, way_so, each_removed, no_key_taken, one_more_taken, walk_exact, walk_comes}
 use Rattle.block_sym.proofs.Arguments.{at_some, at_none, if_true, if_false}
 use Rattle.block_sym.proofs.CellRight.{facts, descriptor_key, gone_exact, gone_comes, no_gone_beside, bound_asked}
+use Rattle.block_sym.proofs.WholeBlocks.{le_of, no_cell_missing, whole_union}
 
 -- ---- the keys of cells
 
@@ -165,13 +166,46 @@ module _ (vars : List Sort) (v : List PureValue) (h : Heap) (cs : List PureChunk
         (cells_are_keys vars v c.loc f.k.loc own (count_of (integer n)) 0) (way_of (same l c.loc) (remove_at cs i)) first_right
         (way_so Block vars v h cs stands proper c.loc f.k.loc own no_gone r keeps (same l c.loc) (remove_at cs i) ((loc_tells vars v h proper c f l a asked).1 e))
 
+    -- ---- all cells are there
+
+    held_number : Holds h (key f.k.loc Bound) (integer n)
+    held_number = subst (Holds h (key f.k.loc Bound)) val_is held
+
+    bound_entry : IsEntry v c (key f.k.loc Bound) (integer n)
+    bound_entry = record { at = f.entry.at ∙ ap Some bound_at; holds = f.entry.holds ∙ ap Some val_is }
+
+    module _ (enough : count_of (integer n) ≤ cells_at c.loc cs) where
+      whole_result : f.k.loc ≡ a → r ≡ does (boolean true) (disposed f.k.loc h)
+      whole_result e = result_here e ∙ ap (λ o. missed_or o h (does (boolean true) (disposed f.k.loc h))) (no_cell_missing v h stands.is_heap c.loc f.k.loc own.is n held_number cs stands.union enough)
+
+      whole_exact : Each (IsExactCase Block v r) (taken_whole l c.loc cs)
+      whole_exact =
+          made_exact Block v r (same l c.loc) (elsewhere c.loc cs ++ record { loc = c.loc; sub = gone; val = true_term } ∷ []) (done true_term)
+          (inr (λ holds. disposed_stands Block vars v h cs stands proper c.loc f.k.loc own no_gone r keeps (elsewhere c.loc cs)
+          (whole_union v h stands.is_heap c.loc f.k.loc own.is n held_number cs stands.union enough i c there refl bound_entry)
+          (whole_result ((loc_tells vars v h proper c f l a asked).0 holds))))
+
+    whole_comes : f.k.loc ≡ a → OneOf (λ d. Hold v d.when) (taken_whole l c.loc cs)
+    whole_comes e = made_comes v (same l c.loc) (elsewhere c.loc cs ++ record { loc = c.loc; sub = gone; val = true_term } ∷ []) (done true_term) ((loc_tells vars v h proper c f l a asked).1 e)
+
+    enough_of : is_whole c.loc (number n) cs ≡ true → count_of (integer n) ≤ cells_at c.loc cs
+    enough_of is = le_of (count_of (integer n)) (cells_at c.loc cs) is
+
+    literal_exact : (t : Bool) → is_whole c.loc (number n) cs ≡ t → Each (IsExactCase Block v r) (taken_by_bound t l cs i c.loc n)
+    literal_exact true is = whole_exact (enough_of is)
+    literal_exact false is = taken_exact
+
+    literal_comes : f.k.loc ≡ a → (t : Bool) → OneOf (λ d. Hold v d.when) (taken_by_bound t l cs i c.loc n)
+    literal_comes e true = whole_comes e
+    literal_comes e false = taken_comes e
+
   -- ---- every chunk that may be the bound
 
   open_exact : (n : PureTerm) (x : Alternatives) → Each (IsExactCase Block v r) (case_of (form_of n x) cs (done true_term))
   open_exact n x = made_exact Block v r (form_of n x) cs (done true_term) (inl (needed_open v n x))
 
   there_exact : (i : ℕ) (c : PureChunk) → slice_get cs i ≡ Some c → (s : PureSub) → c.sub ≡ s → (n : PureTerm) → c.val ≡ n → Each (IsExactCase Block v r) (bounded_there l cs i c.loc s n)
-  there_exact i c there bound is (literal (Literal.Int n)) val = taken_exact i c (each_at (Fact vars v h) cs i c all_facts there) there is n val
+  there_exact i c there bound is (literal (Literal.Int n)) val = literal_exact i c (each_at (Fact vars v h) cs i c all_facts there) there is n val (is_whole c.loc (number n) cs) refl
   there_exact i c there bound is (literal (Literal.Bool n)) val = tt
   there_exact i c there bound is (literal (Literal.Str n)) val = tt
   there_exact i c there bound is (literal (Literal.Kind n)) val = tt
@@ -269,7 +303,7 @@ module _ (vars : List Sort) (v : List PureValue) (h : Heap) (cs : List PureChunk
   there_comes : (i : ℕ) (c : PureChunk) (f : Fact vars v h c) → slice_get cs i ≡ Some c → f.k ≡ key a Bound → (m : ℤ) → f.w ≡ integer m → (s : PureSub) → c.sub ≡ s → (n : PureTerm) → c.val ≡ n → OneOf (λ d. Hold v d.when) (bounded_there l cs i c.loc s n)
   there_comes i c f there e m is_m bound is (literal k) val =
       not_number k m (ap (value v) (sym val) ∙ f.entry.holds ∙ ap Some is_m)
-      (λ n is_n. subst (λ j. OneOf (λ d. Hold v d.when) (bounded_there l cs i c.loc bound (literal j))) (sym is_n) (taken_comes i c f there is n (val ∙ ap literal is_n) (loc_at f.k Bound e)))
+      (λ n is_n. subst (λ j. OneOf (λ d. Hold v d.when) (bounded_there l cs i c.loc bound (literal j))) (sym is_n) (literal_comes i c f there is n (val ∙ ap literal is_n) (loc_at f.k Bound e) (is_whole c.loc (number n) cs)))
   there_comes i c f there e m is_m bound is (list_of ts) val = no_list_number (values v ts) m (ap (value v) (sym val) ∙ f.entry.holds ∙ ap Some is_m)
   there_comes i c f there e m is_m bound is (variable x) val = open_comes c f (loc_at f.k Bound e) (variable x) val (form_holds v (variable x) (integer m) (same l c.loc) (ap (value v) (sym val) ∙ f.entry.holds ∙ ap Some is_m) ((loc_tells vars v h proper c f l a asked).1 (loc_at f.k Bound e)))
   there_comes i c f there e m is_m bound is (unary_of op t) val = open_comes c f (loc_at f.k Bound e) (unary_of op t) val (form_holds v (unary_of op t) (integer m) (same l c.loc) (ap (value v) (sym val) ∙ f.entry.holds ∙ ap Some is_m) ((loc_tells vars v h proper c f l a asked).1 (loc_at f.k Bound e)))

@@ -10,3 +10,4 @@ pub mod Listing
 pub mod Loops
 pub mod Missing
 pub mod Right
+pub mod WholeBlocks

@@ -1,14 +1,17 @@
 -- The steps of the loops over cells, and lists joined one after another.
-use Rattle.std.proofs.Common.{◌≡◌, ℕ, zero, suc, ◌+◌, ◌-◌, ◌<◌, ◌≤◌, pos, List, [], ◌∷◌, ◌++◌, map, length, refl, sym, ap, ◌∙◌, arith}
-use Rattle.std.specs.List.{flat_map}
+use Rattle.std.proofs.Common.{◌≡◌, ℕ, zero, suc, ◌+◌, ◌-◌, ◌<◌, ◌≤◌, ℤ, pos, List, [], ◌∷◌, ◌++◌, map, length, Bool, true, false, refl, sym, ap, ◌∙◌, arith}
+use Rattle.std.specs.List.{flat_map, remove}
 use Rattle.std.proofs.lemmas.List.{append_assoc, append-nil}
-use Rattle.block_sym.specs.Table.{number, cell_subs, new_cells}
+use Rattle.gil_values.specs.Pure.{integer}
+use Rattle.block_heap.specs.Table.{count_of}
+use Rattle.block_sym.specs.Table.{number, cell_subs, new_cells, elsewhere, taken_by_bound}
 use Rattle.pure_terms.specs.declared.variables.Var.{Var}
 use Rattle.pure_terms.specs.Pure.{PureTerm, variable}
-use Rattle.sym_chunks.specs.Cases.{PureCase}
-use Rattle.sym_chunks.specs.Walking.{PureWay, missing_key, next_ways, all_taken, walk}
+use Rattle.sym_chunks.specs.Cases.{PureCase, case_of, true_term}
+use Rattle.sym_chunks.specs.Walking.{PureWay, way_of, missing_key, next_ways, all_taken, walk}
+use Rattle.sym_conditions.specs.Alternatives.{same}
 use Rattle.sym_model.specs.Cores.{zero_term}
-use Rattle.sym_model.specs.Pure.{PureSub, cell, PureChunk}
+use Rattle.sym_model.specs.Pure.{PureSub, cell, gone, PureChunk, done}
 
 pub no_items : {X Y : Type 0} (f : X → Y) (xs : List X) → length xs ≡ 0 → map f xs ≡ []
 no_items f [] is = refl
@@ -52,3 +55,10 @@ joined_two x0 x1 bs a b first second = second ∙ ap (λ x. x ++ b) first ∙ ap
 pub joined_three : {X : Type 0} (x0 x1 x2 bs a b c : List X) → x1 ≡ x0 ++ a → x2 ≡ x1 ++ b → bs ≡ x2 ++ c → bs ≡ x0 ++ (a ++ (b ++ c))
 joined_three x0 x1 x2 bs a b c first second third =
     third ∙ ap (λ x. x ++ c) (second ∙ ap (λ x. x ++ b) first) ∙ append_assoc (x0 ++ a) b c ∙ append_assoc x0 a (b ++ c)
+
+-- ---- whole blocks
+
+-- no case comes where the location surely is another one
+pub none_taken : (t : Bool) (l m : PureTerm) (cs : List PureChunk) (i : ℕ) (n : ℤ) → same l m ≡ [] → taken_by_bound t l cs i m n ≡ []
+none_taken true l m cs i n none = ap (λ x. case_of x (elsewhere m cs ++ record { loc = m; sub = gone; val = true_term } ∷ []) (done true_term)) none
+none_taken false l m cs i n none = ap (λ x. walk cs m (cell_subs 0 (count_of (integer n))) (way_of x (remove cs i))) none ∙ no_ways cs m (cell_subs 0 (count_of (integer n)))

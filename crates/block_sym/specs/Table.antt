@@ -1,6 +1,6 @@
 -- The branches of the actions of blocks. l is a location, i an offset, n what a chunk holds at `Bound`; an address is a list of l
 -- and i.
-use Rattle.std.specs.Prelude.{ℕ, zero, suc, ◌+◌, ℤ, pos, List, [], ◌∷◌, ◌++◌, if◌then◌else◌, Option, Some, None}
+use Rattle.std.specs.Prelude.{ℕ, zero, suc, ◌+◌, ℤ, pos, List, [], ◌∷◌, ◌++◌, Bool, true, false, ◌&&◌, nat_le, if◌then◌else◌, Option, Some, None}
 use Rattle.std.specs.List.{remove}
 use Rattle.gil_values.specs.declared.kinds.Kind.{Kind}
 use Rattle.gil_values.specs.Pure.{integer}
@@ -9,6 +9,7 @@ use Rattle.block_heap.specs.declared.actions.BlockAction.{BlockAction}
 use Rattle.block_heap.specs.Table.{is_size, count_of}
 use Rattle.pure_terms.specs.declared.literals.Literal.{Literal}
 use Rattle.pure_terms.specs.declared.variables.Var.{Var}
+use Rattle.pure_terms.specs.Equality.{same_term}
 use Rattle.pure_terms.specs.Pure.{PureTerm, literal, variable, list_of, from_list, to_list}
 use Rattle.sym_chunks.specs.ByPlace.{all_by_place, any_at}
 use Rattle.sym_chunks.specs.Cases.{ChunkBranches, failure, true_term, PureCase, case_of, branches_of, choose, PureAccess, reads, writes, found}
@@ -23,17 +24,43 @@ use Rattle.sym_model.specs.Pure.{PureSub, cell, bound, gone, PureChunk, done, mi
 abbrev pub number : ℤ → PureTerm
 number k = literal (Literal.Int k)
 
+-- ---- whole blocks
+
+abbrev pub is_cell : PureSub → Bool
+is_cell (cell o) = true
+is_cell _ = false
+
+-- the chunk is a cell, and its location this very term
+abbrev pub is_cell_at : PureTerm → PureChunk → Bool
+is_cell_at m c = same_term c.loc m && is_cell c.sub
+
+abbrev pub cells_at : PureTerm → List PureChunk → ℕ
+cells_at m [] = 0
+cells_at m (c ∷ cs) = if is_cell_at m c then suc (cells_at m cs) else cells_at m cs
+
+-- Where n is the bound of m, all its cells are there, whatever their offsets are: as many have this very term as their location.
+abbrev pub is_whole : PureTerm → PureTerm → List PureChunk → Bool
+is_whole m (literal (Literal.Int n)) cs = nat_le (count_of (integer n)) (cells_at m cs)
+is_whole m n cs = false
+
+-- the chunks whose location isn't this very term
+abbrev pub elsewhere : PureTerm → List PureChunk → List PureChunk
+elsewhere m [] = []
+elsewhere m (c ∷ cs) = if same_term c.loc m then elsewhere m cs else c ∷ elsewhere m cs
+
 -- ---- a cell
 
--- the chunk, of the location, doesn't tell of the cell at i: it is another cell, or the bound, and i inside it
-abbrev pub lacks_there : PureTerm → PureSub → PureTerm → Alternatives
-lacks_there i (cell o) val = other i o
-lacks_there i gone val = never
-lacks_there i bound val = inside i val
-lacks_there i _ val = always
+-- The chunk, of the location m, doesn't tell of the cell at i: it is another cell, or the bound, and i inside it, unless all cells
+-- are there.
+abbrev pub lacks_there : List PureChunk → PureTerm → PureTerm → PureSub → PureTerm → Alternatives
+lacks_there cs m i (cell o) val = other i o
+lacks_there cs m i gone val = never
+lacks_there cs m i bound val = if is_whole m val cs then never else inside i val
+lacks_there cs m i _ val = always
 
-abbrev pub lacks : PureTerm → PureChunk → Alternatives
-lacks i c = lacks_there i c.sub c.val
+-- the chunk, which is one of these
+abbrev pub lacks : List PureChunk → PureTerm → PureChunk → Alternatives
+lacks cs i c = lacks_there cs c.loc i c.sub c.val
 
 -- the chunk is the bound, and i outside it
 abbrev pub past_there : PureTerm → PureSub → PureTerm → Alternatives
@@ -52,7 +79,7 @@ abbrev pub unfound_cases : PureTerm → PureTerm → List PureChunk → List Pur
 unfound_cases l i cs =
     gone_case l cs
     ++ (case_of (any_at l (past i) cs) cs (failure Failure.Bound)
-    ++ case_of (all_by_place l (lacks i) cs) cs (missed (record { loc = l; sub = cell i })))
+    ++ case_of (all_by_place l (lacks cs i) cs) cs (missed (record { loc = l; sub = cell i })))
 
 -- `load` and `store`
 abbrev pub cell_cases : PureAccess → PureTerm → PureTerm → List PureChunk → List PureCase
@@ -74,9 +101,19 @@ abbrev pub cell_subs : ℕ → ℕ → List PureSub
 cell_subs i zero = []
 cell_subs i (suc n) = cell (number (pos i)) ∷ cell_subs (i + 1) n
 
--- The chunk at a place is the bound of l: a literal, and its cells are taken one after another; or its literal form is needed.
+-- l is m, all of whose cells are there: they go with the bound, and m is gone then
+abbrev pub taken_whole : PureTerm → PureTerm → List PureChunk → List PureCase
+taken_whole l m cs = case_of (same l m) (elsewhere m cs ++ record { loc = m; sub = gone; val = true_term } ∷ []) (done true_term)
+
+-- The chunk at a place, of m, is the bound of l, a literal. Its cells go at once where they are all there, and else are taken one
+-- after another.
+abbrev pub taken_by_bound : Bool → PureTerm → List PureChunk → ℕ → PureTerm → ℤ → List PureCase
+taken_by_bound true l cs i m n = taken_whole l m cs
+taken_by_bound false l cs i m n = walk cs m (cell_subs 0 (count_of (integer n))) (way_of (same l m) (remove cs i))
+
+-- the chunk at a place is the bound of l: a literal, or its literal form is needed
 abbrev pub bounded_there : PureTerm → List PureChunk → ℕ → PureTerm → PureSub → PureTerm → List PureCase
-bounded_there l cs i m bound (literal (Literal.Int n)) = walk cs m (cell_subs 0 (count_of (integer n))) (way_of (same l m) (remove cs i))
+bounded_there l cs i m bound (literal (Literal.Int n)) = taken_by_bound (is_whole m (number n) cs) l cs i m n
 bounded_there l cs i m bound n = case_of (form_of n (same l m)) cs (done true_term)
 bounded_there l cs i m _ n = []
 

@@ -1,15 +1,16 @@
 //! `load` and `store`: the cell at an offset.
 ghost use Rattle.std.specs.Prelude.{◌≡◌, ◌++◌, IfOk};
 ghost use Rattle.pure_terms.specs.View.{term_view};
-ghost use Rattle.block_sym.specs.Table.{lacks, past, gone_case, unfound_cases, cell_cases};
+ghost use Rattle.block_sym.specs.Table.{lacks, lacks_there, past, gone_case, unfound_cases, cell_cases};
 ghost use Rattle.mem_model.specs.declared.failures.Failure.{Failure};
 ghost use Rattle.sym_chunks.specs.ByPlace.{all_by_place as all_by_place_of, any_at as any_at_of};
 ghost use Rattle.sym_chunks.specs.Cases.{case_of, choose as choose_of, failure, found as found_of};
 ghost use Rattle.sym_chunks.specs.View.{access_view, cases_view, chunk_branches_view};
 ghost use Rattle.sym_conditions.specs.Alternatives.{alternatives_view};
-ghost use Rattle.sym_model.specs.Pure.{cell, missed};
+ghost use Rattle.sym_model.specs.Pure.{bound, cell, missed};
 ghost use Rattle.sym_model.specs.View.{chunk_view, chunks_view, frag_view, result_view};
 
+use crate::whole::is_whole;
 use mem_model::Failure;
 use pure_terms::Term;
 use sequence::Sequence;
@@ -21,20 +22,37 @@ use sym_chunks::{
 use sym_conditions::{Alternatives, always, never, terms_differ};
 use sym_model::{Branches, Chunk, SymFrag, SymKey, SymResult, SymSub};
 
-/// A chunk doesn't tell of the cell at an offset.
+/// An offset is inside the bound that the chunk holds, one of these, unless all cells of its location are there.
+fn inside_unless_whole(
+    alloc: Global,
+    offset: &Term,
+    chunks: &[Chunk],
+    chunk: &Chunk,
+) -> Result<Alternatives, AllocError>
+    ensures { IfOk result (λ x. alternatives_view x ≡ lacks_there (chunks_view chunks.now) (term_view chunk.now.loc)
+        (term_view offset.now) bound (term_view chunk.now.val)) }
+{
+    if is_whole(&chunk.loc, &chunk.val, chunks) {
+        return Ok(never(alloc));
+    }
+    inside(alloc, offset, &chunk.val)
+}
+
+/// The chunk, which is one of these, doesn't tell of the cell at an offset.
 #[derive(Debug, Drop)]
 struct LacksCell<'a> {
     offset: &'a Term,
+    chunks: &'a [Chunk],
 }
 
 impl ChunkTest for LacksCell<'_> {
-    ghost says = { λ test c. lacks (term_view test.offset.now) c };
+    ghost says = { λ test c. lacks (chunks_view test.chunks.now) (term_view test.offset.now) c };
 
     fn ask(&self, alloc: Global, chunk: &Chunk) -> Result<Alternatives, AllocError> {
         match &chunk.sub {
             SymSub::At(other) => terms_differ(alloc, self.offset, other),
             SymSub::Gone => Ok(never(alloc)),
-            SymSub::Bound => inside(alloc, self.offset, &chunk.val),
+            SymSub::Bound => inside_unless_whole(alloc, self.offset, self.chunks, chunk),
             _ => always(alloc),
         }
     }
@@ -92,10 +110,10 @@ fn lacks_cell(
     offset: &Term,
     chunks: &[Chunk],
 ) -> Result<Alternatives, AllocError>
-    ensures { IfOk result (λ x. alternatives_view x ≡ all_by_place_of (term_view l.now) (lacks (term_view offset.now))
-        (chunks_view chunks.now)) }
+    ensures { IfOk result (λ x. alternatives_view x ≡ all_by_place_of (term_view l.now) (lacks (chunks_view chunks.now)
+        (term_view offset.now)) (chunks_view chunks.now)) }
 {
-    all_by_place(alloc, l, &LacksCell { offset }, chunks)
+    all_by_place(alloc, l, &LacksCell { offset, chunks }, chunks)
 }
 
 /// The result that misses the cell.
@@ -116,7 +134,7 @@ fn with_missed(
     chunks: &SymFrag,
 ) -> Result<Cases, AllocError>
     ensures { IfOk result (λ cs. cases_view cs ≡ cases_view cases ++ case_of (all_by_place_of (term_view l.now) (lacks
-        (term_view offset.now)) (frag_view chunks.now)) (frag_view chunks.now) (missed
+        (frag_view chunks.now) (term_view offset.now)) (frag_view chunks.now)) (frag_view chunks.now) (missed
         (record { loc = term_view l.now; sub = cell (term_view offset.now) }))) }
 {
     let outcome = missed_cell(alloc, l, offset)?;

@@ -1,5 +1,5 @@
 //! `free`.
-ghost use Rattle.std.specs.Prelude.{◌≡◌, ◌∷◌, ◌++◌, ◌<◌, ◌^◌, length, remove, pos, IfOk};
+ghost use Rattle.std.specs.Prelude.{◌≡◌, [], ◌∷◌, ◌++◌, ◌<◌, ◌^◌, length, remove, pos, IfOk};
 ghost use Rattle.std.specs.List.{flat_map};
 ghost use Rattle.gil_values.specs.Pure.{integer};
 ghost use Rattle.mem_model.specs.declared.failures.Failure.{Failure};
@@ -10,6 +10,10 @@ ghost use Rattle.block_sym.specs.Table.{
   cell_subs,
   bounded_there as bounded_there_of,
   bounded_from,
+  elsewhere as elsewhere_of,
+  is_whole,
+  taken_whole,
+  taken_by_bound,
   free_cases as free_cases_of,
   act_there,
   frees,
@@ -22,17 +26,18 @@ ghost use Rattle.sym_chunks.specs.View.{cases_view, chunk_branches_view, ways_vi
 ghost use Rattle.sym_chunks.specs.Walking.{missing_key, next_ways, walk, way_of};
 ghost use Rattle.sym_conditions.specs.Alternatives.{alternatives_view, both as combined, same, other};
 ghost use Rattle.sym_model.specs.Cores.{zero_term};
-ghost use Rattle.sym_model.specs.Pure.{bound, cell, done, missed};
+ghost use Rattle.sym_model.specs.Pure.{bound, cell, gone, done, missed};
 ghost use Rattle.sym_model.specs.View.{chunk_view, chunks_view, frag_view, sub_view};
 
 use crate::cells::with_gone;
+use crate::whole::{elsewhere, has_all_cells};
 use mem_model::Failure;
 use pure_terms::{Literal, Term};
 use sequence::Sequence;
 use std::alloc::{AllocError, Global};
 use sym_chunks::{
     Cases, ChunkTest, Walk, Ways, all_by_place, choose, form_needed, missed_key, walk_on,
-    with_all_taken, with_case, with_failure, with_way, without_chunk,
+    with_all_taken, with_case, with_failure, with_made_case, with_way, without_chunk,
 };
 use sym_conditions::{Alternatives, always, both, never, terms_differ, terms_equal};
 use sym_model::{Branches, Chunk, SymFrag, SymResult, SymSub};
@@ -109,6 +114,56 @@ fn take_cells(
     with_all_taken(alloc, cases, l, &ways)
 }
 
+/// The chunks without those of a location term, which is gone then.
+fn without_block(alloc: Global, place: &Term, chunks: &SymFrag) -> Result<SymFrag, AllocError>
+    ensures { IfOk result (λ cs. frag_view cs ≡ elsewhere_of (term_view place.now) (frag_view chunks.now)
+        ++ record { loc = term_view place.now; sub = gone; val = true_term } ∷ []) }
+{
+    let mut left = elsewhere(alloc, place, chunks)?;
+    left.push(Chunk {
+        loc: place.copy(alloc)?,
+        sub: SymSub::Gone,
+        val: Term::Lit(Literal::Bool(true)),
+    })?;
+    Ok(left)
+}
+
+/// The cases, and that in which the location is this one, all of whose cells are there.
+fn with_taken_whole(
+    alloc: Global,
+    cases: Cases,
+    here: Alternatives,
+    place: &Term,
+    chunks: &SymFrag,
+) -> Result<Cases, AllocError>
+    ensures { IfOk result (λ cs. cases_view cs ≡ cases_view cases ++ case_of (alternatives_view here) (elsewhere_of
+        (term_view place.now) (frag_view chunks.now) ++ record { loc = term_view place.now; sub = gone; val = true_term } ∷ [])
+        (done true_term)) }
+{
+    let left = without_block(alloc, place, chunks)?;
+    let outcome = SymResult::Done(Term::Lit(Literal::Bool(true)));
+    with_made_case(cases, here, left, outcome)
+}
+
+/// The cases in which the chunk at a place, a literal bound, is that of the location, and its cells are taken one after another.
+fn with_taken_cells(
+    alloc: Global,
+    cases: Cases,
+    here: Alternatives,
+    chunks: &SymFrag,
+    index: usize,
+    place: &Term,
+    cells: i128,
+) -> Result<Cases, AllocError>
+    requires { index < length (frag_view chunks.now) }
+    ensures { IfOk result (λ cs. cases_view cs ≡ cases_view cases ++ walk (frag_view chunks.now) (term_view place.now) (cell_subs 0
+        (count_of (integer cells))) (way_of (alternatives_view here) (remove (frag_view chunks.now) index))) }
+{
+    let left = without_chunk(alloc, chunks, index)?;
+    let first = with_way(Sequence::new(alloc), here, left)?;
+    take_cells(alloc, cases, chunks, place, number_of_cells(cells), first)
+}
+
 /// The cases in which the chunk at a place, a literal bound, is that of the location.
 fn with_literal_bound(
     alloc: Global,
@@ -120,16 +175,17 @@ fn with_literal_bound(
     cells: i128,
 ) -> Result<Cases, AllocError>
     requires { index < length (frag_view chunks.now) }
-    ensures { IfOk result (λ cs. cases_view cs ≡ cases_view cases ++ walk (frag_view chunks.now) (term_view place.now) (cell_subs 0
-        (count_of (integer cells))) (way_of (same (term_view l.now) (term_view place.now)) (remove (frag_view chunks.now) index))) }
+    ensures { IfOk result (λ cs. cases_view cs ≡ cases_view cases ++ taken_by_bound (is_whole (term_view place.now) (number cells)
+        (frag_view chunks.now)) (term_view l.now) (frag_view chunks.now) index (term_view place.now) cells) }
 {
     let here = terms_equal(alloc, l, place)?;
     if here.len() == 0 {
         return Ok(cases);
     }
-    let left = without_chunk(alloc, chunks, index)?;
-    let first = with_way(Sequence::new(alloc), here, left)?;
-    take_cells(alloc, cases, chunks, place, number_of_cells(cells), first)
+    if has_all_cells(place, cells, chunks.as_slice()) {
+        return with_taken_whole(alloc, cases, here, place, chunks);
+    }
+    with_taken_cells(alloc, cases, here, chunks, index, place, cells)
 }
 
 /// The case in which the chunk, a bound whose literal form is needed, is that of the location.

@@ -49,7 +49,7 @@ module _ (counter : ℕ) (v : List PureValue) (below : AreBelow counter v) where
   same_below (Some t) None w same is = absurd same
   same_below None (Some u) w same is = absurd same
 
-  store_below : (bs : PureStore) (s : Store) → StandsFor v bs s → IsStoreBelow counter s
+  pub store_below : (bs : PureStore) (s : Store) → StandsFor v bs s → IsStoreBelow counter s
   store_below bs s same x w is = same_below (term_at bs x) (value_of s x) w (same x) is
 
   frames_below : (fs : List PureFrame) (gs : List Frame) → AreFrames v fs gs → All (IsFrameBelow counter) gs

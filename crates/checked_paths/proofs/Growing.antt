@@ -45,7 +45,7 @@ module _ (vars : List Sort) (v more : List PureValue) (one_each : length v ≡ l
   pub store_more : (bs : PureStore) (s : Store) → IsStoreOver vars bs → StandsFor v bs s → StandsFor (v ++ more) bs s
   store_more bs s over same x = same-more (term_at bs x) (value_of s x) (over x) (same x)
 
-  agree_more : (t : PureTerm) → IsOver vars t → AgreeOn (variables t) v (v ++ more)
+  pub agree_more : (t : PureTerm) → IsOver vars t → AgreeOn (variables t) v (v ++ more)
   agree_more t over x has =
       let within : x.number < length vars = slice_get_within vars x.number x.sort (over x has) in
       sym (slice_get-append v more x.number (omega (arith, within, one_each)))

@@ -1,6 +1,9 @@
 pub mod Pure
 pub mod Meaning
 pub mod Covering
+pub mod Causes
+pub mod Choosing
+pub mod Exactness
 pub mod Following
 pub mod Accounting
 pub mod View

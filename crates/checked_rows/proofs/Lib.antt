@@ -1,4 +1,3 @@
-pub mod CallLaws
 pub mod EndRowLaws
 pub mod EndLaws
 pub mod FoldLaws

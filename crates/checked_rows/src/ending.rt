@@ -53,7 +53,7 @@ fn entry_names(alloc: Global, proc: &Proc, entered: &Entered) -> Result<SymStore
 }
 
 /// The parameters, and then the logical variables.
-fn scope_of(alloc: Global, spec: &Spec) -> Result<Params, AllocError>
+pub fn scope_of(alloc: Global, spec: &Spec) -> Result<Params, AllocError>
     ensures { IfOk result (λ ps. ps ≡ spec.now.params ++ spec.now.logicals) }
 {
     let mut scope = copy_params(alloc, Sequence::new(alloc), &spec.params)?;
@@ -62,7 +62,7 @@ fn scope_of(alloc: Global, spec: &Spec) -> Result<Params, AllocError>
 }
 
 /// The parameters with copies of others behind them.
-fn copy_params(alloc: Global, first: Params, second: &Params) -> Result<Params, AllocError>
+pub fn copy_params(alloc: Global, first: Params, second: &Params) -> Result<Params, AllocError>
     ensures { IfOk result (λ ps. ps ≡ first ++ second.now) }
 {
     let mut joined = first;
@@ -77,7 +77,7 @@ fn copy_params(alloc: Global, first: Params, second: &Params) -> Result<Params, 
 }
 
 /// The name of the result in postconditions.
-fn result_name(alloc: Global) -> Result<Text, AllocError>
+pub fn result_name(alloc: Global) -> Result<Text, AllocError>
     ensures { IfOk result (λ t. t ≡ pure_result_name) }
 {
     match Text::from_str(alloc, "ret")? {
@@ -110,7 +110,7 @@ fn result_names(
 
 /// The entry ends with a result: one of the postconditions is matched, and nothing is left. Where a name of the entry is the result's,
 /// that is left undecided as a fault.
-fn finish<M: ListedMemory, D: Decider>(
+pub fn finish<M: ListedMemory, D: Decider>(
     alloc: Global,
     prog: &Prog,
     spec: &Spec,

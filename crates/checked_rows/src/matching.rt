@@ -20,7 +20,7 @@ use std::alloc::{AllocError, Global};
 use sym_model::ListedMemory;
 
 /// Matches an assertion, in which program variables and those of the precondition have their terms.
-pub(crate) fn match_there<M: ListedMemory, D: Decider>(
+pub fn match_there<M: ListedMemory, D: Decider>(
     alloc: Global,
     prog: &Prog,
     spec: &Spec,

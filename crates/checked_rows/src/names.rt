@@ -45,7 +45,7 @@ fn variables_in(
 }
 
 /// The names of logic commands in the frame that runs: of its variables, and in the frame of the entry of the precondition's.
-pub(crate) fn names_in(
+pub fn names_in(
     alloc: Global,
     frames: &Frames,
     variables: &SymStore,
@@ -60,7 +60,7 @@ pub(crate) fn names_in(
 }
 
 /// The logical variables that may be named there; `none` is an empty list.
-pub(crate) fn logicals_in<'l>(frames: &Frames, logicals: &'l Params, none: &'l Params) -> &'l Params
+pub fn logicals_in<'l>(frames: &Frames, logicals: &'l Params, none: &'l Params) -> &'l Params
     requires { none.now ≡ [] }
     ensures { result.now ≡ logicals_there (frames_view frames.now) logicals.now }
 {

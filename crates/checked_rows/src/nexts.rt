@@ -28,7 +28,7 @@ fn alone<M: Drop>(alloc: Global, next: Next<M>) -> Result<Nexts<M>, AllocError>
 }
 
 /// No answer.
-pub(crate) fn nothing<M: Drop>(alloc: Global) -> Result<Nexts<M>, AllocError>
+pub fn nothing<M: Drop>(alloc: Global) -> Result<Nexts<M>, AllocError>
     ensures { IfOk result (λ ns. nexts_view ns ≡ []) }
 {
     Ok(Sequence::new(alloc))
@@ -36,7 +36,7 @@ pub(crate) fn nothing<M: Drop>(alloc: Global) -> Result<Nexts<M>, AllocError>
 
 /// Why a row isn't decided for all valuations.
 #[derive(Debug, Drop)]
-pub(crate) enum Doubt {
+pub enum Doubt {
     /// There is a fault under every valuation.
     Always,
     /// There is a fault under this one.
@@ -68,7 +68,7 @@ fn cause_of<M: Drop>(
 }
 
 /// The answer of a doubt.
-pub(crate) fn doubted_next<M: Drop>(
+pub fn doubted_next<M: Drop>(
     alloc: Global,
     kind: FaultKind,
     here: &Place,
@@ -81,7 +81,7 @@ pub(crate) fn doubted_next<M: Drop>(
 }
 
 /// The same, alone.
-pub(crate) fn doubted<M: Drop>(
+pub fn doubted<M: Drop>(
     alloc: Global,
     kind: FaultKind,
     here: &Place,

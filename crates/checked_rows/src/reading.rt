@@ -58,7 +58,7 @@ fn joined(alloc: Global, conds: &Atoms, more: &Atoms) -> Result<Atoms, AllocErro
 }
 
 /// Why these conditions and the others behind them aren't surely never met together: a fault, or that it isn't decided.
-fn doubt_there<D: Decider>(
+pub fn doubt_there<D: Decider>(
     alloc: Global,
     vars: &VarTable,
     conds: &Atoms,

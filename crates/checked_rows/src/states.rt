@@ -14,7 +14,7 @@ use sym_paths::{Path, copy_place};
 use sym_states::{PredChunks, SymState};
 
 /// The state of a path beside facts, with a copy of the memory.
-pub(crate) fn state_of<M: SymMemory>(
+pub fn state_of<M: SymMemory>(
     alloc: Global,
     path: &Path<M>,
     facts: &PredChunks,
@@ -37,7 +37,7 @@ pub(crate) fn state_of<M: SymMemory>(
 }
 
 /// The path with variables, conditions, memory and choices of a state, and the state's facts.
-pub(crate) fn path_with<M: SymMemory>(
+pub fn path_with<M: SymMemory>(
     alloc: Global,
     path: &Path<M>,
     state: SymState<M>,

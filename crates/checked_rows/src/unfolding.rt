@@ -58,7 +58,7 @@ fn pred_of<'p>(preds: &'p PredDefs, name: &Text) -> Option<&'p PredDef>
 }
 
 /// The path of a state goes on at the next command, with the state's facts.
-fn go_on_in<M: ListedMemory>(
+pub fn go_on_in<M: ListedMemory>(
     alloc: Global,
     here: &Place,
     checking: &Checking<M>,

@@ -1,6 +1,7 @@
 pub mod Above
 pub mod Beside
 pub mod Choices
+pub mod Depth
 pub mod Examples
 pub mod Gives
 pub mod Held

@@ -5,6 +5,7 @@
 mod actions;
 mod commands;
 mod control;
+mod depth;
 mod endings;
 mod evaluation;
 mod examples;
@@ -16,6 +17,7 @@ mod running;
 mod slots;
 mod store;
 
+pub use depth::DEEPEST_VALUE;
 pub use examples::{
     a_bound_cuts, a_call_returns, a_draw_needs_its_input, a_fault_fails, a_throw_is_handled,
     an_action_may_miss, choices_stand_in_order, division_truncates, each_command_is_a_step,

@@ -1,10 +1,12 @@
 //! Stores: the values of variables.
-ghost use Rattle.std.specs.Prelude.{◌≡◌, ◌≤◌, ℕ, [], OnOk, length};
+ghost use Rattle.std.specs.Prelude.{◌≡◌, ◌<◌, ◌≤◌, ◌⊎◌, ℕ, [], OnErr, OnOk, length};
 ghost use Rattle.std.specs.Option.{option_map};
 ghost use Rattle.gil_values.specs.View.{value_view};
+ghost use Rattle.gil_machine.specs.Depth.{depth};
 ghost use Rattle.gil_machine.specs.Kept.{Sets, kept_value};
 ghost use Rattle.gil_machine.specs.StoreView.{store_view};
 
+use crate::depth::{DEEPEST_VALUE, is_no_deeper};
 use gil_values::Value;
 use std::alloc::{AllocError, Global};
 
@@ -34,10 +36,15 @@ impl Store {
         }
     }
 
-    /// Gives a slot a value.
+    /// Gives a slot a value, where lists don't stand too deep in one another.
     pub(crate) fn set(&mut self, slot: usize, value: Value) -> Result<(), AllocError>
-        ensures { OnOk result (Sets (store_view self.old) (store_view self.new) slot (value_view value)) }
+        ensures sets { OnOk result (Sets (store_view self.old) (store_view self.new) slot (value_view value)) }
+        ensures within { OnOk result (depth (value_view value) ≤ DEEPEST_VALUE) }
+        ensures beyond { OnErr result ((DEEPEST_VALUE < depth (value_view value)) ⊎ (length (store_view self.old) ≤ slot)) }
     {
+        if !is_no_deeper(&value, DEEPEST_VALUE) {
+            return Err(AllocError);
+        }
         if slot < self.values.len() {
             self.values[slot] = Some(value);
             Ok(())

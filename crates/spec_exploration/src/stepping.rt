@@ -1,6 +1,7 @@
 //! A step of a checked path.
 ghost use Rattle.std.specs.Prelude.{◌≡◌, ◌<◌, [], Some, IfOk, IsTrue};
 ghost use Rattle.assert_logic.specs.Modes.{HasModes};
+ghost use Rattle.call_rows.specs.Calling.{IsCall};
 ghost use Rattle.checked_paths.specs.Covering.{AreNexts};
 ghost use Rattle.checked_paths.specs.Following.{is_of_machine as is_machine_command};
 ghost use Rattle.checked_paths.specs.Meaning.{MayGoOn};
@@ -17,13 +18,15 @@ ghost use Rattle.sym_paths.specs.View.{frames_view, path_view};
 ghost use Rattle.sym_step.specs.Stepping.{most_steps};
 
 use crate::finding::{command_of, place_of};
+use call_rows::call_row;
 use checked_paths::{
     Cause, Checking, Entered, FaultKind, Next, Nexts, Shown, Stepped, step_machine,
 };
-use checked_rows::{assert_row, call_row, end_row, fold_row, unfold_row};
+use checked_rows::{assert_row, end_row, fold_row, unfold_row};
 use gil_program::Prog;
 use gil_syntax::{Command, NumberedCommand, Spec};
 use gil_values::Place;
+use invariant_rows::invariant_row;
 use pure_terms::Decider;
 use rewrite_book::RuleBook;
 use sequence::Sequence;
@@ -117,7 +120,7 @@ fn leave<M: ListedMemory, D: Decider>(
     )
 }
 
-/// The answers of a checked path at a command.
+/// The answers of a checked path at a command that is no call.
 fn step_at<M: ListedMemory, D: Decider>(
     alloc: Global,
     prog: &Prog,
@@ -152,10 +155,45 @@ fn step_at<M: ListedMemory, D: Decider>(
         Command::Unfold(used) => unfold_row(
             alloc, prog, spec, entered, checking, &here, used, decider,
         ),
-        Command::LoopInvariant(_, _, _) => { give_up(alloc, FaultKind::Invariant, &here, checking) }
-        Command::Call(_, _, _, _) => call_row(alloc, prog, rules, checking, &here, decider),
+        Command::LoopInvariant(listed, declared, items) => invariant_row(
+            alloc, prog, spec, entered, checking, &here, listed, declared, items, decider,
+        ),
         _ => give_up(alloc, FaultKind::FoldBody, &here, checking),
     }
+}
+
+/// Whether a command is a call.
+fn is_call(command: &Command) -> bool
+    ensures { IsTrue result → IsCall (command_view command.now) }
+{
+    match command {
+        Command::Call(_, _, _, _) => true,
+        _ => false,
+    }
+}
+
+/// What is answered of a checked path at a call, and the specifications that are used.
+fn step_call<M: ListedMemory, D: Decider>(
+    alloc: Global,
+    prog: &Prog,
+    rules: &RuleBook,
+    spec: &Spec,
+    entered: &Entered,
+    checking: Checking<M>,
+    numbered: &NumberedCommand,
+    decider: &mut D,
+) -> Result<Stepped<M>, AllocError>
+    requires found { find_spec (prog_view prog.now).specs (spec_view spec.now).name ≡ Some (spec_view spec.now) }
+    requires modes { HasModes (prog_view prog.now) M.Local.memory }
+    requires may { MayGoOn (prog_view prog.now) M.terms (entry_view spec.now entered.now) (checking_view checking) }
+    requires early { checking.path.steps < most_steps }
+    requires at { command_of_path (prog_view prog.now) (path_view checking.path) ≡ Some (numbered_command_view numbered.now) }
+    requires call { IsCall (numbered_command_view numbered.now).command }
+    ensures { IfOk result (λ s. AreNexts (prog_view prog.now) M.Local.memory M.Local.actions M.stands M.terms (entry_view spec.now entered.now)
+        (checking_view checking) s.uses (nexts_view s.nexts)) }
+{
+    let here = place_of(alloc, &checking.path.stack, numbered)?;
+    call_row(alloc, prog, rules, spec, entered, checking, &here, decider)
 }
 
 /// What is answered of a step of a checked path of a specification.
@@ -179,6 +217,11 @@ pub(crate) fn check_step<M: ListedMemory, D: Decider>(
         Some(numbered) => numbered,
         None => unreachable!(),
     };
+    if is_call(&numbered.command) {
+        return step_call(
+            alloc, prog, rules, spec, entered, checking, numbered, decider,
+        );
+    }
     let nexts = step_at(
         alloc, prog, rules, spec, entered, checking, numbered, decider,
     )?;

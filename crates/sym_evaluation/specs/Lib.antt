@@ -1,6 +1,7 @@
 pub mod CheckView
 pub mod Checks
 pub mod Evaluating
+pub mod Extent
 pub mod Meaning
 pub mod Plainly
 pub mod Pure

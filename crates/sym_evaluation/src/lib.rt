@@ -4,6 +4,7 @@
 mod cases;
 mod checks;
 mod evaluation;
+mod extent;
 mod faults;
 mod guards;
 mod operators;
@@ -12,6 +13,7 @@ mod store;
 
 pub use cases::{Cases, FaultCase, FaultCases, GoodCase};
 pub use evaluation::{evaluate, evaluate_all};
+pub use extent::{DEEPEST_TERM, MOST_TERM_NODES};
 pub use faults::Fault;
 pub use guards::{Sides, guard_sides};
 pub use store::{Binding, SymStore};

@@ -1,11 +1,13 @@
 //! Stores: the terms of names.
-ghost use Rattle.std.specs.Prelude.{◌≡◌, [], ℕ, List, if◌then◌else◌, Some, IfOk, OnOk, OnErr};
+ghost use Rattle.std.specs.Prelude.{◌≡◌, ◌⊎◌, [], ℕ, List, if◌then◌else◌, Some, None, IfOk, OnOk, OnErr};
 ghost use Rattle.std.specs.Option.{option_map};
 ghost use Rattle.std.specs.Str.{bytes_eq};
 ghost use Rattle.pure_terms.specs.View.{term_view};
+ghost use Rattle.sym_evaluation.specs.Extent.{IsWithin};
 ghost use Rattle.sym_evaluation.specs.Pure.{term_at, place_at};
 ghost use Rattle.sym_evaluation.specs.View.{bindings_view, store_view};
 
+use crate::extent::{DEEPEST_TERM, MOST_TERM_NODES, is_within};
 use gil_values::Text;
 use pure_terms::Term;
 use std::alloc::{AllocError, Global};
@@ -64,12 +66,17 @@ impl SymStore {
         None
     }
 
-    /// Gives a name a term.
+    /// Gives a name a term that isn't too deep or too large.
     pub fn set(&mut self, name: Text, term: Term) -> Result<(), AllocError>
         ensures ok { OnOk result ((x : List ℕ)
             → term_at (store_view self.new) x ≡ (if bytes_eq name x then Some (term_view term) else term_at (store_view self.old) x)) }
         ensures err { OnErr result (store_view self.new ≡ store_view self.old) }
+        ensures within { OnOk result (IsWithin DEEPEST_TERM MOST_TERM_NODES (term_view term)) }
+        ensures beyond { OnErr result (¬ (IsWithin DEEPEST_TERM MOST_TERM_NODES (term_view term)) ⊎ (place_at (store_view self.old) name ≡ None)) }
     {
+        if !is_within(&term, DEEPEST_TERM, MOST_TERM_NODES) {
+            return Err(AllocError);
+        }
         match self.place_of(&name) {
             Some(place) => self.bindings[place] = Binding { name, term },
             None => self.bindings.push(Binding { name, term })?,

@@ -11,7 +11,7 @@ use sym_model::SymMemory;
 use sym_paths::{Frame, Frames, Path};
 
 /// Takes the frame that runs from the others.
-pub(crate) fn take(frames: &mut Frames) -> Option<Frame>
+pub fn take(frames: &mut Frames) -> Option<Frame>
     ensures { MatchOption result ((frames_view frames.old ≡ []) × (frames_view frames.new ≡ []))
         (λ f. frames_view frames.old ≡ frame_view f ∷ frames_view frames.new) }
 {
@@ -19,7 +19,7 @@ pub(crate) fn take(frames: &mut Frames) -> Option<Frame>
 }
 
 /// Puts a frame before the others, as the one that runs.
-pub(crate) fn run_in(frames: &mut Frames, frame: Frame) -> Result<(), AllocError>
+pub fn run_in(frames: &mut Frames, frame: Frame) -> Result<(), AllocError>
     ensures { OnOk result (frames_view frames.new ≡ frame_view frame ∷ frames_view frames.old) }
 {
     frames.push(frame)?;

@@ -4,5 +4,5 @@
 mod leaving;
 mod throwing;
 
-pub use leaving::leave_with;
+pub use leaving::{leave_with, run_in, take};
 pub use throwing::{Thrown, throw_with};

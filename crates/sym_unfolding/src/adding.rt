@@ -89,7 +89,7 @@ fn add_over<M: ListedMemory>(
 }
 
 /// Adds items to a state under a store, where the names of the items that have no term are new variables.
-fn add_items<M: ListedMemory>(
+pub fn add_items<M: ListedMemory>(
     alloc: Global,
     state: &SymState<M>,
     store: &SymStore,

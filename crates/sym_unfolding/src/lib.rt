@@ -6,5 +6,5 @@ mod searching;
 mod taking;
 mod unfolding;
 
-pub use adding::{UnfoldedCase, UnfoldedCases};
+pub use adding::{UnfoldedCase, UnfoldedCases, add_items};
 pub use unfolding::{Unfolding, unfold};

@@ -58,7 +58,7 @@ fn first_verdict(alloc: Global, program: &str) -> Result<&'static str, Fail> {
 }
 
 /// Programs on plain heaps, and what the specification is answered.
-const PLAIN: [(&str, &str); 13] = [
+const PLAIN: [(&str, &str); 17] = [
     (
         "proc swap(a, b) { u := do lookup(a, \"v\"); w := do lookup(b, \"v\"); x := do mutate(a, \"v\", w); y := do mutate(b, \"v\", u); return 0; } \
         spec swap(a: sym, b: sym) [#p: int, #q: int] { prop(a, \"v\"; #p) * prop(b, \"v\"; #q) } { prop(a, \"v\"; #q) * prop(b, \"v\"; #p) * (ret = 0) }",
@@ -112,6 +112,23 @@ const PLAIN: [(&str, &str); 13] = [
     (
         "proc f(a) { fail a; } spec f(a: int) [] { (a = 3) } { emp }",
         "fails",
+    ),
+    (
+        "proc f(x) { y := call @g(x); return y; } proc g(x) { return 0; } spec f(x: int) [] { emp } { (ret = 0) } spec g(x: int) [] { emp } { (ret = 0) }",
+        "verified",
+    ),
+    (
+        "proc f(x) { y := call @g(x); return y; } proc g(x) { return 1; } spec f(x: int) [] { emp } { (ret = 0) } spec g(x: int) [] { emp } { (ret = 0) }",
+        "depends",
+    ),
+    (
+        "proc f(x) { y := call @g(x); return 0; } proc g(x) { return 0; } spec f(x) [] { emp } { emp } spec g(x: int) [] { emp } { emp }",
+        "callpre",
+    ),
+    (
+        "proc f(x) { y := call @g(x); return 1; } proc g(x) { throw 7; } spec f(x: int) [] { emp } { (ret = 1) } \
+        spec g(x: int) [] { emp } { (ret = 1) } throw { (ret = 7) }",
+        "post",
     ),
 ];
 

@@ -178,8 +178,7 @@ fn cells_are_loaded(rt: HostRuntime) -> Result<(), Fail> {
         (
             "",
             "load block+offset",
-            "(v11 = 0) done 0; (v11 = 1) done 0; (v11 < 0) fails \"bound\"; (2 <= v11) fails \"bound\"; \
-             not((v11 = 0)) not((v11 = 1)) (0 <= v11) (v11 < 2) misses cell v11 of v9; ",
+            "(v11 = 0) done 0; (v11 = 1) done 0; (v11 < 0) fails \"bound\"; (2 <= v11) fails \"bound\"; ",
         ),
         (
             "",

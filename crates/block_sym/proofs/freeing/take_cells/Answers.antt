@@ -1,8 +1,6 @@
-use Rattle.std.proofs.Common.{◌++◌, sym, ap, ◌∙◌}
+use Rattle.std.proofs.Common.{sym, ◌∙◌}
 use Rattle.pure_terms.specs.View.{term_view}
-use Rattle.block_sym.specs.Table.{cell_subs}
 use Rattle.sym_chunks.specs.View.{cases_view, way_view, ways_view}
-use Rattle.sym_chunks.specs.Walking.{walk}
 use Rattle.sym_model.specs.View.{frag_view}
 use Rattle.block_sym.proofs.Loops.{no_items, walk_ends, walk_on}
 use Rattle.block_sym.proofs.freeing.take_cells.Goals as goal

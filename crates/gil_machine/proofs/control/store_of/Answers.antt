@@ -31,5 +31,5 @@ loop-i-preserved c =
     (slice_get-read value_view c.as_slice-values.result.now (c.loop-i.i - 1) c.index-values-i.result (omega arith) c.index-values-i.is ∙ ap Some (sym c.in_ok-value.ensures)) in
     let one = bind_one params (values_view c.args.args.now) (c.loop-i.i - 1) (name_at names slot) (value_view c.in_ok-value.value) name value in
     subst (Keeps names (store_view c.set.new.self)) (sym one)
-    (sets_keeps names (store_view c.loop-i.store) (store_view c.set.new.self) _ slot (value_view c.in_ok-value.value) c.requires.resolved.table placed c.in_ok-set.ensures
+    (sets_keeps names (store_view c.loop-i.store) (store_view c.set.new.self) _ slot (value_view c.in_ok-value.value) c.requires.resolved.table placed c.in_ok-set.ensures.sets
     (subst (λ n. Keeps names (store_view c.loop-i.store) (bind_all (drop n params) (drop n (values_view c.args.args.now)))) (sym next) c.loop-i.invariant))

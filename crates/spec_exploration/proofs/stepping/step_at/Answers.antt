@@ -5,7 +5,6 @@ use Rattle.gil_syntax.specs.View.{command_view, exprs_view, numbered_command_vie
 use Rattle.addable_programs.specs.Addable.{IsAddableCommand}
 use Rattle.addable_programs.proofs.AddableLaws.{programs_are_addable}
 use Rattle.sym_paths.specs.View.{frames_view}
-use Rattle.checked_rows.specs.Calling.{IsCall}
 use Rattle.checked_paths.specs.View.{entry_view}
 use Rattle.spec_exploration.proofs.Steps.{addable_there, ins_spelled, outs_spelled}
 use Rattle.spec_exploration.proofs.stepping.step_at.Goals as goal
@@ -87,6 +86,18 @@ pub returns-then-is_leaving : goal.returns-then-is_leaving
 returns-then-is_leaving g c =
     IfOk-weaker c.leave.result _ _ (λ ns row. row (numbered_command_view c.args.numbered.now).command (c.is_leaving.ensures c.if-is_leaving.true) (numbered_command_view c.args.numbered.now) c.requires.may c.requires.at refl) c.leave.ensures
 
-pub returns-in-Call : goal.returns-in-Call
-returns-in-Call g c =
-    IfOk-weaker c.call_row.result _ _ (λ ns row. row (entry_view c.args.spec.now c.args.entered.now) (numbered_command_view c.args.numbered.now).command (subst IsCall (sym (ap command_view c.in-Call.is)) tt) (numbered_command_view c.args.numbered.now) c.requires.may c.requires.at refl) c.call_row.ensures
+pub invariant_row-requires-clause-may : goal.invariant_row-requires-clause-may
+invariant_row-requires-clause-may g c =
+    let p = prog_view c.args.prog.now in
+    let memory = g.M.Local.LocalMemory.memory in
+    subst (IsAddableCommand p memory) (ap command_view c.in-LoopInvariant.is)
+    (addable_there p memory (programs_are_addable p memory c.args.prog.now.well_made c.args.prog.now.valid c.requires.modes) (frames_view c.args.checking.path.stack) (numbered_command_view c.args.numbered.now) c.requires.at)
+
+pub invariant_row-requires-clause-cases : goal.invariant_row-requires-clause-cases
+invariant_row-requires-clause-cases g c =
+    let p = prog_view c.args.prog.now in
+    (programs_are_addable p g.M.Local.LocalMemory.memory c.args.prog.now.well_made c.args.prog.now.valid c.requires.modes).preds
+
+pub returns-in-LoopInvariant : goal.returns-in-LoopInvariant
+returns-in-LoopInvariant g c =
+    IfOk-weaker c.invariant_row.result _ _ (λ ns row. row (numbered_command_view c.args.numbered.now) c.requires.may c.requires.at (ap command_view c.in-LoopInvariant.is)) c.invariant_row.ensures

@@ -1,0 +1,17 @@
+use Rattle.std.proofs.Common.{◌≡◌, Some, slice_get, sym, subst}
+use Rattle.gil_values.proofs.Lists.{slice_get-read}
+use Rattle.pure_terms.specs.Meaning.{IsOver}
+use Rattle.pure_terms.specs.Pure.{term_of}
+use Rattle.pure_terms.specs.View.{atoms_view}
+use Rattle.sym_conditions.specs.Alternatives.{alternatives_view}
+use Rattle.sym_model.proofs.ListLaws.{each_at}
+use Rattle.sym_model.specs.Lists.{Each}
+use Rattle.call_rows.proofs.arguments.alternatives_doubt.Goals as goal
+
+pub doubt_there-requires-clause-more : goal.doubt_there-requires-clause-more
+doubt_there-requires-clause-more g c =
+    let items = c.as_slice-more-items.result.now in
+    let at : slice_get (alternatives_view items) c.loop-more.more-index ≡ Some (atoms_view c.more-item.result) =
+    slice_get-read atoms_view items c.loop-more.more-index c.more-item.result c.loop-more-test.true c.more-item.is in
+    each_at (Each (λ a. IsOver c.args.vars.now (term_of a))) (alternatives_view items) c.loop-more.more-index (atoms_view c.more-item.result)
+    (subst (λ xs. Each (Each (λ a. IsOver c.args.vars.now (term_of a))) (alternatives_view xs)) (sym c.as_slice-more-items.ensures) c.requires.alternatives) at

@@ -1,0 +1,69 @@
+use Rattle.std.proofs.Common.{◌≡◌, [], ◌∷◌, subst, refl}
+use Rattle.std.specs.Option.{option_map}
+use Rattle.gil_program.specs.Program.{prog_view}
+use Rattle.gil_syntax.specs.View.{spec_view}
+use Rattle.sym_paths.specs.View.{path_view}
+use Rattle.sym_states.proofs.Values.{ok_to}
+use Rattle.sym_states.specs.View.{facts_view}
+use Rattle.checked_paths.specs.Following.{IsAnswered}
+use Rattle.checked_paths.specs.Pure.{over, caused}
+use Rattle.checked_paths.specs.View.{checking_view, entry_view, next_view, nexts_view, passed_by_view}
+use Rattle.checked_paths.specs.Pure.{further}
+use Rattle.call_rows.specs.Calling.{AnswersFurther, IsCalled}
+use Rattle.call_rows.proofs.CallLaws.{further_over, if_used}
+use Rattle.call_rows.proofs.calling.call_one.Goals as goal
+
+pub further_nexts-requires-clause-used : goal.further_nexts-requires-clause-used
+further_nexts-requires-clause-used g c =
+    let next = path_view c.args.path in
+    if_used (prog_view c.args.prog.now) (λ s. spec_view s.now) c.used_by-used.result next.ending next.stack c.used_by-used.ensures
+
+pub further_nexts-requires-clause-caller : goal.further_nexts-requires-clause-caller
+further_nexts-requires-clause-caller g c =
+    let next = path_view c.args.path in
+    let answered = subst (λ k. IsAnswered g.M.SymMemory.stands g.M.SymMemory.terms (facts_view c.args.preds.now) (passed_by_view c.args.passed.now) next (next_view k)) c.in-Further.is c.in_ok-checking.ensures in
+    (further_over g.M.SymMemory.stands g.M.SymMemory.terms (entry_view c.args.spec.now c.args.entered.now) (facts_view c.args.preds.now) (passed_by_view c.args.passed.now) next (checking_view c.in-Further.checking) c.requires.over next.ending refl answered).1
+
+pub further_nexts-requires-clause-over : goal.further_nexts-requires-clause-over
+further_nexts-requires-clause-over g c =
+    let next = path_view c.args.path in
+    let answered = subst (λ k. IsAnswered g.M.SymMemory.stands g.M.SymMemory.terms (facts_view c.args.preds.now) (passed_by_view c.args.passed.now) next (next_view k)) c.in-Further.is c.in_ok-checking.ensures in
+    (further_over g.M.SymMemory.stands g.M.SymMemory.terms (entry_view c.args.spec.now c.args.entered.now) (facts_view c.args.preds.now) (passed_by_view c.args.passed.now) next (checking_view c.in-Further.checking) c.requires.over next.ending refl answered).0
+
+pub returns-in-Further : goal.returns-in-Further
+returns-in-Further g c =
+    let p = prog_view c.args.prog.now in
+    let memory = g.M.Local.LocalMemory.memory in
+    let stands = g.M.SymMemory.stands in
+    let terms = g.M.SymMemory.terms in
+    let kept = g.M.SymMemory.kept in
+    let e = entry_view c.args.spec.now c.args.entered.now in
+    let facts = facts_view c.args.preds.now in
+    let passed = passed_by_view c.args.passed.now in
+    let next = path_view c.args.path in
+    let y = checking_view c.in-Further.checking in
+    let answered = subst (λ k. IsAnswered stands terms facts passed next (next_view k)) c.in-Further.is c.in_ok-checking.ensures in
+    ok_to c.further_nexts.result (λ ns. AnswersFurther p memory stands terms kept e (option_map (λ s. spec_view s.now) c.used_by-used.result) y (nexts_view ns)) (λ ns. IsCalled p memory stands terms kept e facts passed next (nexts_view ns))
+    (λ ns answers. (further y, (answered, subst (λ o. AnswersFurther p memory stands terms kept e o y (nexts_view ns)) c.used_by-used.ensures answers))) c.further_nexts.ensures
+
+pub returns-in-Over : goal.returns-in-Over
+returns-in-Over g c =
+    let stands = g.M.SymMemory.stands in
+    let terms = g.M.SymMemory.terms in
+    let facts = facts_view c.args.preds.now in
+    let passed = passed_by_view c.args.passed.now in
+    let next = path_view c.args.path in
+    let answered = subst (λ k. IsAnswered stands terms facts passed next (next_view k)) c.in-Over.is c.in_ok-checking.ensures in
+    ok_to c.alone.result (λ ns. nexts_view ns ≡ over ∷ []) (λ ns. IsCalled (prog_view c.args.prog.now) g.M.Local.LocalMemory.memory stands terms g.M.SymMemory.kept (entry_view c.args.spec.now c.args.entered.now) facts passed next (nexts_view ns))
+    (λ ns are. (over, (answered, are))) c.alone.ensures
+
+pub returns-in-Caused : goal.returns-in-Caused
+returns-in-Caused g c =
+    let stands = g.M.SymMemory.stands in
+    let terms = g.M.SymMemory.terms in
+    let facts = facts_view c.args.preds.now in
+    let passed = passed_by_view c.args.passed.now in
+    let next = path_view c.args.path in
+    let answered = subst (λ k. IsAnswered stands terms facts passed next (next_view k)) c.in-Caused.is c.in_ok-checking.ensures in
+    ok_to c.alone-in-Caused.result (λ ns. nexts_view ns ≡ caused c.in-Caused.cause ∷ []) (λ ns. IsCalled (prog_view c.args.prog.now) g.M.Local.LocalMemory.memory stands terms g.M.SymMemory.kept (entry_view c.args.spec.now c.args.entered.now) facts passed next (nexts_view ns))
+    (λ ns are. (caused c.in-Caused.cause, (answered, are))) c.alone-in-Caused.ensures

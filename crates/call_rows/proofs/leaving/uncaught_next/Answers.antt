@@ -1,0 +1,48 @@
+use Rattle.std.proofs.Common.{inr, map, sym, ap, ◌∙◌}
+use Rattle.std.specs.Option.{option_map}
+use Rattle.gil_program.specs.Program.{prog_view}
+use Rattle.gil_syntax.specs.Pure.{PureProc}
+use Rattle.gil_syntax.specs.View.{assertion_view, proc_view, spec_view}
+use Rattle.addable_programs.proofs.AddableLaws.{programs_are_addable}
+use Rattle.pure_terms.specs.View.{term_view}
+use Rattle.sym_model.proofs.ListLaws.{same_some}
+use Rattle.sym_paths.specs.View.{path_view}
+use Rattle.sym_states.proofs.Values.{ok_to}
+use Rattle.sym_states.specs.View.{facts_view, state_view}
+use Rattle.checked_paths.specs.View.{entry_view, next_view}
+use Rattle.checked_rows.specs.Ending.{Finishes}
+use Rattle.call_rows.specs.Leaving.{EndsEntry}
+use Rattle.call_rows.proofs.LeavingLaws.{ends_over}
+use Rattle.call_rows.proofs.leaving.uncaught_next.Goals as goal
+
+pub finish-requires-clause-params : goal.finish-requires-clause-params
+finish-requires-clause-params g c =
+    let p = prog_view c.args.prog.now in
+    let memory = g.M.Local.LocalMemory.memory in
+    let s = spec_view c.args.spec.now in
+    let (r, (there, same)) = (programs_are_addable p memory c.args.prog.now.well_made c.args.prog.now.valid c.requires.modes).procs s s.name c.requires.found in
+    ap (λ (x : PureProc). x.params) (same_some (sym (sym c.proc.ensures ∙ ap (option_map (λ q. proc_view q.now)) c.in-Some.is) ∙ there)) ∙ same
+
+pub finish-requires-clause-over : goal.finish-requires-clause-over
+finish-requires-clause-over g c =
+    ends_over g.M.SymMemory.stands g.M.SymMemory.terms (entry_view c.args.spec.now c.args.entered.now) (term_view c.args.term.now) (facts_view c.args.preds.now) (path_view c.args.path.now) (state_view c.in_ok-state.state) c.in_ok-state.ensures c.requires.over
+
+pub finish-requires-clause-may : goal.finish-requires-clause-may
+finish-requires-clause-may g c =
+    let p = prog_view c.args.prog.now in
+    ((programs_are_addable p g.M.Local.LocalMemory.memory c.args.prog.now.well_made c.args.prog.now.valid c.requires.modes).specs (spec_view c.args.spec.now) (spec_view c.args.spec.now).name c.requires.found).errors
+
+pub finish-requires-clause-cases : goal.finish-requires-clause-cases
+finish-requires-clause-cases g c =
+    let p = prog_view c.args.prog.now in
+    (programs_are_addable p g.M.Local.LocalMemory.memory c.args.prog.now.well_made c.args.prog.now.valid c.requires.modes).preds
+
+pub returns : goal.returns
+returns g c =
+    let p = prog_view c.args.prog.now in
+    let stands = g.M.SymMemory.stands in
+    let e = entry_view c.args.spec.now c.args.entered.now in
+    let t = term_view c.args.term.now in
+    let q = state_view c.in_ok-state.state in
+    ok_to c.finish.result (λ n. Finishes p stands e (map assertion_view c.args.spec.now.errors) t q (next_view n)) (λ n. EndsEntry p stands g.M.SymMemory.terms e (facts_view c.args.preds.now) t (path_view c.args.path.now) (next_view n))
+    (λ n done. inr (q, (c.in_ok-state.ensures, done))) c.finish.ensures

@@ -1,0 +1,64 @@
+use Rattle.std.proofs.Common.{inr, sym, subst}
+use Rattle.gil_program.specs.Program.{prog_view}
+use Rattle.gil_syntax.specs.View.{spec_view}
+use Rattle.footprint.specs.Consuming.{Matches, StopsAt}
+use Rattle.footprint.specs.Leaves.{IsMatch, AreAll, IsAnswer}
+use Rattle.footprint.specs.View.{matches_view, matching_view}
+use Rattle.sym_evaluation.specs.Meaning.{IsStoreOver}
+use Rattle.sym_evaluation.specs.View.{store_view}
+use Rattle.sym_model.proofs.ListLaws.{each_to}
+use Rattle.sym_paths.specs.Frames.{running_store}
+use Rattle.sym_states.proofs.Values.{ok_to}
+use Rattle.sym_states.specs.Meaning.{Serves}
+use Rattle.sym_states.specs.View.{state_view}
+use Rattle.checked_paths.specs.View.{checking_view, entry_view, nexts_view}
+use Rattle.call_rows.specs.Gathering.{GathersNexts}
+use Rattle.call_rows.specs.Matches.{MatchOver, AnswersMatch, AnswersFitting, scope_of}
+use Rattle.call_rows.proofs.CallingLaws.{begun_over, running_over, match_over}
+use Rattle.call_rows.proofs.matches.fitting_nexts.Goals as goal
+
+pub consume_all-requires-clause-over : goal.consume_all-requires-clause-over
+consume_all-requires-clause-over g c =
+    begun_over g.M.SymMemory.stands g.M.SymMemory.terms g.M.SymMemory.kept (entry_view c.args.spec.now c.args.entered.now) (checking_view c.args.checking.now) c.requires.over (state_view c.in_ok-state.state) c.in_ok-state.ensures
+
+pub consume_all-requires-clause-store_over : goal.consume_all-requires-clause-store_over
+consume_all-requires-clause-store_over g c =
+    subst (IsStoreOver (state_view c.in_ok-state.state).vars) (sym c.in_ok-store.ensures)
+    (running_over g.M.SymMemory.stands g.M.SymMemory.terms g.M.SymMemory.kept (entry_view c.args.spec.now c.args.entered.now) (checking_view c.args.checking.now) c.requires.over (state_view c.in_ok-state.state) c.in_ok-state.ensures)
+
+pub matches_nexts-requires-clause-over : goal.matches_nexts-requires-clause-over
+matches_nexts-requires-clause-over g c =
+    let stands = g.M.SymMemory.stands in
+    let terms = g.M.SymMemory.terms in
+    let kept = g.M.SymMemory.kept in
+    let p = prog_view c.args.prog.now in
+    let e = entry_view c.args.spec.now c.args.entered.now in
+    let y = checking_view c.args.checking.now in
+    let s = state_view c.in_ok-state.state in
+    let used = spec_view c.args.used.now in
+    let If = Serves stands terms s (running_store y.path.stack) in
+    let answer = subst (λ bs. IsAnswer stands terms kept s (Serves stands terms s bs) (Matches p.preds (scope_of used) used.pre) (StopsAt p.preds (scope_of used) used.pre) (matching_view c.in_ok-matches.field-0)) c.in_ok-store.ensures
+    (subst (λ ps. IsAnswer stands terms kept s (Serves stands terms s (store_view c.in_ok-store.store)) (Matches p.preds ps used.pre) (StopsAt p.preds ps used.pre) (matching_view c.in_ok-matches.field-0)) c.in_ok-scope.ensures c.in_ok-matches.ensures) in
+    let all : AreAll stands terms kept s If (Matches p.preds (scope_of used) used.pre) (matches_view c.in-All.matches) =
+    subst (λ r. IsAnswer stands terms kept s If (Matches p.preds (scope_of used) used.pre) (StopsAt p.preds (scope_of used) used.pre) (matching_view r)) c.in-All.is answer in
+    each_to (IsMatch stands terms kept s If (Matches p.preds (scope_of used) used.pre)) (MatchOver terms e y.path.given) (matches_view c.in-All.matches)
+    (λ q match. match_over stands terms kept e y c.requires.over s c.in_ok-state.ensures If (Matches p.preds (scope_of used) used.pre) q match) all.matched
+
+pub returns-in-All : goal.returns-in-All
+returns-in-All g c =
+    let stands = g.M.SymMemory.stands in
+    let terms = g.M.SymMemory.terms in
+    let kept = g.M.SymMemory.kept in
+    let memory = g.M.Local.LocalMemory.memory in
+    let p = prog_view c.args.prog.now in
+    let e = entry_view c.args.spec.now c.args.entered.now in
+    let y = checking_view c.args.checking.now in
+    let s = state_view c.in_ok-state.state in
+    let used = spec_view c.args.used.now in
+    let If = Serves stands terms s (running_store y.path.stack) in
+    let answer = subst (λ bs. IsAnswer stands terms kept s (Serves stands terms s bs) (Matches p.preds (scope_of used) used.pre) (StopsAt p.preds (scope_of used) used.pre) (matching_view c.in_ok-matches.field-0)) c.in_ok-store.ensures
+    (subst (λ ps. IsAnswer stands terms kept s (Serves stands terms s (store_view c.in_ok-store.store)) (Matches p.preds ps used.pre) (StopsAt p.preds ps used.pre) (matching_view c.in_ok-matches.field-0)) c.in_ok-scope.ensures c.in_ok-matches.ensures) in
+    let all : AreAll stands terms kept s If (Matches p.preds (scope_of used) used.pre) (matches_view c.in-All.matches) =
+    subst (λ r. IsAnswer stands terms kept s If (Matches p.preds (scope_of used) used.pre) (StopsAt p.preds (scope_of used) used.pre) (matching_view r)) c.in-All.is answer in
+    ok_to c.matches_nexts.result (λ ns. GathersNexts (AnswersMatch p memory stands terms kept e used y) (matches_view c.in-All.matches) (nexts_view ns)) (λ ns. AnswersFitting p memory stands terms kept e used y (nexts_view ns))
+    (λ ns gathers. inr (record { state = s; is_state = c.in_ok-state.ensures; matches = matches_view c.in-All.matches; all = all; nexts = gathers })) c.matches_nexts.ensures

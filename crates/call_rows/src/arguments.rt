@@ -1,0 +1,85 @@
+//! The sorts of the arguments of a call.
+ghost use Rattle.std.specs.Prelude.{◌≡◌, ◌++◌, IfNone, IfOk};
+ghost use Rattle.call_rows.specs.Arguments.{FitParams, FitsParam};
+ghost use Rattle.pure_terms.specs.Meaning.{IsOver, IsUnsatisfiable};
+ghost use Rattle.pure_terms.specs.Pure.{term_of};
+ghost use Rattle.pure_terms.specs.View.{atoms_view};
+ghost use Rattle.sym_conditions.specs.Alternatives.{alternatives_view};
+ghost use Rattle.sym_evaluation.specs.Meaning.{IsStoreOver};
+ghost use Rattle.sym_evaluation.specs.View.{store_view};
+ghost use Rattle.sym_model.specs.Lists.{Each};
+
+use checked_rows::{Doubt, doubt_there};
+use gil_syntax::{Param, Params};
+use pure_terms::{Atoms, Decider, VarTable};
+use std::alloc::{AllocError, Global};
+use sym_conditions::Alternatives;
+use sym_evaluation::SymStore;
+use sym_matching::fits_sorts;
+
+/// Why the conditions and one of the alternatives aren't surely never met together.
+fn alternatives_doubt<D: Decider>(
+    alloc: Global,
+    vars: &VarTable,
+    conds: &Atoms,
+    alternatives: &Alternatives,
+    decider: &mut D,
+) -> Result<Option<Doubt>, AllocError>
+    requires conds { Each (λ a. IsOver vars.now (term_of a)) (atoms_view conds.now) }
+    requires alternatives { Each (Each (λ a. IsOver vars.now (term_of a))) (alternatives_view alternatives.now) }
+    ensures { IfOk result (λ o. IfNone o (Each (λ more. IsUnsatisfiable vars.now (atoms_view conds.now ++ more))
+        (alternatives_view alternatives.now))) }
+{
+    for more in alternatives.as_slice() {
+        let doubt = doubt_there(alloc, vars, conds, more, decider)?;
+        if doubt.is_some() {
+            return Ok(doubt);
+        }
+    }
+    Ok(None)
+}
+
+/// Why the argument of a parameter hasn't surely the sorts that are declared for its name.
+fn argument_doubt<D: Decider>(
+    alloc: Global,
+    vars: &VarTable,
+    conds: &Atoms,
+    store: &SymStore,
+    scope: &Params,
+    param: &Param,
+    decider: &mut D,
+) -> Result<Option<Doubt>, AllocError>
+    requires conds { Each (λ a. IsOver vars.now (term_of a)) (atoms_view conds.now) }
+    requires store { IsStoreOver vars.now (store_view store.now) }
+    ensures { IfOk result (λ o. IfNone o (FitsParam vars.now (atoms_view conds.now) (store_view store.now) scope.now param.now)) }
+{
+    match store.get(&param.name) {
+        Some(term) => {
+            let test = fits_sorts(alloc, scope, &param.name, term)?;
+            alternatives_doubt(alloc, vars, conds, &test.otherwise, decider)
+        }
+        None => Ok(Some(Doubt::Always)),
+    }
+}
+
+/// Why the arguments haven't surely the sorts of the parameters.
+pub(crate) fn arguments_doubt<D: Decider>(
+    alloc: Global,
+    vars: &VarTable,
+    conds: &Atoms,
+    store: &SymStore,
+    params: &Params,
+    decider: &mut D,
+) -> Result<Option<Doubt>, AllocError>
+    requires conds { Each (λ a. IsOver vars.now (term_of a)) (atoms_view conds.now) }
+    requires store { IsStoreOver vars.now (store_view store.now) }
+    ensures { IfOk result (λ o. IfNone o (FitParams vars.now (atoms_view conds.now) (store_view store.now) params.now params.now)) }
+{
+    for param in params.as_slice() {
+        let doubt = argument_doubt(alloc, vars, conds, store, params, param, decider)?;
+        if doubt.is_some() {
+            return Ok(doubt);
+        }
+    }
+    Ok(None)
+}

@@ -1,0 +1,102 @@
+//! What a checked path in a loop comes to where the invariant is added.
+ghost use Rattle.std.specs.Prelude.{◌≡◌, ◌+◌, ◌<◌, ◌^◌, IfOk};
+ghost use Rattle.checked_paths.specs.Meaning.{EachWith, IsCheckedOver};
+ghost use Rattle.checked_paths.specs.View.{checking_view, entry_view, next_view, nexts_view};
+ghost use Rattle.checked_rows.specs.Unfolding.{IsCaseAnswered};
+ghost use Rattle.footprint.specs.Consuming.{MayMatch};
+ghost use Rattle.gil_syntax.specs.View.{assertion_view};
+ghost use Rattle.invariant_rows.specs.Entering.{AreAdded};
+ghost use Rattle.sym_engine.specs.Lawful.{MayAdvance};
+ghost use Rattle.sym_model.specs.Lists.{Each};
+ghost use Rattle.sym_paths.specs.View.{frames_view};
+ghost use Rattle.sym_states.specs.Meaning.{IsOverTable};
+ghost use Rattle.sym_states.specs.View.{state_view, states_view};
+
+use checked_paths::{Checking, Entered, FaultKind, Next, Nexts};
+use checked_rows::{Doubt, doubted_next, go_on_in, names_in, state_of};
+use gil_syntax::{Assertion, Params, Spec};
+use gil_values::Place;
+use pure_terms::Decider;
+use sequence::Sequence;
+use std::alloc::{AllocError, Global};
+use sym_asking::{Satisfiability, ask, needs_form};
+use sym_conditions::copy_conditions;
+use sym_model::ListedMemory;
+use sym_states::{SymState, SymStates};
+use sym_unfolding::add_items;
+
+/// What is answered of a state to which the invariant was added.
+fn state_next<M: ListedMemory, D: Decider>(
+    alloc: Global,
+    here: &Place,
+    checking: &Checking<M>,
+    state: SymState<M>,
+    decider: &mut D,
+) -> Result<Next<M>, AllocError>
+    requires steps { checking.now.path.steps + 1 < 2 ^ 32 }
+    requires next { MayAdvance (frames_view checking.now.path.stack) }
+    requires over { IsOverTable M.terms (state_view state) }
+    ensures { IfOk result (λ n. IsCaseAnswered M.stands M.terms (checking_view checking.now) (state_view state) (next_view n)) }
+{
+    match ask(alloc, decider, &state.vars, state.conds.atoms())? {
+        Satisfiability::Satisfiable(_) => go_on_in(alloc, here, checking, state),
+        Satisfiability::Unsatisfiable => {
+            if needs_form(state.conds.atoms()) {
+                let doubt = Doubt::Always;
+                return doubted_next(alloc, FaultKind::Invariant, here, &checking.path, doubt);
+            }
+            Ok(Next::Over)
+        }
+        Satisfiability::Undecided(reason) => {
+            let conds = copy_conditions(alloc, state.conds.atoms())?;
+            let doubt = Doubt::Undecided(conds, reason);
+            doubted_next(alloc, FaultKind::Invariant, here, &checking.path, doubt)
+        }
+    }
+}
+
+/// What is answered of each of them, in order.
+fn each_state<M: ListedMemory, D: Decider>(
+    alloc: Global,
+    here: &Place,
+    checking: &Checking<M>,
+    states: SymStates<M>,
+    decider: &mut D,
+) -> Result<Nexts<M>, AllocError>
+    requires steps { checking.now.path.steps + 1 < 2 ^ 32 }
+    requires next { MayAdvance (frames_view checking.now.path.stack) }
+    requires over { Each (IsOverTable M.terms) (states_view states) }
+    ensures { IfOk result (λ ns. EachWith (IsCaseAnswered M.stands M.terms (checking_view checking.now)) (states_view states) (nexts_view ns)) }
+{
+    let mut nexts = Sequence::new(alloc);
+    for state in states.into_vec() {
+        nexts.push(state_next(alloc, here, checking, state, decider)?)?;
+    }
+    Ok(nexts)
+}
+
+/// Adds the invariant where the checked path stands in its loop.
+pub(crate) fn add_there<M: ListedMemory, D: Decider>(
+    alloc: Global,
+    spec: &Spec,
+    entered: &Entered,
+    checking: &Checking<M>,
+    here: &Place,
+    scope: &Params,
+    items: &Assertion,
+    decider: &mut D,
+) -> Result<Nexts<M>, AllocError>
+    requires over { IsCheckedOver M.terms (entry_view spec.now entered.now) (checking_view checking.now) }
+    requires steps { checking.now.path.steps + 1 < 2 ^ 32 }
+    requires next { MayAdvance (frames_view checking.now.path.stack) }
+    requires may { MayMatch M.Local.memory (assertion_view items.now) }
+    ensures { IfOk result (λ ns. AreAdded M.Local.memory M.stands M.terms M.kept (entry_view spec.now entered.now) scope.now
+        (assertion_view items.now) (checking_view checking.now) (nexts_view ns)) }
+{
+    let _spec = spec;
+    let names = names_in(alloc, &checking.path.stack, &entered.variables)?;
+    let state = state_of(alloc, &checking.path, &checking.preds, here)?;
+    let none = Sequence::new(alloc);
+    let states = add_items(alloc, &state, &names, &none, scope, items)?;
+    each_state(alloc, here, checking, states, decider)
+}

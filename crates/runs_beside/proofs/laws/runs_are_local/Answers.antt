@@ -1,0 +1,5 @@
+use Rattle.runs_beside.proofs.Runs as proved
+use Rattle.runs_beside.proofs.laws.runs_are_local.Goals as goal
+
+pub returns : goal.returns
+returns c = proved.runs_are_local

@@ -1,0 +1,11 @@
+use Rattle.std.proofs.Common.{refl}
+use Rattle.std.proofs.lemmas.Result.{IfOk-weaker}
+use Rattle.gil_syntax.specs.View.{numbered_command_view}
+use Rattle.spec_exploration.proofs.stepping.step_call.Goals as goal
+
+pub call_row-requires-clause-at : goal.call_row-requires-clause-at
+call_row-requires-clause-at g c = (numbered_command_view c.args.numbered.now, (c.requires.at, c.requires.call))
+
+pub returns : goal.returns
+returns g c =
+    IfOk-weaker c.call_row.result _ _ (λ s row. row (numbered_command_view c.args.numbered.now).command c.requires.call (numbered_command_view c.args.numbered.now) c.requires.may c.requires.at refl) c.call_row.ensures
