@@ -68,16 +68,14 @@ fn draw_value(alloc: Global, kind: &str, draw: u32) -> Result<Json, AllocError>
 fn returned_value(alloc: Global, value: &Value) -> Result<Json, AllocError>
     ensures { IfOk result (λ v. view v ≡ answer_data (returned (value_view value.now))) }
 {
-    let value = text_value(alloc, value)?;
-    json!(in alloc; {"kind": "returned", "value": value})
+    json!(in alloc; {"kind": "returned", "value": text_value(alloc, value)?})
 }
 
 /// A run that failed.
 fn failed_value(alloc: Global, value: &Value, place: &Place) -> Result<Json, AllocError>
     ensures { IfOk result (λ v. view v ≡ answer_data (failed (value_view value.now) place.now)) }
 {
-    let value = text_value(alloc, value)?;
-    json!(in alloc; {"at": place.at, "kind": "failed", "proc": place.proc.as_str(), "value": value})
+    json!(in alloc; {"at": place.at, "kind": "failed", "proc": place.proc.as_str(), "value": text_value(alloc, value)?})
 }
 
 /// A result that leaves 128 bits.
@@ -96,14 +94,12 @@ fn bug_value(
 ) -> Result<Json, AllocError>
     ensures { IfOk result (λ v. view v ≡ answer_data (bug place.now (value_view value.now) (values_view inputs.now))) }
 {
-    let value = text_value(alloc, value)?;
-    let inputs = inputs_value(alloc, inputs)?;
     json!(in alloc; {
         "at": place.at,
-        "inputs": inputs,
+        "inputs": inputs_value(alloc, inputs)?,
         "kind": "bug",
         "proc": place.proc.as_str(),
-        "value": value
+        "value": text_value(alloc, value)?
     })
 }
 
@@ -111,19 +107,15 @@ fn bug_value(
 fn question_value(alloc: Global, question: &Question) -> Result<Json, AllocError>
     ensures { IfOk result (λ v. view v ≡ question_data (question_view question.now)) }
 {
-    let given = conditions_value(alloc, &question.given)?;
-    let path = counts_value(alloc, question.path.as_slice())?;
-    let query = conditions_value(alloc, &question.query)?;
-    let vars = texts_value(alloc, question.vars.as_slice())?;
     json!(in alloc; {
         "at": question.place.at,
-        "given": given,
+        "given": conditions_value(alloc, &question.given)?,
         "kind": "unknown",
         "outside": question.outside,
-        "path": path,
+        "path": counts_value(alloc, question.path.as_slice())?,
         "proc": question.place.proc.as_str(),
-        "query": query,
-        "vars": vars
+        "query": conditions_value(alloc, &question.query)?,
+        "vars": texts_value(alloc, question.vars.as_slice())?
     })
 }
 
@@ -138,8 +130,7 @@ fn verified_value(alloc: Global, name: &Text) -> Result<Json, AllocError>
 fn vacuous_value(alloc: Global, name: &Text, proof: &NamedProof) -> Result<Json, AllocError>
     ensures { IfOk result (λ v. view v ≡ answer_data (vacuous name.now (named_proof_view proof.now))) }
 {
-    let proof = text_value(alloc, proof)?;
-    json!(in alloc; {"kind": "vacuous", "name": name.as_str(), "proof": proof})
+    json!(in alloc; {"kind": "vacuous", "name": name.as_str(), "proof": text_value(alloc, proof)?})
 }
 
 /// A specification that isn't verified.
@@ -163,18 +154,15 @@ fn fails_value(
 ) -> Result<Json, AllocError>
     ensures { IfOk result (λ v. view v ≡ unproved_data name.now (fails (value_view value.now) (witness_view witness.now))) }
 {
-    let path = counts_value(alloc, witness.path.as_slice())?;
-    let value = text_value(alloc, value)?;
-    let with = bindings_value(alloc, &witness.with)?;
     json!(in alloc; {
         "at": witness.place.at,
         "kind": "unproved",
         "name": name.as_str(),
-        "path": path,
+        "path": counts_value(alloc, witness.path.as_slice())?,
         "proc": witness.place.proc.as_str(),
-        "value": value,
+        "value": text_value(alloc, value)?,
         "why": "fails",
-        "with": with
+        "with": bindings_value(alloc, &witness.with)?
     })
 }
 
@@ -187,16 +175,14 @@ fn lacks_value(
 ) -> Result<Json, AllocError>
     ensures { IfOk result (λ v. view v ≡ unproved_data name.now (lacks lack (witness_view witness.now))) }
 {
-    let path = counts_value(alloc, witness.path.as_slice())?;
-    let with = bindings_value(alloc, &witness.with)?;
     json!(in alloc; {
         "at": witness.place.at,
         "kind": "unproved",
         "name": name.as_str(),
-        "path": path,
+        "path": counts_value(alloc, witness.path.as_slice())?,
         "proc": witness.place.proc.as_str(),
         "why": word_of_lack(lack),
-        "with": with
+        "with": bindings_value(alloc, &witness.with)?
     })
 }
 
@@ -208,20 +194,16 @@ fn unproved_question_value(
 ) -> Result<Json, AllocError>
     ensures { IfOk result (λ v. view v ≡ unproved_data name.now (undecided_cause (question_view question.now))) }
 {
-    let given = conditions_value(alloc, &question.given)?;
-    let path = counts_value(alloc, question.path.as_slice())?;
-    let query = conditions_value(alloc, &question.query)?;
-    let vars = texts_value(alloc, question.vars.as_slice())?;
     json!(in alloc; {
         "at": question.place.at,
-        "given": given,
+        "given": conditions_value(alloc, &question.given)?,
         "kind": "unproved",
         "name": name.as_str(),
         "outside": question.outside,
-        "path": path,
+        "path": counts_value(alloc, question.path.as_slice())?,
         "proc": question.place.proc.as_str(),
-        "query": query,
-        "vars": vars,
+        "query": conditions_value(alloc, &question.query)?,
+        "vars": texts_value(alloc, question.vars.as_slice())?,
         "why": "unknown"
     })
 }
@@ -237,24 +219,21 @@ fn depends_value(alloc: Global, name: &Text, other: &Text) -> Result<Json, Alloc
 fn found_value(alloc: Global, spec: &Spec, cut: bool) -> Result<Json, AllocError>
     ensures { IfOk result (λ v. view v ≡ answer_data (found (spec_view spec.now) cut)) }
 {
-    let spec = text_value(alloc, spec)?;
-    json!(in alloc; {"cut": cut, "kind": "spec", "spec": spec})
+    json!(in alloc; {"cut": cut, "kind": "spec", "spec": text_value(alloc, spec)?})
 }
 
 /// Values that make every atom true.
 fn sat_value(alloc: Global, bindings: &Bindings) -> Result<Json, AllocError>
     ensures { IfOk result (λ v. view v ≡ answer_data (sat (map binding_view bindings.now))) }
 {
-    let with = bindings_value(alloc, bindings)?;
-    json!(in alloc; {"kind": "sat", "with": with})
+    json!(in alloc; {"kind": "sat", "with": bindings_value(alloc, bindings)?})
 }
 
 /// A proof that no values make every atom true.
 fn unsat_value(alloc: Global, proof: &NamedProof) -> Result<Json, AllocError>
     ensures { IfOk result (λ v. view v ≡ answer_data (unsat (named_proof_view proof.now))) }
 {
-    let proof = text_value(alloc, proof)?;
-    json!(in alloc; {"kind": "unsat", "proof": proof})
+    json!(in alloc; {"kind": "unsat", "proof": text_value(alloc, proof)?})
 }
 
 /// A list that isn't in the fragment.
