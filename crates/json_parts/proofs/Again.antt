@@ -1,5 +1,5 @@
 -- Data that their compact text keeps are read again.
-use Rattle.std.proofs.Common.{◌≡◌, ℕ, zero, suc, ◌≤◌, List, [], ◌∷◌, ◌++◌, Bool, true, false, IsUtf8, Option, Some, option_map, option_and_then, refl, sym, ap, ◌∙◌, arith, append-nil}
+use Rattle.std.proofs.Common.{◌≡◌, ◌↔◌, ℕ, zero, suc, ◌≤◌, List, [], ◌∷◌, ◌++◌, Bool, true, false, IsUtf8, Option, Some, None, subst, option_map, option_and_then, refl, sym, ap, ◌∙◌, arith, append-nil}
 use Rattle.std.proofs.lemmas.Str.{IsUtf8-append, IsUtf8-nil}
 use Rattle.std.proofs.Math.Nat.{max-le}
 use Rattle.std.proofs.DigitsParse.{digits-IsUtf8}
@@ -16,6 +16,9 @@ use Rattle.serde_json.specs.Read.{of_json, of_items, of_members, read, max_depth
 use Rattle.serde_json.specs.Written.{outline, items_outline, members_outline, compact_text, items_text, members_text, comma_if}
 use Rattle.serde_json.proofs.Numbers.{number_of-decimal}
 use Rattle.serde_json.proofs.Texts.{print-outline}
+use Rattle.value_text.specs.declared.faults.ReadFault.{ReadFault}
+use Rattle.value_text.specs.declared.faults.ReadFault.TheVariants as faults
+use Rattle.value_text.specs.Reading.{Fails}
 use Rattle.json_parts.specs.Kept.{with_last, Ascend, IsKept, AreKept, MembersAreKept}
 use Rattle.json_parts.specs.Laws.{KeptDataAgain}
 use Rattle.json_parts.proofs.Ascii.{ascii_utf8}
@@ -154,3 +157,14 @@ text_again d kept =
 
 pub kept_again : KeptDataAgain
 kept_again d kept = (data_utf8 d max_depth kept, text_again d kept)
+
+-- where data are kept only memory can lack
+pub kept_fails : (fault : ReadFault) (M : Type 0) (text : List ℕ) (d : Data) → ((fault ≡ faults.Memory) ↔ M) → ((M → ⊥) → IsUtf8 text → read text ≡ None)
+    → IsKept d max_depth → text ≡ compact_text d → Fails fault (Some d)
+kept_fails faults.Memory M text d told refused kept is = tt
+kept_fails faults.Form M text d told refused kept is =
+    let none : read text ≡ None = refused (λ m. absurd (form_no_memory (told.1 m))) (subst IsUtf8 (sym is) (kept_again d kept).0) in
+    sym (kept_again d kept).1 ∙ ap read (sym is) ∙ none
+  where
+    form_no_memory : faults.Form ≡ faults.Memory → ⊥
+    form_no_memory e = cc

@@ -31,7 +31,7 @@ pub one_more : (d : Data) (ds : Items) (i : ℕ) (out mid new : List ℕ) → mi
 unfolding joined_from
 one_more d ds i out mid new e f = rw add-one (added (leaf d) (joined_from (suc i) ds) (separator_before (codes ", ") i) out mid new e f)
 
-nothing : (out : List ℕ) (o : Option (List ℕ)) → None ≡ option_map (λ a. out ++ a) o → o ≡ None
+pub nothing : (out : List ℕ) (o : Option (List ℕ)) → None ≡ option_map (λ a. out ++ a) o → o ≡ None
 nothing out None e = refl
 nothing out (Some x) e = absurd (cc e)
 

@@ -1,3 +1,4 @@
 pub mod Again
 pub mod Ascii
 mod Elements
+mod Followed

@@ -12,6 +12,11 @@ abbrev pub Adds : Option (List ℕ) → Result (Unit {0}) ReadFault → List ℕ
 Adds read (Ok u) old new = option_map (λ added. old ++ added) read ≡ Some new
 Adds read (Err fault) old new = Fails fault read
 
+-- one text behind the other
+infixr 12 ◌followed_by◌
+abbrev pub ◌followed_by◌ : Option (List ℕ) → Option (List ℕ) → Option (List ℕ)
+first followed_by second = first >>= λ x. second >>= λ y. Some (x ++ y)
+
 -- a text, or the digits of a number
 abbrev pub leaf : Data → Option (List ℕ)
 leaf d = as_str d or_else (option_and_then as_u64 (as_number d) >>= λ n. Some (numeral n))

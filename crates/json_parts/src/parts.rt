@@ -1,4 +1,4 @@
-//! Parts of values.
+//! Parts of objects: a text itself, the digits of a number, and lists of these in brackets.
 ghost use Rattle.std.specs.Prelude.{◌≡◌, ◌++◌, Some, None, codes, option_map, string_bytes};
 ghost use Rattle.value_text.specs.Reading.{Gives};
 ghost use Rattle.serde_json.specs.Data.{boolean};
@@ -9,21 +9,10 @@ ghost use Rattle.json_parts.specs.Parts.{Adds};
 
 use gil_values::{push_number, push_separator};
 use serde_json::Value as Json;
-use std::alloc::Global;
 use value_text::ReadFault;
 
-/// The part of an object with this key, as a text.
-pub fn part_at(alloc: Global, key: &str, object: &Json) -> Result<String, ReadFault>
-    ensures { Gives string_bytes result (spec.part_at key.now (view object.now)) }
-{
-    match object.get(key) {
-        Some(value) => part(alloc, value),
-        None => Err(ReadFault::Form),
-    }
-}
-
 /// The text of an object with this key.
-pub fn text_at<'a>(key: &str, object: &'a Json) -> Result<&'a str, ReadFault>
+pub(crate) fn text_at<'a>(key: &str, object: &'a Json) -> Result<&'a str, ReadFault>
     ensures { Gives (λ text. text.now) result (spec.text_at key.now (view object.now)) }
 {
     match object.get(key) {
@@ -33,7 +22,7 @@ pub fn text_at<'a>(key: &str, object: &'a Json) -> Result<&'a str, ReadFault>
 }
 
 /// Whether the member of an object with this key is true.
-pub fn is_marked(key: &str, object: &Json) -> bool
+pub(crate) fn is_marked(key: &str, object: &Json) -> bool
     ensures { result ≡ spec.is_marked key.now (view object.now) }
 {
     match object.get(key) {
@@ -42,13 +31,14 @@ pub fn is_marked(key: &str, object: &Json) -> bool
     }
 }
 
-/// A part as a text.
-fn part(alloc: Global, value: &Json) -> Result<String, ReadFault>
-    ensures { Gives string_bytes result (spec.part (view value.now)) }
+/// Adds the part of an object with this key.
+pub(crate) fn push_part_at(out: &mut String, key: &str, object: &Json) -> Result<(), ReadFault>
+    ensures { Adds (spec.part_at key.now (view object.now)) result (string_bytes out.old) (string_bytes out.new) }
 {
-    let mut out = String::new(alloc);
-    push_part(&mut out, value)?;
-    Ok(out)
+    match object.get(key) {
+        Some(value) => push_part(out, value),
+        None => Err(ReadFault::Form),
+    }
 }
 
 /// Adds a part.
