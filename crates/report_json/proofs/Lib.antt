@@ -1,0 +1,5 @@
+mod AsciiProofs
+mod AsciiSyntax
+mod KeptReports
+mod LinesAgain
+mod ReadAgain
