@@ -13,6 +13,7 @@ mod subjects;
 mod taking;
 mod testing;
 
+pub use searching::DEEPEST_SEARCH;
 pub use solutions::Solution;
 pub use solvers::PathSolver;
 pub use solving::solve;

@@ -19,6 +19,10 @@ use solver_proof::{Proof, Proofs, accepts};
 use solver_rules::Step;
 use std::alloc::{AllocError, Global};
 
+/// How many splits a search may make under one another. Each takes about 8 KB of the machine's stack, of which 8 MB are usual; what is
+/// deeper is answered as want of memory.
+pub const DEEPEST_SEARCH: usize = 600;
+
 /// What is found of a list.
 #[derive(Drop)]
 pub(crate) enum Found {
@@ -46,10 +50,15 @@ pub(crate) enum Each {
     Under(Proofs),
 }
 
-/// Searches a list. It is made longer and cut back; where memory wants it may stay longer. The search ends, since each atom that
-/// is added leaves less to say.
+/// Searches a list, by at most so many splits under one another. It is made longer and cut back; where memory wants it may stay longer.
+/// The search ends, since each atom that is added leaves less to say.
 #[cycle(search)]
-pub(crate) fn search(alloc: Global, vars: &VarTable, list: &mut Atoms) -> Result<Found, AllocError>
+pub(crate) fn search(
+    alloc: Global,
+    vars: &VarTable,
+    list: &mut Atoms,
+    levels: usize,
+) -> Result<Found, AllocError>
     requires plain { ArePlain vars.now (atoms_view list.old) }
     ensures same { OnOk result (list.new ≡ list.old) }
     ensures found { IfOk result (IsFound vars.now (atoms_view list.old)) }
@@ -57,13 +66,18 @@ pub(crate) fn search(alloc: Global, vars: &VarTable, list: &mut Atoms) -> Result
     match guess_at(alloc, vars, list)? {
         Guess::Model(valuation) => Ok(Found::Model(valuation)),
         Guess::Closed(proof) => Ok(Found::Closed(proof)),
-        Guess::Nothing => search_by_steps(alloc, vars, list),
+        Guess::Nothing => search_by_steps(alloc, vars, list, levels),
     }
 }
 
 /// Searches a list of which no guess is right.
 #[cycle(search)]
-fn search_by_steps(alloc: Global, vars: &VarTable, list: &mut Atoms) -> Result<Found, AllocError>
+fn search_by_steps(
+    alloc: Global,
+    vars: &VarTable,
+    list: &mut Atoms,
+    levels: usize,
+) -> Result<Found, AllocError>
     requires plain { ArePlain vars.now (atoms_view list.old) }
     ensures same { OnOk result (list.new ≡ list.old) }
     ensures found { IfOk result (IsFound vars.now (atoms_view list.old)) }
@@ -71,18 +85,18 @@ fn search_by_steps(alloc: Global, vars: &VarTable, list: &mut Atoms) -> Result<F
     match next_step(alloc, vars, list)? {
         Step::Model(valuation) => Ok(Found::Model(valuation)),
         Step::Closed(proof) => Ok(Found::Closed(proof)),
-        Step::Split(term) => search_split(alloc, vars, list, term),
+        Step::Split(term) => search_split(alloc, vars, list, levels, term),
         Step::Cases(subject) => {
             let branches = kinds_of(alloc, vars, list, subject)?;
-            search_branches(alloc, vars, list, branches)
+            search_branches(alloc, vars, list, levels, branches)
         }
         Step::Values(place) => {
             let branches = values_at(alloc, vars, list, place)?;
-            search_branches(alloc, vars, list, branches)
+            search_branches(alloc, vars, list, levels, branches)
         }
         Step::Differ(place) => {
             let branches = differences_at(alloc, vars, list, place)?;
-            search_branches(alloc, vars, list, branches)
+            search_branches(alloc, vars, list, levels, branches)
         }
     }
 }
@@ -93,6 +107,7 @@ fn search_split(
     alloc: Global,
     vars: &VarTable,
     list: &mut Atoms,
+    levels: usize,
     term: Term,
 ) -> Result<Found, AllocError>
     requires plain { ArePlain vars.now (atoms_view list.old) }
@@ -102,9 +117,9 @@ fn search_split(
     ensures found { IfOk result (IsFound vars.now (atoms_view list.old)) }
 {
     let holds = Atom::Holds(term.copy(alloc)?);
-    match search_with(alloc, vars, list, holds)? {
+    match search_with(alloc, vars, list, levels, holds)? {
         Branch::Whole(found) => Ok(found),
-        Branch::Under(first) => search_second(alloc, vars, list, term, first),
+        Branch::Under(first) => search_second(alloc, vars, list, levels, term, first),
     }
 }
 
@@ -114,6 +129,7 @@ fn search_second(
     alloc: Global,
     vars: &VarTable,
     list: &mut Atoms,
+    levels: usize,
     term: Term,
     first: Proof,
 ) -> Result<Found, AllocError>
@@ -125,7 +141,7 @@ fn search_second(
     ensures found { IfOk result (IsFound vars.now (atoms_view list.old)) }
 {
     let fails = Atom::Not(term.copy(alloc)?);
-    match search_with(alloc, vars, list, fails)? {
+    match search_with(alloc, vars, list, levels, fails)? {
         Branch::Whole(found) => Ok(found),
         Branch::Under(second) => {
             let first = Box::new(alloc, first)?;
@@ -142,6 +158,7 @@ fn search_branches(
     alloc: Global,
     vars: &VarTable,
     list: &mut Atoms,
+    levels: usize,
     branches: Branches,
 ) -> Result<Found, AllocError>
     requires plain { ArePlain vars.now (atoms_view list.old) }
@@ -149,7 +166,7 @@ fn search_branches(
     ensures same { OnOk result (list.new ≡ list.old) }
     ensures found { IfOk result (IsFound vars.now (atoms_view list.old)) }
 {
-    match search_each(alloc, vars, list, &branches.atoms)? {
+    match search_each(alloc, vars, list, levels, &branches.atoms)? {
         Each::Whole(found) => Ok(found),
         Each::Under(proofs) => Ok(Found::Closed(joined(branches.form, proofs))),
     }
@@ -161,6 +178,7 @@ fn search_each(
     alloc: Global,
     vars: &VarTable,
     list: &mut Atoms,
+    levels: usize,
     more: &Atoms,
 ) -> Result<Each, AllocError>
     requires plain { ArePlain vars.now (atoms_view list.old) }
@@ -172,7 +190,7 @@ fn search_each(
     let mut proofs = Proofs::new(alloc);
     for atom in more.as_slice() {
         let appended = atom.copy(alloc)?;
-        match search_with(alloc, vars, list, appended)? {
+        match search_with(alloc, vars, list, levels, appended)? {
             Branch::Whole(found) => return Ok(Each::Whole(found)),
             Branch::Under(proof) => proofs.push(proof)?,
         }
@@ -180,12 +198,13 @@ fn search_each(
     Ok(Each::Under(proofs))
 }
 
-/// Searches a list with an atom appended.
+/// Searches a list with an atom appended, where there may be another split.
 #[cycle(search)]
 fn search_with(
     alloc: Global,
     vars: &VarTable,
     list: &mut Atoms,
+    levels: usize,
     atom: Atom,
 ) -> Result<Branch, AllocError>
     requires plain { ArePlain vars.now (atoms_view list.old) }
@@ -194,8 +213,11 @@ fn search_with(
     ensures same { OnOk result (list.new ≡ list.old) }
     ensures branch { IfOk result (IsBranch vars.now (atoms_view list.old) (atom_view atom)) }
 {
+    if levels == 0 {
+        return Err(AllocError);
+    }
     list.push(atom)?;
-    let found = search(alloc, vars, list)?;
+    let found = search(alloc, vars, list, levels - 1)?;
     cut_last(list);
     without_last(alloc, vars, list, found)
 }

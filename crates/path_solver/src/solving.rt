@@ -10,7 +10,7 @@ ghost use Rattle.path_solver.specs.Solving.{IsSolved, solution_view};
 
 use crate::lists::turn_to;
 use crate::outside::{first_outside, plain_list};
-use crate::searching::{Found, search};
+use crate::searching::{DEEPEST_SEARCH, Found, search};
 use crate::solutions::Solution;
 use crate::testing::are_true;
 use pure_terms::{Atoms, Reason, VarTable};
@@ -98,7 +98,7 @@ pub(crate) fn found_of(
     ensures { IfOk result (IsFound vars.now (atoms_view atoms.now)) }
 {
     turn_to(alloc, list, atoms)?;
-    search(alloc, vars, list)
+    search(alloc, vars, list, DEEPEST_SEARCH)
 }
 
 /// Solves a list with an atom that isn't of the fragment.
@@ -115,7 +115,7 @@ fn solve_outside(
     ensures { IfOk result (λ s. IsSolved vars.now (atoms_view atoms.now) (solution_view s)) }
 {
     *list = plain_list(alloc, vars, rules, atoms)?;
-    let found = search(alloc, vars, list)?;
+    let found = search(alloc, vars, list, DEEPEST_SEARCH)?;
     tested(alloc, vars, atoms, found, reason)
 }
 
