@@ -6,8 +6,9 @@ doubled, swapped and flipped.
                      [--program FILE] [--reader FILE]
 
 Outside the gate. The texts are made from the cases in crates/tests_rows/data, with a fixed seed, and each run has an address space of
-1 GiB and ten seconds of a processor. It looks for: an end by a signal or for want of time, an exit code that the table of README
-doesn't have, output that fits no exit code, output beside an exit code that has none, more than one line on standard error, a report
+1 GiB and ten seconds of a processor. It looks for: an end by a signal, or for want of time in a mode in which a run takes as many steps
+as it is allowed at most (paths and splits have no limit, so that in the others such runs are only counted), an exit code that the table of
+README doesn't have, output that fits no exit code, output beside an exit code that has none, more than one line on standard error, a report
 that isn't read back by the reader, which is the program `tests_read_back`, reports in JSON that are none by docs/report.schema.json, a
 reader that ends otherwise than with 0 or 1 on reports that were changed in the same ways, and a refused allocation that is answered
 otherwise than by 6 with nothing written or by what the same run answers without a refusal. It stops at the first fault, or at number N,
@@ -46,6 +47,8 @@ LIMITS = (
 PATIENCE = 300
 # How many texts a worker is handed at once. Their reports are read back together.
 HANDFUL = 250
+# Modes in which the time that a text takes has no limit.
+ENDLESS = (b"test", b"check", b"solve")
 # The most steps of a run, where the words say so.
 MOST_STEPS = 200
 
@@ -61,6 +64,10 @@ JSON = re.compile(rb'\{"answers":\[.*\],.*"mode":"\w+".*\}\n')
 
 class Fault(Exception):
     """What a run did that no run may do."""
+
+
+class Late(Fault):
+    """A run didn't end in its time."""
 
 
 def run(program, words, text, environment=None):
@@ -81,7 +88,7 @@ def run(program, words, text, environment=None):
             ran.kill()
             raise Fault(f"no answer in {PATIENCE} seconds by the clock") from late
     if ran.returncode == -signal.SIGXCPU:
-        raise Fault(f"no answer in {SECONDS} seconds of a processor")
+        raise Late(f"no answer in {SECONDS} seconds of a processor")
     return ran.returncode, output, said
 
 
@@ -246,20 +253,21 @@ def made(every, texts, seed, index):
 
 
 class Handful:
-    """What became of some texts: how many ended with which exit code, how many reports were read back, the longest time of a run with
-    its number, and the faults."""
+    """What became of some texts: how many ended with which exit code, how many reports were read back, the longest time of a run that
+    ended with its number, the numbers of those that didn't in their time, and the faults."""
 
     def __init__(self):
-        self.codes, self.read, self.slowest, self.faults = collections.Counter(), 0, (0.0, 0), []
+        self.codes, self.read, self.slowest, self.late, self.faults = collections.Counter(), 0, (0.0, 0), [], []
 
     def add(self, other):
         self.codes += other.codes
         self.read += other.read
         self.slowest = max(self.slowest, other.slowest)
+        self.late += other.late
         self.faults += other.faults
 
     def told(self):
-        return ", ".join(f"{count} with {code}" for code, count in sorted(self.codes.items()))
+        return ", ".join(f"{count} with {code}" for code, count in sorted(self.codes.items(), key=lambda it: str(it[0])))
 
 
 def try_handful(program, reader, seed, start, end):
@@ -274,7 +282,11 @@ def try_handful(program, reader, seed, start, end):
             code, output, said = run(program, words, text)
             fits([os.fsdecode(it) for it in words], code, output, said)
         except Fault as fault:
-            found.faults.append(f"text {index} of seed {seed}: {fault}: {keep(words, text)}")
+            if isinstance(fault, Late) and words and words[0] in ENDLESS:
+                found.codes["no answer"] += 1
+                found.late.append(index)
+            else:
+                found.faults.append(f"text {index} of seed {seed}: {fault}: {keep(words, text)}")
             continue
         found.slowest = max(found.slowest, (time.monotonic() - begun, index))
         found.codes[code] += 1
@@ -325,6 +337,8 @@ def try_texts(program, reader, number, first, seed, jobs, most_faults):
     print(f"{all_of_them.read} reports read back, and as many with changes handed to the reader" if reader else "no reader: no report is read back")
     seconds, index = all_of_them.slowest
     print(f"the longest run, that of text {index}, took {seconds:.2f} s by the clock")
+    if all_of_them.late:
+        print(f"without an answer in {SECONDS} s of a processor: the texts {', '.join(map(str, all_of_them.late[:20]))}")
     if all_of_them.faults:
         sys.exit("\n".join(f"hostile: {it}" for it in all_of_them.faults))
     print("no fault")
