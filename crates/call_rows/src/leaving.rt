@@ -75,11 +75,8 @@ fn uncaught_next<M: ListedMemory, D: Decider>(
         (term_view term.now) (path_view path.now) (next_view n)) }
 {
     let Some(proc) = prog.proc(&spec.name) else {
-        return doubted_next(alloc, FaultKind::Post, here, path, Doubt::Always);
+        unreachable!();
     };
-    if entered.args.len() != proc.params.len() {
-        return doubted_next(alloc, FaultKind::Post, here, path, Doubt::Always);
-    }
     let state = state_of(alloc, path, preds, here)?;
     let errors = &spec.errors;
     finish(

@@ -161,8 +161,12 @@ fn fitting_nexts<M: ListedMemory, D: Decider>(
         Matching::All(matches) => matches_nexts(
             alloc, prog, spec, entered, used, checking, here, &scope, matches, decider,
         ),
-        Matching::Unmatched { item: _, valuation } => {
-            let doubt = Doubt::Under(valuation);
+        Matching::Unmatched {
+            item: _,
+            conds,
+            valuation,
+        } => {
+            let doubt = Doubt::Under(conds, valuation);
             doubted(
                 alloc,
                 FaultKind::CallPrecondition,

@@ -71,7 +71,7 @@ module _ {S : Type 0} (p : PureParts) (memory : MemoryName) (m : Actions) (stand
         let longer = subst (λ u. ArePassedBy stands u x.passed c.passed) (sym ext.values) (passed_by_more x.path.vars v ext.new_values standing.path.proper.one_each memory stands terms meaning x.passed c.passed is_over_table.passed standing.passed) in
         with_it.kept.stand w (kept_for t.callers c.passed) (subst (λ k. ArePassedBy stands w (kept_by (length next.stack) x.passed) (kept_by k c.passed)) counted (kept_related (ArePassed stands w) tt (length next.stack) x.passed c.passed longer))
 
-    goes_there : (y : PureChecking S) (t : State) → GoesOnWith stands terms x.facts x.passed next y → Stands stands next w t → StandsForChecked stands e y w entry (moved c t)
+    pub goes_there : (y : PureChecking S) (t : State) → GoesOnWith stands terms x.facts x.passed next y → Stands stands next w t → StandsForChecked stands e y w entry (moved c t)
     goes_there y t with_it is = record {
       entered = subst (λ u. IsEntered u e entry) (sym ext.values) (entered_more x.path.vars v ext.new_values standing.path.proper.one_each e entry is_over_table.entry standing.entered);
       path = subst (λ q. Stands stands q w t) (sym with_it.same_path) is;

@@ -101,7 +101,7 @@ module _ (vars more : List Sort) where
   facts_over_more cs = each_to (λ f. AreEachOver vars (f.ins ++ f.outs)) (λ f. AreEachOver (vars ++ more) (f.ins ++ f.outs)) cs (λ f. terms_over_more (f.ins ++ f.outs))
 
   pub entry_over_more : (e : PureEntry) → IsEntryOver vars e → IsEntryOver (vars ++ more) e
-  entry_over_more e over = record { args = terms_over_more e.args over.args; variables = store_over_more e.variables over.variables }
+  entry_over_more e over = record { as_many = over.as_many; args = terms_over_more e.args over.args; variables = store_over_more e.variables over.variables }
 
   module _ {S : Type 0} (terms : S → StateTerms) where
     passed_over_more : (q : PurePassed S) → IsPassedOver terms vars q → IsPassedOver terms (vars ++ more) q

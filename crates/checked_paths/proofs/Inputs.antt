@@ -66,7 +66,7 @@ drawn_there : (n : ℕ) (v : PureValue) → slice_get (inputs_with n v) n ≡ So
 drawn_there zero v = refl
 drawn_there (suc n) v = drawn_there n v
 
-drawn_so : (b : Bool) (a : Step) (e : End) → b ≡ true → cond b a (ends e) ≡ a
+pub drawn_so : (b : Bool) (a : Step) (e : End) → b ≡ true → cond b a (ends e) ≡ a
 drawn_so true a e is = refl
 drawn_so false a e is = absurd (true≢false (sym is))
 

@@ -6,3 +6,5 @@ pub mod Stops
 pub mod Answering
 pub mod Accounting
 pub mod Above
+pub mod Machine
+pub mod Exact

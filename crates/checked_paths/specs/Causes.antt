@@ -49,6 +49,12 @@ cause_view (Cause.Fault kind shown) = fault kind (shown_view shown)
 cause_view (Cause.Cut shown) = bound (shown_view shown)
 cause_view (Cause.Unknown reason shown) = undecided reason (shown_view shown)
 
+abbrev pub shown_in : PureCause → PureShown
+shown_in (failure t shown) = shown
+shown_in (fault kind shown) = shown
+shown_in (bound shown) = shown
+shown_in (undecided reason shown) = shown
+
 -- the fault of a checked run that a cause of this kind is
 abbrev pub fault_of : FaultKind → Fault
 fault_of FaultKind.Missing = runs.missing

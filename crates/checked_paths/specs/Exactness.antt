@@ -2,7 +2,6 @@
 -- stands, or has the fault that is the cause, under each valuation that meets the later conditions. Exactness beside cover is that of
 -- Gillian, Part I (PLDI 2020); checked runs here take the place of the concrete semantics.
 use Rattle.std.specs.Prelude.{◌≡◌, ◌⊎◌, ℕ, List, [], ◌∷◌, ◌++◌, Option, Some, codes, ⊤}
-use Rattle.gil_values.specs.declared.places.Place.{Place}
 use Rattle.gil_values.specs.Pure.{PureValue, symbol, text}
 use Rattle.gil_values.specs.Symbols.{AreBelow}
 use Rattle.gil_syntax.specs.Pure.{PureParts}
@@ -18,8 +17,8 @@ use Rattle.pure_terms.specs.Fragment.{InFragment}
 use Rattle.pure_terms.specs.Meaning.{value, Satisfies}
 use Rattle.pure_terms.specs.Pure.{PureTerm, PureAtom}
 use Rattle.sym_model.specs.Lists.{Each}
-use Rattle.sym_paths.specs.Steps.{counter_after, counter_past, IsFirstOutside}
-use Rattle.checked_paths.specs.Causes.{PureShown, PureCause, failure, fault, bound, undecided, cause_view, fault_of}
+use Rattle.sym_paths.specs.Steps.{counter_after, counter_past, IsFirstOutside, IsPlaceOf}
+use Rattle.checked_paths.specs.Causes.{PureShown, PureCause, failure, fault, bound, undecided, cause_view, shown_in, fault_of}
 use Rattle.checked_paths.specs.Choosing.{LeadsAlong}
 use Rattle.checked_paths.specs.Meaning.{StandsForChecked}
 use Rattle.checked_paths.specs.Pure.{PureEntry, PureChecking, PureNext, further, over, caused}
@@ -72,16 +71,17 @@ module _ {S : Type 0} (x : PureChecking S) where
   abbrev pub AreChoices : List ℕ → Option ℕ → Type 0
   AreChoices choices chosen = choices ≡ x.path.choices ++ with_choice chosen []
 
-  -- What is shown: this place, a table and conditions that go on from the path's, and a valuation that meets them, if any.
-  pub record IsShownAt (here : Place) (shown : PureShown) : Type 0 where
-    pub place : shown.place ≡ here
+  -- What is shown: the place of the command at which the path stands, a table and conditions that go on from the path's, and a valuation
+  -- that meets them, if any.
+  pub record IsShownAt (p : PureParts) (shown : PureShown) : Type 0 where
+    pub place : IsPlaceOf p x.path.stack shown.place
     pub table : HaveMore x.path.vars shown.vars
     pub longer : HaveMore x.path.conds shown.conds
     pub known : (u : List PureValue) → shown.valuation ≡ Some u → Satisfies shown.vars u shown.conds
 
   -- The conditions that are shown aren't in the fragment, and the reason names the first of them that isn't by itself.
-  pub record IsUndecided (reason : Reason) (here : Place) (shown : PureShown) : Type 0 where
-    pub at : IsShownAt here shown
+  pub record IsUndecided (p : PureParts) (reason : Reason) (shown : PureShown) : Type 0 where
+    pub at : IsShownAt p shown
     pub chosen : Option ℕ
     pub choices : AreChoices shown.choices chosen
     pub outside : ¬ InFragment shown.conds
@@ -128,26 +128,38 @@ module _ {S : Type 0} (p : PureParts) (memory : MemoryName) (m : Actions) (stand
     pub is : Is outcome
 
   -- The conditions that are shown can be met, and wherever they are, there is such an outcome.
-  pub record IsSurely (Is : List PureValue → Outcome → Type 0) (here : Place) (shown : PureShown) : Type 0 where
-    pub at : IsShownAt x here shown
+  pub record IsSurely (Is : List PureValue → Outcome → Type 0) (shown : PureShown) : Type 0 where
+    pub at : IsShownAt x p shown
     pub met : CanBeMet x shown.vars shown.conds
     pub exact : (v w : List PureValue) (entry : Entry) (c : Checked) → IsUnder stands e x shown.vars shown.conds v w entry c
         → LeadsTo (Is w) shown entry c
 
-  -- The cause is one to which a checked run comes at this place. No step comes to a bound.
-  abbrev pub IsRightCause : Place → PureCause → Type 0
-  IsRightCause here (failure t shown) = IsSurely (FailsWith t) here shown
-  IsRightCause here (fault kind shown) = IsSurely (λ w out. out ≡ has_fault (fault_of kind)) here shown
-  IsRightCause here (bound shown) = IsSurely (λ w out. ⊥) here shown
-  IsRightCause here (undecided reason shown) = IsUndecided x reason here shown
+  -- The cause is one to which a checked run comes at the command at which the path stands. No step comes to a bound.
+  abbrev pub IsRightCause : PureCause → Type 0
+  IsRightCause (failure t shown) = IsSurely (FailsWith t) shown
+  IsRightCause (fault kind shown) = IsSurely (λ w out. out ≡ has_fault (fault_of kind)) shown
+  IsRightCause (bound shown) = IsSurely (λ w out. ⊥) shown
+  IsRightCause (undecided reason shown) = IsUndecided x p reason shown
 
   -- ---- answers
 
-  abbrev pub IsExactNext : Place → PureNext S → Type 0
-  IsExactNext here (further y) = IsFollowed y
-  IsExactNext here over = ⊤
-  IsExactNext here (caused cause) = IsRightCause here (cause_view cause)
+  abbrev pub IsExactNext : PureNext S → Type 0
+  IsExactNext (further y) = IsFollowed y
+  IsExactNext over = ⊤
+  IsExactNext (caused cause) = IsRightCause (cause_view cause)
 
   -- Each path that goes on is followed by checked runs, and each cause is one to which they come.
-  abbrev pub AreExact : Place → List (PureNext S) → Type 0
-  AreExact here nexts = Each (IsExactNext here) nexts
+  abbrev pub AreExact : List (PureNext S) → Type 0
+  AreExact nexts = Each IsExactNext nexts
+
+-- ---- the conditions that are added
+
+-- a list with others of a class behind it
+abbrev pub HaveMoreOf : {A : Type 0} → (A → Type 0) → List A → List A → Type 0
+HaveMoreOf {A} P xs ys = (more : List A) × ((ys ≡ xs ++ more) × Each P more)
+
+-- Each condition that an answer has more than the path is one of these.
+abbrev pub AddsOnly : {S : Type 0} → (PureAtom → Type 0) → PureChecking S → PureNext S → Type 0
+AddsOnly own x (further y) = HaveMoreOf own x.path.conds y.path.conds
+AddsOnly own x over = ⊤
+AddsOnly own x (caused cause) = HaveMoreOf own x.path.conds (shown_in (cause_view cause)).conds

@@ -69,8 +69,17 @@ is_of_machine (unfold_use u) = false
 is_of_machine (assert_that items) = false
 is_of_machine (loop_invariant xs ps items) = false
 
+-- such a command with which no frame ends
+abbrev pub stays_in_frame : PureCommand → Bool
+stays_in_frame (return e) = false
+stays_in_frame (throw e) = false
+stays_in_frame command = is_of_machine command
+
 abbrev pub IsAtMachineCommand : {S : Type 0} → PureParts → PurePath S → Type 0
 IsAtMachineCommand p path = (n : PureNumberedCommand) × ((command_of_path p path ≡ Some n) × IsTrue (is_of_machine n.command))
+
+abbrev pub StaysInFrame : {S : Type 0} → PureParts → PurePath S → Type 0
+StaysInFrame p path = (n : PureNumberedCommand) × ((command_of_path p path ≡ Some n) × IsTrue (stays_in_frame n.command))
 
 -- Where a next path stands for what a step of the machine comes to, what is answered of it covers what the checked state leads to by this
 -- step.

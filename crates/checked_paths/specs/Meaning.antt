@@ -55,7 +55,9 @@ pub record StandsForChecked {S : Type 0} (stands : S → List PureValue → Heap
 abbrev pub AreFactsOver : List Sort → List PureFact → Type 0
 AreFactsOver vars facts = Each (λ f. AreEachOver vars (f.ins ++ f.outs)) facts
 
+-- each parameter has a term, and the terms name only variables of the table
 pub record IsEntryOver (vars : List Sort) (e : PureEntry) : Type 0 where
+  pub as_many : length e.args ≡ length e.spec.params
   pub args : AreEachOver vars e.args
   pub variables : IsStoreOver vars e.variables
 

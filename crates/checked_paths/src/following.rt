@@ -1,12 +1,17 @@
 //! Checked paths of the next paths of a step of the machine.
 ghost use Rattle.std.specs.Prelude.{◌≡◌, [], IfOk};
 ghost use Rattle.std.specs.Option.{option_map};
+ghost use Rattle.checked_paths.specs.Causes.{shown_of, shown_view, EachShowsEnd, ShowsEnd, ShowsStop};
 ghost use Rattle.checked_paths.specs.Covering.{AreNexts};
-ghost use Rattle.checked_paths.specs.Following.{EachIsAnswered, IsAnswered, IsStop, IsAtMachineCommand};
+ghost use Rattle.checked_paths.specs.Exactness.{AddsOnly, AreExact};
+ghost use Rattle.checked_paths.specs.Following.{EachIsAnswered, IsAnswered, IsStop, IsAtMachineCommand, StaysInFrame};
 ghost use Rattle.checked_paths.specs.Meaning.{MayGoOn};
 ghost use Rattle.checked_paths.specs.Pure.{PureEntry};
 ghost use Rattle.checked_paths.specs.View.{checking_view, next_view, nexts_view, passed_by_view};
 ghost use Rattle.gil_program.specs.Program.{prog_view};
+ghost use Rattle.sym_engine.specs.Lawful.{IsOwnAt};
+ghost use Rattle.sym_model.specs.Lists.{Each};
+ghost use Rattle.sym_paths.specs.Steps.{IsPlaceOf};
 ghost use Rattle.sym_paths.specs.View.{end_view, path_view, paths_view};
 ghost use Rattle.sym_states.specs.View.{facts_view};
 ghost use Rattle.sym_step.specs.Stepping.{MayStep};
@@ -26,7 +31,8 @@ use sym_step::step;
 
 /// What is answered of a path that ends so, if it has an end.
 fn stop_of<M: SymMemory>(end: Option<PathEnd>, shown: Shown) -> Option<Next<M>>
-    ensures { IsStop (option_map end_view end) (option_map next_view result) }
+    ensures answer { IsStop (option_map end_view end) (option_map next_view result) }
+    ensures shows { ShowsStop (option_map end_view end) (shown_view shown) (option_map next_view result) }
 {
     match end {
         None => None,
@@ -49,7 +55,8 @@ fn stop<M: SymMemory>(
     here: &Place,
     path: Path<M>,
 ) -> Result<Option<Next<M>>, AllocError>
-    ensures { IfOk result (λ o. IsStop (path_view path).ending (option_map next_view o)) }
+    ensures answer { IfOk result (λ o. IsStop (path_view path).ending (option_map next_view o)) }
+    ensures shows { IfOk result (λ o. ShowsStop (path_view path).ending (shown_of here.now (path_view path)) (option_map next_view o)) }
 {
     let place = copy_place(alloc, here)?;
     let Ended {
@@ -79,8 +86,9 @@ pub fn follow<M: SymMemory>(
     here: &Place,
     path: Path<M>,
 ) -> Result<Next<M>, AllocError>
-    ensures { IfOk result (λ n. IsAnswered M.stands M.terms (facts_view preds.now) (passed_by_view passed.now) (path_view path)
+    ensures answer { IfOk result (λ n. IsAnswered M.stands M.terms (facts_view preds.now) (passed_by_view passed.now) (path_view path)
         (next_view n)) }
+    ensures shows { IfOk result (λ n. ShowsEnd here.now (path_view path) (next_view n)) }
 {
     if path.end.is_some() {
         return match stop(alloc, here, path)? {
@@ -105,8 +113,9 @@ pub fn follow_all<M: SymMemory>(
     here: &Place,
     paths: Paths<M>,
 ) -> Result<Nexts<M>, AllocError>
-    ensures { IfOk result (λ ns. EachIsAnswered M.stands M.terms (facts_view preds.now) (passed_by_view passed.now) (paths_view paths)
+    ensures answer { IfOk result (λ ns. EachIsAnswered M.stands M.terms (facts_view preds.now) (passed_by_view passed.now) (paths_view paths)
         (nexts_view ns)) }
+    ensures shows { IfOk result (λ ns. EachShowsEnd here.now (paths_view paths) (nexts_view ns)) }
 {
     let mut nexts = Sequence::new(alloc);
     for path in paths.into_vec() {
@@ -115,7 +124,9 @@ pub fn follow_all<M: SymMemory>(
     Ok(nexts)
 }
 
-/// The step of a checked path at a command of the machine that is no call: the paths of the step with facts and passed invariants.
+/// The step of a checked path at a command of the machine that is no call: the paths of the step with facts and passed invariants. Where
+/// the command doesn't leave its frame, checked runs follow each path that goes on, and come to each cause. Conditions that are added are the
+/// command's own.
 pub fn step_machine<M: SymMemory, D: Decider>(
     alloc: Global,
     prog: &Prog,
@@ -126,8 +137,13 @@ pub fn step_machine<M: SymMemory, D: Decider>(
 ) -> Result<Nexts<M>, AllocError>
     requires may { MayStep (prog_view prog.now) M.terms (path_view checking.path) }
     requires machine { IsAtMachineCommand (prog_view prog.now) (path_view checking.path) }
-    ensures { IfOk result (λ ns. (e : PureEntry) → MayGoOn (prog_view prog.now) M.terms e (checking_view checking)
+    ensures next { IfOk result (λ ns. (e : PureEntry) → MayGoOn (prog_view prog.now) M.terms e (checking_view checking)
         → AreNexts (prog_view prog.now) M.Local.memory M.Local.actions M.stands M.terms e (checking_view checking) [] (nexts_view ns)) }
+    ensures exact { IfOk result (λ ns. (e : PureEntry) → MayGoOn (prog_view prog.now) M.terms e (checking_view checking)
+        → StaysInFrame (prog_view prog.now) (path_view checking.path) → IsPlaceOf (prog_view prog.now) (path_view checking.path).stack here.now
+        → AreExact (prog_view prog.now) M.Local.memory M.Local.actions M.stands e (checking_view checking) (nexts_view ns)) }
+    ensures own { IfOk result (λ ns. Each (AddsOnly (IsOwnAt M.stands M.terms M.asked M.Local.actions (prog_view prog.now)
+        (path_view checking.path)) (checking_view checking)) (nexts_view ns)) }
 {
     let (path, preds, passed) = checking.into_parts();
     let paths = step(alloc, prog, path, rules, decider)?;

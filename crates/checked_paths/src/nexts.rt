@@ -1,4 +1,8 @@
 //! What a step of a checked path answers.
+ghost use Rattle.std.specs.Prelude.{◌≡◌, IfOk};
+ghost use Rattle.checked_paths.specs.Causes.{shown_of, shown_view};
+ghost use Rattle.sym_paths.specs.View.{path_view};
+
 use crate::checking::Checking;
 use gil_syntax::Texts;
 use gil_values::Place;
@@ -45,23 +49,44 @@ pub enum Cause {
     Unknown(Reason, Shown),
 }
 
+/// Equal choices.
+fn copy_choices(alloc: Global, choices: &Choices) -> Result<Choices, AllocError>
+    ensures { IfOk result (λ copied. copied ≡ choices.now) }
+{
+    let mut copied = Choices::new(alloc);
+    for choice in choices.as_slice() {
+        copied.push(*choice)?;
+    }
+    Ok(copied)
+}
+
+/// An equal table.
+fn copy_table(alloc: Global, vars: &VarTable) -> Result<VarTable, AllocError>
+    ensures { IfOk result (λ copied. copied ≡ vars.now) }
+{
+    let mut copied = VarTable::new(alloc);
+    for sort in vars.as_slice() {
+        copied.push(*sort)?;
+    }
+    Ok(copied)
+}
+
 impl Shown {
     /// What is shown of a path that stands at a place.
-    pub fn of<M: Drop>(alloc: Global, place: &Place, path: &Path<M>) -> Result<Shown, AllocError> {
-        let mut choices = Choices::new(alloc);
-        for choice in path.choices.as_slice() {
-            choices.push(*choice)?;
-        }
-        let mut vars = VarTable::new(alloc);
-        for sort in path.vars.as_slice() {
-            vars.push(*sort)?;
-        }
+    pub fn of<M: Drop>(alloc: Global, place: &Place, path: &Path<M>) -> Result<Shown, AllocError>
+        ensures { IfOk result (λ s. shown_view s ≡ shown_of place.now (path_view path.now)) }
+    {
+        let place = copy_place(alloc, place)?;
+        let choices = copy_choices(alloc, &path.choices)?;
+        let vars = copy_table(alloc, &path.vars)?;
+        let given = copy_conditions(alloc, &path.given)?;
+        let conds = copy_conditions(alloc, path.conds.atoms())?;
         Ok(Shown {
-            place: copy_place(alloc, place)?,
+            place,
             path: choices,
             vars,
-            given: copy_conditions(alloc, &path.given)?,
-            conds: copy_conditions(alloc, path.conds.atoms())?,
+            given,
+            conds,
             valuation: None,
         })
     }

@@ -2,6 +2,7 @@ pub mod EndRowLaws
 pub mod EndLaws
 pub mod FoldLaws
 pub mod AssertLaws
+pub mod ExactLaws
 pub mod MatchLaws
 pub mod NameLaws
 pub mod ReadLaws

@@ -7,7 +7,7 @@ use Rattle.gil_syntax.specs.Pure.{PureItem, PurePredDef}
 use Rattle.mem_model.specs.Heaps.{Heap}
 use Rattle.assert_logic.specs.LogicStates.{LogicState}
 use Rattle.checked_runs.specs.Checked.{Checked, Entry, names_at, logic_state}
-use Rattle.pure_terms.specs.Meaning.{all_true, IsOver}
+use Rattle.pure_terms.specs.Meaning.{all_true, IsOver, Satisfies}
 use Rattle.sym_evaluation.specs.Meaning.{IsStoreOver}
 use Rattle.sym_evaluation.specs.Pure.{PureStore}
 use Rattle.sym_model.proofs.ListLaws.{each_to, one_to}
@@ -19,7 +19,7 @@ use Rattle.sym_states.specs.Meaning as states
 use Rattle.sym_states.specs.Meaning.{Serves}
 use Rattle.sym_states.specs.Pure.{PureState}
 use Rattle.footprint.specs.Consuming.{Matches, StopsAt}
-use Rattle.footprint.specs.Leaves.{Premise, Giving, IsLater, IsMatch, AreAll, IsAnswer}
+use Rattle.footprint.specs.Leaves.{IsLonger, Premise, Giving, IsLater, IsMatch, AreAll, IsAnswer}
 use Rattle.footprint.specs.Pure.{PureMatch, PureMatching, all_match, unmatched, unknown}
 use Rattle.checked_paths.specs.Meaning.{StandsForChecked, IsCheckedOver}
 use Rattle.checked_paths.specs.Pure.{PureEntry, PureChecking}
@@ -27,7 +27,7 @@ use Rattle.checked_rows.specs.Matching.{IsOfPath, IsFound, MatchesThere}
 use Rattle.checked_rows.specs.Names.{AreNames}
 use Rattle.checked_rows.specs.States.{IsStateOf}
 use Rattle.checked_rows.proofs.NameLaws.{names_stand, names_each}
-use Rattle.checked_rows.proofs.StateLaws.{state_stands, state_over, state_vars}
+use Rattle.checked_rows.proofs.StateLaws.{state_stands, state_over, state_conds, state_vars}
 
 -- what holds of each, where something holds of one
 pub one_of_each : {A : Type 0} (P Q R : A → Type 0) (xs : List A) → ((x : A) → P x → Q x → R x) → Each P xs → OneOf Q xs → OneOf R xs
@@ -73,8 +73,12 @@ module _ {S : Type 0} (stands : S → List PureValue → Heap → Type 0) (terms
 
   pub matches_there : (preds : List PurePredDef) (scope : List Param) (items : List PureItem) (r : PureMatching S) → IsAnswer stands terms kept s (Serves stands terms s bs) (Matches preds scope items) (StopsAt preds scope items) r
       → MatchesThere stands terms e x preds scope items r
-  matches_there preds scope items (unmatched item v) answer = tt
-  matches_there preds scope items (unknown conds reason) answer = tt
+  matches_there preds scope items (unmatched k u) answer = record {
+    longer = subst (λ conds. IsLonger conds k.conds) (state_conds stands terms x.path x.facts s is) answer.stop.longer;
+    meets = subst (λ vars. Satisfies vars u k.conds) (state_vars stands terms x.path x.facts s is) answer.meets;
+    stops = λ v entry c stand met. answer.stop.exact v (names_at entry c) (logic_state c) (serves_there v entry c stand) met;
+  }
+  matches_there preds scope items (unknown conds reason) answer = (subst (λ cs. IsLonger cs conds) (state_conds stands terms x.path x.facts s is) answer.0, answer.1)
   matches_there preds scope items (all_match ms) answer = (
     λ v entry c stand.
         one_to (Found stands terms kept s (Serves stands terms s bs) (Matches preds scope items) v (names_at entry c) (logic_state c)) (IsFound stands terms e x preds scope items v entry c) ms

@@ -63,25 +63,20 @@ module _ (memory : MemoryName) {S : Type 0} (stands : S → List PureValue → H
 
   module _ (next : PurePath S) (facts : List PureFact) (passed : List (List (PurePassed S))) (y : PureChecking S) (with_it : GoesOnWith stands terms facts passed next y) where
     -- The next path stands for the state t, with these facts and passed invariants under a longer valuation.
+    pub goes_stands : (v w more : List PureValue) (entry : Entry) (c d : Checked) (t : State) → w ≡ v ++ more → StandsForChecked stands e x v entry c → Stands stands next w t → AreFacts w facts d.facts
+        → ArePassedBy stands w passed d.passed → StandsForChecked stands e y w entry (moved d t)
+    goes_stands v w more entry c d t longer stand is are are_passed =
+        let counted : length next.stack ≡ length t.callers + 1 = frame_count w next.stack (frames_of t) is.frames ∙ omega arith in
+        record {
+          entered = subst (λ u. IsEntered u e entry) (sym longer) (entered_more x.path.vars v more stand.path.proper.one_each e entry over.entry stand.entered);
+          path = subst (λ q. Stands stands q w t) (sym with_it.same_path) is;
+          facts = subst (λ cs. AreFacts w cs d.facts) (sym with_it.same_facts) are;
+          passed = with_it.kept.stand w (kept_for t.callers d.passed) (subst (λ k. ArePassedBy stands w (kept_by (length next.stack) passed) (kept_by k d.passed)) counted (kept_related (ArePassed stands w) tt (length next.stack) passed d.passed are_passed));
+        }
+
     pub goes_covers : (v w more : List PureValue) (entry : Entry) (c d : Checked) (t : State) (out : Outcome) → w ≡ v ++ more → StandsForChecked stands e x v entry c → Stands stands next w t → AreFacts w facts d.facts
         → ArePassedBy stands w passed d.passed → out ≡ goes_on_to (moved d t) → CoversOutcome stands e entry v out (further y)
-    goes_covers v w more entry c d t out longer stand is are are_passed leads =
-        let counted : length next.stack ≡ length t.callers + 1 = frame_count w next.stack (frames_of t) is.frames ∙ omega arith in (
-          moved d t,
-          (
-            w,
-            (
-              leads,
-              (more, longer),
-              record {
-                entered = subst (λ u. IsEntered u e entry) (sym longer) (entered_more x.path.vars v more stand.path.proper.one_each e entry over.entry stand.entered);
-                path = subst (λ q. Stands stands q w t) (sym with_it.same_path) is;
-                facts = subst (λ cs. AreFacts w cs d.facts) (sym with_it.same_facts) are;
-                passed = with_it.kept.stand w (kept_for t.callers d.passed) (subst (λ k. ArePassedBy stands w (kept_by (length next.stack) passed) (kept_by k d.passed)) counted (kept_related (ArePassed stands w) tt (length next.stack) passed d.passed are_passed));
-              },
-            ),
-          ),
-        )
+    goes_covers v w more entry c d t out longer stand is are are_passed leads = (moved d t, (w, (leads, (more, longer), goes_stands v w more entry c d t longer stand is are are_passed)))
 
     pub goes_on_next : (p : PureParts) (sorts : List Sort) → next.ending ≡ None → AreAtCommands p next.stack → IsOverTable terms next → AreFactsOver next.vars facts → Each (Each (IsPassedOver terms next.vars)) passed → next.vars ≡ x.path.vars ++ sorts
         → next.steps ≡ x.path.steps + 1 → FollowsOn p terms e x (further y)

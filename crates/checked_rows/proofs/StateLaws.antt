@@ -33,6 +33,9 @@ module _ {S : Type 0} (stands : S → List PureValue → Heap → Type 0) (terms
     facts = are;
   })
 
+  pub state_conds : s.conds ≡ path.conds
+  state_conds = ap (λ (q : PureState S). q.conds) is.is
+
   pub state_vars : s.vars ≡ path.vars
   state_vars = ap (λ (q : PureState S). q.vars) is.is
 

@@ -5,12 +5,13 @@ use Rattle.gil_values.specs.Symbols.{AreBelow}
 use Rattle.gil_values.proofs.OperatorSymbols.{none_contained}
 use Rattle.gil_syntax.specs.Pure.{PureParts, PureNumberedCommand}
 use Rattle.gil_syntax.specs.Valid.{ends_body, IsValid}
+use Rattle.gil_machine.specs.State.{State}
 use Rattle.gil_machine.specs.Step.{to_next}
 use Rattle.mem_model.specs.declared.keys.MemoryName.{MemoryName}
 use Rattle.mem_model.specs.Actions.{Actions}
 use Rattle.mem_model.specs.Heaps.{Heap}
 use Rattle.assert_logic.specs.LogicStates.{Fact, LogicState}
-use Rattle.checked_runs.specs.Checked.{Checked, Outcome, Entry, with_logic, stepped}
+use Rattle.checked_runs.specs.Checked.{Checked, Outcome, Entry, moved, with_logic, stepped}
 use Rattle.pure_terms.specs.declared.variables.Sort.{Sort}
 use Rattle.pure_terms.specs.Meaning.{IsProper, IsOver}
 use Rattle.pure_terms.specs.Pure.{term_of}
@@ -30,7 +31,7 @@ use Rattle.checked_paths.specs.Meaning.{StandsForChecked, AreFactsOver, IsPassed
 use Rattle.checked_paths.specs.Pure.{PureEntry, PureChecking, PureNext, further}
 use Rattle.checked_rows.specs.Folding.{GoesOnIn}
 use Rattle.checked_rows.specs.States.{with_state}
-use Rattle.checked_rows.proofs.RowLaws.{passed_longer, goes_covers, goes_on_next, passed_there}
+use Rattle.checked_rows.proofs.RowLaws.{passed_longer, goes_stands, goes_covers, goes_on_next, passed_there}
 use Rattle.checked_rows.proofs.StateLaws.{passing_stands, passing_over}
 
 pub none_below : (n : ℕ) → AreBelow n []
@@ -41,8 +42,35 @@ module _ (p : PureParts) (memory : MemoryName) (m : Actions) {S : Type 0} (stand
   abbrev next : PurePath S
   next = passing (with_state x.path s)
 
-  answer : (y : PureChecking S) × ((k ≡ further y) × GoesOnWith stands terms facts x.passed next y)
+  pub answer : (y : PureChecking S) × ((k ≡ further y) × GoesOnWith stands terms facts x.passed next y)
   answer = subst (λ o. IsAnswerTo stands terms facts x.passed next o k) may.no_end goes
+
+  module _ (v w more : List PureValue) (entry : Entry) (c : Checked) (l : LogicState) (fs : List Fact) (counter : ℕ) (longer : w ≡ v ++ more) (stand : StandsForChecked stands e x v entry c) (is : states.Stands stands s w l)
+      (higher : c.machine.counter ≤ counter) (below : AreBelow counter more) where
+    abbrev later : Checked
+    later = with_logic (record { heap = l.heap; facts = fs }) counter c
+
+    abbrev advanced : State
+    advanced = record later.machine { current = record later.machine.current { next = later.machine.current.next + 1 } }
+
+    path_there : Stands stands (with_state x.path s) w later.machine
+    path_there =
+        let proper : IsProper (x.path.vars ++ sorts) (v ++ more) = subst (IsProper (x.path.vars ++ sorts)) longer (subst (λ vs. IsProper vs w) vars is.proper) in
+        let grown = path_stands memory stands terms meaning x.path v c.machine sorts more counter may.over.path stand.path proper higher below in
+        record {
+          proper = is.proper;
+          meets = is.meets;
+          frames = subst (λ u. AreFrames u x.path.stack (frames_of later.machine)) (sym longer) grown.frames;
+          memory = is.memory;
+          symbols_below = subst (AreBelow counter) (sym longer) grown.symbols_below;
+          draws = stand.path.draws;
+        }
+
+    -- so the path that goes on stands for that state, at the next command
+    pub state_there : states.AreFacts w facts fs → StandsForChecked stands e answer.0 w entry (moved later advanced)
+    state_there are =
+        goes_stands memory stands terms meaning e x may.over next facts x.passed answer.0 answer.1.1 v w more entry c later advanced longer stand
+        (passing_stands stands terms (with_state x.path s) w later.machine path_there) are (passed_longer memory stands terms meaning e x may.over v w more entry c longer stand)
 
   -- The state stands for a logic state under a longer valuation, and the counter is above its new values: so the path stands for the
   -- checked state with this logic state and counter, at the next command.
@@ -52,16 +80,7 @@ module _ (p : PureParts) (memory : MemoryName) (m : Actions) {S : Type 0} (stand
   state_covers v w more entry c l fs counter out longer stand is are higher below leads =
       let (y, (same, with_it)) = answer in
       let d : Checked = with_logic (record { heap = l.heap; facts = fs }) counter c in
-      let proper : IsProper (x.path.vars ++ sorts) (v ++ more) = subst (IsProper (x.path.vars ++ sorts)) longer (subst (λ vs. IsProper vs w) vars is.proper) in
-      let grown = path_stands memory stands terms meaning x.path v c.machine sorts more counter may.over.path stand.path proper higher below in
-      let there : Stands stands (with_state x.path s) w d.machine = record {
-        proper = is.proper;
-        meets = is.meets;
-        frames = subst (λ u. AreFrames u x.path.stack (frames_of d.machine)) (sym longer) grown.frames;
-        memory = is.memory;
-        symbols_below = subst (AreBelow counter) (sym longer) grown.symbols_below;
-        draws = stand.path.draws;
-      } in
+      let there = path_there v w more entry c l fs counter longer stand is higher below in
       subst (CoversOutcome stands e entry v out) (sym same)
       (goes_covers memory stands terms meaning e x may.over next facts x.passed y with_it v w more entry c d (record d.machine { current = record d.machine.current { next = d.machine.current.next + 1 } }) out longer stand
       (passing_stands stands terms (with_state x.path s) w d.machine there) are (passed_longer memory stands terms meaning e x may.over v w more entry c longer stand) leads)

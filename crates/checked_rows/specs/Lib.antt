@@ -1,3 +1,4 @@
+pub mod Doubts
 pub mod Ending
 pub mod Folding
 pub mod Matching

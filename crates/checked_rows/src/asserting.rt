@@ -2,7 +2,7 @@
 ghost use Rattle.std.specs.Prelude.{◌≡◌, ◌+◌, ◌<◌, ◌^◌, [], IfOk};
 ghost use Rattle.checked_paths.specs.Meaning.{IsCheckedOver};
 ghost use Rattle.checked_paths.specs.View.{checking_view, entry_view, nexts_view};
-ghost use Rattle.checked_rows.specs.Rows.{AreRowOf};
+ghost use Rattle.checked_rows.specs.Rows.{AreRowOf, IsExactRowOf};
 ghost use Rattle.footprint.specs.Consuming.{MayMatch, CasesMayMatch};
 ghost use Rattle.gil_program.specs.Program.{prog_view};
 ghost use Rattle.gil_syntax.specs.Pure.{assert_that};
@@ -39,8 +39,10 @@ pub fn assert_row<M: ListedMemory, D: Decider>(
     requires next { MayAdvance (frames_view checking.path.stack) }
     requires may { MayMatch M.Local.memory (assertion_view items.now) }
     requires cases { CasesMayMatch M.Local.memory (prog_view prog.now).preds }
-    ensures { IfOk result (λ ns. AreRowOf (prog_view prog.now) M.Local.memory M.Local.actions M.stands M.terms
+    ensures next { IfOk result (λ ns. AreRowOf (prog_view prog.now) M.Local.memory M.Local.actions M.stands M.terms
         (entry_view spec.now entered.now) (checking_view checking) (assert_that (assertion_view items.now)) [] (nexts_view ns)) }
+    ensures exact { IfOk result (λ ns. IsExactRowOf (prog_view prog.now) M.Local.memory M.Local.actions M.stands M.terms
+        (entry_view spec.now entered.now) (checking_view checking) (assert_that (assertion_view items.now)) here.now (nexts_view ns)) }
 {
     let none = Sequence::new(alloc);
     let scope = logicals_in(&checking.path.stack, &spec.logicals, &none);
@@ -48,8 +50,12 @@ pub fn assert_row<M: ListedMemory, D: Decider>(
         alloc, prog, spec, entered, &checking, here, scope, items, decider,
     )? {
         Matching::All(_) => go_on(alloc, here, checking),
-        Matching::Unmatched { item: _, valuation } => {
-            let doubt = Doubt::Under(valuation);
+        Matching::Unmatched {
+            item: _,
+            conds,
+            valuation,
+        } => {
+            let doubt = Doubt::Under(conds, valuation);
             doubted(alloc, FaultKind::FoldBody, here, &checking.path, doubt)
         }
         Matching::Unknown { conds, reason } => {

@@ -139,8 +139,12 @@ pub fn finish<M: ListedMemory, D: Decider>(
     let scope = scope_of(alloc, spec)?;
     match consume_whole(alloc, state, prog, &scope, posts, names, decider)? {
         Matching::All(_) => Ok(Next::Over),
-        Matching::Unmatched { item: _, valuation } => {
-            let doubt = Doubt::Under(valuation);
+        Matching::Unmatched {
+            item: _,
+            conds,
+            valuation,
+        } => {
+            let doubt = Doubt::Under(conds, valuation);
             doubted_next(alloc, FaultKind::Post, here, path, doubt)
         }
         Matching::Unknown { conds, reason } => {

@@ -2,12 +2,13 @@
 ghost use Rattle.std.specs.Prelude.{◌≡◌, ◌+◌, ◌<◌, ◌^◌, ◌∷◌, ◌++◌, [], map, IfOk, IsTrue, None};
 ghost use Rattle.checked_paths.specs.Meaning.{IsCheckedOver};
 ghost use Rattle.checked_paths.specs.View.{checking_view, entry_view, next_view, nexts_view};
-ghost use Rattle.checked_rows.specs.Folding.{AreFoldings, EachFolded, FoldsOuts, GoesOnIn, fact_of};
+ghost use Rattle.checked_rows.specs.Folding.{AreFoldings, EachFolded, FoldsOuts, GoesOnIn, IsFoldedNext, fact_of};
+ghost use Rattle.sym_model.specs.Lists.{Each};
 ghost use Rattle.sym_model.specs.Terms.{AreEachOver};
 ghost use Rattle.sym_evaluation.specs.Meaning.{IsStoreOver};
 ghost use Rattle.sym_evaluation.specs.View.{store_view};
 ghost use Rattle.sym_states.specs.Meaning.{IsOverTable};
-ghost use Rattle.checked_rows.specs.Rows.{AreRowOf};
+ghost use Rattle.checked_rows.specs.Rows.{AreRowOf, IsExactRowOf};
 ghost use Rattle.footprint.specs.Consuming.{CasesMayMatch};
 ghost use Rattle.footprint.specs.View.{match_view, matches_view};
 ghost use Rattle.gil_program.specs.Program.{prog_view};
@@ -21,7 +22,7 @@ ghost use Rattle.sym_states.specs.Producing.{are_spelled};
 ghost use Rattle.sym_states.specs.View.{fact_view, state_view};
 
 use crate::names::names_in;
-use crate::nexts::{Doubt, doubted, nothing};
+use crate::nexts::{Doubt, doubted, doubted_next, nothing};
 use crate::reading::{Reading, read_all};
 use crate::states::{path_with, state_of};
 use checked_paths::{Checking, Entered, FaultKind, Next, Nexts, follow};
@@ -33,6 +34,8 @@ use mem_model::Core;
 use pure_terms::{Decider, Terms};
 use sequence::Sequence;
 use std::alloc::{AllocError, Global};
+use sym_asking::{Satisfiability, ask};
+use sym_conditions::copy_conditions;
 use sym_engine::pass;
 use sym_evaluation::SymStore;
 use sym_model::ListedMemory;
@@ -57,6 +60,31 @@ fn go_on_with<M: ListedMemory>(
     follow(alloc, &preds, &checking.passed, here, pass(path)?)
 }
 
+/// What is answered of a state that a match left: its path goes on with the fact, if some valuation meets the conditions.
+fn folded_next<M: ListedMemory, D: Decider>(
+    alloc: Global,
+    here: &Place,
+    checking: &Checking<M>,
+    state: SymState<M>,
+    fact: PredChunk,
+    decider: &mut D,
+) -> Result<Next<M>, AllocError>
+    requires steps { checking.now.path.steps + 1 < 2 ^ 32 }
+    requires next { MayAdvance (frames_view checking.now.path.stack) }
+    requires over { IsOverTable M.terms (state_view state) }
+    ensures { IfOk result (λ n. IsFoldedNext M.stands M.terms here.now (checking_view checking.now) (fact_view fact) (state_view state) (next_view n)) }
+{
+    match ask(alloc, decider, &state.vars, state.conds.atoms())? {
+        Satisfiability::Satisfiable(_) => go_on_with(alloc, here, checking, state, fact),
+        Satisfiability::Unsatisfiable => Ok(Next::Over),
+        Satisfiability::Undecided(reason) => {
+            let conds = copy_conditions(alloc, state.conds.atoms())?;
+            let doubt = Doubt::Undecided(conds, reason);
+            doubted_next(alloc, FaultKind::FoldBody, here, &checking.path, doubt)
+        }
+    }
+}
+
 /// A fact of these terms.
 fn fact_with(alloc: Global, name: &Text, ins: &Terms, outs: &Terms) -> Result<PredChunk, AllocError>
     ensures { IfOk result (λ c. fact_view c ≡ fact_of name.now (terms_view ins.now) (terms_view outs.now)) }
@@ -76,7 +104,7 @@ fn state_in<M: ListedMemory>(found: Match<M>) -> SymState<M>
 }
 
 /// Each match goes on with the fact.
-fn go_on_folded<M: ListedMemory>(
+fn go_on_folded<M: ListedMemory, D: Decider>(
     alloc: Global,
     here: &Place,
     checking: &Checking<M>,
@@ -84,16 +112,19 @@ fn go_on_folded<M: ListedMemory>(
     ins: &Terms,
     outs: &Terms,
     matches: Matches<M>,
+    decider: &mut D,
 ) -> Result<Nexts<M>, AllocError>
     requires steps { checking.now.path.steps + 1 < 2 ^ 32 }
     requires next { MayAdvance (frames_view checking.now.path.stack) }
-    ensures { IfOk result (λ ns. EachFolded M.stands M.terms (checking_view checking.now)
+    requires over { Each (λ k. IsOverTable M.terms k.state) (matches_view matches) }
+    ensures { IfOk result (λ ns. EachFolded M.stands M.terms here.now (checking_view checking.now)
         (fact_of name.now (terms_view ins.now) (terms_view outs.now)) (matches_view matches) (nexts_view ns)) }
 {
     let mut nexts = Sequence::new(alloc);
     for found in matches.into_vec() {
         let fact = fact_with(alloc, name, ins, outs)?;
-        nexts.push(go_on_with(alloc, here, checking, state_in(found), fact)?)?;
+        let state = state_in(found);
+        nexts.push(folded_next(alloc, here, checking, state, fact, decider)?)?;
     }
     Ok(nexts)
 }
@@ -116,13 +147,19 @@ fn fold_read<M: ListedMemory, D: Decider>(
     requires ins_over { AreEachOver (state_view state).vars (terms_view ins.now) }
     requires outs_over { AreEachOver (state_view state).vars (terms_view outs.now) }
     requires cases { CasesMayMatch M.Local.memory (prog_view prog.now).preds }
-    ensures { IfOk result (λ ns. AreFoldings M.stands M.terms M.kept (prog_view prog.now).preds (checking_view checking.now) (state_view state)
+    ensures { IfOk result (λ ns. AreFoldings M.stands M.terms M.kept here.now (prog_view prog.now).preds (checking_view checking.now) (state_view state)
         name.now (terms_view ins.now) (terms_view outs.now) (nexts_view ns)) }
 {
     match fold(alloc, state, prog, name, ins, outs, decider)? {
-        Matching::All(matches) => go_on_folded(alloc, here, checking, name, ins, outs, matches),
-        Matching::Unmatched { item: _, valuation } => {
-            let doubt = Doubt::Under(valuation);
+        Matching::All(matches) => {
+            go_on_folded(alloc, here, checking, name, ins, outs, matches, decider)
+        }
+        Matching::Unmatched {
+            item: _,
+            conds,
+            valuation,
+        } => {
+            let doubt = Doubt::Under(conds, valuation);
             doubted(alloc, FaultKind::FoldBody, here, &checking.path, doubt)
         }
         Matching::Unknown { conds, reason } => {
@@ -151,7 +188,7 @@ fn fold_outs<M: ListedMemory, D: Decider>(
     requires store_over { IsStoreOver (state_view state).vars (store_view names.now) }
     requires ins_over { AreEachOver (state_view state).vars (terms_view ins.now) }
     requires cases { CasesMayMatch M.Local.memory (prog_view prog.now).preds }
-    ensures { IfOk result (λ ns. FoldsOuts M.stands M.terms M.kept (prog_view prog.now).preds (checking_view checking.now) (store_view names.now)
+    ensures { IfOk result (λ ns. FoldsOuts M.stands M.terms M.kept here.now (prog_view prog.now).preds (checking_view checking.now) (store_view names.now)
         (pred_use_view used.now) (state_view state) (terms_view ins.now) (nexts_view ns)) }
 {
     match read_all(alloc, state, names, &used.outs, decider)? {
@@ -183,8 +220,10 @@ fn fold_user<M: ListedMemory, D: Decider>(
     requires ins { IsTrue (are_spelled (exprs_view used.now.ins)) }
     requires outs { IsTrue (are_spelled (exprs_view used.now.outs)) }
     requires cases { CasesMayMatch M.Local.memory (prog_view prog.now).preds }
-    ensures { IfOk result (λ ns. AreRowOf (prog_view prog.now) M.Local.memory M.Local.actions M.stands M.terms
+    ensures next { IfOk result (λ ns. AreRowOf (prog_view prog.now) M.Local.memory M.Local.actions M.stands M.terms
         (entry_view spec.now entered.now) (checking_view checking) (fold_use (pred_use_view used.now)) [] (nexts_view ns)) }
+    ensures exact { IfOk result (λ ns. IsExactRowOf (prog_view prog.now) M.Local.memory M.Local.actions M.stands M.terms
+        (entry_view spec.now entered.now) (checking_view checking) (fold_use (pred_use_view used.now)) here.now (nexts_view ns)) }
 {
     let _spec = spec;
     let names = names_in(alloc, &checking.path.stack, &entered.variables)?;
@@ -217,8 +256,10 @@ pub fn fold_row<M: ListedMemory, D: Decider>(
     requires ins { IsTrue (are_spelled (exprs_view used.now.ins)) }
     requires outs { IsTrue (are_spelled (exprs_view used.now.outs)) }
     requires cases { CasesMayMatch M.Local.memory (prog_view prog.now).preds }
-    ensures { IfOk result (λ ns. AreRowOf (prog_view prog.now) M.Local.memory M.Local.actions M.stands M.terms
+    ensures next { IfOk result (λ ns. AreRowOf (prog_view prog.now) M.Local.memory M.Local.actions M.stands M.terms
         (entry_view spec.now entered.now) (checking_view checking) (fold_use (pred_use_view used.now)) [] (nexts_view ns)) }
+    ensures exact { IfOk result (λ ns. IsExactRowOf (prog_view prog.now) M.Local.memory M.Local.actions M.stands M.terms
+        (entry_view spec.now entered.now) (checking_view checking) (fold_use (pred_use_view used.now)) here.now (nexts_view ns)) }
 {
     match Core::from_name(&used.pred) {
         Some(_) => doubted(

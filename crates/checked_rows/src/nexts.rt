@@ -4,10 +4,12 @@ ghost use Rattle.checked_paths.specs.Covering.{IsCaused};
 ghost use Rattle.checked_paths.specs.Following.{IsAnswered};
 ghost use Rattle.checked_paths.specs.Pure.{PureNext};
 ghost use Rattle.checked_paths.specs.View.{checking_view, next_view, nexts_view};
+ghost use Rattle.checked_rows.specs.Doubts.{IsDoubtAlone, IsDoubtNext, ShowsDoubt};
 ghost use Rattle.checked_rows.specs.Rows.{IsCauseAlone};
+ghost use Rattle.checked_rows.specs.View.{doubt_view};
 ghost use Rattle.sym_paths.specs.Moves.{passing};
 ghost use Rattle.sym_engine.specs.Lawful.{MayAdvance};
-ghost use Rattle.sym_paths.specs.View.{frames_view};
+ghost use Rattle.sym_paths.specs.View.{frames_view, path_view};
 
 use checked_paths::{Cause, Checking, FaultKind, Next, Nexts, Shown, follow};
 use gil_values::Place;
@@ -39,8 +41,8 @@ pub fn nothing<M: Drop>(alloc: Global) -> Result<Nexts<M>, AllocError>
 pub enum Doubt {
     /// There is a fault under every valuation.
     Always,
-    /// There is a fault under this one.
-    Under(Valuation),
+    /// There is a fault wherever these conditions are true, which this valuation meets.
+    Under(Atoms, Valuation),
     /// These conditions are outside the fragment, for this reason.
     Undecided(Atoms, Reason),
 }
@@ -52,11 +54,14 @@ fn cause_of<M: Drop>(
     here: &Place,
     path: &Path<M>,
     doubt: Doubt,
-) -> Result<Cause, AllocError> {
+) -> Result<Cause, AllocError>
+    ensures { IfOk result (ShowsDoubt kind here.now (path_view path.now) (doubt_view doubt)) }
+{
     let mut shown = Shown::of(alloc, here, path)?;
     match doubt {
         Doubt::Always => Ok(Cause::Fault(kind, shown)),
-        Doubt::Under(valuation) => {
+        Doubt::Under(conds, valuation) => {
+            shown.conds = conds;
             shown.valuation = Some(valuation);
             Ok(Cause::Fault(kind, shown))
         }
@@ -75,7 +80,8 @@ pub fn doubted_next<M: Drop>(
     path: &Path<M>,
     doubt: Doubt,
 ) -> Result<Next<M>, AllocError>
-    ensures { IfOk result (λ n. IsCaused (next_view n)) }
+    ensures caused { IfOk result (λ n. IsCaused (next_view n)) }
+    ensures shows { IfOk result (λ n. IsDoubtNext kind here.now (path_view path.now) (doubt_view doubt) (next_view n)) }
 {
     Ok(Next::Caused(cause_of(alloc, kind, here, path, doubt)?))
 }
@@ -88,7 +94,8 @@ pub fn doubted<M: Drop>(
     path: &Path<M>,
     doubt: Doubt,
 ) -> Result<Nexts<M>, AllocError>
-    ensures { IfOk result (λ ns. IsCauseAlone (nexts_view ns)) }
+    ensures alone { IfOk result (λ ns. IsCauseAlone (nexts_view ns)) }
+    ensures shows { IfOk result (λ ns. IsDoubtAlone kind here.now (path_view path.now) (doubt_view doubt) (nexts_view ns)) }
 {
     alone(
         alloc,

@@ -1,8 +1,9 @@
 //! The terms of expressions in a state, under conditions under which they have values.
-ghost use Rattle.std.specs.Prelude.{◌≡◌, ◌++◌, IfNone, IfOk, IsTrue, OnOk};
+ghost use Rattle.std.specs.Prelude.{◌≡◌, ◌++◌, IfNone, IfOk, IfSome, IsTrue, OnOk};
 ghost use Rattle.std.specs.Option.{option_map};
-ghost use Rattle.checked_rows.specs.Reading.{NeverTaken, Reads, taken};
-ghost use Rattle.checked_rows.specs.View.{reading_view};
+ghost use Rattle.checked_rows.specs.Doubts.{IsToldThere};
+ghost use Rattle.checked_rows.specs.Reading.{DoubtsFault, NeverTaken, Reads, taken};
+ghost use Rattle.checked_rows.specs.View.{doubt_view, reading_view};
 ghost use Rattle.gil_syntax.specs.View.{exprs_view};
 ghost use Rattle.pure_terms.specs.Meaning.{IsOver, IsUnsatisfiable};
 ghost use Rattle.pure_terms.specs.Pure.{term_of};
@@ -67,12 +68,13 @@ pub fn doubt_there<D: Decider>(
 ) -> Result<Option<Doubt>, AllocError>
     requires conds { Each (λ a. IsOver vars.now (term_of a)) (atoms_view conds.now) }
     requires more { Each (λ a. IsOver vars.now (term_of a)) (atoms_view more.now) }
-    ensures { IfOk result (λ o. IfNone o (IsUnsatisfiable vars.now (atoms_view conds.now ++ atoms_view more.now))) }
+    ensures none { IfOk result (λ o. IfNone o (IsUnsatisfiable vars.now (atoms_view conds.now ++ atoms_view more.now))) }
+    ensures doubt { IfOk result (λ o. IfSome o (λ d. IsToldThere vars.now (atoms_view conds.now) (atoms_view more.now) (doubt_view d))) }
 {
     let atoms = joined(alloc, conds, more)?;
     match ask(alloc, decider, vars, &atoms)? {
         Satisfiability::Unsatisfiable => Ok(None),
-        Satisfiability::Satisfiable(valuation) => Ok(Some(Doubt::Under(valuation))),
+        Satisfiability::Satisfiable(valuation) => Ok(Some(Doubt::Under(atoms, valuation))),
         Satisfiability::Undecided(reason) => Ok(Some(Doubt::Undecided(atoms, reason))),
     }
 }
@@ -87,12 +89,12 @@ fn fault_there<D: Decider>(
 ) -> Result<Option<Doubt>, AllocError>
     requires conds { Each (λ a. IsOver vars.now (term_of a)) (atoms_view conds.now) }
     requires faults { Each (λ f. Each (λ a. IsOver vars.now (term_of a)) f.conds) (faults_view faults.now) }
-    ensures { IfOk result (λ o. IfNone o (NeverTaken vars.now (atoms_view conds.now) (faults_view faults.now))) }
+    ensures none { IfOk result (λ o. IfNone o (NeverTaken vars.now (atoms_view conds.now) (faults_view faults.now))) }
+    ensures doubt { IfOk result (λ o. IfSome o (λ d. DoubtsFault vars.now (atoms_view conds.now) (faults_view faults.now) (doubt_view d))) }
 {
     for fault in faults.as_slice() {
-        let doubt = doubt_there(alloc, vars, conds, &fault.conds, decider)?;
-        if doubt.is_some() {
-            return Ok(doubt);
+        if let Some(doubt) = doubt_there(alloc, vars, conds, &fault.conds, decider)? {
+            return Ok(Some(doubt));
         }
     }
     Ok(None)

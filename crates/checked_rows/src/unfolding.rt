@@ -165,8 +165,8 @@ fn unfold_read<M: ListedMemory, D: Decider>(
     }
     match unfold(alloc, state, pred, ins, outs, decider)? {
         Unfolding::Unfolded(cases) => each_case(alloc, here, checking, cases, decider),
-        Unfolding::Unmatched(valuation) => {
-            let doubt = Doubt::Under(valuation);
+        Unfolding::Unmatched { conds, valuation } => {
+            let doubt = Doubt::Under(conds, valuation);
             doubted(alloc, FaultKind::FoldBody, here, &checking.path, doubt)
         }
         Unfolding::Unknown { conds, reason } => {

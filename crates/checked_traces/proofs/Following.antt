@@ -1,14 +1,16 @@
 -- Checked runs follow trails, by one step after another.
-use Rattle.std.proofs.Common.{◌≡◌, ℕ, zero, suc, ◌+◌, List, [], ◌∷◌, ◌++◌, length, Option, IsTrue, refl, sym, ap, subst, ◌∙◌, arith, append-nil, append_assoc}
+use Rattle.std.proofs.Common.{◌≡◌, ℕ, zero, suc, ◌+◌, List, [], ◌∷◌, ◌++◌, length, Some, refl, sym, ap, subst, ◌∙◌, arith, append-nil, append_assoc}
 use Rattle.std.proofs.lemmas.List.{append_cancel_left, length-append}
 use Rattle.gil_values.specs.declared.places.Place.{Place}
 use Rattle.gil_values.specs.Pure.{PureValue}
-use Rattle.gil_syntax.specs.Pure.{PureParts}
+use Rattle.gil_syntax.specs.Pure.{PureNumberedCommand, PureParts}
 use Rattle.gil_machine.specs.Choices.{with_choice}
+use Rattle.gil_machine.specs.State.{State}
+use Rattle.gil_machine.specs.Step.{command_at}
 use Rattle.mem_model.specs.declared.keys.MemoryName.{MemoryName}
 use Rattle.mem_model.specs.Actions.{Actions}
 use Rattle.mem_model.specs.Heaps.{Heap}
-use Rattle.checked_runs.specs.Checked.{Checked, Outcome, goes_on_to, Entry, IsAbove}
+use Rattle.checked_runs.specs.Checked.{Checked, Outcome, Entry}
 use Rattle.pure_terms.specs.declared.variables.Sort.{Sort}
 use Rattle.pure_terms.specs.Meaning.{Satisfies, IsOver}
 use Rattle.pure_terms.specs.Pure.{PureAtom, term_of}
@@ -16,14 +18,17 @@ use Rattle.sym_explore.proofs.Following.{meets_part}
 use Rattle.sym_model.specs.Laws.{IsMeaning}
 use Rattle.sym_model.specs.Lists.{Each}
 use Rattle.sym_model.specs.Terms.{StateTerms}
-use Rattle.sym_paths.specs.Steps.{counter_after, counter_past, fresh_count}
+use Rattle.sym_paths.specs.Meaning.{AreFrames, frames_of}
+use Rattle.sym_paths.specs.Pure.{PureFrame}
+use Rattle.sym_paths.specs.Steps.{counter_after, counter_past, fresh_count, IsPlaceOf}
 use Rattle.sym_paths.proofs.Recording.{past_is, fresh_append}
-use Rattle.checked_paths.specs.Causes.{PureShown, PureCause, failure, fault, bound, undecided}
+use Rattle.sym_paths.proofs.Silent.{stands_at}
+use Rattle.checked_paths.specs.Causes.{PureShown, PureCause, failure, fault, bound, undecided, shown_in}
 use Rattle.checked_paths.specs.Exactness.{AreNewValues, IsContinued, HaveMore, CanBeMet, IsUnder, LeadsOn, IsRightCause, IsSurely, LeadsTo}
 use Rattle.checked_paths.specs.Meaning.{StandsForChecked, MayGoOn}
 use Rattle.checked_paths.specs.Pure.{PureEntry, PureChecking}
 use Rattle.checked_paths.proofs.Above.{stands_above}
-use Rattle.checked_traces.specs.Trails.{Runs, RunsInto, IsTrail, IsTrailStep, IsFollowedBy, IsOutcomeOf, shown_in, IsDecided}
+use Rattle.checked_traces.specs.Trails.{RunsInto, IsTrail, IsTrailStep, IsFollowedBy, IsOutcomeOf, IsDecided}
 
 -- ---- values of new variables
 
@@ -91,6 +96,12 @@ meets_before between later part w more values conds all table both one_each (oth
 
 more_again : {A : Type 0} (xs ys zs : List A) → HaveMore xs ys → HaveMore ys zs → HaveMore xs zs
 more_again xs ys zs (us, first) (vs, second) = (us ++ vs, second ∙ ap (λ k. k ++ vs) first ∙ append_assoc xs us vs)
+
+-- a state stands where the path does
+place_there : (p : PureParts) (v : List PureValue) (fs : List PureFrame) (s : State) (place : Place) → AreFrames v fs (frames_of s) → IsPlaceOf p fs place
+    → (n : PureNumberedCommand) × ((command_at p s.current ≡ Some n) × (place ≡ record { proc = s.current.procedure; at = n.at }))
+place_there p v [] s place are is = absurd is
+place_there p v (f ∷ fs) s place are (n, (at, is)) = (n, (sym (stands_at p v (f ∷ fs) s are) ∙ at, is ∙ ap (λ q. record { proc = q; at = n.at }) are.0.procedure))
 
 module _ {S : Type 0} (memory : MemoryName) (m : Actions) (stands : S → List PureValue → Heap → Type 0) (terms : S → StateTerms) (meaning : IsMeaning memory stands terms) (p : PureParts) (e : PureEntry) where
   trail_vars : (start : PureChecking S) (n : ℕ) (x : PureChecking S) → IsTrail p memory m stands terms e start n x → HaveMore start.path.vars x.path.vars
@@ -169,10 +180,10 @@ module _ {S : Type 0} (memory : MemoryName) (m : Actions) (stands : S → List P
 
     -- ---- causes
 
-    pub surely_reached : (n : ℕ) (x : PureChecking S) (w : List PureValue) → IsTrail p memory m stands terms e start n x → MayGoOn p terms e x → (here : Place) (shown : PureShown) (Is : List PureValue → Outcome → Type 0)
-        → IsSurely p memory m stands e x Is here shown → IsContinued c0.machine.counter start.path.vars shown.vars v0 w → Satisfies shown.vars w shown.conds
-        → (choices : List ℕ) × (RunsInto p memory m entry c0 n choices (Is w) × (shown.choices ≡ start.path.choices ++ choices))
-    surely_reached n x w trail may here shown Is surely continued meets =
+    pub surely_reached : (n : ℕ) (x : PureChecking S) (w : List PureValue) → IsTrail p memory m stands terms e start n x → MayGoOn p terms e x → (shown : PureShown) (Is : List PureValue → Outcome → Type 0)
+        → IsSurely p memory m stands e x Is shown → IsContinued c0.machine.counter start.path.vars shown.vars v0 w → Satisfies shown.vars w shown.conds
+        → (choices : List ℕ) × (RunsInto p memory m entry c0 n choices shown.place (Is w) × (shown.choices ≡ start.path.choices ++ choices))
+    surely_reached n x w trail may shown Is surely continued meets =
         let parts : Parts c0.machine.counter start.path.vars x.path.vars shown.vars v0 w =
         parts_of c0.machine.counter start.path.vars x.path.vars shown.vars v0 w standing.path.proper.one_each (trail_vars start n x trail) surely.at.table continued in
         let there : IsReached n x parts.part parts.first.new_vars =
@@ -189,6 +200,7 @@ module _ {S : Type 0} (memory : MemoryName) (m : Actions) (stands : S → List P
           (
             record {
               state = c;
+              there = place_there p parts.part x.path.stack c.machine shown.place there.followed.stands_for.path.frames surely.at.place;
               earlier = there.followed.choices;
               runs = there.followed.runs;
               chosen = leads.chosen;
@@ -201,13 +213,13 @@ module _ {S : Type 0} (memory : MemoryName) (m : Actions) (stands : S → List P
           ),
         )
 
-    pub cause_reached : (n : ℕ) (x : PureChecking S) (w : List PureValue) → IsTrail p memory m stands terms e start n x → MayGoOn p terms e x → (here : Place) (cause : PureCause) → IsRightCause p memory m stands e x here cause → IsDecided cause
+    pub cause_reached : (n : ℕ) (x : PureChecking S) (w : List PureValue) → IsTrail p memory m stands terms e start n x → MayGoOn p terms e x → (cause : PureCause) → IsRightCause p memory m stands e x cause → IsDecided cause
         → IsContinued c0.machine.counter start.path.vars (shown_in cause).vars v0 w → Satisfies (shown_in cause).vars w (shown_in cause).conds
-        → (choices : List ℕ) × (RunsInto p memory m entry c0 n choices (IsOutcomeOf cause w) × ((shown_in cause).choices ≡ start.path.choices ++ choices))
-    cause_reached n x w trail may here (failure t shown) right decided continued meets = surely_reached n x w trail may here shown _ right continued meets
-    cause_reached n x w trail may here (fault kind shown) right decided continued meets = surely_reached n x w trail may here shown _ right continued meets
-    cause_reached n x w trail may here (bound shown) right decided continued meets = surely_reached n x w trail may here shown _ right continued meets
-    cause_reached n x w trail may here (undecided reason shown) right decided continued meets = absurd decided
+        → (choices : List ℕ) × (RunsInto p memory m entry c0 n choices (shown_in cause).place (IsOutcomeOf cause w) × ((shown_in cause).choices ≡ start.path.choices ++ choices))
+    cause_reached n x w trail may (failure t shown) right decided continued meets = surely_reached n x w trail may shown _ right continued meets
+    cause_reached n x w trail may (fault kind shown) right decided continued meets = surely_reached n x w trail may shown _ right continued meets
+    cause_reached n x w trail may (bound shown) right decided continued meets = surely_reached n x w trail may shown _ right continued meets
+    cause_reached n x w trail may (undecided reason shown) right decided continued meets = absurd decided
 
   -- ---- what can be met
 
@@ -215,9 +227,9 @@ module _ {S : Type 0} (memory : MemoryName) (m : Actions) (stands : S → List P
   met_along start zero x trail v meets = subst (λ (y : PureChecking S). (w : List PureValue) × Satisfies y.path.vars w y.path.conds) (sym trail) (v, meets)
   met_along start (suc n) x (before, (trail, step)) v meets = let (w, met) = met_along start n before trail v meets in step.followed.met w met
 
-  pub met_at : (start : PureChecking S) (n : ℕ) (x : PureChecking S) (here : Place) (cause : PureCause) → IsTrail p memory m stands terms e start n x → IsRightCause p memory m stands e x here cause → IsDecided cause
+  pub met_at : (start : PureChecking S) (n : ℕ) (x : PureChecking S) (cause : PureCause) → IsTrail p memory m stands terms e start n x → IsRightCause p memory m stands e x cause → IsDecided cause
       → CanBeMet start (shown_in cause).vars (shown_in cause).conds
-  met_at start n x here (failure t shown) trail right decided v meets = let (w, met) = met_along start n x trail v meets in right.met w met
-  met_at start n x here (fault kind shown) trail right decided v meets = let (w, met) = met_along start n x trail v meets in right.met w met
-  met_at start n x here (bound shown) trail right decided v meets = let (w, met) = met_along start n x trail v meets in right.met w met
-  met_at start n x here (undecided reason shown) trail right decided v meets = absurd decided
+  met_at start n x (failure t shown) trail right decided v meets = let (w, met) = met_along start n x trail v meets in right.met w met
+  met_at start n x (fault kind shown) trail right decided v meets = let (w, met) = met_along start n x trail v meets in right.met w met
+  met_at start n x (bound shown) trail right decided v meets = let (w, met) = met_along start n x trail v meets in right.met w met
+  met_at start n x (undecided reason shown) trail right decided v meets = absurd decided

@@ -1,5 +1,5 @@
 -- What the answer of leaves says.
-use Rattle.std.proofs.Common.{◌≡◌, ⊎_elim, ℕ, List, [], ◌∷◌, ◌++◌, false, IsTrue, sym, subst}
+use Rattle.std.proofs.Common.{◌≡◌, ⊎_elim, List, [], ◌∷◌, ◌++◌, IsTrue, sym, subst}
 use Rattle.gil_values.specs.Pure.{PureValue}
 use Rattle.gil_syntax.specs.Evaluation.{Store}
 use Rattle.mem_model.specs.Heaps.{Heap}
@@ -10,11 +10,9 @@ use Rattle.pure_terms.specs.Pure.{PureAtom}
 use Rattle.sym_asking.specs.Asking.{IsSolution, IsOutside}
 use Rattle.sym_asking.proofs.Fragments.{each_over_all}
 use Rattle.sym_model.specs.Lists.{Each, OneOf}
-use Rattle.sym_model.specs.Meaning.{has_open}
 use Rattle.sym_model.specs.Terms.{StateTerms}
 use Rattle.sym_model.proofs.ListLaws.{each_append, each_to, one_left, one_right, one_with}
 use Rattle.sym_states.specs.Pure.{PureState}
-use Rattle.sym_states.proofs.Conditions.{met_parts, none_open}
 use Rattle.footprint.specs.Answers.{PureTold, met, outside, never, TellsStops, first_told, AnswersTold, AnswersLeaves}
 use Rattle.footprint.specs.Leaves.{IsLonger, Premise, Giving, Stopping, IsStop, IsUndecided, AreLeaves, IsUnmatched, IsAnswer}
 use Rattle.footprint.specs.Pure.{PureStop, PureLeaves, PureMatching, unknown}
@@ -25,11 +23,11 @@ pub tells_none : (vars : List Sort) → TellsStops vars [] never
 tells_none vars = tt
 
 pub tells_more : (vars : List Sort) (cs ds : List PureStop) (t u : PureTold) → TellsStops vars cs t → TellsStops vars ds u → TellsStops vars (cs ++ ds) (first_told t u)
-tells_more vars cs ds (met item v) u first second = one_left (λ c. (c.item ≡ item) × IsSolution vars c.conds v) cs ds first
-tells_more vars cs ds (outside w) (met item v) first second = one_right (λ c. (c.item ≡ item) × IsSolution vars c.conds v) cs ds second
+tells_more vars cs ds (met c v) u first second = one_left (λ d. (d ≡ c) × IsSolution vars c.conds v) cs ds first
+tells_more vars cs ds (outside w) (met c v) first second = one_right (λ d. (d ≡ c) × IsSolution vars c.conds v) cs ds second
 tells_more vars cs ds (outside w) (outside x) first second = one_left (λ c. (c.conds ≡ w.conds) × IsOutside w.conds w.reason) cs ds first
 tells_more vars cs ds (outside w) never first second = one_left (λ c. (c.conds ≡ w.conds) × IsOutside w.conds w.reason) cs ds first
-tells_more vars cs ds never (met item v) first second = one_right (λ c. (c.item ≡ item) × IsSolution vars c.conds v) cs ds second
+tells_more vars cs ds never (met c v) first second = one_right (λ d. (d ≡ c) × IsSolution vars c.conds v) cs ds second
 tells_more vars cs ds never (outside w) first second = one_right (λ c. (c.conds ≡ w.conds) × IsOutside w.conds w.reason) cs ds second
 tells_more vars cs ds never never first second = each_append (λ c. IsUnsatisfiable vars c.conds) cs ds first second
 
@@ -40,16 +38,12 @@ module _ {S : Type 0} (stands : S → List PureValue → Heap → Type 0) (terms
   stops_over = each_to (IsStop stands terms kept s If Stops) (λ c. AreOver s.vars c.conds) leaves.stopped (λ c is. each_over_all s.vars c.conds is.over) are.stopped
 
   module _ (proper : (v : List PureValue) (t : Store) (l : LogicState) → If v t l → IsProper s.vars v) where
-    is_unmatched : (item : ℕ) (v : List PureValue) (c : PureStop) → IsStop stands terms kept s If Stops c → (c.item ≡ item) × IsSolution s.vars c.conds v → IsUnmatched stands terms kept s If Stops item v
-    is_unmatched item v c is (number, solution) =
-        let (more, grown) = is.longer in record {
-          meets = record {
-            proper = solution.meets.proper;
-            true_there = (met_parts v s.conds more (subst (λ cs. IsTrue (all_true v cs)) grown solution.meets.true_there)).0;
-          };
-          no_form = (none_open s.conds more (subst (λ cs. has_open cs ≡ false) grown solution.no_form)).0;
-          stops = λ t l holds. subst (Stops v t l) number (is.exact v t l holds solution.meets.true_there);
-        }
+    is_unmatched : (c : PureStop) (v : List PureValue) (d : PureStop) → IsStop stands terms kept s If Stops d → (d ≡ c) × IsSolution s.vars c.conds v → IsUnmatched stands terms kept s If Stops c v
+    is_unmatched c v d is (same, solution) = record {
+      stop = subst (IsStop stands terms kept s If Stops) same is;
+      meets = solution.meets;
+      no_form = solution.no_form;
+    }
 
     is_unknown : (c : PureStop) (conds : List PureAtom) → IsStop stands terms kept s If Stops c → c.conds ≡ conds → IsLonger s.conds conds
     is_unknown c conds is same = subst (IsLonger s.conds) same is.longer
@@ -59,9 +53,9 @@ module _ {S : Type 0} (stands : S → List PureValue → Heap → Type 0) (terms
     none_met v (c ∷ cs) is all one = ⊎_elim (λ here. all.0 v (record { proper = is; true_there = here })) (λ later. none_met v cs is all.1 later) one
 
     by_told : (told : PureTold) (answer : PureMatching S) → TellsStops s.vars leaves.stopped told → AnswersTold told leaves.matched leaves.undecided answer → IsAnswer stands terms kept s If Gives Stops answer
-    by_told (met item v) answer tells is =
+    by_told (met c v) answer tells is =
         subst (IsAnswer stands terms kept s If Gives Stops) (sym is)
-        (one_with (IsStop stands terms kept s If Stops) (λ c. (c.item ≡ item) × IsSolution s.vars c.conds v) leaves.stopped are.stopped tells (λ c stop said. is_unmatched item v c stop said))
+        (one_with (IsStop stands terms kept s If Stops) (λ d. (d ≡ c) × IsSolution s.vars c.conds v) leaves.stopped are.stopped tells (λ d stop said. is_unmatched c v d stop said))
     by_told (outside u) answer tells is =
         subst (IsAnswer stands terms kept s If Gives Stops) (sym is)
         (one_with (IsStop stands terms kept s If Stops) (λ c. (c.conds ≡ u.conds) × IsOutside u.conds u.reason) leaves.stopped are.stopped tells

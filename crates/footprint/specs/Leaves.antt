@@ -77,14 +77,14 @@ module _ {S : Type 0} (stands : S → List PureValue → Heap → Type 0) (terms
       pub cover : (v : List PureValue) (t : Store) (l : LogicState) → If v t l → OneOf (λ m. IsTrue (all_true v m.state.conds)) ms
       pub matched : Each (IsMatch Gives) ms
 
-    -- the valuation meets the state's conditions, none of which needs a literal form, and whatever the state and the store stand for
+    -- the valuation meets the conditions of the stop, none of which needs a literal form: whatever the state and the store stand for
     -- there isn't matched
-    pub record IsUnmatched (Stops : Stopping) (item : ℕ) (v : List PureValue) : Type 0 where
-      pub meets : Satisfies s.vars v s.conds
-      pub no_form : has_open s.conds ≡ false
-      pub stops : (t : Store) (l : LogicState) → If v t l → Stops v t l item
+    pub record IsUnmatched (Stops : Stopping) (c : PureStop) (v : List PureValue) : Type 0 where
+      pub stop : IsStop Stops c
+      pub meets : Satisfies s.vars v c.conds
+      pub no_form : has_open c.conds ≡ false
 
     abbrev pub IsAnswer : Giving → Stopping → PureMatching S → Type 0
     IsAnswer Gives Stops (all_match ms) = AreAll Gives ms
-    IsAnswer Gives Stops (unmatched item v) = IsUnmatched Stops item v
+    IsAnswer Gives Stops (unmatched c v) = IsUnmatched Stops c v
     IsAnswer Gives Stops (unknown conds reason) = IsLonger s.conds conds × IsOutside conds reason

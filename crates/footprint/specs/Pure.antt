@@ -26,8 +26,9 @@ pub record PureLeaves (S : Type 0) : Type 0 where
   pub stopped : List PureStop
   pub undecided : List PureUndecided
 
--- every valuation matches; the number of an item that isn't matched under a valuation; or conditions for which neither is known
+-- every valuation matches; the number of an item that isn't matched where these conditions are true, which a valuation meets; or
+-- conditions for which neither is known
 pub data PureMatching (S : Type 0) : Type 0 where
   all_match : List (PureMatch S) → PureMatching S
-  unmatched : ℕ → List PureValue → PureMatching S
+  unmatched : PureStop → List PureValue → PureMatching S
   unknown : List PureAtom → Reason → PureMatching S

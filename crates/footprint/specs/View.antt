@@ -28,7 +28,7 @@ matches_view ms = map match_view ms
 
 abbrev pub matching_view : {S : Type 0} → Matching S → PureMatching S
 matching_view (Matching.All ms) = all_match (matches_view ms)
-matching_view (Matching.Unmatched item v) = unmatched item (values_view v)
+matching_view (Matching.Unmatched item conds v) = unmatched (record { item = item; conds = atoms_view conds }) (values_view v)
 matching_view (Matching.Unknown conds reason) = unknown (atoms_view conds) reason
 
 abbrev pub stop_view : Stop → PureStop
@@ -56,6 +56,6 @@ abbrev pub asked_view : Asked → PureAsked
 asked_view a = record { ins = terms_view a.ins; known = outs_view a.known }
 
 abbrev pub told_view : Told → PureTold
-told_view (Told.Met item v) = met item (values_view v)
+told_view (Told.Met stop v) = met (stop_view stop) (values_view v)
 told_view (Told.Undecided u) = outside (undecided_view u)
 told_view Told.Never = never

@@ -13,8 +13,8 @@ use sym_asking::{Satisfiability, ask};
 /// What is known of stops. Contracts see it as its pure data, by `told_view`.
 #[derive(Debug, Drop)]
 pub(crate) enum Told {
-    /// This valuation meets the conditions of one, at the item with this number.
-    Met { item: usize, valuation: Valuation },
+    /// This valuation meets the conditions of this one.
+    Met { stop: Stop, valuation: Valuation },
     /// Those of one aren't decided, and those of no other one are known to be met.
     Undecided(Undecided),
     /// No valuation meets those of any.
@@ -33,7 +33,10 @@ fn tell<D: Decider>(
 {
     let Stop { item, conds } = stop;
     match ask(alloc, decider, vars, &conds)? {
-        Satisfiability::Satisfiable(valuation) => Ok(Told::Met { item, valuation }),
+        Satisfiability::Satisfiable(valuation) => {
+            let stop = Stop { item, conds };
+            Ok(Told::Met { stop, valuation })
+        }
         Satisfiability::Unsatisfiable => Ok(Told::Never),
         Satisfiability::Undecided(reason) => Ok(Told::Undecided(Undecided { conds, reason })),
     }
@@ -44,9 +47,9 @@ fn tell_first(first: Told, second: Told) -> Told
     ensures { told_view result ≡ first_told (told_view first) (told_view second) }
 {
     match first {
-        Told::Met { item, valuation } => Told::Met { item, valuation },
+        Told::Met { stop, valuation } => Told::Met { stop, valuation },
         Told::Undecided(undecided) => match second {
-            Told::Met { item, valuation } => Told::Met { item, valuation },
+            Told::Met { stop, valuation } => Told::Met { stop, valuation },
             _ => Told::Undecided(undecided),
         },
         Told::Never => second,
@@ -75,7 +78,14 @@ fn answer_told<M: Drop>(told: Told, matched: Matches<M>, undecided: UndecidedLis
     ensures { AnswersTold (told_view told) (matches_view matched) (map undecided_view undecided) (matching_view result) }
 {
     match told {
-        Told::Met { item, valuation } => Matching::Unmatched { item, valuation },
+        Told::Met {
+            stop: Stop { item, conds },
+            valuation,
+        } => Matching::Unmatched {
+            item,
+            conds,
+            valuation,
+        },
         Told::Undecided(Undecided { conds, reason }) => Matching::Unknown { conds, reason },
         Told::Never => {
             let mut undecided = undecided;

@@ -27,10 +27,17 @@ pub type Matches<M> = Sequence<Match<M>>;
 pub enum Matching<M> {
     /// Each valuation of the state matches, as those of these say whose conditions are true.
     All(Matches<M>),
-    /// Under this valuation the item with this number, counted from 0, isn't matched.
-    Unmatched { item: usize, valuation: Valuation },
+    /// Where these conditions are true, which this valuation meets, the item with this number, counted from 0, isn't matched.
+    Unmatched {
+        item: usize,
+        conds: Atoms,
+        valuation: Valuation,
+    },
     /// These conditions aren't decided, for this reason, and nothing is known not to match.
-    Unknown { conds: Atoms, reason: Reason },
+    Unknown {
+        conds: Atoms,
+        reason: Reason,
+    },
 }
 
 /// The item that isn't matched where these conditions are true.

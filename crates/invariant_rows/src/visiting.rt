@@ -79,7 +79,8 @@ fn again<M: ListedMemory, D: Decider>(
     }
     match ask(alloc, decider, &state.vars, state.conds.atoms())? {
         Satisfiability::Satisfiable(valuation) => {
-            let doubt = Doubt::Under(valuation);
+            let conds = copy_conditions(alloc, state.conds.atoms())?;
+            let doubt = Doubt::Under(conds, valuation);
             doubted_next(alloc, FaultKind::Invariant, here, &checking.path, doubt)
         }
         Satisfiability::Unsatisfiable => Ok(Next::Over),
@@ -258,8 +259,12 @@ fn matched_row<M: ListedMemory, D: Decider>(
                 scope, items, matches, decider,
             )
         }
-        Matching::Unmatched { item: _, valuation } => {
-            let doubt = Doubt::Under(valuation);
+        Matching::Unmatched {
+            item: _,
+            conds,
+            valuation,
+        } => {
+            let doubt = Doubt::Under(conds, valuation);
             doubted(alloc, FaultKind::Invariant, here, &checking.path, doubt)
         }
         Matching::Unknown { conds, reason } => {

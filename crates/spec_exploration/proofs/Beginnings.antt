@@ -1,11 +1,11 @@
 -- The checked paths of the starts cover those of the checked runs, and may go on.
-use Rattle.std.proofs.Common.{◌≡◌, ◌⊎◌, inl, inr, List, [], ◌∷◌, Bool, true, false, IsSome, IsTrue, refl, sym, ap, subst, ◌∙◌, true≢false}
+use Rattle.std.proofs.Common.{◌≡◌, ◌⊎◌, inl, inr, List, [], ◌∷◌, length, Bool, true, false, IsSome, IsTrue, refl, sym, ap, subst, ◌∙◌, true≢false}
 use Rattle.std.specs.FinMap.{empty}
 use Rattle.gil_values.specs.Pure.{PureValue}
 use Rattle.gil_syntax.specs.Evaluation.{Store}
 use Rattle.gil_syntax.specs.Programs.{find_proc}
 use Rattle.gil_syntax.specs.Pure.{PureSpec, PureParts}
-use Rattle.gil_syntax.specs.Valid.{IsValid}
+use Rattle.gil_syntax.specs.Valid.{IsValid, param_names}
 use Rattle.gil_machine.specs.Step.{command_of}
 use Rattle.gil_machine.proofs.Placed.{found_name, starts_placed}
 use Rattle.mem_model.specs.declared.keys.MemoryName.{MemoryName}
@@ -14,6 +14,7 @@ use Rattle.mem_model.specs.Heaps.{Heap}
 use Rattle.checked_runs.specs.Checked.{Checked, goes_on_to, IsStart}
 use Rattle.sym_beginning.specs.Beginning as beginning
 use Rattle.sym_beginning.specs.Beginning.{PureStart, PureBeginnings, IsEntryUnder, IsBegunFrom, IsBeginning, AreBeginnings}
+use Rattle.checked_runs.proofs.Readable.{names_length}
 use Rattle.sym_engine.specs.Placed.{AreAtCommands}
 use Rattle.sym_model.specs.Lists.{Each}
 use Rattle.sym_model.specs.Meaning.{has_open}
@@ -70,7 +71,7 @@ module _ {S : Type 0} (p : PureParts) (memory : MemoryName) (m : Actions) (stand
       one_across IsStartOf (IsBegunFrom b p memory m stands spec v c) (CoversOutcome stands Of (entry_of Of args variables) [] (goes_on_to c)) b.starts ns are
       (λ s n start begun. covers_start args variables c begins v under s n (has_open s.path.conds) refl start begun) one
 
-  module _ (terms : S → StateTerms) (kept : S → Type 0) (valid : IsValid p) (are : AreBeginnings b p terms kept spec) where
+  module _ (terms : S → StateTerms) (kept : S → Type 0) (valid : IsValid p) (are : AreBeginnings b p terms kept spec) (same_params : are.proc.params ≡ param_names spec.params) where
     at_command : IsSome (command_of (find_proc p.procs are.proc.name) 0)
     at_command =
         let named : are.proc.name ≡ spec.name = found_name p.procs spec.name are.proc are.found in
@@ -85,6 +86,7 @@ module _ {S : Type 0} (p : PureParts) (memory : MemoryName) (m : Actions) (stand
             placed = subst (AreAtCommands p) (sym (ap (λ q. q.stack) same)) (record { command = at_command; handler = λ i none. not_none none }, tt);
             over = record {
               entry = record {
+                as_many = is.as_many ∙ ap length same_params ∙ names_length spec.params;
                 args = subst (λ xs. AreEachOver xs b.args) (sym vars) are.args_over;
                 variables = subst (λ xs. IsStoreOver xs b.variables) (sym vars) are.variables_over;
               };

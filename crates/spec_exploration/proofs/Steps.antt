@@ -1,8 +1,12 @@
--- What a step needs of the program, and answers that are one cause.
+-- What a step needs of the program, and the kinds of commands.
 use Rattle.std.proofs.Common.{◌≡◌, inl, inr, ℕ, List, [], ◌∷◌, ◌++◌, Bool, true, false, ◌&&◌, Option, Some, None, IsTrue, refl, sym, ap, subst, ◌∙◌, true≢false}
 use Rattle.std.specs.List.{list_all}
 use Rattle.std.proofs.lemmas.List.Folds.{list_all-append}
-use Rattle.gil_values.specs.Pure.{PureValue}
+use Rattle.gil_syntax.specs.declared.assertions.Item.{Item}
+use Rattle.gil_syntax.specs.declared.assertions.Param.{Param}
+use Rattle.gil_syntax.specs.declared.assertions.PredUse.{PredUse}
+use Rattle.gil_syntax.specs.declared.commands.Command.{Command}
+use Rattle.gil_syntax.specs.View.{command_view}
 use Rattle.gil_syntax.specs.Programs.{find_proc, find_spec}
 use Rattle.gil_syntax.specs.Pure.{PureNumberedCommand, PureExpr, PureProc, PureSpec, PureParts}
 use Rattle.gil_syntax.specs.Subexpressions.{literals_of}
@@ -18,9 +22,9 @@ use Rattle.sym_model.proofs.ListLaws.{not_none, same_some}
 use Rattle.sym_paths.specs.Meaning.{command_of_frames}
 use Rattle.sym_paths.specs.Pure.{PureFrame}
 use Rattle.sym_states.specs.Producing.{are_spelled}
-use Rattle.checked_paths.specs.Covering.{AreNexts}
-use Rattle.checked_paths.specs.Pure.{PureEntry, PureChecking, PureNext}
-use Rattle.checked_rows.specs.Rows.{IsCauseAlone}
+use Rattle.checked_paths.specs.Following.{is_of_machine}
+use Rattle.checked_rows.specs.Ending.{IsLeaving}
+use Rattle.call_rows.specs.Calling.{IsCall}
 
 -- ---- what is asked of the command
 
@@ -51,15 +55,24 @@ module _ (ins outs : List PureExpr) (all : IsTrue (are_spelled (ins ++ outs))) w
   pub outs_spelled : IsTrue (are_spelled outs)
   outs_spelled = and_second (are_spelled ins) (are_spelled outs) apart
 
--- ---- one cause
-
-module _ {S : Type 0} (p : PureParts) (memory : MemoryName) (m : Actions) (stands : S → List PureValue → Heap → Type 0) (terms : S → StateTerms) (e : PureEntry) (x : PureChecking S) where
-  pub cause_alone : (names : List (List ℕ)) (ns : List (PureNext S)) → IsCauseAlone ns → AreNexts p memory m stands terms e x names ns
-  cause_alone names ns (cause, is) = subst (AreNexts p memory m stands terms e x names) (sym is) (record {
-    cover = λ v entry c out standing above leads. inl tt;
-    uses = λ v entry c used standing uses. inr (inl tt);
-    follow = (tt, tt);
-  })
+-- a command is a call, a return or a throw, another one of the machine, or a logic command
+pub of_some_kind : (c : Command) → ¬ IsCall (command_view c) → ¬ IsLeaving (command_view c) → is_of_machine (command_view c) ≡ false
+    → ((u : PredUse) → c ≡ Command.Fold u → ⊥) → ((u : PredUse) → c ≡ Command.Unfold u → ⊥) → ((items : List Item) → c ≡ Command.AssertThat items → ⊥)
+    → ((xs : List (List ℕ)) (ps : List Param) (items : List Item) → c ≡ Command.LoopInvariant xs ps items → ⊥) → ⊥
+of_some_kind (Command.Assign x e) call leaving other folds unfolds asserts invariant = true≢false other
+of_some_kind (Command.Call x e es handler) call leaving other folds unfolds asserts invariant = call tt
+of_some_kind (Command.Act x y es) call leaving other folds unfolds asserts invariant = true≢false other
+of_some_kind (Command.Usym x) call leaving other folds unfolds asserts invariant = true≢false other
+of_some_kind (Command.Isym x k) call leaving other folds unfolds asserts invariant = true≢false other
+of_some_kind (Command.IfGoto e i) call leaving other folds unfolds asserts invariant = true≢false other
+of_some_kind (Command.Return e) call leaving other folds unfolds asserts invariant = leaving tt
+of_some_kind (Command.Fail e) call leaving other folds unfolds asserts invariant = true≢false other
+of_some_kind (Command.Throw e) call leaving other folds unfolds asserts invariant = leaving tt
+of_some_kind Command.Vanish call leaving other folds unfolds asserts invariant = true≢false other
+of_some_kind (Command.Fold u) call leaving other folds unfolds asserts invariant = folds u refl
+of_some_kind (Command.Unfold u) call leaving other folds unfolds asserts invariant = unfolds u refl
+of_some_kind (Command.AssertThat items) call leaving other folds unfolds asserts invariant = asserts items refl
+of_some_kind (Command.LoopInvariant xs ps items) call leaving other folds unfolds asserts invariant = invariant xs ps items refl
 
 -- the procedure of a specification has its parameters
 pub params_there : (p : PureParts) (memory : MemoryName) → IsAddable p memory → (s : PureSpec) → find_spec p.specs s.name ≡ Some s → (q : PureProc) → find_proc p.procs s.name ≡ Some q

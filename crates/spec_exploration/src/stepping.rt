@@ -1,5 +1,5 @@
 //! A step of a checked path.
-ghost use Rattle.std.specs.Prelude.{◌≡◌, ◌<◌, [], Some, IfOk, IsTrue};
+ghost use Rattle.std.specs.Prelude.{◌≡◌, ◌<◌, [], Some, IfOk, IsTrue, false};
 ghost use Rattle.assert_logic.specs.Modes.{HasModes};
 ghost use Rattle.call_rows.specs.Calling.{IsCall};
 ghost use Rattle.checked_paths.specs.Covering.{AreNexts};
@@ -7,7 +7,7 @@ ghost use Rattle.checked_paths.specs.Following.{is_of_machine as is_machine_comm
 ghost use Rattle.checked_paths.specs.Meaning.{MayGoOn};
 ghost use Rattle.checked_paths.specs.View.{checking_view, entry_view, nexts_view};
 ghost use Rattle.checked_rows.specs.Ending.{IsLeaving};
-ghost use Rattle.checked_rows.specs.Rows.{AreRowOf, IsCauseAlone};
+ghost use Rattle.checked_rows.specs.Rows.{AreRowOf};
 ghost use Rattle.gil_program.specs.Program.{prog_view};
 ghost use Rattle.gil_syntax.specs.Programs.{find_spec};
 ghost use Rattle.gil_syntax.specs.Pure.{PureCommand};
@@ -19,9 +19,7 @@ ghost use Rattle.sym_step.specs.Stepping.{most_steps};
 
 use crate::finding::{command_of, place_of};
 use call_rows::call_row;
-use checked_paths::{
-    Cause, Checking, Entered, FaultKind, Next, Nexts, Shown, Stepped, step_machine,
-};
+use checked_paths::{Checking, Entered, Nexts, Stepped, step_machine};
 use checked_rows::{assert_row, end_row, fold_row, unfold_row};
 use gil_program::Prog;
 use gil_syntax::{Command, NumberedCommand, Spec};
@@ -55,24 +53,10 @@ fn is_of_machine(command: &Command) -> bool
     }
 }
 
-/// The answer that a command of this kind isn't followed.
-fn give_up<M: ListedMemory>(
-    alloc: Global,
-    kind: FaultKind,
-    here: &Place,
-    checking: Checking<M>,
-) -> Result<Nexts<M>, AllocError>
-    ensures { IfOk result (λ ns. IsCauseAlone (nexts_view ns)) }
-{
-    let shown = Shown::of(alloc, here, &checking.path)?;
-    let mut nexts = Sequence::new(alloc);
-    nexts.push(Next::Caused(Cause::Fault(kind, shown)))?;
-    Ok(nexts)
-}
-
 /// Whether a command is a return or a throw.
 fn is_leaving(command: &Command) -> bool
-    ensures { IsTrue result → IsLeaving (command_view command.now) }
+    ensures is { IsTrue result → IsLeaving (command_view command.now) }
+    ensures other { result ≡ false → ¬ IsLeaving (command_view command.now) }
 {
     match command {
         Command::Return(_) | Command::Throw(_) => true,
@@ -110,11 +94,8 @@ fn leave<M: ListedMemory, D: Decider>(
         M.stands M.terms (entry_view spec.now entered.now) (checking_view checking) command [] (nexts_view ns)) }
 {
     let Some(proc) = prog.proc(&spec.name) else {
-        return give_up(alloc, FaultKind::Post, here, checking);
+        unreachable!();
     };
-    if entered.args.len() != proc.params.len() {
-        return give_up(alloc, FaultKind::Post, here, checking);
-    }
     end_row(
         alloc, prog, rules, spec, entered, proc, checking, here, decider,
     )
@@ -135,6 +116,7 @@ fn step_at<M: ListedMemory, D: Decider>(
     requires modes { HasModes (prog_view prog.now) M.Local.memory }
     requires may { MayGoOn (prog_view prog.now) M.terms (entry_view spec.now entered.now) (checking_view checking) }
     requires early { checking.path.steps < most_steps }
+    requires no_call { ¬ IsCall (numbered_command_view numbered.now).command }
     requires at { command_of_path (prog_view prog.now) (path_view checking.path) ≡ Some (numbered_command_view numbered.now) }
     requires next { MayAdvance (frames_view checking.path.stack) }
     ensures { IfOk result (λ ns. AreNexts (prog_view prog.now) M.Local.memory M.Local.actions M.stands M.terms (entry_view spec.now entered.now)
@@ -158,13 +140,14 @@ fn step_at<M: ListedMemory, D: Decider>(
         Command::LoopInvariant(listed, declared, items) => invariant_row(
             alloc, prog, spec, entered, checking, &here, listed, declared, items, decider,
         ),
-        _ => give_up(alloc, FaultKind::FoldBody, &here, checking),
+        _ => unreachable!(),
     }
 }
 
 /// Whether a command is a call.
 fn is_call(command: &Command) -> bool
-    ensures { IsTrue result → IsCall (command_view command.now) }
+    ensures is { IsTrue result → IsCall (command_view command.now) }
+    ensures other { result ≡ false → ¬ IsCall (command_view command.now) }
 {
     match command {
         Command::Call(_, _, _, _) => true,

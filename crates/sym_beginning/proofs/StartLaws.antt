@@ -45,7 +45,7 @@ use Rattle.sym_states.specs.Pure.{PureFact, PureState}
 use Rattle.sym_beginning.specs.Beginning.{PureStart, PureBeginnings, IsEntryUnder, IsBegunFrom, CoversStarts, IsRealStart, AreStarts, IsBeginning, AreBeginnings}
 use Rattle.sym_beginning.specs.Entering.{PureEntryTerms, IsFullEntry, AreEntryValues, IsValueOfEntry, Enters}
 use Rattle.sym_beginning.specs.Starting.{StartsFrom, EachWith, BeginsWith, no_beginnings}
-use Rattle.sym_beginning.proofs.EntryLaws.{nothing_over, unbound}
+use Rattle.sym_beginning.proofs.EntryLaws.{names_length, nothing_over, unbound}
 
 -- ---- pairs of elements
 
@@ -268,6 +268,7 @@ module _ {S : Type 0} (memory : MemoryName) (stands : S → List PureValue → H
   is_beginning r t from right =
       let table : r.vars ≡ b.vars = right.0 ∙ sym begins.table in
       record {
+        as_many = ap length begins.args ∙ enters.as_many ∙ sym (names_length spec.params) ∙ ap length (sym same_params);
         begins =
             subst (λ (cs : List PureAtom). Begins q b.args b.vars cs t.path.memory t.path) (sym (conds_are r t from))
             (subst (λ (x : S). Begins q b.args b.vars r.conds x t.path) (sym (memory_is r t from))

@@ -1,5 +1,5 @@
 -- Where the checked runs of a specification begin, in terms.
-use Rattle.std.specs.Prelude.{◌≡◌, ◌⊎◌, List, ◌++◌, Some, IsTrue, false}
+use Rattle.std.specs.Prelude.{◌≡◌, ◌⊎◌, List, ◌++◌, length, Some, IsTrue, false}
 use Rattle.gil_values.specs.Pure.{PureValue}
 use Rattle.gil_syntax.specs.Evaluation.{Store}
 use Rattle.gil_syntax.specs.Programs.{find_proc}
@@ -76,8 +76,9 @@ module _ {S : Type 0} (b : PureBeginnings S) where
       Each (λ s. (v : List PureValue) → IsProper b.vars v → IsTrue (all_true v s.path.conds) → has_open s.path.conds ≡ false
       → IsRealStart memory stands spec v s) b.starts
 
-  -- a path on which the procedure begins with the terms of the parameters, over the table
+  -- a path on which the procedure begins with the terms of its parameters, over the table
   pub record IsBeginning (q : PureProc) (terms : S → StateTerms) (kept : S → Type 0) (s : PureStart S) : Type 0 where
+    pub as_many : length b.args ≡ length q.params
     pub begins : Begins q b.args b.vars s.path.conds s.path.memory s.path
     pub path_over : IsOverTable terms s.path
     pub facts_over : Each (λ f. AreEachOver b.vars (f.ins ++ f.outs)) s.facts

@@ -140,13 +140,6 @@ case_begins d ins outs t many_ins many_outs ins_agree outs_agree sorts =
     let (u, (second, last)) = begins_with (scope_of d) t sorts d.outs outs w many_outs outs_agree extends in
     (u, (ap (option_and_then (bound_to (scope_of d) d.outs (map Some outs))) first ∙ second, last))
 
-none_open : (a b : List PureAtom) → has_open (a ++ b) ≡ false → has_open a ≡ false
-none_open a b none = by (has_open a) (has_open b) (sym (list_any-append is_open a b) ∙ none)
-  where
-    by : (p q : Bool) → (p || q) ≡ false → p ≡ false
-    by true q is = is
-    by false q is = refl
-
 -- ---- values
 
 values_length : (v : List PureValue) (ts : List PureTerm) (ws : List PureValue) → HaveValues v ts ws → length ts ≡ length ws
@@ -386,32 +379,32 @@ module _ {S : Type 0} (memory : MemoryName) (stands : S → List PureValue → H
             let (g, (is, one)) = first_of v (first_fact (fits_fact d.name ws (map Some us)) l.facts) search.found said.found found in
             (g, (is, λ number t next added. each.cover over found_conds_over v l ws us g number t next has one is added))
 
-    pub is_unmatched : (v : List PureValue) → ToldOfAll s.vars s.conds search.none (Some (met v)) → IsUnfolded memory stands terms kept d ins outs s (unmatched v)
-    is_unmatched v told = by search.none told (λ l ws us has hold. (says v l ws us has).none hold)
+    pub is_unmatched : (atoms : List PureAtom) (v : List PureValue) → ToldOfAll s.vars s.conds search.none (Some (met atoms v)) → IsUnfolded memory stands terms kept d ins outs s (unmatched atoms v)
+    is_unmatched atoms v told = by search.none none_over told (λ w l ws us has hold. (says w l ws us has).none hold)
       where
-        by : (x : Alternatives) → OneOf (λ more. IsSolution s.vars (s.conds ++ more) v) x
-            → ((l : LogicState) (ws us : List PureValue) → HasArguments memory stands terms kept d ins outs s v l ws us → Hold v x → first_fact (fits_fact d.name ws (map Some us)) l.facts ≡ None)
-            → IsUnmatched memory stands terms kept d ins outs s v
-        by [] one none = absurd one
-        by (more ∷ x) (inl here) none =
-            let (before, more_true) = true_parts v s.conds more here.meets.true_there in
-            record {
-              meets = record { proper = here.meets.proper; true_there = before };
-              no_form = (none_open s.conds more here.no_form);
-              none = λ l ws us has. none l ws us has (inl more_true);
-            }
-        by (more ∷ x) (inr later) none = by x later (λ l ws us has hold. none l ws us has (inr hold))
+        by : (x : Alternatives) → Each (Each (λ a. IsOver s.vars (term_of a))) x → OneOf (λ more. (atoms ≡ s.conds ++ more) × IsSolution s.vars atoms v) x
+            → ((w : List PureValue) (l : LogicState) (ws us : List PureValue) → HasArguments memory stands terms kept d ins outs s w l ws us → Hold w x → first_fact (fits_fact d.name ws (map Some us)) l.facts ≡ None)
+            → IsUnmatched memory stands terms kept d ins outs s atoms v
+        by [] named one none = absurd one
+        by (more ∷ x) named (inl (are, solution)) none = record {
+          further = (more, are);
+          over = subst (Each (λ a. IsOver s.vars (term_of a))) (sym are) (each_append (λ a. IsOver s.vars (term_of a)) s.conds more over.conds named.0);
+          meets = solution.meets;
+          no_form = solution.no_form;
+          none = λ w l ws us has met. none w l ws us has (inl (true_parts w s.conds more (subst (λ cs. IsTrue (all_true w cs)) are met)).1);
+        }
+        by (more ∷ x) named (inr later) none = by x named.1 later (λ w l ws us has hold. none w l ws us has (inr hold))
 
     pub is_undecided : (atoms : List PureAtom) (reason : Reason) → ToldOfAll s.vars s.conds search.none (Some (unknown atoms reason)) → IsUndecided memory stands terms kept d ins outs s atoms reason
     is_undecided atoms reason told = by search.none told
       where
         by : (x : Alternatives) → OneOf (λ more. (atoms ≡ s.conds ++ more) × IsOutside atoms reason) x → IsUndecided memory stands terms kept d ins outs s atoms reason
         by [] one = absurd one
-        by (more ∷ x) (inl here) = record { more = more; are = here.0; outside = here.1 }
+        by (more ∷ x) (inl here) = record { further = (more, here.0); outside = here.1 }
         by (more ∷ x) (inr later) = by x later
 
     pub is_answered : (told : PureTold) → ToldOfAll s.vars s.conds search.none (Some told) → IsUnfolded memory stands terms kept d ins outs s (answer_told told)
-    is_answered (met v) told = is_unmatched v told
+    is_answered (met atoms v) told = is_unmatched atoms v told
     is_answered (unknown atoms reason) told = is_undecided atoms reason told
 
 -- ---- what is told

@@ -23,18 +23,18 @@ use Rattle.sym_unfolding.specs.Unfolding as undecided
 use Rattle.sym_unfolding.specs.Unfolding.{PureUnfoldedCase, PureUnfolding, unmatched, IsCaseAdded, HasArguments, IsFound, StandsForCase}
 
 pub data PureTold : Type 0 where
-  met : List PureValue → PureTold
+  met : List PureAtom → List PureValue → PureTold
   unknown : List PureAtom → Reason → PureTold
 
 -- the answer of unfolding where this is told of the conditions under which there is no such fact
 abbrev pub answer_told : {S : Type 0} → PureTold → PureUnfolding S
-answer_told (met v) = unmatched v
+answer_told (met conds v) = unmatched conds v
 answer_told (unknown conds reason) = undecided.unknown conds reason
 
 -- what is told of the conditions with further ones
 abbrev pub ToldOf : List Sort → List PureAtom → List PureAtom → Option PureTold → Type 0
 ToldOf vars conds more None = IsUnsatisfiable vars (conds ++ more)
-ToldOf vars conds more (Some (met v)) = IsSolution vars (conds ++ more) v
+ToldOf vars conds more (Some (met atoms v)) = (atoms ≡ conds ++ more) × IsSolution vars atoms v
 ToldOf vars conds more (Some (unknown atoms reason)) = (atoms ≡ conds ++ more) × IsOutside atoms reason
 
 -- none of the alternatives may be met, or this is told of one of them

@@ -12,8 +12,8 @@ use Rattle.assert_logic.specs.Matching.{FoundFact, first_fact, fits_fact, scope_
 use Rattle.assert_logic.specs.Names.{named_by_items}
 use Rattle.assert_logic.specs.Sorts.{HasSorts}
 use Rattle.pure_terms.specs.declared.deciders.Reason.{Reason}
-use Rattle.pure_terms.specs.Meaning.{all_true, Satisfies}
-use Rattle.pure_terms.specs.Pure.{PureTerm, PureAtom}
+use Rattle.pure_terms.specs.Meaning.{all_true, Satisfies, IsOver}
+use Rattle.pure_terms.specs.Pure.{PureTerm, PureAtom, term_of}
 use Rattle.sym_asking.specs.Asking.{IsOutside}
 use Rattle.sym_evaluation.specs.Meaning.{HaveValues}
 use Rattle.sym_model.specs.Lists.{Each, OneOf}
@@ -30,7 +30,7 @@ pub record PureUnfoldedCase (S : Type 0) : Type 0 where
 
 pub data PureUnfolding (S : Type 0) : Type 0 where
   unfolded : List (PureUnfoldedCase S) → PureUnfolding S
-  unmatched : List PureValue → PureUnfolding S
+  unmatched : List PureAtom → List PureValue → PureUnfolding S
   unknown : List PureAtom → Reason → PureUnfolding S
 
 -- A case of the predicate is added to what is left, under a store that gives its parameters the values of the fact.
@@ -77,20 +77,25 @@ module _ {S : Type 0} (memory : MemoryName) (stands : S → List PureValue → H
       → IsCaseAdded memory d found.fact (record l { facts = found.others }) number t next
       → OneOf (StandsForCase v number t next) rs))
 
-  -- the valuation meets the conditions, none of which needs a literal form, and under it there is no such fact
-  pub record IsUnmatched (v : List PureValue) : Type 0 where
-    pub meets : Satisfies s.vars v s.conds
-    pub no_form : has_open s.conds ≡ false
-    pub none : (l : LogicState) (ws us : List PureValue) → HasArguments v l ws us
+  -- conditions that begin with those of the state
+  abbrev pub AreFurther : List PureAtom → Type 0
+  AreFurther conds = (more : List PureAtom) × (conds ≡ s.conds ++ more)
+
+  -- conditions under which there is no such fact, which the valuation meets, and none of which needs a literal form
+  pub record IsUnmatched (conds : List PureAtom) (v : List PureValue) : Type 0 where
+    pub further : AreFurther conds
+    pub over : Each (λ a. IsOver s.vars (term_of a)) conds
+    pub meets : Satisfies s.vars v conds
+    pub no_form : has_open conds ≡ false
+    pub none : (w : List PureValue) (l : LogicState) (ws us : List PureValue) → HasArguments w l ws us → IsTrue (all_true w conds)
         → first_fact (fits_fact d.name ws (map Some us)) l.facts ≡ None
 
-  -- conditions beside those of the state, which aren't in the fragment
+  -- such conditions that aren't in the fragment
   pub record IsUndecided (conds : List PureAtom) (reason : Reason) : Type 0 where
-    pub more : List PureAtom
-    pub are : conds ≡ s.conds ++ more
+    pub further : AreFurther conds
     pub outside : IsOutside conds reason
 
   abbrev pub IsUnfolded : PureUnfolding S → Type 0
   IsUnfolded (unfolded rs) = CoversUnfoldings rs × Each (λ r. IsFurther terms kept s r.state) rs
-  IsUnfolded (unmatched v) = IsUnmatched v
+  IsUnfolded (unmatched conds v) = IsUnmatched conds v
   IsUnfolded (unknown conds reason) = IsUndecided conds reason

@@ -27,10 +27,10 @@ abbrev pub cases_view : {S : Type 0} → List (UnfoldedCase S) → List (PureUnf
 cases_view cs = map case_view cs
 
 abbrev pub told_view : Told → PureTold
-told_view (Told.Met v) = met (values_view v)
+told_view (Told.Met conds v) = met (atoms_view conds) (values_view v)
 told_view (Told.Unknown conds reason) = answers.unknown (atoms_view conds) reason
 
 abbrev pub unfolding_view : {S : Type 0} → Unfolding S → PureUnfolding S
 unfolding_view (Unfolding.Unfolded cs) = unfolded (cases_view cs)
-unfolding_view (Unfolding.Unmatched v) = unmatched (values_view v)
+unfolding_view (Unfolding.Unmatched conds v) = unmatched (atoms_view conds) (values_view v)
 unfolding_view (Unfolding.Unknown conds reason) = unknown (atoms_view conds) reason

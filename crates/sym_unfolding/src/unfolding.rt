@@ -34,8 +34,8 @@ use sym_states::SymState;
 pub enum Unfolding<M> {
     /// There is such a fact, and these states are there in its place.
     Unfolded(UnfoldedCases<M>),
-    /// Under this valuation, which meets the conditions of the state, there is no such fact.
-    Unmatched(Valuation),
+    /// Where these conditions are true, which this valuation meets, there is no such fact.
+    Unmatched { conds: Atoms, valuation: Valuation },
     /// It isn't decided whether there is one: these are the conditions under which there is none.
     Unknown { conds: Atoms, reason: Reason },
 }
@@ -43,7 +43,7 @@ pub enum Unfolding<M> {
 /// What is told of conditions that may be met.
 #[derive(Debug, Drop)]
 pub(crate) enum Told {
-    Met(Valuation),
+    Met { conds: Atoms, valuation: Valuation },
     Unknown { conds: Atoms, reason: Reason },
 }
 
@@ -73,7 +73,7 @@ fn ask_of<D: Decider>(
     let conds = with_more(alloc, conds, more)?;
     match ask(alloc, decider, vars, &conds)? {
         Satisfiability::Unsatisfiable => Ok(None),
-        Satisfiability::Satisfiable(valuation) => Ok(Some(Told::Met(valuation))),
+        Satisfiability::Satisfiable(valuation) => Ok(Some(Told::Met { conds, valuation })),
         Satisfiability::Undecided(reason) => Ok(Some(Told::Unknown { conds, reason })),
     }
 }
@@ -82,7 +82,7 @@ fn is_met(told: &Option<Told>) -> bool
     ensures { IsTrue result → IsSome told.now }
 {
     match told {
-        Some(Told::Met(_)) => true,
+        Some(Told::Met { .. }) => true,
         Some(Told::Unknown { .. }) | None => false,
     }
 }
@@ -173,7 +173,7 @@ fn answer_of<M: Drop>(told: Told) -> Unfolding<M>
     ensures { unfolding_view result ≡ answer_told (told_view told) }
 {
     match told {
-        Told::Met(valuation) => Unfolding::Unmatched(valuation),
+        Told::Met { conds, valuation } => Unfolding::Unmatched { conds, valuation },
         Told::Unknown { conds, reason } => Unfolding::Unknown { conds, reason },
     }
 }

@@ -21,13 +21,13 @@ further_nexts-requires-clause-used g c =
 pub further_nexts-requires-clause-caller : goal.further_nexts-requires-clause-caller
 further_nexts-requires-clause-caller g c =
     let next = path_view c.args.path in
-    let answered = subst (λ k. IsAnswered g.M.SymMemory.stands g.M.SymMemory.terms (facts_view c.args.preds.now) (passed_by_view c.args.passed.now) next (next_view k)) c.in-Further.is c.in_ok-checking.ensures in
+    let answered = subst (λ k. IsAnswered g.M.SymMemory.stands g.M.SymMemory.terms (facts_view c.args.preds.now) (passed_by_view c.args.passed.now) next (next_view k)) c.in-Further.is c.in_ok-checking.ensures.answer in
     (further_over g.M.SymMemory.stands g.M.SymMemory.terms (entry_view c.args.spec.now c.args.entered.now) (facts_view c.args.preds.now) (passed_by_view c.args.passed.now) next (checking_view c.in-Further.checking) c.requires.over next.ending refl answered).1
 
 pub further_nexts-requires-clause-over : goal.further_nexts-requires-clause-over
 further_nexts-requires-clause-over g c =
     let next = path_view c.args.path in
-    let answered = subst (λ k. IsAnswered g.M.SymMemory.stands g.M.SymMemory.terms (facts_view c.args.preds.now) (passed_by_view c.args.passed.now) next (next_view k)) c.in-Further.is c.in_ok-checking.ensures in
+    let answered = subst (λ k. IsAnswered g.M.SymMemory.stands g.M.SymMemory.terms (facts_view c.args.preds.now) (passed_by_view c.args.passed.now) next (next_view k)) c.in-Further.is c.in_ok-checking.ensures.answer in
     (further_over g.M.SymMemory.stands g.M.SymMemory.terms (entry_view c.args.spec.now c.args.entered.now) (facts_view c.args.preds.now) (passed_by_view c.args.passed.now) next (checking_view c.in-Further.checking) c.requires.over next.ending refl answered).0
 
 pub returns-in-Further : goal.returns-in-Further
@@ -42,7 +42,7 @@ returns-in-Further g c =
     let passed = passed_by_view c.args.passed.now in
     let next = path_view c.args.path in
     let y = checking_view c.in-Further.checking in
-    let answered = subst (λ k. IsAnswered stands terms facts passed next (next_view k)) c.in-Further.is c.in_ok-checking.ensures in
+    let answered = subst (λ k. IsAnswered stands terms facts passed next (next_view k)) c.in-Further.is c.in_ok-checking.ensures.answer in
     ok_to c.further_nexts.result (λ ns. AnswersFurther p memory stands terms kept e (option_map (λ s. spec_view s.now) c.used_by-used.result) y (nexts_view ns)) (λ ns. IsCalled p memory stands terms kept e facts passed next (nexts_view ns))
     (λ ns answers. (further y, (answered, subst (λ o. AnswersFurther p memory stands terms kept e o y (nexts_view ns)) c.used_by-used.ensures answers))) c.further_nexts.ensures
 
@@ -53,7 +53,7 @@ returns-in-Over g c =
     let facts = facts_view c.args.preds.now in
     let passed = passed_by_view c.args.passed.now in
     let next = path_view c.args.path in
-    let answered = subst (λ k. IsAnswered stands terms facts passed next (next_view k)) c.in-Over.is c.in_ok-checking.ensures in
+    let answered = subst (λ k. IsAnswered stands terms facts passed next (next_view k)) c.in-Over.is c.in_ok-checking.ensures.answer in
     ok_to c.alone.result (λ ns. nexts_view ns ≡ over ∷ []) (λ ns. IsCalled (prog_view c.args.prog.now) g.M.Local.LocalMemory.memory stands terms g.M.SymMemory.kept (entry_view c.args.spec.now c.args.entered.now) facts passed next (nexts_view ns))
     (λ ns are. (over, (answered, are))) c.alone.ensures
 
@@ -64,6 +64,6 @@ returns-in-Caused g c =
     let facts = facts_view c.args.preds.now in
     let passed = passed_by_view c.args.passed.now in
     let next = path_view c.args.path in
-    let answered = subst (λ k. IsAnswered stands terms facts passed next (next_view k)) c.in-Caused.is c.in_ok-checking.ensures in
+    let answered = subst (λ k. IsAnswered stands terms facts passed next (next_view k)) c.in-Caused.is c.in_ok-checking.ensures.answer in
     ok_to c.alone-in-Caused.result (λ ns. nexts_view ns ≡ caused c.in-Caused.cause ∷ []) (λ ns. IsCalled (prog_view c.args.prog.now) g.M.Local.LocalMemory.memory stands terms g.M.SymMemory.kept (entry_view c.args.spec.now c.args.entered.now) facts passed next (nexts_view ns))
     (λ ns are. (caused c.in-Caused.cause, (answered, are))) c.alone-in-Caused.ensures

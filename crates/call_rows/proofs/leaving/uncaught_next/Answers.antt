@@ -1,11 +1,12 @@
-use Rattle.std.proofs.Common.{inr, map, sym, ap, ◌∙◌}
+use Rattle.std.proofs.Common.{inr, length, map, sym, ap, ◌∙◌}
 use Rattle.std.specs.Option.{option_map}
 use Rattle.gil_program.specs.Program.{prog_view}
 use Rattle.gil_syntax.specs.Pure.{PureProc}
 use Rattle.gil_syntax.specs.View.{assertion_view, proc_view, spec_view}
 use Rattle.addable_programs.proofs.AddableLaws.{programs_are_addable}
 use Rattle.pure_terms.specs.View.{term_view}
-use Rattle.sym_model.proofs.ListLaws.{same_some}
+use Rattle.checked_runs.proofs.Readable.{names_length}
+use Rattle.sym_model.proofs.ListLaws.{not_none, same_some}
 use Rattle.sym_paths.specs.View.{path_view}
 use Rattle.sym_states.proofs.Values.{ok_to}
 use Rattle.sym_states.specs.View.{facts_view, state_view}
@@ -14,6 +15,21 @@ use Rattle.checked_rows.specs.Ending.{Finishes}
 use Rattle.call_rows.specs.Leaving.{EndsEntry}
 use Rattle.call_rows.proofs.LeavingLaws.{ends_over}
 use Rattle.call_rows.proofs.leaving.uncaught_next.Goals as goal
+
+pub unreachable-requires : goal.unreachable-requires
+unreachable-requires g c =
+    let p = prog_view c.args.prog.now in
+    let s = spec_view c.args.spec.now in
+    let (q, (there, same)) = (programs_are_addable p g.M.Local.LocalMemory.memory c.args.prog.now.well_made c.args.prog.now.valid c.requires.modes).procs s s.name c.requires.found in
+    not_none (sym (ap (option_map (λ q. proc_view q.now)) c.in_default.is) ∙ c.proc.ensures ∙ there)
+
+pub finish-requires-clause-count : goal.finish-requires-clause-count
+finish-requires-clause-count g c =
+    let p = prog_view c.args.prog.now in
+    let s = spec_view c.args.spec.now in
+    let (r, (there, same)) = (programs_are_addable p g.M.Local.LocalMemory.memory c.args.prog.now.well_made c.args.prog.now.valid c.requires.modes).procs s s.name c.requires.found in
+    let params = ap (λ (x : PureProc). x.params) (same_some (sym (sym c.proc.ensures ∙ ap (option_map (λ q. proc_view q.now)) c.in-Some.is) ∙ there)) ∙ same in
+    c.requires.over.entry.as_many ∙ sym (names_length s.params) ∙ ap length (sym params)
 
 pub finish-requires-clause-params : goal.finish-requires-clause-params
 finish-requires-clause-params g c =

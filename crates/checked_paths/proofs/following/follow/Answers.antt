@@ -7,8 +7,8 @@ use Rattle.checked_paths.specs.View.{passed_by_view}
 use Rattle.checked_paths.proofs.Stops.{answered_further, no_end}
 use Rattle.checked_paths.proofs.following.follow.Goals as goal
 
-pub returns : goal.returns
-returns g c =
+pub returns-clause-answer : goal.returns-clause-answer
+returns-clause-answer g c =
     let M = g.M.SymMemory in
     let none : is_some c.args.path.end ≡ false = search (rules, c.if-is_some.false) in
     let counted : length (frames_view c.args.path.stack) ≡ c.len.result = length-reverse (map frame_view c.args.path.stack) ∙ length-map c.args.path.stack frame_view ∙ sym c.len.ensures in

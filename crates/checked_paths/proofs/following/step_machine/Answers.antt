@@ -1,18 +1,23 @@
 use Rattle.std.proofs.Common.{◌≡◌, [], sym, subst}
 use Rattle.std.proofs.lemmas.Result.{IfOk-weaker}
 use Rattle.gil_program.specs.Program.{prog_view}
+use Rattle.sym_engine.specs.Lawful.{IsOwnAt}
+use Rattle.sym_model.specs.Lists.{Each}
+use Rattle.sym_paths.specs.Steps.{IsPlaceOf}
 use Rattle.sym_paths.specs.View.{path_view, paths_view}
 use Rattle.sym_states.specs.View.{facts_view}
 use Rattle.checked_paths.specs.Covering.{AreNexts}
-use Rattle.checked_paths.specs.Following.{IsAtMachineCommand}
+use Rattle.checked_paths.specs.Exactness.{AddsOnly, AreExact}
+use Rattle.checked_paths.specs.Following.{IsAtMachineCommand, StaysInFrame}
 use Rattle.checked_paths.specs.Meaning.{MayGoOn}
 use Rattle.checked_paths.specs.Pure.{PureEntry}
 use Rattle.checked_paths.specs.View.{checking_view, nexts_view, passed_by_view}
 use Rattle.checked_paths.proofs.Answering.{machine_nexts}
+use Rattle.checked_paths.proofs.Exact.{adds_own, if_ok_both, machine_exact}
 use Rattle.checked_paths.proofs.following.step_machine.Goals as goal
 
-pub returns : goal.returns
-returns g c =
+pub returns-clause-next : goal.returns-clause-next
+returns-clause-next g c =
     let M = g.M.SymMemory in
     let m = g.M.Local.LocalMemory.actions in
     let p = prog_view c.args.prog.now in
@@ -24,4 +29,36 @@ returns g c =
     (machine_nexts p g.M.Local.LocalMemory.memory m M.stands M.terms g.met.M.SymMemory.meaning _ _ (record { path = path_view parts.0; facts = facts_view parts.1; passed = passed_by_view parts.2 })
     (paths_view c.in_ok-paths.paths) (nexts_view ns) c.in_ok-paths.ensures.next c.in_ok-paths.ensures.placed
     (subst (λ q. IsAtMachineCommand p (path_view q)) (sym c.into_parts-path.ensures.path) c.requires.machine) are))
-    c.follow_all.ensures
+    c.follow_all.ensures.answer
+
+pub returns-clause-exact : goal.returns-clause-exact
+returns-clause-exact g c =
+    let M = g.M.SymMemory in
+    let memory = g.M.Local.LocalMemory.memory in
+    let m = g.M.Local.LocalMemory.actions in
+    let p = prog_view c.args.prog.now in
+    let here = c.args.here.now in
+    let parts = c.into_parts-path.result in
+    let same : record { path = path_view parts.0; facts = facts_view parts.1; passed = passed_by_view parts.2 } ≡ checking_view c.args.checking =
+    λ i. record { path = path_view (c.into_parts-path.ensures.path i); facts = facts_view (c.into_parts-path.ensures.preds i); passed = passed_by_view (c.into_parts-path.ensures.passed i) } in
+    if_ok_both _ _ _ c.follow_all.result
+    (λ ns are shows.
+    subst (λ y. (e : PureEntry) → MayGoOn p M.terms e y → StaysInFrame p y.path → IsPlaceOf p y.path.stack here → AreExact p memory m M.stands e y (nexts_view ns)) same
+    (machine_exact p memory m M.stands M.terms g.met.M.SymMemory.meaning _ _ (record { path = path_view parts.0; facts = facts_view parts.1; passed = passed_by_view parts.2 })
+    (paths_view c.in_ok-paths.paths) (nexts_view ns) here c.in_ok-paths.ensures.next are shows))
+    c.follow_all.ensures.answer c.follow_all.ensures.shows
+
+pub returns-clause-own : goal.returns-clause-own
+returns-clause-own g c =
+    let M = g.M.SymMemory in
+    let m = g.M.Local.LocalMemory.actions in
+    let p = prog_view c.args.prog.now in
+    let parts = c.into_parts-path.result in
+    let same : record { path = path_view parts.0; facts = facts_view parts.1; passed = passed_by_view parts.2 } ≡ checking_view c.args.checking =
+    λ i. record { path = path_view (c.into_parts-path.ensures.path i); facts = facts_view (c.into_parts-path.ensures.preds i); passed = passed_by_view (c.into_parts-path.ensures.passed i) } in
+    if_ok_both _ _ _ c.follow_all.result
+    (λ ns are shows.
+    subst (λ y. Each (AddsOnly (IsOwnAt M.stands M.terms M.asked m p y.path) y) (nexts_view ns)) same
+    (adds_own M.stands M.terms _ (record { path = path_view parts.0; facts = facts_view parts.1; passed = passed_by_view parts.2 }) c.args.here.now
+    (paths_view c.in_ok-paths.paths) (nexts_view ns) are shows c.in_ok-paths.ensures.next.own_conditions))
+    c.follow_all.ensures.answer c.follow_all.ensures.shows

@@ -1,4 +1,4 @@
-use Rattle.std.proofs.Common.{inr, subst}
+use Rattle.std.proofs.Common.{inl, inr, subst}
 use Rattle.gil_program.specs.Program.{prog_view}
 use Rattle.gil_syntax.specs.View.{pred_use_view}
 use Rattle.pure_terms.specs.View.{terms_view}
@@ -7,8 +7,10 @@ use Rattle.sym_states.proofs.Values.{ok_to}
 use Rattle.sym_states.specs.View.{state_view}
 use Rattle.checked_paths.specs.View.{checking_view, nexts_view}
 use Rattle.checked_rows.specs.Folding.{AreFoldings, FoldsOuts}
-use Rattle.checked_rows.specs.Reading.{Reads}
-use Rattle.checked_rows.specs.View.{reading_view}
+use Rattle.checked_paths.specs.declared.nexts.FaultKind.{FaultKind}
+use Rattle.checked_rows.specs.Doubts.{IsDoubtIn, IsDoubtAlone}
+use Rattle.checked_rows.specs.Reading.{AreUnread, Reads}
+use Rattle.checked_rows.specs.View.{doubt_view, reading_view}
 use Rattle.checked_rows.proofs.folding.fold_outs.Goals as goal
 
 pub returns-in-Values : goal.returns-in-Values
@@ -23,5 +25,21 @@ returns-in-Values g c =
     let u = pred_use_view c.args.used.now in
     let ins = terms_view c.args.ins.now in
     let read = subst (λ r. Reads stands terms s bs u.outs (reading_view r)) c.in-Values.is c.in_ok-state.ensures in
-    ok_to c.fold_read.result (λ ns. AreFoldings stands terms kept preds x (state_view c.in-Values.state) u.pred ins (terms_view c.in-Values.outs) (nexts_view ns)) (λ ns. FoldsOuts stands terms kept preds x bs u s ins (nexts_view ns))
+    ok_to c.fold_read.result (λ ns. AreFoldings stands terms kept c.args.here.now preds x (state_view c.in-Values.state) u.pred ins (terms_view c.in-Values.outs) (nexts_view ns)) (λ ns. FoldsOuts stands terms kept c.args.here.now preds x bs u s ins (nexts_view ns))
     (λ ns folds. inr (inr (state_view c.in-Values.state, (terms_view c.in-Values.outs, (read, folds))))) c.fold_read.ensures
+
+pub returns-in-Doubted : goal.returns-in-Doubted
+returns-in-Doubted g c =
+    let stands = g.M.SymMemory.stands in
+    let terms = g.M.SymMemory.terms in
+    let kept = g.M.SymMemory.kept in
+    let preds = (prog_view c.args.prog.now).preds in
+    let x = checking_view c.args.checking.now in
+    let s = state_view c.args.state in
+    let bs = store_view c.args.names.now in
+    let u = pred_use_view c.args.used.now in
+    let ins = terms_view c.args.ins.now in
+    let d = doubt_view c.in-Doubted.doubt in
+    let read : IsDoubtIn s (AreUnread stands terms s bs u.outs) d = subst (λ r. Reads stands terms s bs u.outs (reading_view r)) c.in-Doubted.is c.in_ok-state.ensures in
+    ok_to c.doubted.result (λ ns. IsDoubtAlone FaultKind.FoldBody c.args.here.now x.path d (nexts_view ns)) (λ ns. FoldsOuts stands terms kept c.args.here.now preds x bs u s ins (nexts_view ns))
+    (λ ns alone. inl (d, (read, alone))) c.doubted.ensures.shows

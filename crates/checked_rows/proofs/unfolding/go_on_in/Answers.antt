@@ -18,4 +18,4 @@ returns g c =
     let path : path_view c.in_ok-pass.field-0 ≡ passing (with_state x.path s) = c.in_ok-pass.ensures ∙ ap (λ q. passing q) c.in_ok-path.ensures.path in
     ok_to c.follow.result (λ n. IsAnswered stands terms (facts_view c.in_ok-path.preds) x.passed (path_view c.in_ok-pass.field-0) (next_view n)) (λ n. GoesOnIn stands terms x s s.facts (next_view n))
     (λ n answered. subst (λ fs. IsAnswered stands terms fs x.passed (passing (with_state x.path s)) (next_view n)) c.in_ok-path.ensures.facts (subst (λ q. IsAnswered stands terms (facts_view c.in_ok-path.preds) x.passed q (next_view n)) path answered))
-    c.follow.ensures
+    c.follow.ensures.answer

@@ -6,7 +6,7 @@ use Rattle.addable_programs.specs.Addable.{IsAddableCommand}
 use Rattle.addable_programs.proofs.AddableLaws.{programs_are_addable}
 use Rattle.sym_paths.specs.View.{frames_view}
 use Rattle.checked_paths.specs.View.{entry_view}
-use Rattle.spec_exploration.proofs.Steps.{addable_there, ins_spelled, outs_spelled}
+use Rattle.spec_exploration.proofs.Steps.{addable_there, ins_spelled, outs_spelled, of_some_kind}
 use Rattle.spec_exploration.proofs.stepping.step_at.Goals as goal
 
 pub step_machine-requires-clause-machine :
@@ -14,7 +14,7 @@ pub step_machine-requires-clause-machine :
 step_machine-requires-clause-machine g c = (numbered_command_view c.args.numbered.now, (c.requires.at, sym c.is_of_machine.ensures ∙ c.if-is_of_machine.true))
 
 pub returns-then-is_of_machine : goal.returns-then-is_of_machine
-returns-then-is_of_machine g c = IfOk-weaker c.step_machine.result _ _ (λ ns nexts. nexts (entry_view c.args.spec.now c.args.entered.now) c.requires.may) c.step_machine.ensures
+returns-then-is_of_machine g c = IfOk-weaker c.step_machine.result _ _ (λ ns nexts. nexts (entry_view c.args.spec.now c.args.entered.now) c.requires.may) c.step_machine.ensures.next
 
 pub assert_row-requires-clause-may : goal.assert_row-requires-clause-may
 assert_row-requires-clause-may g c =
@@ -30,7 +30,7 @@ assert_row-requires-clause-cases g c =
 
 pub returns-in-AssertThat : goal.returns-in-AssertThat
 returns-in-AssertThat g c =
-    IfOk-weaker c.assert_row.result _ _ (λ ns row. row (numbered_command_view c.args.numbered.now) c.requires.may c.requires.at (ap command_view c.in-AssertThat.is)) c.assert_row.ensures
+    IfOk-weaker c.assert_row.result _ _ (λ ns row. row (numbered_command_view c.args.numbered.now) c.requires.may c.requires.at (ap command_view c.in-AssertThat.is)) c.assert_row.ensures.next
 
 pub fold_row-requires-clause-ins : goal.fold_row-requires-clause-ins
 fold_row-requires-clause-ins g c =
@@ -76,7 +76,7 @@ unfold_row-requires-clause-cases g c =
 
 pub returns-in-Fold : goal.returns-in-Fold
 returns-in-Fold g c =
-    IfOk-weaker c.fold_row.result _ _ (λ ns row. row (numbered_command_view c.args.numbered.now) c.requires.may c.requires.at (ap command_view c.in-Fold.is)) c.fold_row.ensures
+    IfOk-weaker c.fold_row.result _ _ (λ ns row. row (numbered_command_view c.args.numbered.now) c.requires.may c.requires.at (ap command_view c.in-Fold.is)) c.fold_row.ensures.next
 
 pub returns-in-Unfold : goal.returns-in-Unfold
 returns-in-Unfold g c =
@@ -84,7 +84,7 @@ returns-in-Unfold g c =
 
 pub returns-then-is_leaving : goal.returns-then-is_leaving
 returns-then-is_leaving g c =
-    IfOk-weaker c.leave.result _ _ (λ ns row. row (numbered_command_view c.args.numbered.now).command (c.is_leaving.ensures c.if-is_leaving.true) (numbered_command_view c.args.numbered.now) c.requires.may c.requires.at refl) c.leave.ensures
+    IfOk-weaker c.leave.result _ _ (λ ns row. row (numbered_command_view c.args.numbered.now).command (c.is_leaving.ensures.is c.if-is_leaving.true) (numbered_command_view c.args.numbered.now) c.requires.may c.requires.at refl) c.leave.ensures
 
 pub invariant_row-requires-clause-may : goal.invariant_row-requires-clause-may
 invariant_row-requires-clause-may g c =
@@ -101,3 +101,8 @@ invariant_row-requires-clause-cases g c =
 pub returns-in-LoopInvariant : goal.returns-in-LoopInvariant
 returns-in-LoopInvariant g c =
     IfOk-weaker c.invariant_row.result _ _ (λ ns row. row (numbered_command_view c.args.numbered.now) c.requires.may c.requires.at (ap command_view c.in-LoopInvariant.is)) c.invariant_row.ensures
+
+pub unreachable-requires : goal.unreachable-requires
+unreachable-requires g c =
+    of_some_kind c.args.numbered.now.command c.requires.no_call (c.is_leaving.ensures.other c.if-is_leaving.false) (sym c.is_of_machine.ensures ∙ c.if-is_of_machine.false)
+    c.in_default.not-Fold c.in_default.not-Unfold c.in_default.not-AssertThat c.in_default.not-LoopInvariant
