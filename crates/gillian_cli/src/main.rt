@@ -1,5 +1,5 @@
 //! The program `gillian`: it takes the words of the command line, reads standard input, writes standard output and
-//! ends with the exit code of the answer's status.
+//! ends with the exit code of the answer's status. Where nothing or only a part was written, standard error says why.
 #![tactic(auto)]
 
 use gil_io::{StdSink, StdSource};
@@ -11,7 +11,22 @@ use std::process::ExitCode;
 use std::{env, io};
 
 fn main(rt: HostRuntime) -> ExitCode {
-    ExitCode::from(answer(&rt).code())
+    let status = answer(&rt);
+    if let Some(cause) = cause_of(status) {
+        // Where standard error fails too, the exit code is all that is told.
+        let _ = eprintln!(rt; "gillian: {cause}");
+    }
+    ExitCode::from(status.code())
+}
+
+/// Why nothing was written, or only a part, where that is so.
+fn cause_of(status: Status) -> Option<&'static str> {
+    match status {
+        Status::ReadFault => Some("standard input can't be read"),
+        Status::WriteFault => Some("standard output can't be written"),
+        Status::Memory => Some("out of memory, or past a limit of depth or size"),
+        _ => None,
+    }
 }
 
 /// Answers the words with the standard streams.
