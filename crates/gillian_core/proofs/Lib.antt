@@ -1,6 +1,7 @@
 pub mod Cases
 pub mod Checked
 pub mod Ending
+pub mod Founds
 pub mod MeantTexts
 pub mod Meant
 pub mod Refusing

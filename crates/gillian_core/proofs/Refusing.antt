@@ -4,7 +4,6 @@ use Rattle.std.proofs.Common.{sym, ◌∙◌, ap, subst}
 use Rattle.gil_syntax.specs.Pure.{PureParts}
 use Rattle.gil_syntax.specs.Valid.{IsValid}
 use Rattle.gil_grammar.specs.Texts.{SpellProgram}
-use Rattle.gil_machine.specs.Run.{IsEntry}
 use Rattle.assert_logic.specs.Modes.{HasModes}
 use Rattle.gil_text.specs.Refusals.{IsRefused}
 use Rattle.gil_text.specs.declared.refused.Refused.{Refused}
@@ -84,16 +83,16 @@ module _ (l : SourceLanguage) (bytes : List ℕ) where
 
 -- ---- entries
 
-module _ (d : Definition) (entry bytes : List ℕ) where
-  -- without a program there is none with the entry
-  pub no_entry_of : (r : Refused) → IsNoProgram d bytes r → IsNoEntry d entry bytes r
+module _ (d : Definition) (IsWanted : PureParts → Type 0) (bytes : List ℕ) where
+  -- without a program there is none with the entry that is wanted
+  pub no_entry_of : (r : Refused) → IsNoProgram d bytes r → IsNoEntry d IsWanted bytes r
   no_entry_of r unread = record { never = λ k has. unread.never k (has.0, has.1); fault = λ k. inl (unread.fault k) }
 
-  pub lacks_entry : (p : PureParts) → d.IsText bytes p → ((q : PureParts) → d.IsText bytes q → p ≡ q) → (IsEntry p entry → ⊥)
-      → IsNoEntry d entry bytes (record { at = length bytes; kind = kinds.Entry })
-  lacks_entry p text only never = record {
-    never = λ k has. never (subst (λ q. IsEntry q entry) (sym (only has.0 has.1)) has.2);
-    fault = λ k. inr (refl, (p, text, never), refl);
+  pub lacks_entry : (p : PureParts) → d.IsText bytes p → ((q : PureParts) → d.IsText bytes q → p ≡ q) → (IsWanted p → ⊥)
+      → (r : Refused) → r.at ≡ length bytes → r.kind ≡ kinds.Entry → IsNoEntry d IsWanted bytes r
+  lacks_entry p text only never r at kind = record {
+    never = λ k has. never (subst IsWanted (sym (only has.0 has.1)) has.2);
+    fault = λ k. inr (kind, (p, text, never), at);
   }
 
 -- ---- modes

@@ -3,13 +3,14 @@ use Rattle.std.specs.Prelude.{◌≡◌, ◌≢◌, ◌⊎◌, ℕ, List, Option
 use Rattle.std.specs.Io.KnownBytes.{Appends}
 use Rattle.gil_io.specs.Faults.{FaultRose}
 use Rattle.gil_io.specs.Writing.{IsUsedUp, TakesPart}
+use Rattle.gil_syntax.specs.Pure.{PureParts}
 use Rattle.gil_text.specs.declared.refused.Refused.{Refused}
 use Rattle.gil_text.specs.declared.refused.RefusedKind.{RefusedKind}
 use Rattle.gil_text.specs.declared.refused.RefusedKind.TheVariants as kinds
 use Rattle.gillian_words.specs.Tasks.{PureTask, PureRequest}
 use Rattle.gillian_core.specs.declared.status.Status.{Status}
 use Rattle.gillian_core.specs.declared.status.Status.TheVariants.{Text, WriteFault, Memory}
-use Rattle.gillian_core.specs.Accepted.{HasEntry, HasProgram, HasReadable}
+use Rattle.gillian_core.specs.Accepted.{HasProgram, HasProgramThat, HasReadable}
 use Rattle.gillian_core.specs.Definitions.{Definition}
 use Rattle.gillian_core.specs.Outputs.{PureOutput, output_status, output_text}
 use Rattle.gillian_core.specs.Refusals.{IsFaultOfEntry, IsFaultOfModes, IsRefusal, refusal_line}
@@ -44,12 +45,12 @@ pub record IsCause (looked_for : Type 0) (IsFault : ℕ → RefusedKind → Type
   pub never : r.kind ≢ kinds.Memory → looked_for → ⊥
   pub fault : r.kind ≢ kinds.Memory → IsFault r.at r.kind
 
--- why there is no program, why there is none with the entry, and why there is none whose assertions can be read
+-- why there is no program, why there is none with the entry that is wanted, and why there is none whose assertions can be read
 abbrev pub IsNoProgram : Definition → List ℕ → Refused → Type 0
 IsNoProgram d bytes r = IsCause (HasProgram d bytes) (d.IsFault bytes) r
 
-abbrev pub IsNoEntry : Definition → List ℕ → List ℕ → Refused → Type 0
-IsNoEntry d entry bytes r = IsCause (HasEntry d entry bytes) (IsFaultOfEntry d entry bytes) r
+abbrev pub IsNoEntry : Definition → (PureParts → Type 0) → List ℕ → Refused → Type 0
+IsNoEntry d IsWanted bytes r = IsCause (HasProgramThat d IsWanted bytes) (IsFaultOfEntry d IsWanted bytes) r
 
 abbrev pub IsNoReadable : Definition → List ℕ → Refused → Type 0
 IsNoReadable d bytes r = IsCause (HasReadable d bytes) (IsFaultOfModes d bytes) r

@@ -8,6 +8,7 @@ pub mod Definitions
 pub mod Ends
 pub mod Finishing
 pub mod Gil
+pub mod Inferred
 pub mod Languages
 pub mod Memories
 pub mod ObjectLanguage

@@ -11,10 +11,9 @@ use Rattle.gil_text.specs.declared.refused.Refused.{Refused}
 use Rattle.gil_text.specs.declared.refused.RefusedKind.{RefusedKind}
 use Rattle.gil_text.specs.declared.refused.RefusedKind.TheVariants.{Lex, Nesting, Syntax, Invalid, Limit, Entry, Modes, Memory}
 use Rattle.atom_text.specs.Refusals as atoms
-use Rattle.gil_machine.specs.Run.{IsEntry}
 use Rattle.assert_logic.specs.Modes.{HasModes}
-use Rattle.gillian_words.specs.Tasks.{PureTask, run, test, check, compile, solve}
-use Rattle.gillian_core.specs.Accepted.{IsAccepted}
+use Rattle.gillian_words.specs.Tasks.{PureTask, run, test, check, infer, compile, solve}
+use Rattle.gillian_core.specs.Accepted.{EntersAt, HasProc, IsAccepted}
 use Rattle.gillian_core.specs.Definitions.{Definition}
 use Rattle.gillian_core.specs.Languages.{definition_of}
 use Rattle.gil_report.specs.Lines.{line}
@@ -43,12 +42,11 @@ kind_word Memory = []
 abbrev pub refusal_line : Refused → List ℕ
 refusal_line r = line (codes "refused " ++ kind_word r.kind ++ codes " at " ++ numeral r.at)
 
--- The first fault of a text by itself; or, of a text without one, that its program lacks the entry, or that this has parameters, at the
--- text's length.
-abbrev pub IsFaultOfEntry : Definition → List ℕ → List ℕ → ℕ → RefusedKind → Type 0
-IsFaultOfEntry d entry bytes at kind =
+-- The first fault of a text by itself; or, of a text without one, that its program hasn't the entry that is wanted, at the text's length.
+abbrev pub IsFaultOfEntry : Definition → (PureParts → Type 0) → List ℕ → ℕ → RefusedKind → Type 0
+IsFaultOfEntry d IsWanted bytes at kind =
     d.IsFault bytes at kind
-    ⊎ ((kind ≡ Entry) × ((p : PureParts) × d.IsText bytes p × (IsEntry p entry → ⊥)) × (at ≡ length bytes))
+    ⊎ ((kind ≡ Entry) × ((p : PureParts) × d.IsText bytes p × (IsWanted p → ⊥)) × (at ≡ length bytes))
 
 -- a token of the text begins at the byte, or the text ends there
 abbrev pub IsPlaceIn : List ℕ → ℕ → Type 0
@@ -63,9 +61,10 @@ IsFaultOfModes d bytes at kind =
 
 -- the kind is the first that applies where this is asked, at this byte
 abbrev pub IsFirstKind : PureTask → List ℕ → ℕ → RefusedKind → Type 0
-IsFirstKind (run language entry bound inputs) bytes at kind = IsFaultOfEntry (definition_of language) entry bytes at kind
-IsFirstKind (test language entry bound) bytes at kind = IsFaultOfEntry (definition_of language) entry bytes at kind
+IsFirstKind (run language entry bound inputs) bytes at kind = IsFaultOfEntry (definition_of language) (EntersAt entry) bytes at kind
+IsFirstKind (test language entry bound) bytes at kind = IsFaultOfEntry (definition_of language) (EntersAt entry) bytes at kind
 IsFirstKind (check language bound) bytes at kind = IsFaultOfModes (definition_of language) bytes at kind
+IsFirstKind (infer language entry bound) bytes at kind = IsFaultOfEntry (definition_of language) (HasProc entry) bytes at kind
 IsFirstKind (compile language) bytes at kind = (definition_of language).IsFault bytes at kind
 IsFirstKind solve bytes at kind = (kind ≢ Memory) × atoms.IsRefusedFor bytes at kind
 

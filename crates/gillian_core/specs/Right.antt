@@ -15,15 +15,17 @@ use Rattle.solver_proof.specs.Pure.{PureProof}
 use Rattle.atom_text.specs.Accepted.{PureAtomText, SpellAtoms}
 use Rattle.sym_test.specs.Undecided.{FailsSimply}
 use Rattle.sym_test.specs.View.{PureQuery}
-use Rattle.gillian_words.specs.Tasks.{PureTask, run, test, check, compile, solve}
-use Rattle.gil_report.specs.declared.heads.EntryMode.TheVariants.{Run, Test}
+use Rattle.gillian_words.specs.Tasks.{PureTask, run, test, check, infer, compile, solve}
+use Rattle.gil_report.specs.declared.heads.EntryMode.TheVariants.{Run, Test, Infer}
 use Rattle.gil_report.specs.declared.heads.Head.{Head}
 use Rattle.gil_report.specs.Pure.{PureAnswer, failed, clean, bug, undecided, sat, unsat, unknown, PureReport}
 use Rattle.report_names.specs.Named.{proof_of}
+use Rattle.gillian_core.specs.Accepted.{HasProc}
 use Rattle.gillian_core.specs.Answers.{question_of}
 use Rattle.gillian_core.specs.Checked.{AreRightAnswers}
 use Rattle.gillian_core.specs.Definitions.{Definition, Memory}
 use Rattle.gillian_core.specs.Ends.{end_answer}
+use Rattle.gillian_core.specs.Inferred.{AreRightFounds}
 use Rattle.gillian_core.specs.Languages.{definition_of}
 use Rattle.gillian_core.specs.Outputs.{PureOutput, a_report, a_program}
 
@@ -80,6 +82,17 @@ pub record IsRightCheck (d : Definition) (bytes : List ℕ) (answers : List Pure
   pub readable : HasModes program d.memory.name
   pub right : AreRightAnswers d.memory.name d.memory.actions program answers
 
+-- ---- infer
+
+-- The bytes are a text with a program that has the procedure, and what is found of it within the bound is right. A text that is compiled has
+-- the program's ends.
+pub record IsRightInference (d : Definition) (entry : List ℕ) (bound : ℕ) (bytes : List ℕ) (answers : List PureAnswer) : Type 0 where
+  pub program : PureParts
+  pub text : d.IsText bytes program
+  pub keeps : d.KeepsEnds bytes program
+  pub has : HasProc entry program
+  pub right : AreRightFounds program d.memory.name d.memory.actions entry bound answers
+
 -- ---- solve
 
 -- the place of the atom that a reason names
@@ -125,6 +138,9 @@ IsRightOutput (test language entry bound) bytes (a_program p) = ⊥
 IsRightOutput (check language bound) bytes (a_report r) =
     (r.head ≡ Head.Check language bound) × IsRightCheck (definition_of language) bytes r.answers
 IsRightOutput (check language bound) bytes (a_program p) = ⊥
+IsRightOutput (infer language entry bound) bytes (a_report r) =
+    (r.head ≡ Head.Entry Infer language entry bound) × IsRightInference (definition_of language) entry bound bytes r.answers
+IsRightOutput (infer language entry bound) bytes (a_program p) = ⊥
 IsRightOutput (compile language) bytes (a_report r) = ⊥
 IsRightOutput (compile language) bytes (a_program p) = IsProgramOf (definition_of language) bytes p
 IsRightOutput solve bytes (a_report r) = Says r Head.Solve (IsSolved bytes)

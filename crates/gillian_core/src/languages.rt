@@ -1,20 +1,23 @@
 //! The languages: how the texts of each are read, and the memory of its programs.
-ghost use Rattle.std.specs.Prelude.{◌≡◌, [], map, IfOk, IfErr};
+ghost use Rattle.std.specs.Prelude.{◌≡◌, [], map, IfOk, IfErr, IsSome};
 ghost use Rattle.std.specs.FinMap.{empty};
 ghost use Rattle.assert_logic.specs.Modes.{HasModes};
 ghost use Rattle.gil_machine.specs.Held.{held_run_of};
 ghost use Rattle.gil_machine.specs.Run.{IsEntry};
 ghost use Rattle.gil_program.specs.Program.{prog_view};
+ghost use Rattle.gil_syntax.specs.Programs.{find_proc};
 ghost use Rattle.gil_syntax.specs.Pure.{PureParts};
 ghost use Rattle.gil_values.specs.View.{values_view};
 ghost use Rattle.gil_report.specs.View.{answer_view};
 ghost use Rattle.gillian_core.specs.Checked.{AreRightAnswers};
 ghost use Rattle.gillian_core.specs.Ends.{end_answer};
 ghost use Rattle.gillian_core.specs.Finishing.{IsNoProgram};
+ghost use Rattle.gillian_core.specs.Inferred.{AreRightFounds};
 ghost use Rattle.gillian_core.specs.Languages.{definition_of};
 ghost use Rattle.gillian_core.specs.Right.{IsProgramOf, IsRightVerdict};
 
 use crate::checking::checked;
+use crate::inferring::inferred;
 use crate::running::run_answer;
 use crate::testing::verdict;
 use crate::{clike_language, gil, object_language, while_language};
@@ -128,5 +131,28 @@ pub fn check_in(
         Language::While => checked::<RecordSym>(alloc, prog, bound, rules),
         Language::Clike => checked::<BlockSym>(alloc, prog, bound, rules),
         Language::Object => checked::<ObjectSym>(alloc, prog, bound, rules),
+    }
+}
+
+/// The specifications of a procedure that are found within a bound.
+pub fn infer_in(
+    alloc: Global,
+    language: Language,
+    prog: &Prog,
+    entry: &Text,
+    bound: Bound,
+    rules: &RuleBook,
+) -> Result<Answers, AllocError>
+    requires { IsSome (find_proc (prog_view prog.now).procs entry.now) }
+    ensures { IfOk result (λ answers. AreRightFounds (prog_view prog.now) (definition_of language).memory.name (definition_of language).memory.actions
+        entry.now bound.steps (map answer_view answers)) }
+{
+    match language {
+        Language::GilRecord => inferred::<RecordSym>(alloc, prog, entry, bound, rules),
+        Language::GilBlock => inferred::<BlockSym>(alloc, prog, entry, bound, rules),
+        Language::GilObject => inferred::<ObjectSym>(alloc, prog, entry, bound, rules),
+        Language::While => inferred::<RecordSym>(alloc, prog, entry, bound, rules),
+        Language::Clike => inferred::<BlockSym>(alloc, prog, entry, bound, rules),
+        Language::Object => inferred::<ObjectSym>(alloc, prog, entry, bound, rules),
     }
 }

@@ -7,6 +7,7 @@ mod clike_language;
 mod entries;
 mod gil;
 mod in_memory;
+mod inferring;
 mod languages;
 mod limits;
 mod modes;

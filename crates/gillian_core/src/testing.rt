@@ -59,7 +59,7 @@ fn answer_of(alloc: Global, verdict: Verdict) -> Result<Answer, AllocError>
 }
 
 /// The question that a query is. Its variables have no names but `v` and their numbers.
-fn question_of(alloc: Global, query: Query) -> Result<Question, AllocError>
+pub(crate) fn question_of(alloc: Global, query: Query) -> Result<Question, AllocError>
     ensures { IfOk result (λ question. question_view question ≡ question_of (query_view query)) }
 {
     let Query {

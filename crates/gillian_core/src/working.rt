@@ -1,7 +1,7 @@
 //! The work: what is to be written of a text.
 ghost use Rattle.std.specs.Prelude.{◌≡◌, [], ◌∷◌, IfOk, IfErr};
 ghost use Rattle.gil_values.specs.View.{values_view};
-ghost use Rattle.gillian_words.specs.Tasks.{run, test, check, compile, solve};
+ghost use Rattle.gillian_words.specs.Tasks.{run, test, check, infer, compile, solve};
 ghost use Rattle.gillian_words.specs.View.{task_view};
 ghost use Rattle.gil_report.specs.View.{answer_view};
 ghost use Rattle.gillian_core.specs.Answers.{output_view};
@@ -9,8 +9,8 @@ ghost use Rattle.gillian_core.specs.Finishing.{IsNoOutput};
 ghost use Rattle.gillian_core.specs.Outputs.{a_report};
 ghost use Rattle.gillian_core.specs.Right.{IsRightOutput};
 
-use crate::entries::program_with;
-use crate::languages::{check_in, program, run_in, verdict_in};
+use crate::entries::{program_that_has, program_with};
+use crate::languages::{check_in, infer_in, program, run_in, verdict_in};
 use crate::modes::readable_program;
 use crate::outputs::Output;
 use crate::refusals::or_memory;
@@ -40,6 +40,11 @@ pub fn work(alloc: Global, task: Task, rules: &RuleBook, bytes: &[u8]) -> Result
             bound,
         } => test_output(alloc, language, entry, bound, rules, bytes),
         Task::Check { language, bound } => check_output(alloc, language, bound, rules, bytes),
+        Task::Infer {
+            language,
+            entry,
+            bound,
+        } => infer_output(alloc, language, entry, bound, rules, bytes),
         Task::Compile { language } => compile_output(alloc, language, bytes),
         Task::Solve => solve_output(alloc, rules, bytes),
     }
@@ -109,6 +114,29 @@ fn check_output(
     let answers = or_memory(check_in(alloc, language, &prog, bound, rules))?;
     let head = Head::Check {
         language,
+        bound: bound.steps,
+    };
+    Ok(Output::Report(Report { head, answers }))
+}
+
+/// The report of what is inferred.
+fn infer_output(
+    alloc: Global,
+    language: Language,
+    entry: Text,
+    bound: Bound,
+    rules: &RuleBook,
+    bytes: &[u8],
+) -> Result<Output, Refused>
+    ensures output { IfOk result (λ output. IsRightOutput (infer language entry bound.steps) bytes.now (output_view output)) }
+    ensures none { IfErr result (IsNoOutput (infer language entry bound.steps) bytes.now) }
+{
+    let prog = program_that_has(alloc, language, &entry, bytes)?;
+    let answers = or_memory(infer_in(alloc, language, &prog, &entry, bound, rules))?;
+    let head = Head::Entry {
+        mode: EntryMode::Infer,
+        language,
+        entry,
         bound: bound.steps,
     };
     Ok(Output::Report(Report { head, answers }))

@@ -9,7 +9,7 @@ use Rattle.gillian_words.specs.declared.tasks.Language.{Language}
 use Rattle.gillian_words.specs.declared.tasks.Language.TheVariants.{GilRecord, GilBlock, GilObject, While, Clike, Object}
 use Rattle.gillian_words.specs.declared.scan.Scan.TheVariants.{Outside}
 use Rattle.gillian_words.specs.Asked.{AskFor, Asks, AsksTask, Given, IsOption, SpellsBound, SpellsEntry}
-use Rattle.gillian_words.specs.Tasks.{PureTask, run, test, check, compile, solve, PureRequest, mode_word, language_word}
+use Rattle.gillian_words.specs.Tasks.{PureTask, run, test, check, infer, compile, solve, PureRequest, mode_word, language_word}
 use Rattle.gillian_words.specs.Inputs.{comma, boolean_word, SpellsInput, SpellsInputs, SpellsNumber, SpellsSome}
 use Rattle.gillian_words.specs.Pieces.{piece_len}
 use Rattle.gillian_words.proofs.Scans.{first_piece, first_spelled, last_piece, more_spelled}
@@ -158,6 +158,9 @@ same_run l l' e e' n n' vs vs' p q r s =
 same_test : (l l' : Language) (e e' : List ℕ) (n n' : ℕ) → l ≡ l' → e ≡ e' → n ≡ n' → test l e n ≡ test l' e' n'
 same_test l l' e e' n n' p q r = ap (λ x. test x e n) p ∙ ap (λ x. test l' x n) q ∙ ap (λ x. test l' e' x) r
 
+same_infer : (l l' : Language) (e e' : List ℕ) (n n' : ℕ) → l ≡ l' → e ≡ e' → n ≡ n' → infer l e n ≡ infer l' e' n'
+same_infer l l' e e' n n' p q r = ap (λ x. infer x e n) p ∙ ap (λ x. infer l' x n) q ∙ ap (λ x. infer l' e' x) r
+
 same_check : (l l' : Language) (n n' : ℕ) → l ≡ l' → n ≡ n' → check l n ≡ check l' n'
 same_check l l' n n' p q = ap (λ x. check x n) p ∙ ap (λ x. check l' x) q
 
@@ -180,6 +183,10 @@ asks_once g (test l e n) (test l' e' n') h k =
     (one_option SpellsBound 1000 g.bound n n' one_bound h.options.1 k.options.1)
 asks_once g (check l n) (check l' n') h k =
     same_check l l' n n' (same_language g l l' h.second k.second) (one_option SpellsBound 1000 g.bound n n' one_bound h.options.1 k.options.1)
+asks_once g (infer l e n) (infer l' e' n') h k =
+    same_infer l l' e e' n n' (same_language g l l' h.second k.second)
+    (one_option SpellsEntry (codes "main") g.entry e e' one_entry h.options.0 k.options.0)
+    (one_option SpellsBound 1000 g.bound n n' one_bound h.options.1 k.options.1)
 asks_once g (compile l) (compile l') h k = ap compile (same_language g l l' h.second k.second)
 asks_once g solve solve h k = refl
 asks_once g (run l e n vs) (test l' e' n') h k = let is = one_mode g _ _ h k in cc
@@ -206,6 +213,26 @@ asks_once g (compile l) solve h k = let is = one_mode g _ _ h k in cc
 asks_once g solve (run l' e' n' vs') h k = let is = one_mode g _ _ h k in cc
 asks_once g solve (test l' e' n') h k = let is = one_mode g _ _ h k in cc
 asks_once g solve (compile l') h k = let is = one_mode g _ _ h k in cc
+asks_once g (run l e n vs) (infer l' e' n') h k =
+    let is = one_mode g (run l e n vs) (infer l' e' n') h k in absurd (let first : 114 ≡ 105 = ap (λ bytes. get_or bytes 0 0) is in omega arith)
+asks_once g (infer l e n) (run l' e' n' vs') h k =
+    let is = one_mode g (infer l e n) (run l' e' n' vs') h k in absurd (let first : 105 ≡ 114 = ap (λ bytes. get_or bytes 0 0) is in omega arith)
+asks_once g (test l e n) (infer l' e' n') h k =
+    let is = one_mode g (test l e n) (infer l' e' n') h k in absurd (let first : 116 ≡ 105 = ap (λ bytes. get_or bytes 0 0) is in omega arith)
+asks_once g (infer l e n) (test l' e' n') h k =
+    let is = one_mode g (infer l e n) (test l' e' n') h k in absurd (let first : 105 ≡ 116 = ap (λ bytes. get_or bytes 0 0) is in omega arith)
+asks_once g (check l n) (infer l' e' n') h k =
+    let is = one_mode g (check l n) (infer l' e' n') h k in absurd (let first : 99 ≡ 105 = ap (λ bytes. get_or bytes 0 0) is in omega arith)
+asks_once g (infer l e n) (check l' n') h k =
+    let is = one_mode g (infer l e n) (check l' n') h k in absurd (let first : 105 ≡ 99 = ap (λ bytes. get_or bytes 0 0) is in omega arith)
+asks_once g (compile l) (infer l' e' n') h k =
+    let is = one_mode g (compile l) (infer l' e' n') h k in absurd (let first : 99 ≡ 105 = ap (λ bytes. get_or bytes 0 0) is in omega arith)
+asks_once g (infer l e n) (compile l') h k =
+    let is = one_mode g (infer l e n) (compile l') h k in absurd (let first : 105 ≡ 99 = ap (λ bytes. get_or bytes 0 0) is in omega arith)
+asks_once g solve (infer l' e' n') h k =
+    let is = one_mode g solve (infer l' e' n') h k in absurd (let first : 115 ≡ 105 = ap (λ bytes. get_or bytes 0 0) is in omega arith)
+asks_once g (infer l e n) solve h k =
+    let is = one_mode g (infer l e n) solve h k in absurd (let first : 105 ≡ 115 = ap (λ bytes. get_or bytes 0 0) is in omega arith)
 
 abbrev request_of : PureTask → Bool → PureRequest
 request_of task json = record { task = task; json = json }

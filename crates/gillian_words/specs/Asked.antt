@@ -6,7 +6,7 @@ use Rattle.gil_values.specs.Pure.{PureValue}
 use Rattle.gil_lexer.specs.Spelling.{IsName}
 use Rattle.gillian_words.specs.Inputs.{SpellsInputs}
 use Rattle.gillian_words.specs.Line.{AreTaken, matched}
-use Rattle.gillian_words.specs.Tasks.{PureTask, run, test, check, compile, solve, PureRequest, has_report, mode_word, second_word}
+use Rattle.gillian_words.specs.Tasks.{PureTask, run, test, check, infer, compile, solve, PureRequest, has_report, mode_word, second_word}
 
 -- one to five digits, and at most 10,000
 abbrev pub SpellsBound : List ℕ → ℕ → Type 0
@@ -60,6 +60,7 @@ abbrev pub HasOptions : Given → PureTask → Type 0
 HasOptions g (run language entry bound inputs) = IsEntryOption g.entry entry × IsBoundOption g.bound bound × IsInputsOption g.inputs inputs
 HasOptions g (test language entry bound) = IsEntryOption g.entry entry × IsBoundOption g.bound bound × (g.inputs ≡ None)
 HasOptions g (check language bound) = (g.entry ≡ None) × IsBoundOption g.bound bound × (g.inputs ≡ None)
+HasOptions g (infer language entry bound) = IsEntryOption g.entry entry × IsBoundOption g.bound bound × (g.inputs ≡ None)
 HasOptions g (compile language) = (g.entry ≡ None) × (g.bound ≡ None) × (g.inputs ≡ None)
 HasOptions g solve = (g.entry ≡ None) × (g.bound ≡ None) × (g.inputs ≡ None)
 

@@ -5,12 +5,12 @@ use Rattle.gillian_words.specs.declared.tasks.Language.{Language}
 use Rattle.gillian_words.specs.declared.tasks.Language.TheVariants.{GilRecord, GilBlock, GilObject, While, Clike, Object}
 
 -- A run of an entry within a bound on inputs, a test of an entry within a bound, a check of specifications within a
--- bound, the program of a text, and the solution of a list
--- of atoms.
+-- bound, the specifications of an entry within a bound, the program of a text, and the solution of a list of atoms.
 pub data PureTask : Type 0 where
   run : Language → List ℕ → ℕ → List PureValue → PureTask
   test : Language → List ℕ → ℕ → PureTask
   check : Language → ℕ → PureTask
+  infer : Language → List ℕ → ℕ → PureTask
   compile : Language → PureTask
   solve : PureTask
 
@@ -24,6 +24,7 @@ abbrev pub has_report : PureTask → Bool
 has_report (run language entry bound inputs) = true
 has_report (test language entry bound) = true
 has_report (check language bound) = true
+has_report (infer language entry bound) = true
 has_report (compile language) = false
 has_report solve = true
 
@@ -40,6 +41,7 @@ abbrev pub mode_word : PureTask → List ℕ
 mode_word (run language entry bound inputs) = codes "run"
 mode_word (test language entry bound) = codes "test"
 mode_word (check language bound) = codes "check"
+mode_word (infer language entry bound) = codes "infer"
 mode_word (compile language) = codes "compile"
 mode_word solve = codes "solve"
 
@@ -48,5 +50,6 @@ abbrev pub second_word : PureTask → List ℕ
 second_word (run language entry bound inputs) = language_word language
 second_word (test language entry bound) = language_word language
 second_word (check language bound) = language_word language
+second_word (infer language entry bound) = language_word language
 second_word (compile language) = language_word language
 second_word solve = codes "atoms"

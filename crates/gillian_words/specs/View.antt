@@ -5,16 +5,17 @@ use Rattle.clap.specs.Words.{found_of, first_value}
 use Rattle.clap.specs.declared.parser.matches.ArgMatches.{ArgMatches}
 use Rattle.gil_values.specs.View.{values_view}
 use Rattle.gillian_words.specs.declared.tasks.Task.{Task}
-use Rattle.gillian_words.specs.declared.tasks.Task.TheVariants.{Run, Test, Check, Compile, Solve}
+use Rattle.gillian_words.specs.declared.tasks.Task.TheVariants.{Run, Test, Check, Infer, Compile, Solve}
 use Rattle.gillian_words.specs.declared.line.Given.{Given as Matches}
 use Rattle.gillian_words.specs.Asked.{Given}
 use Rattle.gillian_words.specs.declared.tasks.Request.{Request}
-use Rattle.gillian_words.specs.Tasks.{PureTask, run, test, check, compile, solve, PureRequest}
+use Rattle.gillian_words.specs.Tasks.{PureTask, run, test, check, infer, compile, solve, PureRequest}
 
 abbrev pub task_view : Task → PureTask
 task_view (Run language entry bound inputs) = run language entry bound.steps (values_view inputs)
 task_view (Test language entry bound) = test language entry bound.steps
 task_view (Check language bound) = check language bound.steps
+task_view (Infer language entry bound) = infer language entry bound.steps
 task_view (Compile language) = compile language
 task_view Solve = solve
 

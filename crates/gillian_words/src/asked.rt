@@ -71,6 +71,7 @@ fn task_of(alloc: Global, given: &Given) -> Result<Task, WordsFault>
         "run" => run_of(alloc, given),
         "test" => test_of(alloc, given),
         "check" => check_of(given),
+        "infer" => infer_of(alloc, given),
         "compile" => compile_of(given),
         "solve" => solve_of(given),
         _ => Err(WordsFault::Refused),
@@ -123,6 +124,23 @@ fn check_of(given: &Given) -> Result<Task, WordsFault>
     let bound = bound_option(given.bound)?;
     no_option(given.inputs)?;
     Ok(Task::Check { language, bound })
+}
+
+/// The inference that is asked for.
+fn infer_of(alloc: Global, given: &Given) -> Result<Task, WordsFault>
+    requires mode { option_map (λ s. s.now) given.now.mode ≡ Some (codes "infer") }
+    ensures asked { IfOk result (λ task. AsksTask (given_view given.now) (task_view task)) }
+    ensures refused { IsErrOf result WordsFault.Refused → (t : PureTask) → AsksTask (given_view given.now) t → ⊥ }
+{
+    let language = language_of(given.second)?;
+    let entry = entry_option(alloc, given.entry)?;
+    let bound = bound_option(given.bound)?;
+    no_option(given.inputs)?;
+    Ok(Task::Infer {
+        language,
+        entry,
+        bound,
+    })
 }
 
 /// The compilation that is asked for.

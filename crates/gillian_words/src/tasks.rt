@@ -84,6 +84,12 @@ pub enum Task {
         language: Language,
         bound: Bound,
     },
+    /// The specifications of the entry, which may have parameters.
+    Infer {
+        language: Language,
+        entry: Text,
+        bound: Bound,
+    },
     /// The program as GIL text.
     Compile {
         language: Language,
@@ -111,7 +117,11 @@ impl Task {
     {
         match self {
             Task::Compile { .. } => false,
-            Task::Run { .. } | Task::Test { .. } | Task::Check { .. } | Task::Solve => true,
+            Task::Run { .. }
+            | Task::Test { .. }
+            | Task::Check { .. }
+            | Task::Infer { .. }
+            | Task::Solve => true,
         }
     }
 }

@@ -1,0 +1,30 @@
+use Rattle.std.proofs.Common.{sym, subst}
+use Rattle.gil_values.specs.View.{values_view}
+use Rattle.gil_syntax.specs.View.{proc_view}
+use Rattle.pure_terms.specs.Meaning.{AreOver}
+use Rattle.pure_terms.specs.View.{terms_view, atoms_view}
+use Rattle.sym_asking.specs.Asking.{IsSolution, IsRightly}
+use Rattle.sym_asking.specs.View.{satisfiability_view}
+use Rattle.sym_asking.proofs.Fragments.{each_over_all}
+use Rattle.sym_model.specs.View.{path_view as conditions_view}
+use Rattle.sym_paths.specs.View.{path_view}
+use Rattle.sym_states.specs.View.{state_view}
+use Rattle.bi_beginnings.proofs.Openings.{as_many, opens}
+use Rattle.bi_beginnings.proofs.opening.enter.Goals as goal
+
+pub ask-requires : goal.ask-requires
+ask-requires g c =
+    subst (AreOver c.args.state.vars) (sym c.atoms.ensures) (each_over_all c.args.state.vars (conditions_view c.args.state.conds) c.requires.entry.over.conds)
+
+pub start_from-requires : goal.start_from-requires
+start_from-requires g c = as_many (proc_view c.args.proc.now).params (terms_view c.args.args.now) c.requires.args
+
+pub returns-in_ok-start_from-in-Satisfiable-clause-starts : goal.returns-in_ok-start_from-in-Satisfiable-clause-starts
+returns-in_ok-start_from-in-Satisfiable-clause-starts g c =
+    let v = values_view c.in-Satisfiable.field-0 in
+    let right = subst (λ s. IsRightly c.args.state.vars (atoms_view c.atoms.result.now) (satisfiability_view s)) c.in-Satisfiable.is c.in_ok-ask.ensures in (
+      opens g.M.SymMemory.stands g.M.SymMemory.terms g.M.SymMemory.kept (proc_view c.args.proc.now) (state_view c.args.state) (terms_view c.args.args.now)
+          (path_view c.in_ok-start_from-in-Satisfiable.field-0) v c.requires.entry c.requires.args c.in_ok-start_from-in-Satisfiable.ensures
+          (subst (λ atoms. IsSolution c.args.state.vars atoms v) c.atoms.ensures right),
+      tt,
+    )

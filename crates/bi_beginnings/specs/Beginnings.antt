@@ -1,0 +1,75 @@
+-- Where inference begins: the values with which a procedure is entered, of which nothing is known, and heaps that fix the keys which
+-- earlier paths missed. Bi-abduction is that of Calcagno, Distefano, O'Hearn, Yang, POPL 2009.
+use Rattle.std.specs.Prelude.{◌≡◌, ℕ, suc, List, [], ◌∷◌, ◌++◌, map, false, IsTrue}
+use Rattle.std.specs.List.{list_all}
+use Rattle.gil_values.specs.declared.places.Place.{Place}
+use Rattle.gil_values.specs.Pure.{PureValue}
+use Rattle.gil_syntax.specs.Pure.{PureProc}
+use Rattle.mem_model.specs.declared.keys.MemoryName.{MemoryName}
+use Rattle.mem_model.specs.Heaps.{Heap}
+use Rattle.fresh_atoms.specs.Laws.{is_any_or_list}
+use Rattle.pure_terms.specs.declared.variables.Sort.{Sort}
+use Rattle.pure_terms.specs.Meaning.{IsOver, Satisfies}
+use Rattle.pure_terms.specs.Pure.{PureTerm, variable, PureAtom, term_of}
+use Rattle.sym_model.specs.Cores.{TakesBoth}
+use Rattle.sym_model.specs.Lists.{Each}
+use Rattle.sym_model.specs.Meaning.{has_open}
+use Rattle.sym_model.specs.Pure.{PureUse}
+use Rattle.sym_model.specs.Terms.{StateTerms, AreEachOver}
+use Rattle.sym_paths.specs.Beginning.{Begins}
+use Rattle.sym_paths.specs.Meaning.{IsOverTable}
+use Rattle.sym_paths.specs.Pure.{PurePath}
+
+-- ---- tables
+
+-- a variable of sort any for each parameter
+abbrev pub any_for_each : List (List ℕ) → List Sort
+any_for_each params = map (λ x. Sort.Any) params
+
+-- the variables of these sorts, of which the first has the number n
+abbrev pub variables_from : ℕ → List Sort → List PureTerm
+variables_from n [] = []
+variables_from n (sort ∷ sorts) = variable (record { number = n; sort = sort }) ∷ variables_from (suc n) sorts
+
+-- The variables of the parameters, of sort any, and behind them others of sorts any and list: the outs of what fixes missed keys.
+pub record IsEntryTable (params : List (List ℕ)) (vars : List Sort) : Type 0 where
+  pub others : List Sort
+  pub table : vars ≡ any_for_each params ++ others
+  pub sorts : IsTrue (list_all is_any_or_list others)
+
+-- ---- beginnings
+
+-- The table; the uses of core predicates that fix the missed keys; the conditions that are carried; and the place and the choices of the
+-- path that missed the last key.
+pub record PureBeginning : Type 0 where
+  pub vars : List Sort
+  pub uses : List PureUse
+  pub conds : List PureAtom
+  pub place : Place
+  pub choices : List ℕ
+
+-- the beginning that fixes and assumes nothing
+abbrev pub first_beginning : PureProc → PureBeginning
+first_beginning q =
+    record { vars = any_for_each q.params; uses = []; conds = []; place = record { proc = q.name; at = 0 }; choices = [] }
+
+-- The table is that of an entry, the uses are of core predicates of the memory with their numbers of ins and outs, and these and the
+-- conditions name only variables of the table.
+pub record IsBeginning (memory : MemoryName) (params : List (List ℕ)) (b : PureBeginning) : Type 0 where
+  pub table : IsEntryTable params b.vars
+  pub uses : Each (λ u. TakesBoth memory u.core u.ins u.outs × AreEachOver b.vars (u.ins ++ u.outs)) b.uses
+  pub conds : Each (λ a. IsOver b.vars (term_of a)) b.conds
+
+-- ---- paths on which runs begin
+
+-- The path begins in the procedure with a variable for each parameter. Some valuation meets its conditions, none of which needs a
+-- literal form, and under each one that does the memory has a heap. The memory is still one that is listed back.
+pub record IsOpening {S : Type 0} (stands : S → List PureValue → Heap → Type 0) (terms : S → StateTerms) (kept : S → Type 0)
+    (q : PureProc) (path : PurePath S) : Type 0 where
+  pub table : IsEntryTable q.params path.vars
+  pub begins : Begins q (variables_from 0 (any_for_each q.params)) path.vars path.conds path.memory path
+  pub over : IsOverTable terms path
+  pub no_form : has_open path.conds ≡ false
+  pub is_met : (v : List PureValue) × Satisfies path.vars v path.conds
+  pub has_heap : (v : List PureValue) → Satisfies path.vars v path.conds → (h : Heap) × stands path.memory v h
+  pub still_kept : kept path.memory

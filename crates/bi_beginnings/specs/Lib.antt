@@ -1,0 +1,4 @@
+pub mod Beginnings
+pub mod Fixing
+pub mod Opening
+pub mod View

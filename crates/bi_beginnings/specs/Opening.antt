@@ -1,0 +1,58 @@
+-- The states in which a procedure may be entered, and what comes of them.
+use Rattle.std.specs.Prelude.{◌≡◌, ℕ, List, [], ◌∷◌, slice_get, false, Option, Some, None}
+use Rattle.std.specs.FinMap.{empty}
+use Rattle.gil_values.specs.Pure.{PureValue}
+use Rattle.mem_model.specs.Heaps.{Heap}
+use Rattle.pure_terms.specs.declared.queries.Query.{Query}
+use Rattle.pure_terms.specs.declared.variables.Sort.{Sort}
+use Rattle.pure_terms.specs.declared.variables.Var.{Var}
+use Rattle.pure_terms.specs.Meaning.{Satisfies}
+use Rattle.pure_terms.specs.Pure.{PureTerm, variable}
+use Rattle.sym_evaluation.specs.Pure.{PureStore, term_at}
+use Rattle.sym_model.specs.Meaning.{has_open}
+use Rattle.sym_model.specs.Terms.{StateTerms, no_state_terms}
+use Rattle.sym_paths.specs.Pure.{PurePath}
+use Rattle.sym_paths.specs.View.{path_view}
+use Rattle.sym_states.specs.Meaning.{IsOverTable}
+use Rattle.sym_states.specs.Pure.{PureState}
+use Rattle.bi_beginnings.specs.declared.opening.Opening.{Opening}
+use Rattle.bi_beginnings.specs.Beginnings.{IsEntryTable}
+
+-- the term is a variable of the table
+abbrev pub IsVariableOf : List Sort → PureTerm → Type 0
+IsVariableOf vars t = (x : Var) × ((t ≡ variable x) × (slice_get vars x.number ≡ Some x.sort))
+
+-- each name that has a term has a variable of the table
+abbrev pub HasVariables : List Sort → PureStore → Type 0
+HasVariables vars bs = (x : List ℕ) (t : PureTerm) → term_at bs x ≡ Some t → IsVariableOf vars t
+
+-- no condition, no key and no fact
+pub record IsFirstState {S : Type 0} (stands : S → List PureValue → Heap → Type 0) (terms : S → StateTerms) (kept : S → Type 0)
+    (vars : List Sort) (s : PureState S) : Type 0 where
+  pub table : s.vars ≡ vars
+  pub conds : s.conds ≡ []
+  pub given : s.given ≡ []
+  pub facts : s.facts ≡ []
+  pub heap : (v : List PureValue) → stands s.memory v empty
+  pub no_terms : terms s.memory ≡ no_state_terms
+  pub still_kept : kept s.memory
+
+-- The table is that of an entry. Under each valuation that meets the conditions the memory has a heap, unless one of them is that a
+-- literal form is needed. All that the state names is in the table, and its memory is one that is listed back.
+pub record IsEntryState {S : Type 0} (stands : S → List PureValue → Heap → Type 0) (terms : S → StateTerms) (kept : S → Type 0)
+    (params : List (List ℕ)) (s : PureState S) : Type 0 where
+  pub table : IsEntryTable params s.vars
+  pub over : IsOverTable terms s
+  pub has_heap : has_open s.conds ≡ false → (v : List PureValue) → Satisfies s.vars v s.conds → (h : Heap) × stands s.memory v h
+  pub still_kept : kept s.memory
+
+-- the path that comes of a state, and the query, where there is one
+abbrev pub starts_of : {S : Type 0} → Opening S → List (PurePath S)
+starts_of (Opening.Start path) = path_view path ∷ []
+starts_of Opening.Nowhere = []
+starts_of (Opening.Undecided query) = []
+
+abbrev pub undecided_of : {S : Type 0} → Opening S → Option Query
+undecided_of (Opening.Start path) = None
+undecided_of Opening.Nowhere = None
+undecided_of (Opening.Undecided query) = Some query

@@ -1,0 +1,229 @@
+//! Beginnings that fix a key which a path missed.
+ghost use Rattle.std.specs.Prelude.{◌≡◌, ℕ, List, IfOk, IsTrue};
+ghost use Rattle.std.specs.List.{list_all};
+ghost use Rattle.fresh_atoms.specs.Laws.{is_any_or_list as any_or_list};
+ghost use Rattle.pure_terms.specs.Meaning.{IsOver};
+ghost use Rattle.pure_terms.specs.Pure.{term_of};
+ghost use Rattle.pure_terms.specs.View.{terms_view, atom_view, atoms_view};
+ghost use Rattle.sym_model.specs.Lists.{Each};
+ghost use Rattle.sym_model.specs.Terms.{AreEachOver};
+ghost use Rattle.sym_model.specs.View.{fix_view};
+ghost use Rattle.bi_beginnings.specs.Beginnings.{IsBeginning};
+ghost use Rattle.bi_beginnings.specs.Fixing.{IsFixOver, HasCoreNumbers};
+ghost use Rattle.bi_beginnings.specs.View.{beginning_view, beginnings_view, again_view};
+
+use crate::beginnings::{Beginning, Beginnings, copy_choices, copy_table, copy_uses, extended};
+use gil_values::Place;
+use mem_model::{Core, MemoryName};
+use pure_terms::{Atom, Atoms, Sort, Term, Terms, VarTable};
+use sequence::Sequence;
+use std::alloc::{AllocError, Global};
+use sym_conditions::copy_conditions;
+use sym_model::{CoreUse, Fix, Fixes, ListedMemory, Sorts, SymKey, SymSub};
+use sym_paths::{Ended, copy_place};
+
+/// What comes of a path that missed a key.
+#[derive(Debug, Drop)]
+pub enum Again {
+    /// Each of these beginnings fixes it. There is none where the location is a symbol that the run took, since no heap with which it
+    /// was entered has it, or where as many keys as the bound are fixed already.
+    With(Beginnings),
+    /// The key has this term, which names what the run took. So nothing is known of it at the beginning.
+    Late(Term),
+}
+
+// ---- what is carried
+
+fn are_same(first: &Atom, second: &Atom) -> bool {
+    match (first, second) {
+        (Atom::Holds(left), Atom::Holds(right)) => *left == *right,
+        (Atom::Not(left), Atom::Not(right)) => *left == *right,
+        (Atom::Open(left), Atom::Open(right)) => *left == *right,
+        _ => false,
+    }
+}
+
+fn stands_among(atoms: &Atoms, atom: &Atom) -> bool {
+    for other in atoms.as_slice() {
+        if are_same(other, atom) {
+            return true;
+        }
+    }
+    false
+}
+
+/// Whether an atom is in the fragment by itself and names only variables of a table.
+fn may_be_carried(vars: &VarTable, atom: &Atom) -> bool
+    ensures { IsTrue result → IsOver vars.now (term_of (atom_view atom.now)) }
+{
+    atom.term().is_over(vars) && atom.has_fragment_form() && atom.has_narrow_literals()
+}
+
+/// The conditions that are carried to a beginning with this table, each once.
+fn carried(alloc: Global, vars: &VarTable, conds: &Atoms) -> Result<Atoms, AllocError>
+    ensures { IfOk result (λ atoms. Each (λ a. IsOver vars.now (term_of a)) (atoms_view atoms)) }
+{
+    let mut atoms = Sequence::new(alloc);
+    for atom in conds.as_slice() {
+        if may_be_carried(vars, atom) && !stands_among(&atoms, atom) {
+            atoms.push(atom.copy(alloc)?)?;
+        }
+    }
+    Ok(atoms)
+}
+
+/// The beginning of the path, with what is carried from it.
+fn carrying(
+    alloc: Global,
+    beginning: &Beginning,
+    path: &Ended,
+    place: &Place,
+) -> Result<Beginning, AllocError>
+    ensures { IfOk result (λ b. (memory : MemoryName) (params : List (List ℕ)) → IsBeginning memory params (beginning_view beginning.now)
+        → IsBeginning memory params (beginning_view b)) }
+{
+    let vars = copy_table(alloc, &beginning.vars)?;
+    let uses = copy_uses(alloc, &beginning.uses)?;
+    let conds = carried(alloc, &beginning.vars, &path.conds)?;
+    let place = copy_place(alloc, place)?;
+    let choices = copy_choices(alloc, &path.choices)?;
+    Ok(Beginning {
+        vars,
+        uses,
+        conds,
+        place,
+        choices,
+    })
+}
+
+// ---- fixes
+
+/// Whether the terms name only variables of the table.
+fn are_over(vars: &VarTable, terms: &Terms) -> bool
+    ensures { IsTrue result → AreEachOver vars.now (terms_view terms.now) }
+{
+    for term in terms.as_slice() {
+        if !term.is_over(vars) {
+            return false;
+        }
+    }
+    true
+}
+
+fn is_any_or_list(sort: Sort) -> bool
+    ensures { result ≡ any_or_list sort }
+{
+    matches!(sort, Sort::Any | Sort::List)
+}
+
+fn are_any_or_list(sorts: &Sorts) -> bool
+    ensures { result ≡ list_all any_or_list sorts.now }
+{
+    sorts.iter().all(|sort| is_any_or_list(*sort))
+}
+
+/// Whether a fix is of a core predicate of the memory, with its numbers of ins and outs.
+fn has_core_numbers(memory: MemoryName, fix: &Fix) -> bool
+    ensures { IsTrue result → HasCoreNumbers memory (fix_view fix.now) }
+{
+    match Core::from_name(&fix.core) {
+        Some(core) => {
+            core.is_of(memory) && fix.ins.len() == core.ins() && fix.outs.len() == core.outs()
+        }
+        None => false,
+    }
+}
+
+/// Whether a beginning with this table may have a use for the fix.
+fn is_fix_over(memory: MemoryName, vars: &VarTable, fix: &Fix) -> bool
+    ensures { IsTrue result → IsFixOver memory vars.now (fix_view fix.now) }
+{
+    has_core_numbers(memory, fix) && are_over(vars, &fix.ins) && are_any_or_list(&fix.outs)
+}
+
+/// The beginning with a use more, whose outs are new variables.
+fn with_use(alloc: Global, beginning: &Beginning, fix: &Fix) -> Result<Beginning, AllocError>
+    ensures { IfOk result (λ b. (memory : MemoryName) (params : List (List ℕ)) → IsBeginning memory params (beginning_view beginning.now)
+        → IsFixOver memory (beginning_view beginning.now).vars (fix_view fix.now) → IsBeginning memory params (beginning_view b)) }
+{
+    let extended = extended(alloc, &beginning.vars, &fix.outs)?;
+    let core = fix.core.copy(alloc)?;
+    let ins = fix.ins.copy(alloc)?;
+    let mut uses = copy_uses(alloc, &beginning.uses)?;
+    uses.push(CoreUse {
+        core,
+        ins,
+        outs: extended.added,
+    })?;
+    let conds = copy_conditions(alloc, &beginning.conds)?;
+    let place = copy_place(alloc, &beginning.place)?;
+    let choices = copy_choices(alloc, &beginning.choices)?;
+    Ok(Beginning {
+        vars: extended.vars,
+        uses,
+        conds,
+        place,
+        choices,
+    })
+}
+
+/// The beginnings with a use more, one for each fix that may have one.
+fn with_each(
+    alloc: Global,
+    memory: MemoryName,
+    beginning: &Beginning,
+    fixes: &Fixes,
+) -> Result<Beginnings, AllocError>
+    ensures { IfOk result (λ bs. (params : List (List ℕ)) → IsBeginning memory params (beginning_view beginning.now)
+        → Each (IsBeginning memory params) (beginnings_view bs)) }
+{
+    let mut beginnings = Sequence::new(alloc);
+    for fix in fixes.as_slice() {
+        if is_fix_over(memory, &beginning.vars, fix) {
+            beginnings.push(with_use(alloc, beginning, fix)?)?;
+        }
+    }
+    Ok(beginnings)
+}
+
+// ---- what comes of a path
+
+/// The first term of a key that names what isn't in the table.
+fn late_term<'a>(vars: &VarTable, key: &'a SymKey) -> Option<&'a Term> {
+    if !key.loc.is_over(vars) {
+        return Some(&key.loc);
+    }
+    match &key.sub {
+        SymSub::Name(term) | SymSub::At(term) => {
+            if term.is_over(vars) { None } else { Some(term) }
+        }
+        _ => None,
+    }
+}
+
+/// What comes of a path that missed a key, which came of a beginning. Each new beginning has one use more, for the key, and carries
+/// those conditions of the path which are in the fragment by themselves and name only variables of the beginning.
+pub fn begin_again<M: ListedMemory>(
+    alloc: Global,
+    beginning: &Beginning,
+    bound: u32,
+    path: &Ended,
+    key: &SymKey,
+    place: &Place,
+) -> Result<Again, AllocError>
+    ensures { IfOk result (λ again. (params : List (List ℕ)) → IsBeginning M.Local.memory params (beginning_view beginning.now)
+        → Each (IsBeginning M.Local.memory params) (again_view again)) }
+{
+    if key.loc.is_variable_of(Sort::Fresh) {
+        return Ok(Again::With(Sequence::new(alloc)));
+    }
+    if let Some(term) = late_term(&beginning.vars, key) {
+        return Ok(Again::Late(term.copy(alloc)?));
+    }
+    if beginning.uses.len() >= bound as usize {
+        return Ok(Again::With(Sequence::new(alloc)));
+    }
+    let fixes = M::empty(alloc)?.fixes(alloc, key)?;
+    let carrying = carrying(alloc, beginning, path, place)?;
+    Ok(Again::With(with_each(alloc, M::name(), &carrying, &fixes)?))
+}

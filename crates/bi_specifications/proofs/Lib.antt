@@ -1,0 +1,13 @@
+pub mod Along
+pub mod Ends
+pub mod Entering
+pub mod Grown
+pub mod Inhabited
+pub mod Naming
+pub mod PostStores
+pub mod RunsAlong
+pub mod Telling
+pub mod TruePaths
+pub mod Unions
+pub mod Valuing
+pub mod Words

@@ -1,0 +1,103 @@
+-- The specification of an ended path: the text that is told.
+use Rattle.std.specs.Prelude.{◌≡◌, ℕ, suc, ◌-◌, ◌≤◌, ◌<◌, List, [], ◌∷◌, ◌++◌, map, length, drop, Bool, false, not, ◌||◌, IsTrue}
+use Rattle.std.specs.List.{filter, list_all, list_any}
+use Rattle.gil_values.specs.declared.operators.BinOp.TheVariants.{Equal}
+use Rattle.gil_syntax.specs.declared.assertions.Param.{Param}
+use Rattle.gil_syntax.specs.declared.assertions.SpecSort.{SpecSort}
+use Rattle.gil_syntax.specs.Pure.{PureItem, PureProc, PureSpec}
+use Rattle.gil_syntax.specs.Valid.{is_among}
+use Rattle.assertion_terms.specs.Named.{numbered, table_names, assertion_of}
+use Rattle.checked_runs.specs.Specifications.{result_name}
+use Rattle.pure_terms.specs.declared.variables.Sort.{Sort}
+use Rattle.pure_terms.specs.Fragment.{has_fragment_form, names_sort}
+use Rattle.pure_terms.specs.Kinds.{same_sort}
+use Rattle.pure_terms.specs.Naming.{names_number, names_only_below}
+use Rattle.pure_terms.specs.Pure.{PureTerm, variable, binary_of, PureAtom, positive, term_of}
+use Rattle.sym_model.specs.Lists.{Each}
+use Rattle.sym_model.specs.Pure.{PureUse}
+use Rattle.sym_paths.specs.Pure.{PurePath}
+use Rattle.bi_specifications.specs.Specified.{PureEntry}
+
+-- ---- parameters and logical variables
+
+-- the sort of a name, by that of its variable
+abbrev pub name_sort : Sort → SpecSort
+name_sort Sort.Int = SpecSort.Int
+name_sort Sort.Bool = SpecSort.Bool
+name_sort Sort.Str = SpecSort.Str
+name_sort Sort.Sym = SpecSort.Sym
+name_sort Sort.Fresh = SpecSort.Sym
+name_sort Sort.List = SpecSort.List
+name_sort Sort.Any = SpecSort.Any
+
+abbrev pub any_params : List (List ℕ) → List Param
+any_params xs = map (λ x. record { name = x; sort = SpecSort.Any }) xs
+
+-- names for variables of these sorts, of which the first has the number n
+abbrev pub numbered_params : ℕ → List Sort → List Param
+numbered_params n [] = []
+numbered_params n (sort ∷ sorts) = record { name = numbered n; sort = name_sort sort } ∷ numbered_params (suc n) sorts
+
+-- ---- conditions
+
+-- the condition names only variables that were there at the beginning
+abbrev pub is_early : ℕ → PureAtom → Bool
+is_early count a = names_only_below count (term_of a)
+
+abbrev pub early_conds : ℕ → List PureAtom → List PureAtom
+early_conds count conds = filter (is_early count) conds
+
+abbrev pub late_conds : ℕ → List PureAtom → List PureAtom
+late_conds count conds = filter (λ a. not (is_early count a)) conds
+
+-- the result, which has this number, is the value of the term
+abbrev pub result_atom : ℕ → PureTerm → PureAtom
+result_atom n t = positive (binary_of Equal (variable (record { number = n; sort = Sort.Any })) t)
+
+-- ---- the text
+
+module _ {S : Type 0} (q : PureProc) (e : PureEntry) (path : PurePath S) where
+  -- the names at the beginning, and at the end
+  abbrev pub early_names : List (List ℕ)
+  early_names = table_names q.params (e.count - length q.params)
+
+  abbrev pub all_names : List (List ℕ)
+  all_names = table_names q.params (length path.vars - length q.params)
+
+  -- the uses at the beginning, and the conditions on what was there
+  abbrev pub pre_of : List PureItem
+  pre_of = assertion_of early_names e.uses (early_conds e.count path.conds)
+
+  -- the uses at the end, the result, and the conditions on new symbols
+  abbrev pub post_of : List PureUse → PureTerm → List PureItem
+  post_of us t =
+      assertion_of (all_names ++ result_name ∷ []) us (result_atom (length path.vars) t ∷ late_conds e.count path.conds)
+
+  abbrev pub spec_of : List (List PureItem) → List (List PureItem) → PureSpec
+  spec_of posts errors = record {
+    name = q.name;
+    params = any_params q.params;
+    logicals = numbered_params (length q.params) (drop (length q.params) path.vars);
+    pre = pre_of;
+    posts = posts;
+    errors = errors;
+  }
+
+  -- ---- when it may be told
+
+  -- the variable stands in the precondition
+  abbrev pub is_named_early : ℕ → Bool
+  is_named_early k =
+      list_any (λ u. list_any (names_number k) (u.ins ++ u.outs)) e.uses || list_any (λ a. names_number k (term_of a)) (early_conds e.count path.conds)
+
+  -- No parameter has the name of the result. The path drew nothing, and its variables are those of the beginning and behind them new
+  -- symbols. Each variable of the beginning that isn't a parameter stands in the precondition, and each condition that doesn't has a form
+  -- of the fragment and names a new symbol.
+  pub record MayBeTold : Type 0 where
+    pub no_result : is_among q.params result_name ≡ false
+    pub no_draw : path.drawn ≡ []
+    pub params_first : length q.params ≤ e.count
+    pub count_within : e.count ≤ length path.vars
+    pub new_symbols : IsTrue (list_all (same_sort Sort.Fresh) (drop e.count path.vars))
+    pub outs_named : (k : ℕ) → length q.params ≤ k → k < e.count → IsTrue (is_named_early k)
+    pub late_forms : Each (λ a. IsTrue (has_fragment_form a) × IsTrue (names_sort Sort.Fresh (term_of a))) (late_conds e.count path.conds)

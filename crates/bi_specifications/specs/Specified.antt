@@ -1,0 +1,60 @@
+-- Specifications of ended paths: what is told of one is true of all runs.
+use Rattle.std.specs.Prelude.{◌≡◌, ℕ, ℤ, List, length, Bool, true, false, Some, IsTrue}
+use Rattle.gil_values.specs.Pure.{PureValue}
+use Rattle.gil_syntax.specs.Programs.{find_proc}
+use Rattle.gil_syntax.specs.Pure.{PureProc, PureSpec, PureParts}
+use Rattle.gil_syntax.specs.Valid.{IsValid}
+use Rattle.gil_syntax.specs.WellMade.{is_well_made}
+use Rattle.mem_model.specs.declared.keys.MemoryName.{MemoryName}
+use Rattle.mem_model.specs.Actions.{Actions}
+use Rattle.mem_model.specs.Heaps.{Heap}
+use Rattle.checked_runs.specs.Specifications.{SpecHolds}
+use Rattle.inferred_specs.specs.Inferred.{Returns, Cuts, PureFound}
+use Rattle.pure_terms.specs.Pure.{PureTerm}
+use Rattle.sym_explore.specs.Exploring.{IsEndedFrom}
+use Rattle.sym_model.specs.Listing.{IsListing}
+use Rattle.sym_model.specs.Pure.{PureUse}
+use Rattle.sym_model.specs.Terms.{StateTerms}
+use Rattle.sym_paths.specs.Pure.{PurePath}
+use Rattle.bi_beginnings.specs.Beginnings.{IsOpening}
+
+-- Of a specification that is marked cut: each of its runs is cut after n steps. Of one that isn't: it holds of each run, whatever else the
+-- heap has, and its runs return or throw within n steps, draw nothing, and end as its postconditions exactly say. Of both: some heap meets
+-- the precondition.
+abbrev pub IsAsMarked : PureParts → MemoryName → Actions → PureSpec → ℕ → Bool → Type 0
+IsAsMarked p memory m s n true = Cuts p memory m s n
+IsAsMarked p memory m s n false = SpecHolds p memory m s × Returns p memory m s n
+
+-- the specification is one of the procedure, and what its mark says holds
+pub record IsTrulyFound (p : PureParts) (memory : MemoryName) (m : Actions) (f : List ℕ) (n : ℕ) (found : PureFound) : Type 0 where
+  pub of_procedure : found.spec.name ≡ f
+  pub as_marked : IsAsMarked p memory m found.spec n found.cut
+
+-- ---- what is known of the path
+
+-- what is kept of a path on which runs begin: how many variables it has, and its memory as uses of core predicates
+pub record PureEntry : Type 0 where
+  pub count : ℕ
+  pub uses : List PureUse
+
+pub record IsEntryOf (memory : MemoryName) {S : Type 0} (stands : S → List PureValue → Heap → Type 0) (terms : S → StateTerms)
+    (kept : S → Type 0) (start : PurePath S) (e : PureEntry) : Type 0 where
+  pub count : e.count ≡ length start.vars
+  pub listed : IsListing memory stands terms kept start.memory e.uses
+
+module _ {S : Type 0} (memory : MemoryName) (m : Actions) (stands : S → List PureValue → Heap → Type 0) (terms : S → StateTerms)
+    (asked : List ℕ → List PureTerm → List PureTerm × List PureTerm) (depends : S → List ℕ → List PureTerm → List PureValue → Heap → PureTerm → Type 0)
+    (plain : S → ℤ → ℤ → Type 0) (keeps_plain : Type 0) (kept : S → Type 0) (q : PureProc) (e : PureEntry) (path : PurePath S) where
+  -- In a valid program the path came of one on which runs of the procedure begin, and has an end within n steps.
+  pub record IsExplored (p : PureParts) (n : ℕ) : Type 0 where
+    pub well_made : IsTrue (is_well_made p)
+    pub valid : IsValid p
+    pub found : find_proc p.procs q.name ≡ Some q
+    pub start : PurePath S
+    pub opening : IsOpening stands terms kept q start
+    pub entry : IsEntryOf memory stands terms kept start e
+    pub ended : IsEndedFrom p m stands terms asked depends plain keeps_plain n start path
+
+  -- whatever program and bound it was explored with, the specification is truly found
+  abbrev pub IsTrulyTold : PureFound → Type 0
+  IsTrulyTold found = (p : PureParts) (n : ℕ) → IsExplored p n → IsTrulyFound p memory m q.name n found

@@ -1,0 +1,24 @@
+-- The pure data of what is told.
+use Rattle.std.specs.Prelude.{List, map, ⊤}
+use Rattle.bi_specifications.specs.declared.specifying.Entry.{Entry}
+use Rattle.bi_specifications.specs.declared.specifying.Found.{Found}
+use Rattle.bi_specifications.specs.declared.specifying.Told.{Told}
+use Rattle.bi_specifications.specs.Specified.{PureEntry}
+use Rattle.gil_syntax.specs.View.{spec_view}
+use Rattle.inferred_specs.specs.Inferred.{PureFound}
+use Rattle.sym_model.specs.View.{uses_view}
+
+abbrev pub entry_view : Entry → PureEntry
+entry_view e = record { count = e.count; uses = uses_view e.uses }
+
+abbrev pub found_view : Found → PureFound
+found_view f = record { spec = spec_view f.spec; cut = f.cut }
+
+abbrev pub founds_view : List Found → List PureFound
+founds_view fs = map found_view fs
+
+-- what holds of the specification that is told, if one is
+abbrev pub IfTold : Told → (PureFound → Type 0) → Type 0
+IfTold (Told.Found f) Holds = Holds (found_view f)
+IfTold (Told.Unsaid t) Holds = ⊤
+IfTold Told.Nothing Holds = ⊤

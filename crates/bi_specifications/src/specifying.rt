@@ -1,0 +1,235 @@
+//! The specification of a path.
+ghost use Rattle.std.specs.Prelude.{◌≡◌, ℕ, ◌≤◌, ◌<◌, ◌||◌, List, [], ◌∷◌, ◌++◌, length, drop, map, IfOk, IsTrue, Some, true, false};
+ghost use Rattle.std.specs.List.{list_all, list_any};
+ghost use Rattle.checked_runs.specs.Specifications.{result_name as pure_result_name};
+ghost use Rattle.gil_syntax.specs.Valid.{is_among};
+ghost use Rattle.gil_syntax.specs.View.{proc_view, spec_view, assertion_view};
+ghost use Rattle.pure_terms.specs.declared.variables.Sort.{Sort as PureSort};
+ghost use Rattle.pure_terms.specs.Kinds.{same_sort};
+ghost use Rattle.pure_terms.specs.Naming.{names_number};
+ghost use Rattle.pure_terms.specs.Pure.{term_of};
+ghost use Rattle.pure_terms.specs.View.{term_view, atoms_view};
+ghost use Rattle.sym_model.specs.Listing.{IsListing};
+ghost use Rattle.sym_model.specs.Pure.{PureUse};
+ghost use Rattle.sym_model.specs.View.{uses_view};
+ghost use Rattle.sym_paths.specs.View.{end_view, path_view};
+ghost use Rattle.bi_specifications.specs.Shape.{early_conds, late_conds, post_of, spec_of, MayBeTold};
+ghost use Rattle.bi_specifications.specs.Specified.{IsEntryOf, IsTrulyTold};
+ghost use Rattle.bi_specifications.specs.View.{entry_view, found_view, IfTold};
+
+use crate::conditions::{early_conditions, first_unsaid, late_conditions, stands_in};
+use crate::wording::{
+    any_parameters, numbered_variables, only, postcondition, precondition, some_is_result,
+};
+use gil_syntax::{Assertion, Assertions, Proc, Spec};
+use pure_terms::{Atoms, Sort, Term, VarTable};
+use sequence::Sequence;
+use std::alloc::{AllocError, Global};
+use sym_model::{CoreUses, ListedMemory};
+use sym_paths::{Path, PathEnd};
+
+/// What is kept of a path on which runs begin. Contracts see it as its pure data, by `entry_view`.
+#[derive(Debug, Drop)]
+pub struct Entry {
+    /// How many variables it has.
+    pub count: usize,
+    /// Its memory.
+    pub uses: CoreUses,
+}
+
+/// A specification that is found: of runs that end, or of runs that a bound cuts. Contracts see it as its pure data, by `found_view`.
+#[derive(Debug, Drop)]
+pub struct Found {
+    pub spec: Spec,
+    pub cut: bool,
+}
+
+/// A list of specifications that are found, which contracts see as a list of pure data by `founds_view`.
+pub type Founds = Sequence<Found>;
+
+/// What is told of a path that has ended.
+#[derive(Debug, Drop)]
+pub enum Told {
+    Found(Found),
+    /// The path has a condition on this term that no precondition can say, since it names a symbol that the run took.
+    Unsaid(Term),
+    /// No specification is found from it: it drew, failed, missed a key, vanished or is unknown; or a parameter is named as the result.
+    Nothing,
+}
+
+/// What is kept of a path on which runs begin.
+pub fn entry_of<M: ListedMemory>(alloc: Global, start: &Path<M>) -> Result<Entry, AllocError>
+    ensures { IfOk result (λ e. IsEntryOf M.Local.memory M.stands M.terms M.kept (path_view start.now) (entry_view e)) }
+{
+    let uses = start.memory.listing(alloc)?;
+    Ok(Entry {
+        count: start.vars.len(),
+        uses,
+    })
+}
+
+/// Whether each variable from a number on is a new symbol.
+fn are_new_symbols(vars: &VarTable, first: usize) -> bool
+    requires { first ≤ length vars.now }
+    ensures { result ≡ list_all (same_sort PureSort.Fresh) (drop first vars.now) }
+{
+    let sorts = vars.as_slice();
+    for number in first..sorts.len() {
+        if sorts[number] != Sort::Fresh {
+            return false;
+        }
+    }
+    true
+}
+
+/// Whether each variable of the beginning that isn't a parameter stands in the precondition.
+fn are_outs_named(params: usize, entry: &Entry, early: &Atoms) -> bool
+    ensures { IsTrue result → (k : ℕ) → params ≤ k → k < (entry_view entry.now).count
+        → IsTrue (list_any (λ u. list_any (names_number k) (u.ins ++ u.outs)) (entry_view entry.now).uses
+        || list_any (λ a. names_number k (term_of a)) (atoms_view early.now)) }
+{
+    for number in params..entry.count {
+        if !stands_in(&entry.uses, early, number as u64) {
+            return false;
+        }
+    }
+    true
+}
+
+/// Whether the path drew nothing, and has new symbols behind the variables of the beginning, of which the first are the parameters; and
+/// no parameter is named as the result.
+fn grew_by_symbols<M>(proc: &Proc, entry: &Entry, path: &Path<M>) -> bool
+    ensures no_result { IsTrue result → is_among (proc_view proc.now).params pure_result_name ≡ false }
+    ensures no_draw { IsTrue result → (path_view path.now).drawn ≡ [] }
+    ensures params_first { IsTrue result → length (proc_view proc.now).params ≤ (entry_view entry.now).count }
+    ensures count_within { IsTrue result → (entry_view entry.now).count ≤ length (path_view path.now).vars }
+    ensures new_symbols { IsTrue result → IsTrue (list_all (same_sort PureSort.Fresh) (drop (entry_view entry.now).count
+        (path_view path.now).vars)) }
+{
+    if path.drawn.len() > 0 || some_is_result(&proc.params) {
+        return false;
+    }
+    if entry.count < proc.params.len() || path.vars.len() < entry.count {
+        return false;
+    }
+    are_new_symbols(&path.vars, entry.count)
+}
+
+/// The specification with these conditions on what was there and these postconditions.
+fn specification<M>(
+    alloc: Global,
+    proc: &Proc,
+    entry: &Entry,
+    path: &Path<M>,
+    early: &Atoms,
+    posts: Assertions,
+    errors: Assertions,
+) -> Result<Spec, AllocError>
+    requires params_first { length (proc_view proc.now).params ≤ (entry_view entry.now).count }
+    requires count_within { (entry_view entry.now).count ≤ length (path_view path.now).vars }
+    requires early { atoms_view early.now ≡ early_conds (entry_view entry.now).count (path_view path.now).conds }
+    ensures { IfOk result (λ s. spec_view s ≡ spec_of (proc_view proc.now) (entry_view entry.now) (path_view path.now)
+        (map assertion_view posts) (map assertion_view errors)) }
+{
+    let pre = precondition(alloc, &proc.params, entry.count, &entry.uses, early)?;
+    Ok(Spec {
+        name: proc.name.copy(alloc)?,
+        params: any_parameters(alloc, &proc.params)?,
+        logicals: numbered_variables(alloc, &path.vars, proc.params.len())?,
+        pre,
+        posts,
+        errors,
+    })
+}
+
+/// What the path left, with the value of a term.
+fn left_with<M: ListedMemory>(
+    alloc: Global,
+    proc: &Proc,
+    path: &Path<M>,
+    term: &Term,
+    late: &Atoms,
+) -> Result<Assertions, AllocError>
+    requires { length (proc_view proc.now).params ≤ length (path_view path.now).vars }
+    ensures { IfOk result (λ posts. (us : List PureUse) × (IsListing M.Local.memory M.stands M.terms M.kept (path_view path.now).memory us
+        × ((count : ℕ) (uses : List PureUse) → atoms_view late.now ≡ late_conds count (path_view path.now).conds
+        → map assertion_view posts ≡ post_of (proc_view proc.now) (record { count = count; uses = uses }) (path_view path.now) us
+        (term_view term.now) ∷ []))) }
+{
+    let uses = path.memory.listing(alloc)?;
+    let post = postcondition(alloc, &proc.params, path.vars.len(), &uses, term, late)?;
+    let posts = only(alloc, post)?;
+    Ok(posts)
+}
+
+/// What is told of a path with this end, which may be told.
+fn tell<M: ListedMemory>(
+    alloc: Global,
+    proc: &Proc,
+    entry: &Entry,
+    path: &Path<M>,
+    end: &PathEnd,
+    early: &Atoms,
+    late: &Atoms,
+) -> Result<Told, AllocError>
+    requires ends { (path_view path.now).ending ≡ Some (end_view end.now) }
+    requires may { MayBeTold (proc_view proc.now) (entry_view entry.now) (path_view path.now) }
+    requires early { atoms_view early.now ≡ early_conds (entry_view entry.now).count (path_view path.now).conds }
+    requires late { atoms_view late.now ≡ late_conds (entry_view entry.now).count (path_view path.now).conds }
+    ensures { IfOk result (λ told. IfTold told (IsTrulyTold M.Local.memory M.Local.actions M.stands M.terms M.asked M.depends M.plain M.keeps_plain
+        M.kept (proc_view proc.now) (entry_view entry.now) (path_view path.now))) }
+{
+    match end {
+        PathEnd::Returned(term) => {
+            let posts = left_with(alloc, proc, path, term, late)?;
+            let errors = Sequence::new(alloc);
+            let spec = specification(alloc, proc, entry, path, early, posts, errors)?;
+            Ok(Told::Found(Found { spec, cut: false }))
+        }
+        PathEnd::Threw(term, _) => {
+            let errors = left_with(alloc, proc, path, term, late)?;
+            let posts = Sequence::new(alloc);
+            let spec = specification(alloc, proc, entry, path, early, posts, errors)?;
+            Ok(Told::Found(Found { spec, cut: false }))
+        }
+        PathEnd::Cut => {
+            let posts = Sequence::new(alloc);
+            let errors = Sequence::new(alloc);
+            let spec = specification(alloc, proc, entry, path, early, posts, errors)?;
+            Ok(Told::Found(Found { spec, cut: true }))
+        }
+        PathEnd::Failed(_, _)
+        | PathEnd::Missed(_, _)
+        | PathEnd::Unknown(_, _)
+        | PathEnd::Vanished => Ok(Told::Nothing),
+    }
+}
+
+/// The specification that a path tells which returned, threw or was cut, and drew nothing. Its precondition has the memory with which the
+/// path began, and those of its conditions that name only what was there; its postcondition has the memory that it left, its result, and
+/// its conditions on new symbols.
+pub fn specify<M: ListedMemory>(
+    alloc: Global,
+    proc: &Proc,
+    entry: &Entry,
+    path: &Path<M>,
+) -> Result<Told, AllocError>
+    ensures { IfOk result (λ told. IfTold told (IsTrulyTold M.Local.memory M.Local.actions M.stands M.terms M.asked M.depends M.plain M.keeps_plain
+        M.kept (proc_view proc.now) (entry_view entry.now) (path_view path.now))) }
+{
+    let Some(end) = &path.end else {
+        return Ok(Told::Nothing);
+    };
+    if !grew_by_symbols(proc, entry, path) {
+        return Ok(Told::Nothing);
+    }
+    let early = early_conditions(alloc, path.conds.atoms(), entry.count)?;
+    if !are_outs_named(proc.params.len(), entry, &early) {
+        return Ok(Told::Nothing);
+    }
+    let late = late_conditions(alloc, path.conds.atoms(), entry.count)?;
+    if let Some(term) = first_unsaid(alloc, &late)? {
+        return Ok(Told::Unsaid(term));
+    }
+    tell(alloc, proc, entry, path, end, &early, &late)
+}

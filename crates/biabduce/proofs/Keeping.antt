@@ -1,0 +1,90 @@
+-- What inference keeps as it goes on.
+use Rattle.std.proofs.Common.{◌≡◌, ℕ, List, [], ◌∷◌, ◌++◌, Option, Some, None, IfSome, refl, sym, subst}
+use Rattle.std.proofs.lemmas.List.{append-nil}
+use Rattle.gil_syntax.specs.Pure.{PureProc, PureParts}
+use Rattle.mem_model.specs.declared.keys.MemoryName.{MemoryName}
+use Rattle.mem_model.specs.Actions.{Actions}
+use Rattle.pure_terms.specs.Fragment.{InFragment}
+use Rattle.pure_terms.specs.Pure.{PureAtom}
+use Rattle.sym_model.specs.Lists.{Each}
+use Rattle.sym_model.proofs.ListLaws.{each_append}
+use Rattle.bi_beginnings.specs.Beginnings.{any_for_each, first_beginning, PureBeginning, IsBeginning}
+use Rattle.bi_specifications.specs.Specified.{IsTrulyFound}
+use Rattle.inferred_specs.specs.Inferred.{PureFound}
+use Rattle.biabduce.specs.Sound.{PureInference, IsSound, first_list}
+
+-- an element in the middle, and one at the end
+pub each_middle : {A : Type 0} (P : A → Type 0) (xs : List A) (y : A) (ys : List A) → Each P (xs ++ y ∷ ys) → P y
+each_middle P [] y ys all = all.0
+each_middle P (x ∷ xs) y ys all = each_middle P xs y ys all.1
+
+pub each_before : {A : Type 0} (P : A → Type 0) (xs ys : List A) → Each P (xs ++ ys) → Each P xs
+each_before P [] ys all = tt
+each_before P (x ∷ xs) ys all = (all.0, each_before P xs ys all.1)
+
+module _ (p : PureParts) (memory : MemoryName) (m : Actions) (q : PureProc) (n : ℕ) where
+  pub is_first : IsBeginning memory q.params (first_beginning q)
+  is_first = record {
+    table = record { others = []; table = sym (append-nil (any_for_each q.params)); sorts = refl };
+    uses = tt;
+    conds = tt;
+  }
+
+  pub first_sound : IsSound p memory m q n (record { left = first_beginning q ∷ []; founds = []; undecided = None })
+  first_sound = record { left = (is_first, tt); founds = tt; undecided = tt }
+
+  pub begun_sound : (i : PureInference) (more : List PureBeginning) → IsSound p memory m q n i → Each (IsBeginning memory q.params) more
+      → IsSound p memory m q n (record i { left = i.left ++ more })
+  begun_sound i more sound are = record {
+    left = each_append (IsBeginning memory q.params) i.left more sound.left are;
+    founds = sound.founds;
+    undecided = sound.undecided;
+  }
+
+  pub found_sound : (i : PureInference) (found : PureFound) → IsSound p memory m q n i → IsTrulyFound p memory m q.name n found
+      → IsSound p memory m q n (record i { founds = i.founds ++ found ∷ [] })
+  found_sound i found sound is = record {
+    left = sound.left;
+    founds = each_append (IsTrulyFound p memory m q.name n) i.founds (found ∷ []) sound.founds (is, tt);
+    undecided = sound.undecided;
+  }
+
+  first_outside : (o : Option (List PureAtom)) (atoms : List PureAtom) → IfSome o (λ kept. ¬ InFragment kept) → ¬ InFragment atoms
+      → IfSome (first_list o atoms) (λ kept. ¬ InFragment kept)
+  first_outside None atoms none outside = outside
+  first_outside (Some kept) atoms some outside = some
+
+  pub left_sound : (i : PureInference) (atoms : List PureAtom) → IsSound p memory m q n i → ¬ InFragment atoms
+      → IsSound p memory m q n (record i { undecided = first_list i.undecided atoms })
+  left_sound i atoms sound outside = record {
+    left = sound.left;
+    founds = sound.founds;
+    undecided = first_outside i.undecided atoms sound.undecided outside;
+  }
+
+  -- the last beginning is taken out
+  pub taken_sound : (i : PureInference) (rest : List PureBeginning) (b : PureBeginning) → i.left ≡ rest ++ b ∷ [] → IsSound p memory m q n i
+      → IsBeginning memory q.params b × IsSound p memory m q n (record i { left = rest })
+  taken_sound i rest b is sound =
+      let all = subst (Each (IsBeginning memory q.params)) is sound.left in (
+        each_middle (IsBeginning memory q.params) rest b [] all,
+        record { left = each_before (IsBeginning memory q.params) rest (b ∷ []) all; founds = sound.founds; undecided = sound.undecided },
+      )
+
+  -- there was none to take out
+  pub over_sound : (i : PureInference) (rest : List PureBeginning) → i.left ≡ rest → IsSound p memory m q n i → IsSound p memory m q n (record i { left = rest })
+  over_sound i rest is sound = record { left = subst (Each (IsBeginning memory q.params)) is sound.left; founds = sound.founds; undecided = sound.undecided }
+
+  -- ---- the same of what a call made of inference
+
+  pub after_begun : (i j : PureInference) (more : List PureBeginning) → j ≡ record i { left = i.left ++ more } → IsSound p memory m q n i
+      → Each (IsBeginning memory q.params) more → IsSound p memory m q n j
+  after_begun i j more is sound are = subst (IsSound p memory m q n) (sym is) (begun_sound i more sound are)
+
+  pub after_found : (i j : PureInference) (found : PureFound) → j ≡ record i { founds = i.founds ++ found ∷ [] } → IsSound p memory m q n i
+      → IsTrulyFound p memory m q.name n found → IsSound p memory m q n j
+  after_found i j found is sound truly = subst (IsSound p memory m q n) (sym is) (found_sound i found sound truly)
+
+  pub after_left : (i j : PureInference) (atoms : List PureAtom) → j ≡ record i { undecided = first_list i.undecided atoms } → IsSound p memory m q n i
+      → ¬ InFragment atoms → IsSound p memory m q n j
+  after_left i j atoms is sound outside = subst (IsSound p memory m q n) (sym is) (left_sound i atoms sound outside)

@@ -1,0 +1,44 @@
+use Rattle.std.proofs.Common.{◌≡◌, ◌+◌, ◌∷◌, ◌++◌, length, rules, ap, subst, ◌∙◌, arith}
+use Rattle.std.specs.Vec.Iter.{into_iter_items}
+use Rattle.std.proofs.lemmas.List.{map-append}
+use Rattle.gil_program.specs.Program.{prog_view}
+use Rattle.gil_syntax.specs.View.{proc_view}
+use Rattle.sym_engine.proofs.Settled.{rest_more}
+use Rattle.sym_model.specs.Lists.{Each}
+use Rattle.sym_paths.specs.View.{path_view, paths_view}
+use Rattle.sym_step.specs.Stepping.{MayStep}
+use Rattle.bi_beginnings.specs.Beginnings.{IsOpening}
+use Rattle.biabduce.proofs.Keeping.{each_middle}
+use Rattle.biabduce.proofs.inferring.explore_starts.Goals as goal
+
+pub loop-start-init : goal.loop-start-init
+loop-start-init g c = record { counted = search rules; rest = search rules; sound = c.requires.sound }
+
+pub explore_start-requires-clause-opening : goal.explore_start-requires-clause-opening
+explore_start-requires-clause-opening g c =
+    let P = IsOpening g.M.SymMemory.stands g.M.SymMemory.terms g.M.SymMemory.kept (proc_view c.args.proc.now) in
+    let is = c.loop-start.invariant.rest ∙ ap (λ xs. c.loop-start.yielded ++ xs) c.in-Some.ensures.steps.0 in
+    each_middle P (paths_view c.loop-start.yielded) (path_view c.in-Some.start) (paths_view (into_iter_items c.next.new.self))
+    (subst (Each P) (ap paths_view is ∙ map-append path_view c.loop-start.yielded (c.in-Some.start ∷ into_iter_items c.next.new.self)) c.requires.opening)
+
+pub explore_start-requires-clause-step : goal.explore_start-requires-clause-step
+explore_start-requires-clause-step g c =
+    let P = MayStep (prog_view c.args.prog.now) g.M.SymMemory.terms in
+    let is = c.loop-start.invariant.rest ∙ ap (λ xs. c.loop-start.yielded ++ xs) c.in-Some.ensures.steps.0 in
+    each_middle P (paths_view c.loop-start.yielded) (path_view c.in-Some.start) (paths_view (into_iter_items c.next.new.self))
+    (subst (Each P) (ap paths_view is ∙ map-append path_view c.loop-start.yielded (c.in-Some.start ∷ into_iter_items c.next.new.self)) c.requires.step)
+
+pub explore_start-requires-clause-sound : goal.explore_start-requires-clause-sound
+explore_start-requires-clause-sound g c = c.loop-start.invariant.sound
+
+pub loop-start-preserved : goal.loop-start-preserved
+loop-start-preserved g c =
+    let longer : length (into_iter_items c.loop-start.start-iterator) ≡ length (into_iter_items c.next.new.self) + 1 = ap length c.in-Some.ensures.steps.0 ∙ omega arith in
+    record {
+      counted = omega (arith, longer, c.in-Some.ensures.steps.1, c.loop-start.invariant.counted);
+      rest = rest_more c.args.starts c.loop-start.yielded (into_iter_items c.loop-start.start-iterator) (into_iter_items c.next.new.self) c.in-Some.start c.loop-start.invariant.rest c.in-Some.ensures.steps.0;
+      sound = c.in_ok-explore_start.ensures;
+    }
+
+pub returns : goal.returns
+returns g c = c.loop-start.invariant.sound

@@ -1,0 +1,14 @@
+use Rattle.std.proofs.Common.{◌≡◌, ◌++◌, length}
+use Rattle.std.specs.Vec.Iter.{into_iter_len, into_iter_items}
+use Rattle.gil_program.specs.Program.{prog_view}
+use Rattle.gil_syntax.specs.View.{proc_view}
+use Rattle.biabduce.specs.Sound.{IsSound}
+use Rattle.biabduce.specs.View.{inference_view}
+use Rattle.biabduce.proofs.inferring.explore_starts.Given as goal
+
+abbrev pub invariant-loop-start : goal.invariant-loop-start
+invariant-loop-start g l = record {
+  counted : into_iter_len l.start-iterator ≡ length (into_iter_items l.start-iterator);
+  rest : l.fn.starts ≡ l.yielded ++ into_iter_items l.start-iterator;
+  sound : IsSound (prog_view l.prog) g.M.Local.LocalMemory.memory g.M.Local.LocalMemory.actions (proc_view l.proc) l.bound (inference_view l.inference);
+}

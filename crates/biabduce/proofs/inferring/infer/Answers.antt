@@ -1,0 +1,24 @@
+use Rattle.std.proofs.Common.{◌≡◌, Some, sym, ap, subst, ◌∙◌}
+use Rattle.std.specs.Option.{option_map}
+use Rattle.gil_program.specs.Program.{prog_view}
+use Rattle.gil_machine.proofs.Placed.{found_name}
+use Rattle.gil_syntax.specs.Programs.{find_proc}
+use Rattle.gil_syntax.specs.View.{proc_view}
+use Rattle.sym_model.specs.Lists.{Each}
+use Rattle.bi_specifications.specs.Specified.{IsTrulyFound}
+use Rattle.bi_specifications.specs.View.{founds_view}
+use Rattle.biabduce.proofs.inferring.infer.Goals as goal
+
+pub follow_all-requires-clause-found : goal.follow_all-requires-clause-found
+follow_all-requires-clause-found g c =
+    let p = prog_view c.args.prog.now in
+    let q = proc_view c.in-Some.proc.now in
+    let there : find_proc p.procs c.args.name.now ≡ Some q = sym c.proc.ensures ∙ ap (option_map (λ r. proc_view r.now)) c.in-Some.is in
+    ap (find_proc p.procs) (found_name p.procs c.args.name.now q there) ∙ there
+
+pub returns-clause-found : goal.returns-clause-found
+returns-clause-found g c =
+    let p = prog_view c.args.prog.now in
+    let q = proc_view c.in-Some.proc.now in
+    let there : find_proc p.procs c.args.name.now ≡ Some q = sym c.proc.ensures ∙ ap (option_map (λ r. proc_view r.now)) c.in-Some.is in
+    subst (λ f. Each (IsTrulyFound p g.M.Local.LocalMemory.memory g.M.Local.LocalMemory.actions f c.args.bound) (founds_view c.in_ok-inference.inference.founds)) (found_name p.procs c.args.name.now q there) c.in_ok-inference.ensures.founds

@@ -1,0 +1,137 @@
+//! What an ended path tells inference.
+ghost use Rattle.std.specs.Prelude.{ℕ, OnOk};
+ghost use Rattle.std.specs.Option.{option_map};
+ghost use Rattle.gil_syntax.specs.Pure.{PureProc, PureParts};
+ghost use Rattle.gil_syntax.specs.View.{proc_view};
+ghost use Rattle.pure_terms.specs.View.{atoms_view};
+ghost use Rattle.sym_paths.specs.View.{end_view, path_view};
+ghost use Rattle.bi_beginnings.specs.Beginnings.{IsBeginning};
+ghost use Rattle.bi_beginnings.specs.View.{beginning_view};
+ghost use Rattle.bi_specifications.specs.Specified.{IsExplored};
+ghost use Rattle.bi_specifications.specs.View.{entry_view};
+ghost use Rattle.biabduce.specs.Sound.{IsSound, IsUndecidedIfUnknown};
+ghost use Rattle.biabduce.specs.View.{inference_view};
+
+use crate::inferences::Inference;
+use crate::queries::{ask_conditions, ask_form, number_of};
+use bi_beginnings::{Again, Beginning, begin_again};
+use bi_specifications::{Entry, Told, specify};
+use gil_syntax::Proc;
+use gil_values::Place;
+use std::alloc::{AllocError, Global};
+use std::mem::replace;
+use sym_model::{ListedMemory, SymKey};
+use sym_paths::{Ended, Path, PathEnd};
+
+/// What a path tells that returned, threw or was cut.
+fn tell<M: ListedMemory>(
+    alloc: Global,
+    inference: &mut Inference,
+    proc: &Proc,
+    entry: &Entry,
+    path: Path<M>,
+) -> Result<(), AllocError>
+    ensures { OnOk result ((p : PureParts) (n : ℕ)
+        → IsSound p M.Local.memory M.Local.actions (proc_view proc.now) n (inference_view inference.old)
+        → IsExplored M.Local.memory M.Local.actions M.stands M.terms M.asked M.depends M.plain M.keeps_plain M.kept (proc_view proc.now)
+        (entry_view entry.now) (path_view path) p n
+        → IsSound p M.Local.memory M.Local.actions (proc_view proc.now) n (inference_view inference.new)) }
+{
+    match specify(alloc, proc, entry, &path)? {
+        Told::Found(found) => inference.find(found),
+        Told::Unsaid(term) => {
+            let place = Place {
+                proc: proc.name.copy(alloc)?,
+                at: 0,
+            };
+            inference.leave(ask_form(path.into_ended(), place, term)?);
+            Ok(())
+        }
+        Told::Nothing => Ok(()),
+    }
+}
+
+/// Begins again with heaps that have a key which a path missed.
+fn fix<M: ListedMemory>(
+    alloc: Global,
+    inference: &mut Inference,
+    beginning: &Beginning,
+    bound: u32,
+    path: Ended,
+    key: &SymKey,
+    place: Place,
+) -> Result<(), AllocError>
+    ensures { OnOk result ((p : PureParts) (q : PureProc) (n : ℕ)
+        → IsSound p M.Local.memory M.Local.actions q n (inference_view inference.old)
+        → IsBeginning M.Local.memory q.params (beginning_view beginning.now)
+        → IsSound p M.Local.memory M.Local.actions q n (inference_view inference.new)) }
+{
+    match begin_again::<M>(alloc, beginning, bound, &path, key, &place)? {
+        Again::With(beginnings) => inference.begin_with(beginnings),
+        Again::Late(term) => {
+            inference.leave(ask_form(path, place, term)?);
+            Ok(())
+        }
+    }
+}
+
+/// What a path tells that missed a key or is unknown.
+fn go_on<M: ListedMemory>(
+    alloc: Global,
+    inference: &mut Inference,
+    beginning: &Beginning,
+    bound: u32,
+    path: Ended,
+) -> Result<(), AllocError>
+    ensures { OnOk result ((p : PureParts) (q : PureProc) (n : ℕ)
+        → IsSound p M.Local.memory M.Local.actions q n (inference_view inference.old)
+        → IsBeginning M.Local.memory q.params (beginning_view beginning.now)
+        → IsUndecidedIfUnknown (option_map end_view path.end) (atoms_view path.conds)
+        → IsSound p M.Local.memory M.Local.actions q n (inference_view inference.new)) }
+{
+    let mut path = path;
+    match replace(&mut path.end, None) {
+        Some(PathEnd::Missed(key, place)) => {
+            fix::<M>(alloc, inference, beginning, bound, path, &key, place)
+        }
+        Some(PathEnd::Unknown(place, reason)) => {
+            inference.leave(ask_conditions(path, place, number_of(reason)));
+            Ok(())
+        }
+        _ => Ok(()),
+    }
+}
+
+/// Whether a run that ends so has a specification.
+fn is_told(end: &Option<PathEnd>) -> bool {
+    matches!(
+        end,
+        Some(PathEnd::Returned(_) | PathEnd::Threw(_, _) | PathEnd::Cut)
+    )
+}
+
+/// What an ended path tells. One that drew tells nothing.
+pub(crate) fn take_end<M: ListedMemory>(
+    alloc: Global,
+    inference: &mut Inference,
+    proc: &Proc,
+    beginning: &Beginning,
+    entry: &Entry,
+    bound: u32,
+    path: Path<M>,
+) -> Result<(), AllocError>
+    ensures { OnOk result ((p : PureParts) (n : ℕ)
+        → IsSound p M.Local.memory M.Local.actions (proc_view proc.now) n (inference_view inference.old)
+        → IsBeginning M.Local.memory (proc_view proc.now).params (beginning_view beginning.now)
+        → IsExplored M.Local.memory M.Local.actions M.stands M.terms M.asked M.depends M.plain M.keeps_plain M.kept (proc_view proc.now)
+        (entry_view entry.now) (path_view path) p n
+        → IsSound p M.Local.memory M.Local.actions (proc_view proc.now) n (inference_view inference.new)) }
+{
+    if path.drawn.len() > 0 {
+        return Ok(());
+    }
+    if is_told(&path.end) {
+        return tell(alloc, inference, proc, entry, path);
+    }
+    go_on::<M>(alloc, inference, beginning, bound, path.into_ended())
+}

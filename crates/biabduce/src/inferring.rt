@@ -1,0 +1,187 @@
+//! The inference of a procedure's specifications.
+ghost use Rattle.std.specs.Prelude.{◌≡◌, ◌≤◌, Some, IfOk, IfSome, IsSome, OnOk};
+ghost use Rattle.gil_program.specs.Program.{prog_view};
+ghost use Rattle.gil_syntax.specs.Programs.{find_proc};
+ghost use Rattle.gil_syntax.specs.View.{proc_view};
+ghost use Rattle.pure_terms.specs.Fragment.{InFragment};
+ghost use Rattle.pure_terms.specs.View.{atoms_view};
+ghost use Rattle.sym_model.specs.Lists.{Each};
+ghost use Rattle.sym_paths.specs.View.{path_view, paths_view};
+ghost use Rattle.sym_step.specs.Stepping.{MayStep};
+ghost use Rattle.bi_beginnings.specs.Beginnings.{IsBeginning, IsOpening};
+ghost use Rattle.bi_beginnings.specs.View.{beginning_view};
+ghost use Rattle.bi_specifications.specs.Specified.{IsTrulyFound};
+ghost use Rattle.bi_specifications.specs.View.{founds_view};
+ghost use Rattle.biabduce.specs.Sound.{IsSound};
+ghost use Rattle.biabduce.specs.View.{inference_view};
+
+use crate::ends::take_end;
+use crate::inferences::Inference;
+use bi_beginnings::{Beginning, Opened, begin};
+use bi_specifications::{Founds, entry_of};
+use gil_program::Prog;
+use gil_syntax::Proc;
+use gil_values::Text;
+use pure_terms::{Decider, Query};
+use rewrite_book::RuleBook;
+use std::alloc::{AllocError, Global};
+use sym_explore::Exploration;
+use sym_model::ListedMemory;
+use sym_paths::{Path, Paths};
+
+/// What is inferred of a procedure.
+#[derive(Debug, Drop)]
+pub struct Inferred {
+    pub founds: Founds,
+    /// The first list of conditions that wasn't decided, if there is one.
+    pub unknown: Option<Query>,
+}
+
+/// Takes what each path tells that comes of one on which runs begin.
+fn explore_start<M: ListedMemory, D: Decider>(
+    alloc: Global,
+    prog: &Prog,
+    proc: &Proc,
+    bound: u32,
+    rules: &RuleBook,
+    decider: &mut D,
+    inference: &mut Inference,
+    beginning: &Beginning,
+    start: Path<M>,
+) -> Result<(), AllocError>
+    requires found { find_proc (prog_view prog.now).procs (proc_view proc.now).name ≡ Some (proc_view proc.now) }
+    requires bounded { bound ≤ 10000 }
+    requires beginning { IsBeginning M.Local.memory (proc_view proc.now).params (beginning_view beginning.now) }
+    requires opening { IsOpening M.stands M.terms M.kept (proc_view proc.now) (path_view start) }
+    requires step { MayStep (prog_view prog.now) M.terms (path_view start) }
+    requires sound { IsSound (prog_view prog.now) M.Local.memory M.Local.actions (proc_view proc.now) bound (inference_view inference.old) }
+    ensures { OnOk result (IsSound (prog_view prog.now) M.Local.memory M.Local.actions (proc_view proc.now) bound (inference_view inference.new)) }
+{
+    let entry = entry_of(alloc, &start)?;
+    let mut exploration = Exploration::new(alloc, start)?;
+    for _turn in 0..u64::MAX {
+        match exploration.next_ended(alloc, prog, bound, rules, decider)? {
+            None => return Ok(()),
+            Some(path) => take_end(alloc, inference, proc, beginning, &entry, bound, path)?,
+        }
+    }
+    Err(AllocError)
+}
+
+/// Takes what each path tells that comes of those on which runs begin.
+fn explore_starts<M: ListedMemory, D: Decider>(
+    alloc: Global,
+    prog: &Prog,
+    proc: &Proc,
+    bound: u32,
+    rules: &RuleBook,
+    decider: &mut D,
+    inference: &mut Inference,
+    beginning: &Beginning,
+    starts: Paths<M>,
+) -> Result<(), AllocError>
+    requires found { find_proc (prog_view prog.now).procs (proc_view proc.now).name ≡ Some (proc_view proc.now) }
+    requires bounded { bound ≤ 10000 }
+    requires beginning { IsBeginning M.Local.memory (proc_view proc.now).params (beginning_view beginning.now) }
+    requires opening { Each (IsOpening M.stands M.terms M.kept (proc_view proc.now)) (paths_view starts) }
+    requires step { Each (MayStep (prog_view prog.now) M.terms) (paths_view starts) }
+    requires sound { IsSound (prog_view prog.now) M.Local.memory M.Local.actions (proc_view proc.now) bound (inference_view inference.old) }
+    ensures { OnOk result (IsSound (prog_view prog.now) M.Local.memory M.Local.actions (proc_view proc.now) bound (inference_view inference.new)) }
+{
+    for start in starts.into_vec() {
+        explore_start(
+            alloc, prog, proc, bound, rules, decider, inference, beginning, start,
+        )?;
+    }
+    Ok(())
+}
+
+/// Takes what the paths tell that come of a beginning.
+fn follow<M: ListedMemory, D: Decider>(
+    alloc: Global,
+    prog: &Prog,
+    proc: &Proc,
+    bound: u32,
+    rules: &RuleBook,
+    decider: &mut D,
+    inference: &mut Inference,
+    beginning: &Beginning,
+) -> Result<(), AllocError>
+    requires found { find_proc (prog_view prog.now).procs (proc_view proc.now).name ≡ Some (proc_view proc.now) }
+    requires bounded { bound ≤ 10000 }
+    requires beginning { IsBeginning M.Local.memory (proc_view proc.now).params (beginning_view beginning.now) }
+    requires sound { IsSound (prog_view prog.now) M.Local.memory M.Local.actions (proc_view proc.now) bound (inference_view inference.old) }
+    ensures { OnOk result (IsSound (prog_view prog.now) M.Local.memory M.Local.actions (proc_view proc.now) bound (inference_view inference.new)) }
+{
+    let Opened { starts, undecided } = begin::<M, D>(alloc, prog, proc, beginning, decider)?;
+    if let Some(query) = undecided {
+        inference.leave(query);
+    }
+    explore_starts(
+        alloc, prog, proc, bound, rules, decider, inference, beginning, starts,
+    )
+}
+
+/// Follows each beginning, until none is left.
+fn follow_all<M: ListedMemory, D: Decider>(
+    alloc: Global,
+    prog: &Prog,
+    proc: &Proc,
+    bound: u32,
+    rules: &RuleBook,
+    decider: &mut D,
+) -> Result<Inference, AllocError>
+    requires found { find_proc (prog_view prog.now).procs (proc_view proc.now).name ≡ Some (proc_view proc.now) }
+    requires bounded { bound ≤ 10000 }
+    ensures { IfOk result (λ i. IsSound (prog_view prog.now) M.Local.memory M.Local.actions (proc_view proc.now) bound (inference_view i)) }
+{
+    let mut inference = Inference::new(alloc, proc)?;
+    for _turn in 0..u64::MAX {
+        let Some(beginning) = inference.left.pop() else {
+            return Ok(inference);
+        };
+        follow::<M, D>(
+            alloc,
+            prog,
+            proc,
+            bound,
+            rules,
+            decider,
+            &mut inference,
+            &beginning,
+        )?;
+    }
+    Err(AllocError)
+}
+
+/// Specifications of a procedure, found from its code alone. Each of them holds of every run, its runs return or throw or are cut as it is
+/// marked, and it is exact. Where the conditions of a path can't be decided or said, that list of conditions is answered, and what is
+/// found elsewhere all the same.
+pub fn infer<M: ListedMemory, D: Decider>(
+    alloc: Global,
+    prog: &Prog,
+    name: &Text,
+    bound: u32,
+    rules: &RuleBook,
+    decider: &mut D,
+) -> Result<Inferred, AllocError>
+    requires entry { IsSome (find_proc (prog_view prog.now).procs name.now) }
+    requires bounded { bound ≤ 10000 }
+    ensures found { IfOk result (λ i. Each (IsTrulyFound (prog_view prog.now) M.Local.memory M.Local.actions name.now bound) (founds_view i.founds)) }
+    ensures unknown { IfOk result (λ i. IfSome i.unknown (λ q. ¬ InFragment (atoms_view q.query))) }
+{
+    let proc = match prog.proc(name) {
+        Some(proc) => proc,
+        None => unreachable!(),
+    };
+    let inference = follow_all::<M, D>(alloc, prog, proc, bound, rules, decider)?;
+    let Inference {
+        left: _,
+        founds,
+        undecided,
+    } = inference;
+    Ok(Inferred {
+        founds,
+        unknown: undecided,
+    })
+}

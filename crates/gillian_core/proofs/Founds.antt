@@ -1,0 +1,55 @@
+-- Specifications that are found as they are reported.
+use Rattle.std.proofs.Common.{◌≡◌, ℕ, List, [], ◌∷◌, ◌++◌, map, Option, Some, None, IfSome, ap, ap₂, sym, ◌∙◌}
+use Rattle.std.specs.Option.{option_map}
+use Rattle.std.proofs.lemmas.List.{append-nil, map-append}
+use Rattle.bi_specifications.specs.declared.specifying.Found.{Found}
+use Rattle.bi_specifications.specs.View.{found_view, founds_view}
+use Rattle.gil_report.specs.declared.answers.Answer.{Answer}
+use Rattle.gil_report.specs.Pure.{PureAnswer, found, undecided}
+use Rattle.gil_report.specs.View.{answer_view}
+use Rattle.inferred_specs.specs.Inferred.{PureFound}
+use Rattle.mem_model.specs.declared.keys.MemoryName.{MemoryName}
+use Rattle.mem_model.specs.Actions.{Actions}
+use Rattle.gil_syntax.specs.Pure.{PureParts}
+use Rattle.bi_specifications.specs.Specified.{IsTrulyFound}
+use Rattle.pure_terms.specs.declared.queries.Query.{Query}
+use Rattle.pure_terms.specs.Fragment.{InFragment}
+use Rattle.pure_terms.specs.View.{atoms_view}
+use Rattle.sym_model.specs.Lists.{Each}
+use Rattle.sym_test.specs.View.{query_view}
+use Rattle.gillian_core.specs.Answers.{question_of}
+use Rattle.gillian_core.specs.Inferred.{AreRightFounds, found_answers, question_answers}
+
+abbrev told_by : PureFound → PureAnswer
+told_by f = found f.spec f.cut
+
+-- the answers to one specification more
+pub one_more_found : (told : List Found) (f : Found) (answers more : List Answer) (a : Answer) → more ≡ answers ++ a ∷ []
+    → answer_view a ≡ found (found_view f).spec (found_view f).cut → map answer_view answers ≡ found_answers (founds_view told)
+    → map answer_view more ≡ found_answers (founds_view (told ++ f ∷ []))
+one_more_found told f answers more a pushed is before =
+    ap (map answer_view) pushed ∙ map-append answer_view answers (a ∷ []) ∙ ap₂ (λ (xs : List PureAnswer) (x : PureAnswer). xs ++ x ∷ []) before is
+    ∙ sym (ap (map told_by) (map-append found_view told (f ∷ [])) ∙ map-append told_by (map found_view told) (found_view f ∷ []))
+
+-- what isn't decided stands behind the answers
+pub one_question : (answers more : List Answer) (a : Answer) (q : Query) → more ≡ answers ++ a ∷ [] → answer_view a ≡ undecided (question_of (query_view q))
+    → map answer_view more ≡ map answer_view answers ++ question_answers (Some (query_view q))
+one_question answers more a q pushed is =
+    ap (map answer_view) pushed ∙ map-append answer_view answers (a ∷ []) ∙ ap (λ (x : PureAnswer). map answer_view answers ++ x ∷ []) is
+
+undecided_query : (o : Option Query) → IfSome o (λ q. ¬ InFragment (atoms_view q.query)) → IfSome (option_map query_view o) (λ q. ¬ InFragment q.query)
+undecided_query None is_open = tt
+undecided_query (Some q) is_open = is_open
+
+-- what is found, with what isn't decided, is right
+pub right_founds : (p : PureParts) (memory : MemoryName) (m : Actions) (f : List ℕ) (n : ℕ) (told : List Found) (o : Option Query)
+    (answers : List Answer) (reported : List PureAnswer) → Each (IsTrulyFound p memory m f n) (founds_view told)
+    → IfSome o (λ q. ¬ InFragment (atoms_view q.query)) → map answer_view answers ≡ found_answers (founds_view told)
+    → reported ≡ map answer_view answers ++ question_answers (option_map query_view o) → AreRightFounds p memory m f n reported
+right_founds p memory m f n told o answers reported true_ones is_open before is = record {
+  founds = founds_view told;
+  unknown = option_map query_view o;
+  in_order = is ∙ ap (λ (xs : List PureAnswer). xs ++ question_answers (option_map query_view o)) before;
+  truly_found = true_ones;
+  undecided_one = undecided_query o is_open;
+}

@@ -1,0 +1,29 @@
+-- What the answers of inference say.
+use Rattle.std.specs.Prelude.{◌≡◌, ℕ, List, [], ◌∷◌, ◌++◌, map, Option, Some, None, IfSome}
+use Rattle.gil_syntax.specs.Pure.{PureParts}
+use Rattle.mem_model.specs.declared.keys.MemoryName.{MemoryName}
+use Rattle.mem_model.specs.Actions.{Actions}
+use Rattle.inferred_specs.specs.Inferred.{PureFound}
+use Rattle.bi_specifications.specs.Specified.{IsTrulyFound}
+use Rattle.pure_terms.specs.Fragment.{InFragment}
+use Rattle.sym_model.specs.Lists.{Each}
+use Rattle.sym_test.specs.View.{PureQuery}
+use Rattle.gil_report.specs.Pure.{PureAnswer, found, undecided}
+use Rattle.gillian_core.specs.Answers.{question_of}
+
+-- the answers that tell specifications, and what isn't decided
+abbrev pub found_answers : List PureFound → List PureAnswer
+found_answers founds = map (λ f. found f.spec f.cut) founds
+
+abbrev pub question_answers : Option PureQuery → List PureAnswer
+question_answers None = []
+question_answers (Some q) = undecided (question_of q) ∷ []
+
+-- The answers are specifications, each truly found of the procedure within the bound, and behind them at most one list of conditions that
+-- isn't in the fragment.
+pub record AreRightFounds (p : PureParts) (memory : MemoryName) (m : Actions) (f : List ℕ) (n : ℕ) (answers : List PureAnswer) : Type 0 where
+  pub founds : List PureFound
+  pub unknown : Option PureQuery
+  pub in_order : answers ≡ found_answers founds ++ question_answers unknown
+  pub truly_found : Each (IsTrulyFound p memory m f n) founds
+  pub undecided_one : IfSome unknown (λ q. ¬ InFragment q.query)
