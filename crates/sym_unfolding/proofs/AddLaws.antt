@@ -14,12 +14,13 @@ use Rattle.mem_model.specs.Heaps.{Heap}
 use Rattle.assert_logic.specs.Adding.{IsAdding}
 use Rattle.assert_logic.specs.LogicStates.{Fact, LogicState}
 use Rattle.assert_logic.specs.Names.{named_by_items}
+use Rattle.assert_logic.specs.Sorts.{fits_sorts}
 use Rattle.pure_terms.specs.declared.variables.Sort.{Sort}
 use Rattle.pure_terms.specs.Laws.{AgreeOn}
 use Rattle.pure_terms.specs.Meaning.{both, values, all_true, IsProper, IsOver}
 use Rattle.pure_terms.specs.Pure.{PureTerm, PureAtom, term_of, from_list, variables}
 use Rattle.pure_terms.proofs.VariableLaws.{slice_get-append, stay_when_tables_grow}
-use Rattle.sym_evaluation.specs.Meaning.{IsStoreOver}
+use Rattle.sym_evaluation.specs.Meaning.{IsStoreOver, StandsFor}
 use Rattle.sym_evaluation.specs.Pure.{PureStore}
 use Rattle.sym_model.specs.Laws.{IsMeaning}
 use Rattle.sym_model.specs.Lists.{Each, OneOf}
@@ -27,16 +28,18 @@ use Rattle.sym_model.specs.Meaning.{is_open, has_open}
 use Rattle.sym_model.specs.Terms.{StateTerms, all_of, AreEachOver}
 use Rattle.sym_model.proofs.ListLaws.{same_some, not_none, each_append, each_left, each_right, each_to, each_map, one_left, one_right, one_map, one_to}
 use Rattle.sym_naming.specs.Naming.{PureNamed, MayName, IsNamedAs, IsNaming, NamesAll}
+use Rattle.sym_naming.proofs.NamingLaws.{proper_sorts, store_longer}
 use Rattle.sym_naming.proofs.AddedNames.{added_known, added_same}
 use Rattle.sym_naming.proofs.Names.{or_left, or_right, same_name}
+use Rattle.sym_states.proofs.Conditions.{none_open}
 use Rattle.sym_states.specs.Laws.{ComeFromItems}
 use Rattle.sym_states.specs.Meaning.{Stands, Serves, IsOverTable, AreFacts}
 use Rattle.sym_states.specs.Producing.{IsProduced, is_begun, is_added, IsStopped, added_conds}
 use Rattle.sym_states.specs.Pure.{PureFact, PureState}
-use Rattle.sym_unfolding.specs.Adding.{AddsOver, MayBeAdded, IsAddedAs, AddsItems, AddsCases, numbered}
+use Rattle.sym_unfolding.specs.Adding.{AddsOver, MayBeAdded, IsAddedAs, IsBefore, AddsExactly, AddsItems, AddsCases, numbered}
 use Rattle.sym_unfolding.specs.Further.{IsFurther}
-use Rattle.sym_unfolding.specs.Unfolding.{PureUnfoldedCase}
-use Rattle.sym_unfolding.proofs.SearchLaws.{joined_true}
+use Rattle.sym_unfolding.specs.Unfolding.{PureUnfoldedCase, IsMetAfter}
+use Rattle.sym_unfolding.proofs.SearchLaws.{joined_true, true_parts}
 
 -- ---- lists and results
 
@@ -72,6 +75,10 @@ drop_front (x ∷ xs) ys = drop_front xs ys
 pub open_later : (a b : List PureAtom) → IsTrue (has_open b) → IsTrue (has_open (a ++ b))
 open_later a b form = list_any-append is_open a b ∙ or_right (has_open a) (has_open b) form
 
+at_last : {X : Type 0} (xs : List X) (y : X) → slice_get (xs ++ y ∷ []) (length xs) ≡ Some y
+at_last [] y = refl
+at_last (x ∷ xs) y = at_last xs y
+
 last_or_before : {X : Type 0} (xs : List X) (y : X) (i : ℕ) (z : X) → slice_get (xs ++ y ∷ []) i ≡ Some z → (slice_get xs i ≡ Some z) ⊎ ((i ≡ length xs) × (y ≡ z))
 last_or_before [] y zero z is = inr (refl, same_some is)
 last_or_before [] y (suc i) z is = not_none is
@@ -81,7 +88,7 @@ last_or_before (x ∷ xs) y (suc i) z is = ⊎_elim inl (λ (last : (i ≡ lengt
 -- ---- larger tables
 
 module _ (vars : List Sort) (v more : List PureValue) (one_each : length v ≡ length vars) where
-  conds_longer : (atoms : List PureAtom) → Each (λ a. IsOver vars (term_of a)) atoms → all_true (v ++ more) atoms ≡ all_true v atoms
+  pub conds_longer : (atoms : List PureAtom) → Each (λ a. IsOver vars (term_of a)) atoms → all_true (v ++ more) atoms ≡ all_true v atoms
   conds_longer [] over = refl
   conds_longer (a ∷ atoms) over = λ i. stay_when_tables_grow.truths a vars v more over.0 one_each i && conds_longer atoms over.1 i
 
@@ -145,9 +152,14 @@ module _ {S : Type 0} (stands : S → List PureValue → Heap → Type 0) (terms
             same_else = stopped.last.same_else ∙ ap (λ (x : PureState S). record x { conds = r.conds; memory = r.memory; facts = r.facts }) earlier.same_else;
           }
 
-both_each : {A : Type 0} (P Q R : A → Type 0) (xs : List A) → ((x : A) → P x → Q x → R x) → Each P xs → Each Q xs → Each R xs
+pub both_each : {A : Type 0} (P Q R : A → Type 0) (xs : List A) → ((x : A) → P x → Q x → R x) → Each P xs → Each Q xs → Each R xs
 both_each P Q R [] f first second = tt
 both_each P Q R (x ∷ xs) f first second = (f x first.0 second.0, both_each P Q R xs f first.1 second.1)
+
+-- what is so of each element for each t is so for each t of each element
+pub each_for_all : {T A : Type 0} (P : T → A → Type 0) (xs : List A) → ((t : T) → Each (P t) xs) → Each (λ x. (t : T) → P t x) xs
+each_for_all P [] all = tt
+each_for_all P (x ∷ xs) all = ((λ t. (all t).0), each_for_all P xs (λ t. (all t).1))
 
 one_of_each : {A : Type 0} (P Q R : A → Type 0) (xs : List A) → Each P xs → OneOf Q xs → ((x : A) → P x → Q x → R x) → OneOf R xs
 one_of_each P Q R [] all one f = absurd one
@@ -177,6 +189,7 @@ module _ {S : Type 0} (memory : MemoryName) (stands : S → List PureValue → H
   pub none_added : NamesAll ps xs s.vars bs None → AddsItems memory stands terms kept ps bs more items s []
   none_added none = record {
     cover = λ v u t left next may adding. absurd (none v u t (may_name v u t left next may adding));
+    exact = λ v values left before. tt;
     follow = λ over store_over conds. tt;
   }
 
@@ -218,18 +231,39 @@ module _ {S : Type 0} (memory : MemoryName) (stands : S → List PureValue → H
     later : Each (IsLater stands terms named.store adds.first) rs
     later = come_later stands terms named.store adds.first items rs adds.origin
 
+    later_table : (r : PureState S) → IsLater stands terms named.store adds.first r → r.vars ≡ named.vars
+    later_table r l = ap (λ (x : PureState S). x.vars) l.same_else ∙ table
+
     -- the conditions that a later state has beside those of the state
     added_since : (r : PureState S) (l : IsLater stands terms named.store adds.first r) → added_conds s r ≡ more ++ added_conds adds.first r
     added_since r l =
         let whole : r.conds ≡ s.conds ++ (more ++ l.rest) = l.conds ∙ ap (λ cs. cs ++ l.rest) conds ∙ append_assoc s.conds more l.rest in
         ap (drop (length s.conds)) whole ∙ drop_front s.conds (more ++ l.rest) ∙ ap (λ cs. more ++ cs) (sym (ap (drop (length adds.first.conds)) l.conds ∙ drop_front adds.first.conds l.rest))
 
+    -- under a valuation of the larger table, the first state and the new store serve
+    serves_with : (v values : List PureValue) (t : Store) (left : LogicState) → IsBefore memory stands terms kept ps bs more s v left → IsTrue (all_true v more) → IsProper named.vars (v ++ values) → StandsFor (v ++ values) named.store t
+        → Serves stands terms adds.first named.store (v ++ values) t left
+    serves_with v values t left before conds_true proper stood =
+        let one_each : length v ≡ length s.vars = before.stands_for.proper.one_each in
+        record {
+          over = first_over before.over before.conds_over;
+          store_over = store_over before.store_over;
+          store = stood;
+          state = record {
+            proper = subst (λ (vars : List Sort). IsProper vars (v ++ values)) (sym table) proper;
+            meets = subst (λ (cs : List PureAtom). IsTrue (all_true (v ++ values) cs)) (sym conds)
+                (joined_true (v ++ values) s.conds more
+                (conds_longer s.vars v values one_each s.conds before.over.conds ∙ before.stands_for.meets)
+                (conds_longer s.vars v values one_each more before.conds_over ∙ conds_true));
+            memory = adds.same_memory.stays (v ++ values) left.heap
+                (meaning.local s.memory v (v ++ values) left.heap (each_to (IsOver s.vars) (λ r. AgreeOn (variables r) v (v ++ values)) (all_of (terms s.memory)) (agree_longer s.vars v values one_each) before.over.memory) before.stands_for.memory);
+            facts = subst (λ (cs : List PureFact). AreFacts (v ++ values) cs left.facts) (sym facts) (facts_longer s.vars v values one_each s.facts left.facts before.over.facts before.stands_for.facts);
+          };
+        }
+
     module _ (v : List PureValue) (u t : Store) (left next : LogicState) (may : MayBeAdded memory stands terms kept ps bs more s v u t left) (adding : IsAdding memory t items left next) where
       abbrev n : IsNamedAs ps xs s.vars bs v u t named
       n = naming.cover v u t (may_name v u t left next may adding)
-
-      one_each : length v ≡ length s.vars
-      one_each = may.stands_for.proper.one_each
 
       under_store : IsAdding memory n.store items left next
       under_store = record {
@@ -238,27 +272,15 @@ module _ {S : Type 0} (memory : MemoryName) (stands : S → List PureValue → H
       }
 
       serves : Serves stands terms adds.first named.store (v ++ n.values) n.store left
-      serves = record {
-        over = first_over may.over may.conds_over;
-        store_over = store_over may.store_over;
-        store = n.stands;
-        state = record {
-          proper = subst (λ (vars : List Sort). IsProper vars (v ++ n.values)) (sym table) n.proper;
-          meets = subst (λ (cs : List PureAtom). IsTrue (all_true (v ++ n.values) cs)) (sym conds)
-              (joined_true (v ++ n.values) s.conds more
-              (conds_longer s.vars v n.values one_each s.conds may.over.conds ∙ may.stands_for.meets)
-              (conds_longer s.vars v n.values one_each more may.conds_over ∙ may.conds_true));
-          memory = adds.same_memory.stays (v ++ n.values) left.heap
-              (meaning.local s.memory v (v ++ n.values) left.heap (each_to (IsOver s.vars) (λ r. AgreeOn (variables r) v (v ++ n.values)) (all_of (terms s.memory)) (agree_longer s.vars v n.values one_each) may.over.memory) may.stands_for.memory);
-          facts = subst (λ (cs : List PureFact). AreFacts (v ++ n.values) cs left.facts) (sym facts) (facts_longer s.vars v n.values one_each s.facts left.facts may.over.facts may.stands_for.facts);
-        };
-      }
+      serves =
+          serves_with v n.values n.store left (record { over = may.over; store_over = may.store_over; conds_over = may.conds_over; stands_for = may.stands_for }) may.conds_true n.proper n.stands
 
       added_as : (r : PureState S) → IsLater stands terms named.store adds.first r → IsTrue (all_true (v ++ n.values) r.conds) × (IsTrue (has_open (added_conds adds.first r)) ⊎ Stands stands r (v ++ n.values) next) → IsAddedAs memory stands terms kept ps bs more s v items t next r
       added_as r l is = record {
         values = n.values;
         come = each_to (λ w. OneOf (λ x. value_of t x ≡ Some w) xs) (λ w. (x : List ℕ) × (IsTrue (named_by_items items x) × (value_of t x ≡ Some w))) n.values
             (λ w one. let (x, (among, at)) = one_named (λ x. value_of t x ≡ Some w) xs one in (x, (sym (names x) ∙ among, at))) n.come;
+        proper = subst (λ (vars : List Sort). IsProper vars (v ++ n.values)) (sym (later_table r l)) n.proper;
         meets = is.0;
         is = ⊎_elim (λ form. inl (subst (λ (cs : List PureAtom). IsTrue (has_open cs)) (sym (added_since r l)) (open_later more (added_conds adds.first r) form))) (λ there. inr there) is.1;
       }
@@ -267,6 +289,44 @@ module _ {S : Type 0} (memory : MemoryName) (stands : S → List PureValue → H
       one_added =
           one_of_each (IsLater stands terms named.store adds.first) (λ r. IsTrue (all_true (v ++ n.values) r.conds) × (IsTrue (has_open (added_conds adds.first r)) ⊎ Stands stands r (v ++ n.values) next))
           (IsAddedAs memory stands terms kept ps bs more s v items t next) rs later (adds.cover (v ++ n.values) n.store left next serves under_store) added_as
+
+    -- what an answered state stands for
+
+    module _ (v values : List PureValue) (left : LogicState) (before : IsBefore memory stands terms kept ps bs more s v left) where
+      record IsServed : Type 0 where
+        store : Store
+        serves : Serves stands terms adds.first named.store (v ++ values) store left
+
+      abbrev HasAdding : IsServed → PureState S → Type 0
+      HasAdding k r =
+          IsTrue (all_true (v ++ values) r.conds) → has_open (added_conds adds.first r) ≡ false → (next : LogicState) × (IsAdding memory k.store items left next × Stands stands r (v ++ values) next)
+
+      adds_exactly : (r : PureState S) → IsLater stands terms named.store adds.first r → ((k : IsServed) → HasAdding k r) → IsMetAfter s r (v ++ values) → AddsExactly memory stands terms kept ps bs more v left items (v ++ values) r
+      adds_exactly r l law met =
+          let one_each : length v ≡ length s.vars = before.stands_for.proper.one_each in
+          let proper : IsProper named.vars (v ++ values) = subst (λ (vars : List Sort). IsProper vars (v ++ values)) (later_table r l) met.meets.proper in
+          let whole : IsTrue (all_true (v ++ values) (adds.first.conds ++ l.rest)) = subst (λ (cs : List PureAtom). IsTrue (all_true (v ++ values) cs)) l.conds met.meets.true_there in
+          let first_true : IsTrue (all_true (v ++ values) (s.conds ++ more)) = subst (λ (cs : List PureAtom). IsTrue (all_true (v ++ values) cs)) conds (true_parts (v ++ values) adds.first.conds l.rest whole).0 in
+          let more_true : IsTrue (all_true v more) = sym (conds_longer s.vars v values one_each more before.conds_over) ∙ (true_parts (v ++ values) s.conds more first_true).1 in
+          record {
+            conds_true = more_true;
+            adding = λ u stood sorts.
+                let (t, (names_added, stood_t)) = naming.exact (v ++ values) u (proper_sorts named.vars (v ++ values) proper) (store_longer s.vars v values one_each bs u before.store_over stood) in
+                let (next, (adding, stands_next)) = law (record { store = t; serves = serves_with v values t left before more_true proper stood_t }) met.meets.true_there (none_open more (added_conds adds.first r) (ap has_open (sym (added_since r l)) ∙ met.no_form)).1 in
+                record {
+                  store = t;
+                  extends = names_added.extends;
+                  sorts = λ x w at. ⊎_elim (λ known. sorts x w known) (λ (new : IsTrue (is_among xs x) × IsTrue (fits_sorts ps x w)). new.1) (names_added.added x w at);
+                  next = next;
+                  adding = adding;
+                  stands_for = stands_next;
+                };
+          }
+
+      all_exact : Each (λ r. IsMetAfter s r (v ++ values) → AddsExactly memory stands terms kept ps bs more v left items (v ++ values) r) rs
+      all_exact =
+          both_each (IsLater stands terms named.store adds.first) (λ r. (k : IsServed) → HasAdding k r) (λ r. IsMetAfter s r (v ++ values) → AddsExactly memory stands terms kept ps bs more v left items (v ++ values) r) rs adds_exactly later
+          (each_for_all HasAdding rs (λ k. adds.exact (v ++ values) k.store left k.serves))
 
     is_further : (r : PureState S) → IsLater stands terms named.store adds.first r → IsOverTable terms r → (kept s.memory → kept r.memory) → IsFurther terms kept s r
     is_further r l over still = record {
@@ -288,6 +348,7 @@ module _ {S : Type 0} (memory : MemoryName) (stands : S → List PureValue → H
     pub items_added : AddsItems memory stands terms kept ps bs more items s rs
     items_added = record {
       cover = one_added;
+      exact = all_exact;
       follow = λ over stores more_over.
           both_each (λ r. IsLater stands terms named.store adds.first r) (λ r. IsOverTable terms r × (kept s.memory → kept r.memory)) (IsFurther terms kept s) rs (λ r l is. is_further r l is.0 is.1) later
           (both_each (IsOverTable terms) (λ r. kept s.memory → kept r.memory) (λ r. IsOverTable terms r × (kept s.memory → kept r.memory)) rs (λ r is still. (is, still))
@@ -298,7 +359,11 @@ module _ {S : Type 0} (memory : MemoryName) (stands : S → List PureValue → H
 
 module _ {S : Type 0} (memory : MemoryName) (stands : S → List PureValue → Heap → Type 0) (terms : S → StateTerms) (kept : S → Type 0) (ps : List Param) (bs : PureStore) (more : List PureAtom) (s : PureState S) where
   pub no_case : AddsCases memory stands terms kept ps bs more [] s []
-  no_case = record { cover = λ v u t left next number items may at adding. not_none at; follow = λ over stores conds. tt }
+  no_case = record {
+    cover = λ v u t left next number items may at adding. not_none at;
+    exact = λ v values left before. tt;
+    follow = λ over stores conds. tt;
+  }
 
   pub case_more : (cases : List (List PureItem)) (items : List PureItem) (rs : List (PureUnfoldedCase S)) (ss : List (PureState S)) (number : ℕ) → number ≡ length cases → AddsCases memory stands terms kept ps bs more cases s rs → AddsItems memory stands terms kept ps bs more items s ss
       → AddsCases memory stands terms kept ps bs more (cases ++ items ∷ []) s (rs ++ numbered number ss)
@@ -314,6 +379,17 @@ module _ {S : Type 0} (memory : MemoryName) (stands : S → List PureValue → H
         (λ r is. (at ∙ sym last.0, subst (λ (b : List PureItem). IsAddedAs memory stands terms kept ps bs more s v b t next r) last.1 is))
         (adds.cover v u t left next may (subst (λ (b : List PureItem). IsAdding memory t b left next) (sym last.1) adding)))))
         (last_or_before cases items k body there);
+    exact = λ v values left before.
+        let Exact : List (List PureItem) → PureUnfoldedCase S → Type 0 = λ (cs : List (List PureItem)) (r : PureUnfoldedCase S). IsMetAfter s r.state (v ++ values) → (body : List PureItem) × ((slice_get cs r.number ≡ Some body)
+        × AddsExactly memory stands terms kept ps bs more v left body (v ++ values) r.state) in
+        each_append (Exact (cases ++ items ∷ [])) rs (numbered number ss)
+        (each_to (Exact cases) (Exact (cases ++ items ∷ [])) rs
+        (λ r law met. let (body, (there, exactly)) = law met in (body, (slice_get-append cases (items ∷ []) r.number (slice_get_within cases r.number body there) ∙ there, exactly)))
+        (so_far.exact v values left before))
+        (each_map (Exact (cases ++ items ∷ [])) (λ r. record { number = number; state = r }) ss
+        (each_to (λ r. IsMetAfter s r (v ++ values) → AddsExactly memory stands terms kept ps bs more v left items (v ++ values) r) (λ r. Exact (cases ++ items ∷ []) (record { number = number; state = r })) ss
+        (λ r law met. (items, (ap (slice_get (cases ++ items ∷ [])) at ∙ at_last cases items, law met)))
+        (adds.exact v values left before)));
     follow = λ over stores conds.
         each_append (λ (r : PureUnfoldedCase S). IsFurther terms kept s r.state) rs (numbered number ss) (so_far.follow over stores conds)
         (each_map (λ (r : PureUnfoldedCase S). IsFurther terms kept s r.state) (λ r. record { number = number; state = r }) ss (adds.follow over stores conds));

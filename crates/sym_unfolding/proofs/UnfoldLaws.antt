@@ -14,6 +14,7 @@ use Rattle.gil_syntax.specs.Pure.{PureItem, PurePredDef}
 use Rattle.gil_syntax.specs.Valid.{param_names}
 use Rattle.mem_model.specs.declared.keys.MemoryName.{MemoryName}
 use Rattle.mem_model.specs.Heaps.{Heap}
+use Rattle.assert_logic.proofs.CaseLaws.{map_get, params_bound}
 use Rattle.assert_logic.specs.LogicStates.{Fact, LogicState}
 use Rattle.assert_logic.specs.Matching.{FoundFact, found_after, first_fact, fits_fact, agrees_with, all_agree, bound_to, case_store, scope_of}
 use Rattle.assert_logic.specs.Names.{named_by_items}
@@ -36,15 +37,16 @@ use Rattle.sym_model.proofs.Asking.{both_parts}
 use Rattle.sym_model.proofs.ListLaws.{same_some, not_none, each_append, each_left, each_right, each_to, each_at, one_at, one_left, one_right, one_parts}
 use Rattle.sym_states.specs.Meaning.{Stands, IsOverTable, IsFact, AreFacts}
 use Rattle.sym_naming.proofs.Names.{names_same}
+use Rattle.sym_states.proofs.Conditions.{none_open}
 use Rattle.sym_states.specs.Producing.{added_conds}
 use Rattle.sym_states.specs.Pure.{PureFact, PureState}
-use Rattle.sym_unfolding.specs.Adding.{IsAddedAs, AddsCases}
-use Rattle.sym_unfolding.specs.Answering.{PureTold, met, unknown, ToldOf, ToldOfAll, UnfoldsAt, UnfoldsEach, answer_told}
+use Rattle.sym_unfolding.specs.Adding.{IsAddedAs, IsBefore, AddsExactly, AddsCases}
+use Rattle.sym_unfolding.specs.Answering.{PureTold, met, unknown, ToldOf, ToldOfAll, FindsFirst, UnfoldsAt, UnfoldsEach, answer_told}
 use Rattle.sym_unfolding.specs.Further.{IsFurther}
 use Rattle.sym_unfolding.specs.Searching.{PureFound, PureSearch, SaysFirst, IsSearchOver, Searches}
 use Rattle.sym_unfolding.specs.Taking.{TakesOut}
-use Rattle.sym_unfolding.specs.Unfolding.{PureUnfoldedCase, unfolded, unmatched, IsNamedValue, HasArguments, IsFound, StandsForCase, CoversUnfoldings, IsUnmatched, IsUndecided, IsUnfolded}
-use Rattle.sym_unfolding.proofs.AddLaws.{drop_front, open_later}
+use Rattle.sym_unfolding.specs.Unfolding.{PureUnfoldedCase, unfolded, unmatched, IsMetAfter, IsNamedValue, HasArguments, IsFound, StandsForCase, CoversUnfoldings, IsUnfoldingOf, IsUnmatched, IsUndecided, IsUnfolded}
+use Rattle.sym_unfolding.proofs.AddLaws.{drop_front, open_later, conds_longer, both_each, each_for_all}
 use Rattle.sym_unfolding.proofs.SearchLaws.{joined_true, true_parts}
 
 -- ---- the fact at a place
@@ -140,6 +142,20 @@ case_begins d ins outs t many_ins many_outs ins_agree outs_agree sorts =
     let (u, (second, last)) = begins_with (scope_of d) t sorts d.outs outs w many_outs outs_agree extends in
     (u, (ap (option_and_then (bound_to (scope_of d) d.outs (map Some outs))) first ∙ second, last))
 
+-- a store with which a case begins has the sorts that are declared, and agrees with the arguments
+case_begun : (d : PurePredDef) (ins outs : List PureValue) (t : Store) → case_store d ins (map Some outs) ≡ Some t → HasSorts (scope_of d) t × Agrees t (param_names d.ins) ins × Agrees t (param_names d.outs) outs
+case_begun d ins outs t = by (bound_to (scope_of d) d.ins (map Some ins) []) refl
+  where
+    by : (o : Option Store) → bound_to (scope_of d) d.ins (map Some ins) [] ≡ o → option_and_then (bound_to (scope_of d) d.outs (map Some outs)) o ≡ Some t → HasSorts (scope_of d) t × Agrees t (param_names d.ins) ins × Agrees t (param_names d.outs) outs
+    by None first is = not_none is
+    by (Some u) first is =
+        let bound = params_bound (scope_of d) d.ins (map Some ins) [] u first in
+        let later = params_bound (scope_of d) d.outs (map Some outs) u t is in (
+          later.goes.sorts (bound.goes.sorts (λ x v none. not_none none)),
+          (λ i x v name value. later.goes.extends x v (bound.values i x v name (map_get ins i v value))),
+          (λ i x v name value. later.values i x v name (map_get outs i v value)),
+        )
+
 -- ---- values
 
 values_length : (v : List PureValue) (ts : List PureTerm) (ws : List PureValue) → HaveValues v ts ws → length ts ≡ length ws
@@ -176,6 +192,7 @@ module _ {S : Type 0} (memory : MemoryName) (stands : S → List PureValue → H
         let (at, others, fit) = fits_first (fits_fact d.name ws (map Some us)) l.facts g first in
         let (c, (there, is)) = fact_at v s.facts l.facts g.place g.fact has.stands_for.facts at in
         not_none (sym none ∙ ap (slice_get s.facts) (sym place) ∙ there);
+    exact = λ over conds v values l ws us has first. tt;
     follow = λ over conds. tt;
   }
 
@@ -249,6 +266,7 @@ module _ {S : Type 0} (memory : MemoryName) (stands : S → List PureValue → H
           let args = arguments_over over in
           let says = splits s.vars v g.fact.ins (map Some g.fact.outs) has.stands_for.proper args.0 (known_over s.vars c.outs args.1) is.ins (known_outs_are v c.outs g.fact.outs is.outs) in
           ⊎_elim (λ reached. absurd (subst (IsReached v) none reached)) (λ hold. not_none (sym (says.none hold) ∙ begun)) says.cover;
+      exact = λ over conds v values l ws us has first. tt;
       follow = λ over conds. tt;
     }
 
@@ -268,25 +286,92 @@ module _ {S : Type 0} (memory : MemoryName) (stands : S → List PureValue → H
           adds.follow (left_over over conds) (subst (λ (vars : List Sort). IsStoreOver vars good.result) (sym table) (good_over over).1)
           (subst (λ (vars : List Sort). Each (λ a. IsOver vars (term_of a)) good.conds) (sym table) (conditions_over s.vars good.conds (good_over over).0))
 
+      -- the conditions of an answered state, and those that it has beside those of the state
+      whole_conds : (r : PureUnfoldedCase S) (further : IsFurther terms kept left r.state) → r.state.conds ≡ s.conds ++ (found.conds ++ further.more)
+      whole_conds r further = further.conds ∙ ap (λ cs. cs ++ further.more) left_conds ∙ append_assoc s.conds found.conds further.more
+
+      since : (r : PureUnfoldedCase S) → IsFurther terms kept left r.state → added_conds s r.state ≡ found.conds ++ added_conds left r.state
+      since r further =
+          ap (drop (length s.conds)) (whole_conds r further) ∙ drop_front s.conds (found.conds ++ further.more) ∙ ap (λ cs. found.conds ++ cs) (sym (ap (drop (length left.conds)) further.conds ∙ drop_front left.conds further.more))
+
+      given_by : (v : List PureValue) (o : Option (PureGoodCase PureStore)) → o ≡ Some good → (p : Option Store) → Gives (StandsFor v) o p → (w : Store) × ((p ≡ Some w) × StandsFor v good.result w)
+      given_by v o is p gives = subst (λ (q : Option (PureGoodCase PureStore)). Gives (StandsFor v) q p) is gives
+
       stands_for : (v : List PureValue) (number : ℕ) (t : Store) (next : LogicState) (items : List PureItem) → slice_get d.cases number ≡ Some items → (r : PureUnfoldedCase S) → IsFurther terms kept left r.state
           → (r.number ≡ number) × IsAddedAs memory stands terms kept (scope_of d) good.result good.conds left v items t next r.state → Covered v number t next r
       stands_for v number t next items body r further is = record {
         same_number = is.0;
         values = is.1.values;
         come = each_to (λ w. (x : List ℕ) × (IsTrue (named_by_items items x) × (value_of t x ≡ Some w))) (IsNamedValue d t) is.1.values (λ w one. (one.0, (case_named d.cases number body one.0 one.1.0, one.1.1))) is.1.come;
+        proper = is.1.proper;
         meets = is.1.meets;
-        is = ⊎_elim (λ form. inl (subst (λ (cs : List PureAtom). IsTrue (has_open cs)) (sym since) (open_later found.conds (added_conds left r.state) form))) (λ stood. inr stood) is.1.is;
+        is = ⊎_elim (λ form. inl (subst (λ (cs : List PureAtom). IsTrue (has_open cs)) (sym (since r further)) (open_later found.conds (added_conds left r.state) form))) (λ stood. inr stood) is.1.is;
       }
         where
-          since : added_conds s r.state ≡ found.conds ++ added_conds left r.state
-          since =
-              let whole : r.state.conds ≡ s.conds ++ (found.conds ++ further.more) = further.conds ∙ ap (λ cs. cs ++ further.more) left_conds ∙ append_assoc s.conds found.conds further.more in
-              ap (drop (length s.conds)) whole ∙ drop_front s.conds (found.conds ++ further.more) ∙ ap (λ cs. found.conds ++ cs) (sym (ap (drop (length left.conds)) further.conds ∙ drop_front left.conds further.more))
-
           case_named : (cases : List (List PureItem)) (i : ℕ) → slice_get cases i ≡ Some items → (x : List ℕ) → IsTrue (named_by_items items x) → OneOf (λ body. IsTrue (named_by_items body x)) cases
           case_named [] i at_i x named = not_none at_i
           case_named (b ∷ cases) zero at_i x named = inl (subst (λ (body : List PureItem). IsTrue (named_by_items body x)) (sym (same_some at_i)) named)
           case_named (b ∷ cases) (suc i) at_i x named = inr (case_named cases i at_i x named)
+
+      module _ (over : IsOverTable terms s) (conds : Each (λ a. IsOver s.vars (term_of a)) found.conds) (v values : List PureValue) (l : LogicState) (ws us : List PureValue) (has : HasArguments memory stands terms kept d ins outs s v l ws us) where
+        -- the first fact that fits is found there
+        record IsFirstThere : Type 0 where
+          found_fact : FoundFact
+          is_first : IsFound memory stands terms kept d ins outs s l ws us found_fact
+          at_place : found_fact.place ≡ found.place
+          met : IsTrue (all_true v found.conds)
+
+        abbrev others_of : IsFirstThere → LogicState
+        others_of k = record l { facts = k.found_fact.others }
+
+        abbrev HasCase : IsFirstThere → PureUnfoldedCase S → Type 0
+        HasCase k r =
+            IsMetAfter left r.state (v ++ values) → (items : List PureItem) × ((slice_get d.cases r.number ≡ Some items) × AddsExactly memory stands terms kept (scope_of d) good.result good.conds v (others_of k) items (v ++ values) r.state)
+
+        before : (k : IsFirstThere) → IsBefore memory stands terms kept (scope_of d) good.result good.conds left v (others_of k)
+        before k = record {
+          over = left_over over conds;
+          store_over = subst (λ (vars : List Sort). IsStoreOver vars good.result) (sym table) (good_over over).1;
+          conds_over = subst (λ (vars : List Sort). Each (λ a. IsOver vars (term_of a)) good.conds) (sym table) (conditions_over s.vars good.conds (good_over over).0);
+          stands_for = left_stands v l ws us k.found_fact has k.met k.is_first k.at_place;
+        }
+
+        unfolds_exactly : FindsFirst memory stands terms kept d ins outs s found v l ws us → (r : PureUnfoldedCase S) → IsFurther terms kept left r.state → ((k : IsFirstThere) → HasCase k r) → IsMetAfter s r.state (v ++ values)
+            → IsUnfoldingOf memory stands terms kept d ins outs s l ws us (v ++ values) r
+        unfolds_exactly first r further law is_met =
+            let all_met : IsTrue (all_true (v ++ values) (s.conds ++ (found.conds ++ further.more))) = subst (λ (cs : List PureAtom). IsTrue (all_true (v ++ values) cs)) (whole_conds r further) is_met.meets.true_there in
+            let found_met : IsTrue (all_true v found.conds) =
+            sym (conds_longer s.vars v values has.stands_for.proper.one_each found.conds conds) ∙ (true_parts (v ++ values) found.conds further.more (true_parts (v ++ values) s.conds (found.conds ++ further.more) all_met).1).0 in
+            let (g, (is_first, place)) = first found_met in
+            let k : IsFirstThere = record { found_fact = g; is_first = is_first; at_place = place; met = found_met } in
+            let no_form : has_open (added_conds left r.state) ≡ false = (none_open found.conds (added_conds left r.state) (ap has_open (sym (since r further)) ∙ is_met.no_form)).1 in
+            let (items, (body, exactly)) = law k (record { meets = is_met.meets; no_form = no_form }) in
+            let is = is_fact v l ws us g has found_met is_first place in
+            let args = arguments_over over in
+            let says = splits s.vars v g.fact.ins (map Some g.fact.outs) has.stands_for.proper args.0 (known_over s.vars c.outs args.1) is.ins (known_outs_are v c.outs g.fact.outs is.outs) in
+            let (u, (given, stood)) = given_by v split.found there (case_store d g.fact.ins (map Some g.fact.outs)) (says.found (subst (IsReached v) (sym there) exactly.conds_true)) in
+            let (sorts, ins_agree, outs_agree) = case_begun d g.fact.ins g.fact.outs u given in
+            let a = exactly.adding u stood sorts in
+            record {
+              found = g;
+              is_found = is_first;
+              store = a.store;
+              next = a.next;
+              added = record {
+                items = items;
+                case = body;
+                ins_agree = λ i y w name value. a.extends y w (ins_agree i y w name value);
+                outs_agree = λ i y w name value. a.extends y w (outs_agree i y w name value);
+                sorts = a.sorts;
+                adding = a.adding;
+              };
+              stands_for = a.stands_for;
+            }
+
+        exact_there : FindsFirst memory stands terms kept d ins outs s found v l ws us → Each (λ r. IsMetAfter s r.state (v ++ values) → IsUnfoldingOf memory stands terms kept d ins outs s l ws us (v ++ values) r) rs
+        exact_there first =
+            both_each (λ r. IsFurther terms kept left r.state) (λ r. (k : IsFirstThere) → HasCase k r) (λ r. IsMetAfter s r.state (v ++ values) → IsUnfoldingOf memory stands terms kept d ins outs s l ws us (v ++ values) r) rs (unfolds_exactly first)
+            (follow_all over conds) (each_for_all HasCase rs (λ k. adds.exact v values (others_of k) (before k)))
 
       pub some_store : UnfoldsAt memory stands terms kept d ins outs s found rs
       some_store = record {
@@ -312,12 +397,10 @@ module _ {S : Type 0} (memory : MemoryName) (stands : S → List PureValue → H
               sorts = added.sorts;
             }) added.case added.adding)
             (stands_for v number t next added.items added.case);
+        exact = exact_there;
         follow = λ over conds. each_to (λ r. IsFurther terms kept left r.state) (λ r. IsFurther terms kept s r.state) rs (λ r is. further_of r.state is) (follow_all over conds);
       }
         where
-          given_by : (v : List PureValue) (o : Option (PureGoodCase PureStore)) → o ≡ Some good → (p : Option Store) → Gives (StandsFor v) o p → (w : Store) × ((p ≡ Some w) × StandsFor v good.result w)
-          given_by v o is p gives = subst (λ (q : Option (PureGoodCase PureStore)). Gives (StandsFor v) q p) is gives
-
           one_of_each : {A : Type 0} (P Q R : A → Type 0) (xs : List A) → Each P xs → OneOf Q xs → ((x : A) → P x → Q x → R x) → OneOf R xs
           one_of_each P Q R [] all one f = absurd one
           one_of_each P Q R (x ∷ xs) all (inl here) f = inl (f x all.0 here)
@@ -326,7 +409,11 @@ module _ {S : Type 0} (memory : MemoryName) (stands : S → List PureValue → H
   -- ---- wherever it was found
 
   pub none_unfolded : UnfoldsEach memory stands terms kept d ins outs s [] []
-  none_unfolded = record { cover = λ over conds v l ws us g number t next has one first added. absurd one; follow = λ over conds. tt }
+  none_unfolded = record {
+    cover = λ over conds v l ws us g number t next has one first added. absurd one;
+    exact = λ over conds v values l ws us has firsts. tt;
+    follow = λ over conds. tt;
+  }
 
   pub each_more : (fs : List PureFound) (f : PureFound) (rs ss : List (PureUnfoldedCase S)) → UnfoldsEach memory stands terms kept d ins outs s fs rs → UnfoldsAt memory stands terms kept d ins outs s f ss → UnfoldsEach memory stands terms kept d ins outs s (fs ++ f ∷ []) (rs ++ ss)
   each_more fs f rs ss so_far adds = record {
@@ -337,6 +424,11 @@ module _ {S : Type 0} (memory : MemoryName) (stands : S → List PureValue → H
         (λ here. one_right (Covered v number t next) rs ss (adds.cover over (each_right (λ x. Each (λ a. IsOver s.vars (term_of a)) x.conds) fs (f ∷ []) conds).0 v l ws us g number t next has here.0 first here.1 added))
         (λ none. absurd none) last)
         (one_parts (λ x. IsTrue (all_true v x.conds) × (g.place ≡ x.place)) fs (f ∷ []) one);
+    exact = λ over conds v values l ws us has firsts.
+        let First : PureFound → Type 0 = λ (x : PureFound). FindsFirst memory stands terms kept d ins outs s x v l ws us in
+        each_append (λ r. IsMetAfter s r.state (v ++ values) → IsUnfoldingOf memory stands terms kept d ins outs s l ws us (v ++ values) r) rs ss
+        (so_far.exact over (each_left (λ x. Each (λ a. IsOver s.vars (term_of a)) x.conds) fs (f ∷ []) conds) v values l ws us has (each_left First fs (f ∷ []) firsts))
+        (adds.exact over (each_right (λ x. Each (λ a. IsOver s.vars (term_of a)) x.conds) fs (f ∷ []) conds).0 v values l ws us has (each_right First fs (f ∷ []) firsts).0);
     follow = λ over conds.
         each_append (λ r. IsFurther terms kept s r.state) rs ss (so_far.follow over (each_left (λ x. Each (λ a. IsOver s.vars (term_of a)) x.conds) fs (f ∷ []) conds)) (adds.follow over (each_right (λ x. Each (λ a. IsOver s.vars (term_of a)) x.conds) fs (f ∷ []) conds).0);
   }
@@ -359,7 +451,11 @@ module _ {S : Type 0} (memory : MemoryName) (stands : S → List PureValue → H
     found_conds_over = each_to (λ f. AreConditions s.vars f.conds) (λ f. Each (λ a. IsOver s.vars (term_of a)) f.conds) search.found (λ f. conditions_over s.vars f.conds) search_over.found
 
     pub all_unfolded : ToldOfAll s.vars s.conds search.none None → (rs : List (PureUnfoldedCase S)) → UnfoldsEach memory stands terms kept d ins outs s search.found rs → IsUnfolded memory stands terms kept d ins outs s (unfolded rs)
-    all_unfolded told rs each = (covers, each.follow over found_conds_over)
+    all_unfolded told rs each = (
+      covers,
+      each.follow over found_conds_over,
+      (λ v values l ws us has. each.exact over found_conds_over v values l ws us has (says v l ws us has).found),
+    )
       where
         never : (v : List PureValue) (x : Alternatives) → Each (λ more. IsUnsatisfiable s.vars (s.conds ++ more)) x → IsProper s.vars v → IsTrue (all_true v s.conds) → ¬ Hold v x
         never v [] all proper meets hold = hold

@@ -20,7 +20,7 @@ use Rattle.sym_states.specs.Pure.{PureState}
 use Rattle.sym_unfolding.specs.Further.{IsFurther}
 use Rattle.sym_unfolding.specs.Searching.{PureFound}
 use Rattle.sym_unfolding.specs.Unfolding as undecided
-use Rattle.sym_unfolding.specs.Unfolding.{PureUnfoldedCase, PureUnfolding, unmatched, IsCaseAdded, HasArguments, IsFound, StandsForCase}
+use Rattle.sym_unfolding.specs.Unfolding.{PureUnfoldedCase, PureUnfolding, unmatched, IsMetAfter, IsCaseAdded, HasArguments, IsFound, StandsForCase, IsUnfoldingOf}
 
 pub data PureTold : Type 0 where
   met : List PureAtom → List PureValue → PureTold
@@ -44,7 +44,12 @@ ToldOfAll vars conds x (Some told) = OneOf (λ more. ToldOf vars conds more (Som
 
 module _ {S : Type 0} (memory : MemoryName) (stands : S → List PureValue → Heap → Type 0) (terms : S → StateTerms)
     (kept : S → Type 0) (d : PurePredDef) (ins outs : List PureTerm) (s : PureState S) where
-  -- where the fact at the place is the first one, each case in its place is stood for
+  -- where the conditions are true, the first fact that fits stands at the place
+  abbrev pub FindsFirst : PureFound → List PureValue → LogicState → List PureValue → List PureValue → Type 0
+  FindsFirst found v l ws us =
+      IsTrue (all_true v found.conds) → (g : FoundFact) × (IsFound memory stands terms kept d ins outs s l ws us g × (g.place ≡ found.place))
+
+  -- where the fact at the place is the first one, each case in its place is stood for, and no other thing
   pub record UnfoldsAt (found : PureFound) (rs : List (PureUnfoldedCase S)) : Type 0 where
     pub cover : IsOverTable terms s → Each (λ a. IsOver s.vars (term_of a)) found.conds
         → (v : List PureValue) (l : LogicState) (ws us : List PureValue) (g : FoundFact) (number : ℕ) (t : Store) (next : LogicState)
@@ -52,6 +57,10 @@ module _ {S : Type 0} (memory : MemoryName) (stands : S → List PureValue → H
         → IsFound memory stands terms kept d ins outs s l ws us g → g.place ≡ found.place
         → IsCaseAdded memory d g.fact (record l { facts = g.others }) number t next
         → OneOf (StandsForCase memory stands terms kept d ins outs s v number t next) rs
+    pub exact : IsOverTable terms s → Each (λ a. IsOver s.vars (term_of a)) found.conds
+        → (v values : List PureValue) (l : LogicState) (ws us : List PureValue) → HasArguments memory stands terms kept d ins outs s v l ws us
+        → FindsFirst found v l ws us
+        → Each (λ r. IsMetAfter s r.state (v ++ values) → IsUnfoldingOf memory stands terms kept d ins outs s l ws us (v ++ values) r) rs
     pub follow : IsOverTable terms s → Each (λ a. IsOver s.vars (term_of a)) found.conds
         → Each (λ r. IsFurther terms kept s r.state) rs
 
@@ -64,5 +73,9 @@ module _ {S : Type 0} (memory : MemoryName) (stands : S → List PureValue → H
         → IsFound memory stands terms kept d ins outs s l ws us g
         → IsCaseAdded memory d g.fact (record l { facts = g.others }) number t next
         → OneOf (StandsForCase memory stands terms kept d ins outs s v number t next) rs
+    pub exact : IsOverTable terms s → Each (λ f. Each (λ a. IsOver s.vars (term_of a)) f.conds) found
+        → (v values : List PureValue) (l : LogicState) (ws us : List PureValue) → HasArguments memory stands terms kept d ins outs s v l ws us
+        → Each (λ f. FindsFirst f v l ws us) found
+        → Each (λ r. IsMetAfter s r.state (v ++ values) → IsUnfoldingOf memory stands terms kept d ins outs s l ws us (v ++ values) r) rs
     pub follow : IsOverTable terms s → Each (λ f. Each (λ a. IsOver s.vars (term_of a)) f.conds) found
         → Each (λ r. IsFurther terms kept s r.state) rs

@@ -12,7 +12,7 @@ use Rattle.assert_logic.specs.Matching.{FoundFact, first_fact, fits_fact, scope_
 use Rattle.assert_logic.specs.Names.{named_by_items}
 use Rattle.assert_logic.specs.Sorts.{HasSorts}
 use Rattle.pure_terms.specs.declared.deciders.Reason.{Reason}
-use Rattle.pure_terms.specs.Meaning.{all_true, Satisfies, IsOver}
+use Rattle.pure_terms.specs.Meaning.{all_true, Satisfies, IsProper, IsOver}
 use Rattle.pure_terms.specs.Pure.{PureTerm, PureAtom, term_of}
 use Rattle.sym_asking.specs.Asking.{IsOutside}
 use Rattle.sym_evaluation.specs.Meaning.{HaveValues}
@@ -32,6 +32,11 @@ pub data PureUnfolding (S : Type 0) : Type 0 where
   unfolded : List (PureUnfoldedCase S) → PureUnfolding S
   unmatched : List PureAtom → List PureValue → PureUnfolding S
   unknown : List PureAtom → Reason → PureUnfolding S
+
+-- The valuation meets the conditions of a later state, and none that it has beside those of the state is that a literal form is needed.
+pub record IsMetAfter {S : Type 0} (s r : PureState S) (w : List PureValue) : Type 0 where
+  pub meets : Satisfies r.vars w r.conds
+  pub no_form : has_open (added_conds s r) ≡ false
 
 -- A case of the predicate is added to what is left, under a store that gives its parameters the values of the fact.
 pub record IsCaseAdded (memory : MemoryName) (d : PurePredDef) (f : Fact) (left : LogicState) (number : ℕ) (t : Store) (next : LogicState)
@@ -66,6 +71,7 @@ module _ {S : Type 0} (memory : MemoryName) (stands : S → List PureValue → H
     pub same_number : r.number ≡ number
     pub values : List PureValue
     pub come : Each (IsNamedValue d t) values
+    pub proper : IsProper r.state.vars (v ++ values)
     pub meets : IsTrue (all_true (v ++ values) r.state.conds)
     pub is : IsTrue (has_open (added_conds s r.state)) ⊎ Stands stands r.state (v ++ values) next
 
@@ -76,6 +82,21 @@ module _ {S : Type 0} (memory : MemoryName) (stands : S → List PureValue → H
       → (found : FoundFact) × (IsFound l ws us found × ((number : ℕ) (t : Store) (next : LogicState)
       → IsCaseAdded memory d found.fact (record l { facts = found.others }) number t next
       → OneOf (StandsForCase v number t next) rs))
+
+  -- Under the longer valuation the state stands for a case that was added in place of the fact.
+  pub record IsUnfoldingOf (l : LogicState) (ws us w : List PureValue) (r : PureUnfoldedCase S) : Type 0 where
+    pub found : FoundFact
+    pub is_found : IsFound l ws us found
+    pub store : Store
+    pub next : LogicState
+    pub added : IsCaseAdded memory d found.fact (record l { facts = found.others }) r.number store next
+    pub stands_for : Stands stands r.state w next
+
+  -- Exactness: an answered state whose conditions a longer valuation meets, and in which no literal form is needed, stands for an unfolding.
+  abbrev pub StandForUnfoldings : List (PureUnfoldedCase S) → Type 0
+  StandForUnfoldings rs =
+      (v values : List PureValue) (l : LogicState) (ws us : List PureValue) → HasArguments v l ws us
+      → Each (λ r. IsMetAfter s r.state (v ++ values) → IsUnfoldingOf l ws us (v ++ values) r) rs
 
   -- conditions that begin with those of the state
   abbrev pub AreFurther : List PureAtom → Type 0
@@ -96,6 +117,6 @@ module _ {S : Type 0} (memory : MemoryName) (stands : S → List PureValue → H
     pub outside : IsOutside conds reason
 
   abbrev pub IsUnfolded : PureUnfolding S → Type 0
-  IsUnfolded (unfolded rs) = CoversUnfoldings rs × Each (λ r. IsFurther terms kept s r.state) rs
+  IsUnfolded (unfolded rs) = CoversUnfoldings rs × Each (λ r. IsFurther terms kept s r.state) rs × StandForUnfoldings rs
   IsUnfolded (unmatched conds v) = IsUnmatched conds v
   IsUnfolded (unknown conds reason) = IsUndecided conds reason

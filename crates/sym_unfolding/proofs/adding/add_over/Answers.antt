@@ -10,6 +10,7 @@ returns g c = record {
   is = over_first (state_view c.args.state.now) (state_view c.in_ok-next.next) c.args.named.vars (path_view c.require.new.conds) (atoms_view c.args.conds.now) c.in_ok-next.ensures.is c.in_ok-require.ensures;
   same_memory = c.in_ok-next.ensures.memory;
   cover = c.in_ok-states.ensures.cover;
+  exact = c.in_ok-states.ensures.exact;
   origin = c.in_ok-states.ensures.origin;
   over = c.in_ok-states.ensures.over;
   still_kept = c.in_ok-states.ensures.kept;
