@@ -33,12 +33,14 @@ use Rattle.checked_paths.specs.Covering.{CoversOutcome, FollowsOn}
 use Rattle.checked_paths.specs.Following.{IsAnswered, is_of_machine}
 use Rattle.checked_paths.specs.Meaning.{StandsForChecked, IsEntered, IsPassed, IsPassedOver, IsEntryOver, AreFactsOver, IsCheckedOver, MayGoOn}
 use Rattle.checked_paths.specs.Pure.{PureEntry, PurePassed, PureChecking, PureNext}
-use Rattle.checked_rows.specs.Ending.{Finishes, at_end, PureFinish, by_return, by_throw, finish_at, MayEnd, IsThere, IsEndedBy, IsEnded, EachIsEnded, IsLeaving}
+use Rattle.footprint.specs.Leaves.{IsLonger}
+use Rattle.checked_rows.specs.Doubts.{PureDoubt, always, under, beyond, IsDoubtIn}
+use Rattle.checked_rows.specs.Ending.{Finishes, MeetsNone, FinishesExactly, at_end, PureFinish, by_return, by_throw, finish_at, MayEnd, IsThere, IsEndedBy, IsEnded, EachIsEnded, IsLeaving}
 use Rattle.checked_rows.specs.Rows.{AreRowOf}
 use Rattle.checked_rows.specs.States.{IsStateOf}
 use Rattle.checked_rows.proofs.RowLaws.{answer_of_cause, cause_follows, answered_follows, uses_nothing}
 
-leaving_is_of_machine : (k : PureCommand) → IsLeaving k → IsTrue (is_of_machine k)
+pub leaving_is_of_machine : (k : PureCommand) → IsLeaving k → IsTrue (is_of_machine k)
 leaving_is_of_machine (return e) is = refl
 leaving_is_of_machine (throw e) is = refl
 leaving_is_of_machine k is = absurd is
@@ -83,10 +85,10 @@ module _ {S : Type 0} (p : PureParts) (memory : MemoryName) (m : Actions) (stand
       all.0.0
 
   module _ (next : PurePath S) (k : PureNext S) (v w : List PureValue) (entry : Entry) (c : Checked) (inputs : List PureValue) (standing : StandsForChecked stands e x v entry c) (ext : Extends inputs c.machine x.path next v w) where
-    entered_there : IsEntered w e entry
+    pub entered_there : IsEntered w e entry
     entered_there = subst (λ u. IsEntered u e entry) (sym ext.values) (entered_more x.path.vars v ext.new_values standing.path.proper.one_each e entry is_over_table.entry standing.entered)
 
-    stands_there : IsProper next.vars w → IsTrue (all_true w next.conds) → states.Stands stands (at_end s next) w (logic_state c)
+    pub stands_there : IsProper next.vars w → IsTrue (all_true w next.conds) → states.Stands stands (at_end s next) w (logic_state c)
     stands_there proper met =
         let kept = subst (λ u. IsPassed stands u (record { at = 0; memory = s.memory; facts = x.facts; unlisted = [] }) (record { at = 0; remainder = logic_state c; unlisted = [] })) (sym ext.values) (kept_there v ext.new_values entry c standing) in
         record {
@@ -215,3 +217,23 @@ module _ {S : Type 0} (stands : S → List PureValue → Heap → Type 0) (terms
   pub finishes_there : (p : PureParts) (e : PureEntry) (posts : List (List PureItem)) (t : PureTerm) (k : PureNext S) → Finishes p stands e posts t r k → Finishes p stands e posts t s k
   finishes_there p e posts t k (inl cause) = inl cause
   finishes_there p e posts t k (inr (done, law)) = inr (done, λ v entry l w entered stand val. law v entry l w entered (there_stands v l stand) val)
+
+  there_conds : r.conds ≡ s.conds
+  there_conds = ap (λ (q : PureState S). q.conds) is.is
+
+  pub exactly_there : (p : PureParts) (e : PureEntry) (posts : List (List PureItem)) (t : PureTerm) (here : Place) (path : PurePath S) (k : PureNext S) → FinishesExactly p stands e posts t here path r k
+      → FinishesExactly p stands e posts t here path s k
+  exactly_there p e posts t here path k (inl done) = inl done
+  exactly_there p e posts t here path k (inr (doubt, (is_in, shows))) = inr (doubt, (doubted doubt is_in, shows))
+    where
+      none_there : (v : List PureValue) → MeetsNone p stands e posts t r v → MeetsNone p stands e posts t s v
+      none_there v none entry l w entered stand val = none entry l w entered (there_stands v l stand) val
+
+      doubted : (doubt : PureDoubt) → IsDoubtIn r (MeetsNone p stands e posts t r) doubt → IsDoubtIn s (MeetsNone p stands e posts t s) doubt
+      doubted always fails = λ v met. none_there v (fails v (subst (λ cs. IsTrue (all_true v cs)) (sym there_conds) met))
+      doubted (under conds u) (longer, meets, fails) = (
+        subst (λ cs. IsLonger cs conds) there_conds longer,
+        subst (λ vars. Satisfies vars u conds) there_vars meets,
+        λ v met. none_there v (fails v met),
+      )
+      doubted (beyond conds reason) (longer, outside) = (subst (λ cs. IsLonger cs conds) there_conds longer, outside)

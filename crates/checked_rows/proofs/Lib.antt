@@ -1,4 +1,5 @@
 pub mod EndRowLaws
+pub mod EndExactLaws
 pub mod EndLaws
 pub mod FoldLaws
 pub mod AssertLaws
@@ -11,3 +12,6 @@ pub mod StateLaws
 pub mod StepLaws
 pub mod BelowLaws
 pub mod UnfoldLaws
+pub mod NewValueLaws
+pub mod ArityLaws
+pub mod UnfoldExactLaws

@@ -23,7 +23,7 @@ use Rattle.footprint.specs.Leaves.{IsLonger, Premise, Giving, IsLater, IsMatch, 
 use Rattle.footprint.specs.Pure.{PureMatch, PureMatching, all_match, unmatched, unknown}
 use Rattle.checked_paths.specs.Meaning.{StandsForChecked, IsCheckedOver}
 use Rattle.checked_paths.specs.Pure.{PureEntry, PureChecking}
-use Rattle.checked_rows.specs.Matching.{IsOfPath, IsFound, MatchesThere}
+use Rattle.checked_rows.specs.Matching.{IsOfPath, IsFound, IsMatchThere, MatchesThere}
 use Rattle.checked_rows.specs.Names.{AreNames}
 use Rattle.checked_rows.specs.States.{IsStateOf}
 use Rattle.checked_rows.proofs.NameLaws.{names_stand, names_each}
@@ -69,7 +69,12 @@ module _ {S : Type 0} (stands : S → List PureValue → Heap → Type 0) (terms
   }
 
   later_of : (r : PureState S) → IsLater stands terms kept s r → IsOfPath terms x r
-  later_of r later = record { vars = ap (λ (q : PureState S). q.vars) later.same_else ∙ state_vars stands terms x.path x.facts s is; over = later.over }
+  later_of r later = record {
+    vars = ap (λ (q : PureState S). q.vars) later.same_else ∙ state_vars stands terms x.path x.facts s is;
+    longer = subst (λ conds. IsLonger conds r.conds) (state_conds stands terms x.path x.facts s is) later.longer;
+    choices = ap (λ (q : PureState S). q.path) later.same_else ∙ ap (λ (q : PureState S). q.path) is.is;
+    over = later.over;
+  }
 
   pub matches_there : (preds : List PurePredDef) (scope : List Param) (items : List PureItem) (r : PureMatching S) → IsAnswer stands terms kept s (Serves stands terms s bs) (Matches preds scope items) (StopsAt preds scope items) r
       → MatchesThere stands terms e x preds scope items r
@@ -84,6 +89,13 @@ module _ {S : Type 0} (stands : S → List PureValue → Heap → Type 0) (terms
         one_to (Found stands terms kept s (Serves stands terms s bs) (Matches preds scope items) v (names_at entry c) (logic_state c)) (IsFound stands terms e x preds scope items v entry c) ms
         (λ m (t', (l', ((taken, matches), serves))). record { found = record { store = t'; state = l'; taken = taken }; matches = matches; state = serves.state; store = serves.store })
         (one_matches stands terms kept s (Serves stands terms s bs) (Matches preds scope items) ms v (names_at entry c) (logic_state c) answer (serves_there v entry c stand)),
-    each_to (IsMatch stands terms kept s (Serves stands terms s bs) (Matches preds scope items)) (λ m. IsOfPath terms x m.state × IsStoreOver x.path.vars m.store) ms
-        (λ m match. (later_of m.state match.later, subst (λ vars. IsStoreOver vars m.store) (state_vars stands terms x.path x.facts s is) match.store_over)) answer.matched,
+    each_to (IsMatch stands terms kept s (Serves stands terms s bs) (Matches preds scope items)) (IsMatchThere stands terms e x preds scope items) ms
+        (λ m match. record {
+          of_path = later_of m.state match.later;
+          store_over = subst (λ vars. IsStoreOver vars m.store) (state_vars stands terms x.path x.facts s is) match.store_over;
+          exact = λ v entry c stand met.
+              let (t', (l', ((taken, matches), serves))) = match.exact v (names_at entry c) (logic_state c) (serves_there v entry c stand) met in
+              record { found = record { store = t'; state = l'; taken = taken }; matches = matches; state = serves.state; store = serves.store };
+        })
+        answer.matched,
   )

@@ -2,6 +2,7 @@
 use Rattle.std.proofs.Common.{◌≡◌, ◌⊎◌, inl, inr, ℕ, zero, suc, ◌+◌, ◌<◌, ◌≤◌, List, [], ◌∷◌, ◌++◌, length, map, get_or, drop, Bool, true, false, ◌&&◌, ◌||◌, cond, Option, Some, None, Ok, IsTrue, slice_get, refl, sym, ap, subst, ◌∙◌, true≢false}
 use Rattle.std.specs.Str.{bytes_eq}
 use Rattle.std.proofs.lemmas.Slice.Eq.{bytes_eq-Decides}
+use Rattle.gil_values.specs.declared.places.Place.{Place}
 use Rattle.gil_values.specs.Pure.{PureValue}
 use Rattle.std.proofs.lemmas.Bool.{and_parts}
 use Rattle.gil_values.specs.Equality.{same_value, same_elements}
@@ -28,7 +29,6 @@ use Rattle.assert_logic.specs.Names.{named_by_items}
 use Rattle.checked_runs.proofs.Readable.{case_reads, names_length}
 use Rattle.sym_paths.proofs.Beginning.{as_many}
 use Rattle.checked_runs.specs.Checked.{Checked, Outcome, Entry, IsAbove, IsFactBelow, is_call, names_at, logic_state, with_logic, stepped, Unfolds, UnfoldsFound, UnfoldsBy}
-use Rattle.pure_terms.specs.Meaning.{IsUnsatisfiable}
 use Rattle.pure_terms.specs.Pure.{PureTerm}
 use Rattle.sym_evaluation.specs.Meaning.{HaveValues}
 use Rattle.sym_evaluation.specs.Pure.{PureStore}
@@ -48,19 +48,20 @@ use Rattle.sym_states.specs.Pure.{PureState}
 use Rattle.sym_unfolding.specs.Further.{IsFurther}
 use Rattle.sym_unfolding.specs.Unfolding.{PureUnfoldedCase, IsCaseAdded, IsNamedValue, StandsForCase, CoversUnfoldings}
 use Rattle.checked_paths.proofs.Lists.{one_across, each_across}
+use Rattle.checked_paths.specs.declared.nexts.FaultKind.{FaultKind}
 use Rattle.checked_paths.specs.Covering.{CoversOutcome, CoversLeads, FollowsOn, AreNexts}
 use Rattle.checked_paths.specs.Meaning.{StandsForChecked, MayGoOn}
-use Rattle.checked_paths.specs.Pure.{PureEntry, PureChecking, PureNext, over as done_over}
-use Rattle.checked_rows.specs.Folding.{GoesOnIn}
+use Rattle.checked_paths.specs.Pure.{PureEntry, PureChecking, PureNext}
 use Rattle.checked_rows.specs.Names.{AreNames}
-use Rattle.checked_rows.specs.Reading.{AreRead}
+use Rattle.checked_rows.specs.Reading.{AreRead, AreUnread}
 use Rattle.checked_rows.specs.Rows.{AreRowOf}
 use Rattle.checked_rows.specs.States.{IsStateOf}
-use Rattle.checked_rows.specs.Unfolding.{IsCaseAnswered, EachCaseIsAnswered, AreUnfoldings, UnfoldsOuts}
+use Rattle.checked_rows.specs.Unfolding.{chosen_case, IsUnfoldedNext, EachUnfolded, HasNoFact, AreUnfoldings, UnfoldsOuts}
 use Rattle.checked_rows.proofs.BelowLaws.{keeping, kept_value, some_kept, each_below, below_more, all_each, agreed_below, found_in}
 use Rattle.checked_rows.proofs.FoldLaws.{read_vars, read_serves}
 use Rattle.checked_rows.proofs.MatchLaws.{one_of_each, serves_there}
-use Rattle.checked_rows.proofs.RowLaws.{leads_by, answer_of_cause, cause_covers, cause_follows, uses_nothing}
+use Rattle.checked_rows.proofs.ExactLaws.{doubt_is_cause}
+use Rattle.checked_rows.proofs.RowLaws.{leads_by, cause_covers, uses_nothing}
 use Rattle.checked_rows.proofs.StateLaws.{state_vars}
 use Rattle.checked_rows.proofs.StepLaws.{state_covers, state_follows}
 
@@ -128,18 +129,18 @@ module _ (p : PureParts) (memory : MemoryName) (m : Actions) {S : Type 0} (stand
   serves_before v entry c may stand = serves_there stands terms kept e x s bs may.over is names v entry c stand
 
   module _ (valid : IsValid p) (r : PureState S) (ins : List PureTerm) (read_ins : AreRead stands terms s bs u.ins r ins) where
-    serves_after : (v : List PureValue) (entry : Entry) (c : Checked) → MayGoOn p terms e x → StandsForChecked stands e x v entry c → Serves stands terms r bs v (names_at entry c) (logic_state c)
+    pub serves_after : (v : List PureValue) (entry : Entry) (c : Checked) → MayGoOn p terms e x → StandsForChecked stands e x v entry c → Serves stands terms r bs v (names_at entry c) (logic_state c)
     serves_after v entry c may stand =
         let serves = serves_before v entry c may stand in
         let (ws, (ok, have, stand_r)) = read_ins.have v (names_at entry c) (logic_state c) serves in
         read_serves stands terms s r bs u.ins ins read_ins v (names_at entry c) (logic_state c) serves stand_r
 
-    module _ (q : PureState S) (outs : List PureTerm) (read_outs : AreRead stands terms r bs u.outs q outs) (ins_count : length ins ≡ length d.ins) (outs_count : length outs ≡ length d.outs) (rs : List (PureUnfoldedCase S))
-        (all : CoversUnfoldings memory stands terms kept d ins outs q rs) (further : Each (λ k. IsFurther terms kept q k.state) rs) (nexts : List (PureNext S)) (each : EachCaseIsAnswered stands terms x rs nexts)
-        (n : PureNumberedCommand) (may : MayGoOn p terms e x) (at : command_of_path p x.path ≡ Some n) (this : n.command ≡ unfold_use u) where
-      vars_of : (k : PureState S) (f : IsFurther terms kept q k) → k.vars ≡ x.path.vars ++ f.sorts
-      vars_of k f = f.vars ∙ ap (λ vs. vs ++ f.sorts) (read_vars stands terms r q bs u.outs outs read_outs ∙ (read_vars stands terms s r bs u.ins ins read_ins ∙ state_vars stands terms x.path x.facts s is))
+    pub vars_of : (q : PureState S) (outs : List PureTerm) → AreRead stands terms r bs u.outs q outs → (k : PureState S) (f : IsFurther terms kept q k) → k.vars ≡ x.path.vars ++ f.sorts
+    vars_of q outs read_outs k f = f.vars ∙ ap (λ vs. vs ++ f.sorts) (read_vars stands terms r q bs u.outs outs read_outs ∙ (read_vars stands terms s r bs u.ins ins read_ins ∙ state_vars stands terms x.path x.facts s is))
 
+    module _ (q : PureState S) (outs : List PureTerm) (read_outs : AreRead stands terms r bs u.outs q outs) (ins_count : length ins ≡ length d.ins) (outs_count : length outs ≡ length d.outs) (rs : List (PureUnfoldedCase S))
+        (all : CoversUnfoldings memory stands terms kept d ins outs q rs) (further : Each (λ k. IsFurther terms kept q k.state) rs) (nexts : List (PureNext S)) (here : Place) (each : EachUnfolded stands terms here x rs nexts)
+        (n : PureNumberedCommand) (may : MayGoOn p terms e x) (at : command_of_path p x.path ≡ Some n) (this : n.command ≡ unfold_use u) where
       module _ (v : List PureValue) (entry : Entry) (c : Checked) (out : Outcome) (stand : StandsForChecked stands e x v entry c) (above : IsAbove c) (ws us : List PureValue) (have_ins : HaveValues v ins ws) (have_outs : HaveValues v outs us)
           (found : FoundFact) (found_is : first_fact (fits_fact u.pred ws (map Some us)) c.facts ≡ Some found) (un : Unfolds p memory m entry d found.fact (record (logic_state c) { facts = found.others }) c out) where
         abbrev left : LogicState
@@ -214,20 +215,20 @@ module _ (p : PureParts) (memory : MemoryName) (m : Actions) {S : Type 0} (stand
         leads_on = un.leads ∙ ap (λ (k : Checked). stepped p memory m entry k (to_next k.machine)) un.adds.is_next
 
         -- one of the states
-        one_covers : (k : PureUnfoldedCase S) (next : PureNext S) → IsCaseAnswered stands terms x k.state next → StandsForCase memory stands terms kept d ins outs q v un.number t un.adds.state k × IsFurther terms kept q k.state → CoversOutcome stands e entry v out next
-        one_covers k next (inl cause) both = answer_of_cause stands e entry v out next cause
-        one_covers k next (inr (no_form, rest)) (sc, f) = by sc.is rest
+        one_covers : (k : PureUnfoldedCase S) (next : PureNext S) → IsUnfoldedNext stands terms here x k.number k.state next → StandsForCase memory stands terms kept d ins outs q v un.number t un.adds.state k × IsFurther terms kept q k.state → CoversOutcome stands e entry v out next
+        one_covers k next (inr (inl (done, unsat))) (sc, f) = absurd (unsat (v ++ sc.values) (record { proper = sc.proper; true_there = sc.meets }))
+        one_covers k next (inr (inr (reason, (outside, (cause, (is_cause, shows)))))) both = subst (CoversOutcome stands e entry v out) (sym is_cause) tt
+        one_covers k next (inl (no_form, (met, goes))) (sc, f) = by sc.is
           where
-            by : IsTrue (has_open (added_conds q k.state)) ⊎ states.Stands stands k.state (v ++ sc.values) un.adds.state → ((next ≡ done_over) × IsUnsatisfiable k.state.vars k.state.conds) ⊎ ((choices : List ℕ) × GoesOnIn stands terms x (record k.state { path = choices }) k.state.facts next) → CoversOutcome stands e entry v out next
-            by (inl open_there) rest = absurd (true≢false (sym (subst (λ atoms. IsTrue (has_open atoms)) (sym f.conds) (open_right q.conds f.more (subst (λ atoms. IsTrue (has_open atoms)) (added_is q k.state f.more f.conds) open_there))) ∙ no_form))
-            by (inr stand_k) (inl (done, unsat)) = absurd (unsat (v ++ sc.values) (record { proper = stand_k.proper; true_there = stand_k.meets }))
-            by (inr stand_k) (inr (choices, goes)) =
-                state_covers p memory m stands terms meaning e x may (record k.state { path = choices }) k.state.facts next goes f.sorts (vars_of k.state f) v (v ++ sc.values) sc.values entry c un.adds.state un.adds.state.facts un.counter out refl stand
+            by : IsTrue (has_open (added_conds q k.state)) ⊎ states.Stands stands k.state (v ++ sc.values) un.adds.state → CoversOutcome stands e entry v out next
+            by (inl open_there) = absurd (true≢false (sym (subst (λ atoms. IsTrue (has_open atoms)) (sym f.conds) (open_right q.conds f.more (subst (λ atoms. IsTrue (has_open atoms)) (added_is q k.state f.more f.conds) open_there))) ∙ no_form))
+            by (inr stand_k) =
+                state_covers p memory m stands terms meaning e x may (chosen_case k.number k.state) k.state.facts next goes f.sorts (vars_of q outs read_outs k.state f) v (v ++ sc.values) sc.values entry c un.adds.state un.adds.state.facts un.counter out refl stand
                 (record { proper = stand_k.proper; meets = stand_k.meets; memory = stand_k.memory; facts = stand_k.facts }) stand_k.facts un.adds.not_lower (values_below sc.values sc.come) leads_on
 
         covers_found : OneOf (StandsForCase memory stands terms kept d ins outs q v un.number t un.adds.state) rs → OneOf (CoversOutcome stands e entry v out) nexts
         covers_found one =
-            one_across (λ k next. IsCaseAnswered stands terms x k.state next) (λ k. StandsForCase memory stands terms kept d ins outs q v un.number t un.adds.state k × IsFurther terms kept q k.state) (CoversOutcome stands e entry v out) rs nexts each one_covers
+            one_across (λ k next. IsUnfoldedNext stands terms here x k.number k.state next) (λ k. StandsForCase memory stands terms kept d ins outs q v un.number t un.adds.state k × IsFurther terms kept q k.state) (CoversOutcome stands e entry v out) rs nexts each one_covers
             (one_of_each (λ k. IsFurther terms kept q k.state) (StandsForCase memory stands terms kept d ins outs q v un.number t un.adds.state) (λ k. StandsForCase memory stands terms kept d ins outs q v un.number t un.adds.state k × IsFurther terms kept q k.state) rs (λ k f sc. (sc, f)) further one)
 
       covers : CoversLeads p memory m stands e x nexts
@@ -250,25 +251,26 @@ module _ (p : PureParts) (memory : MemoryName) (m : Actions) {S : Type 0} (stand
               let three : UnfoldsFound p memory m entry (first_fact (fits_fact u.pred ws (map Some us)) c.facts) (find_pred p.preds u.pred) c out = subst (λ k. UnfoldsBy p memory m entry None u.pred (Ok ws) k c out) second two in
               subst (λ k. UnfoldsFound p memory m entry (Some found) k c out) finds (subst (λ k. UnfoldsFound p memory m entry k (find_pred p.preds u.pred) c out) found_is three)
 
-      follows_one : (k : PureUnfoldedCase S) (next : PureNext S) → IsCaseAnswered stands terms x k.state next → IsFurther terms kept q k.state → FollowsOn p terms e x next
-      follows_one k next (inl cause) f = cause_follows p terms e x next cause
-      follows_one k next (inr (no_form, inl (done, unsat))) f = subst (FollowsOn p terms e x) (sym done) tt
-      follows_one k next (inr (no_form, inr (choices, goes))) f =
-          state_follows p memory m stands terms meaning e x may (record k.state { path = choices }) k.state.facts next goes f.sorts (vars_of k.state f) n valid at (ap (λ h. ends_body h) this)
+      follows_one : (k : PureUnfoldedCase S) (next : PureNext S) → IsUnfoldedNext stands terms here x k.number k.state next → IsFurther terms kept q k.state → FollowsOn p terms e x next
+      follows_one k next (inr (inl (done, unsat))) f = subst (FollowsOn p terms e x) (sym done) tt
+      follows_one k next (inr (inr (reason, (outside, (cause, (is_cause, shows)))))) f = subst (FollowsOn p terms e x) (sym is_cause) tt
+      follows_one k next (inl (no_form, (met, goes))) f =
+          state_follows p memory m stands terms meaning e x may (chosen_case k.number k.state) k.state.facts next goes f.sorts (vars_of q outs read_outs k.state f) n valid at (ap (λ h. ends_body h) this)
           (record { conds = f.over.conds; given = f.over.given; memory = f.over.memory; facts = f.over.facts }) f.over.facts
 
       all_nexts : AreNexts p memory m stands terms e x [] nexts
       all_nexts = record {
         cover = covers;
         uses = uses_nothing p memory m stands e x n [] nexts at (ap is_call this);
-        follow = each_across (λ k next. IsCaseAnswered stands terms x k.state next) (λ k. IsFurther terms kept q k.state) (FollowsOn p terms e x) rs nexts each follows_one further;
+        follow = each_across (λ k next. IsUnfoldedNext stands terms here x k.number k.state next) (λ k. IsFurther terms kept q k.state) (FollowsOn p terms e x) rs nexts each follows_one further;
       }
 
-    by_unfolding : (q : PureState S) (outs : List PureTerm) → AreRead stands terms r bs u.outs q outs → (nexts : List (PureNext S)) → AreUnfoldings memory stands terms kept d x q ins outs nexts → AreRowOf p memory m stands terms e x (unfold_use u) [] nexts
-    by_unfolding q outs read nexts (inl cause) = cause_covers p memory m stands terms e x (unfold_use u) [] nexts cause
-    by_unfolding q outs read nexts (inr (counts, (rs, (all, further, each)))) = λ n may at this. all_nexts q outs read counts.0 counts.1 rs all further nexts each n may at this
+    by_unfolding : (here : Place) (q : PureState S) (outs : List PureTerm) → AreRead stands terms r bs u.outs q outs → (nexts : List (PureNext S)) → AreUnfoldings memory stands terms kept here d x q ins outs nexts → AreRowOf p memory m stands terms e x (unfold_use u) [] nexts
+    by_unfolding here q outs read nexts (inl doubts) = cause_covers p memory m stands terms e x (unfold_use u) [] nexts (doubt_is_cause FaultKind.FoldBody here x q (HasNoFact memory stands terms kept d q ins outs) nexts doubts)
+    by_unfolding here q outs read nexts (inr (inl (others, (cause, (is_cause, shows))))) = cause_covers p memory m stands terms e x (unfold_use u) [] nexts (cause, is_cause)
+    by_unfolding here q outs read nexts (inr (inr (counts, (rs, (all, further, exactly, each))))) = λ n may at this. all_nexts q outs read counts.0 counts.1 rs all further nexts here each n may at this
 
-    pub unfold_covers : (nexts : List (PureNext S)) → UnfoldsOuts memory stands terms kept d x bs u r ins nexts → AreRowOf p memory m stands terms e x (unfold_use u) [] nexts
-    unfold_covers nexts (inl cause) = cause_covers p memory m stands terms e x (unfold_use u) [] nexts cause
-    unfold_covers nexts (inr (inl (none, never))) = subst (AreRowOf p memory m stands terms e x (unfold_use u) []) (sym none) (never_unfolds r serves_after never)
-    unfold_covers nexts (inr (inr (q, (outs, (read, unfoldings))))) = by_unfolding q outs read nexts unfoldings
+    pub unfold_covers : (here : Place) (nexts : List (PureNext S)) → UnfoldsOuts memory stands terms kept here d x bs u r ins nexts → AreRowOf p memory m stands terms e x (unfold_use u) [] nexts
+    unfold_covers here nexts (inl doubts) = cause_covers p memory m stands terms e x (unfold_use u) [] nexts (doubt_is_cause FaultKind.FoldBody here x r (AreUnread stands terms r bs u.outs) nexts doubts)
+    unfold_covers here nexts (inr (inl (none, never))) = subst (AreRowOf p memory m stands terms e x (unfold_use u) []) (sym none) (never_unfolds r serves_after never)
+    unfold_covers here nexts (inr (inr (q, (outs, (read, unfoldings))))) = by_unfolding here q outs read nexts unfoldings

@@ -1,24 +1,30 @@
 -- What ends the entry: a return or a throw, whose postconditions are matched with nothing left.
-use Rattle.std.specs.Prelude.{◌≡◌, ◌⊎◌, ℕ, List, ◌++◌, Option, Some, None, true, ⊤}
+use Rattle.std.specs.Prelude.{◌≡◌, ◌⊎◌, ℕ, List, ◌++◌, Option, Some, None, true, false, ⊤}
+use Rattle.gil_values.specs.declared.places.Place.{Place}
 use Rattle.gil_values.specs.Pure.{PureValue}
 use Rattle.gil_syntax.specs.Pure.{PureParts, PureItem, PureCommand, return, throw}
 use Rattle.mem_model.specs.Heaps.{Heap}
 use Rattle.assert_logic.specs.LogicStates.{LogicState}
 use Rattle.checked_runs.specs.Checked.{Entry, result_store, some_matches}
-use Rattle.checked_runs.specs.Specifications.{result_name}
-use Rattle.pure_terms.specs.Meaning.{value}
-use Rattle.pure_terms.specs.Pure.{PureTerm}
+use Rattle.pure_terms.specs.declared.variables.Sort.{Sort}
+use Rattle.pure_terms.specs.Meaning.{value, IsUnsatisfiable}
+use Rattle.pure_terms.specs.Pure.{PureTerm, PureAtom}
+use Rattle.sym_conditions.specs.Alternatives.{other}
 use Rattle.sym_evaluation.specs.Pure.{PureStore, term_at}
+use Rattle.sym_model.specs.Lists.{Each, OneOf}
 use Rattle.sym_model.specs.Terms.{StateTerms, AreEachOver}
-use Rattle.sym_paths.specs.Frames.{IsBound, terms_bound}
+use Rattle.sym_paths.specs.Frames.{terms_bound}
 use Rattle.sym_paths.specs.Meaning.{end_terms}
 use Rattle.sym_paths.specs.Pure.{PureEnd, returned, failed, threw, missed, vanished, cut, unknown, PurePath}
 use Rattle.sym_states.specs.Meaning.{Stands, IsOverTable}
 use Rattle.sym_states.specs.Pure.{PureFact, PureState}
+use Rattle.checked_paths.specs.declared.nexts.FaultKind.{FaultKind}
+use Rattle.checked_paths.specs.Causes.{ShowsEnd}
 use Rattle.checked_paths.specs.Covering.{IsCaused}
 use Rattle.checked_paths.specs.Following.{IsAnswered}
 use Rattle.checked_paths.specs.Meaning.{EachWith, IsEntered, IsEntryOver}
 use Rattle.checked_paths.specs.Pure.{PureEntry, PurePassed, PureNext, over}
+use Rattle.checked_rows.specs.Doubts.{PureDoubt, IsDoubtNext, IsDoubtIn, IsToldThere}
 
 -- the parameters have their arguments' terms, and other names those of the variables
 abbrev pub AreEntryNames : List (List ℕ) → List PureTerm → PureStore → PureStore → Type 0
@@ -33,12 +39,26 @@ module _ {S : Type 0} (p : PureParts) (stands : S → List PureValue → Heap �
       ⊎ ((k ≡ over) × ((v : List PureValue) (entry : Entry) (l : LogicState) (w : PureValue) → IsEntered v e entry → Stands stands s v l
       → value v t ≡ Some w → some_matches p entry posts (result_store entry w) l ≡ true))
 
--- the names of the entry, of which none is the result's, and the result's
-pub record AreResultNames (params : List (List ℕ)) (args : List PureTerm) (variables : PureStore) (t : PureTerm) (bs : PureStore) : Type 0 where
-  pub before : PureStore
-  pub of_entry : AreEntryNames params args variables before
-  pub free : term_at before result_name ≡ None
-  pub bound : IsBound before result_name t bs
+  -- whatever the state stands for under the valuation, none of the postconditions is matched with this result and nothing left
+  abbrev pub MeetsNone : List (List PureItem) → PureTerm → PureState S → List PureValue → Type 0
+  MeetsNone posts t s v =
+      (entry : Entry) (l : LogicState) (w : PureValue) → IsEntered v e entry → Stands stands s v l → value v t ≡ Some w
+      → some_matches p entry posts (result_store entry w) l ≡ false
+
+  -- nothing is left to be looked at, or the answer is the doubt that a postcondition is met
+  abbrev pub FinishesExactly : List (List PureItem) → PureTerm → Place → PurePath S → PureState S → PureNext S → Type 0
+  FinishesExactly posts t here path s k =
+      (k ≡ over) ⊎ ((doubt : PureDoubt) × (IsDoubtIn s (MeetsNone posts t s) doubt × IsDoubtNext FaultKind.Post here path doubt k))
+
+-- under no valuation that meets the conditions has the term that has the result's name, if there is one, another value than the result
+abbrev pub HasNoOther : List Sort → List PureAtom → PureTerm → Option PureTerm → Type 0
+HasNoOther vars conds t None = ⊤
+HasNoOther vars conds t (Some r) = Each (λ more. IsUnsatisfiable vars (conds ++ more)) (other r t)
+
+-- the doubt is that there is one which has another value
+abbrev pub DoubtsAResult : List Sort → List PureAtom → PureTerm → Option PureTerm → PureDoubt → Type 0
+DoubtsAResult vars conds t None doubt = ⊥
+DoubtsAResult vars conds t (Some r) doubt = OneOf (λ more. IsToldThere vars conds more doubt) (other r t)
 
 -- the state where a path ends: its conditions over its table, and memory and facts as they were before the step
 abbrev pub at_end : {S : Type 0} → PureState S → PurePath S → PureState S
@@ -85,6 +105,18 @@ module _ {S : Type 0} (p : PureParts) (stands : S → List PureValue → Heap �
 
   abbrev pub EachIsEnded : List (PurePath S) → List (PureNext S) → Type 0
   EachIsEnded nexts ks = EachWith IsEnded nexts ks
+
+  -- The same exactly, told at this place: the entry's end as above, and any other path as it is told everywhere.
+  abbrev pub IsExactlyEndedBy : Place → PurePath S → Option PureFinish → PureNext S → Type 0
+  IsExactlyEndedBy here next (Some (by_return t)) k = FinishesExactly p stands e e.spec.posts t here next (at_end s next) k
+  IsExactlyEndedBy here next (Some (by_throw t)) k = FinishesExactly p stands e e.spec.errors t here next (at_end s next) k
+  IsExactlyEndedBy here next None k = IsAnswered stands terms facts passed next k × ShowsEnd here next k
+
+  abbrev pub IsExactlyEnded : Place → PurePath S → PureNext S → Type 0
+  IsExactlyEnded here next k = IsExactlyEndedBy here next (finish_at next.ending) k
+
+  abbrev pub EachIsExactlyEnded : Place → List (PurePath S) → List (PureNext S) → Type 0
+  EachIsExactlyEnded here nexts ks = EachWith (IsExactlyEnded here) nexts ks
 
 -- a return or a throw
 abbrev pub IsLeaving : PureCommand → Type 0

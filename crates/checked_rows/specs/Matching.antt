@@ -18,9 +18,11 @@ use Rattle.checked_paths.specs.Pure.{PureEntry, PureChecking}
 use Rattle.footprint.specs.Leaves.{IsLonger}
 use Rattle.footprint.specs.Pure.{PureMatch, PureStop, PureMatching, all_match, unmatched, unknown}
 
--- the state has the path's variables, and names no others
+-- the state has the path's variables and choices, names no other variables, and its conditions begin with the path's
 pub record IsOfPath {S : Type 0} (terms : S → StateTerms) (x : PureChecking S) (s : PureState S) : Type 0 where
   pub vars : s.vars ≡ x.path.vars
+  pub longer : IsLonger x.path.conds s.conds
+  pub choices : s.path ≡ x.path.choices
   pub over : IsOverTable terms s
 
 module _ {S : Type 0} (stands : S → List PureValue → Heap → Type 0) (terms : S → StateTerms) (e : PureEntry) (x : PureChecking S)
@@ -39,10 +41,17 @@ module _ {S : Type 0} (stands : S → List PureValue → Heap → Type 0) (terms
     pub stops : (v : List PureValue) (entry : Entry) (c : Checked) → StandsForChecked stands e x v entry c → IsTrue (all_true v k.conds)
         → match_assertion preds scope items (names_at entry c) (logic_state c) ≡ stopped k.item
 
-  -- where it is always matched, each checked state matches as one of these says
+  -- wherever the path stands and the conditions of the match are true, it stands for what is found
+  pub record IsMatchThere (m : PureMatch S) : Type 0 where
+    pub of_path : IsOfPath terms x m.state
+    pub store_over : IsStoreOver x.path.vars m.store
+    pub exact : (v : List PureValue) (entry : Entry) (c : Checked) → StandsForChecked stands e x v entry c → IsTrue (all_true v m.state.conds)
+        → IsFound v entry c m
+
+  -- where it is always matched, each checked state matches as one of these says, and they say nothing else
   abbrev pub MatchesThere : PureMatching S → Type 0
   MatchesThere (all_match ms) =
       ((v : List PureValue) (entry : Entry) (c : Checked) → StandsForChecked stands e x v entry c → OneOf (IsFound v entry c) ms)
-      × Each (λ m. IsOfPath terms x m.state × IsStoreOver x.path.vars m.store) ms
+      × Each IsMatchThere ms
   MatchesThere (unmatched k u) = IsStopThere k u
   MatchesThere (unknown conds reason) = IsLonger x.path.conds conds × IsOutside conds reason

@@ -1,11 +1,13 @@
 //! Returns and throws that end the entry: a postcondition is matched, and nothing is left.
-ghost use Rattle.std.specs.Prelude.{◌≡◌, [], ◌++◌, length, map, IfOk, IfSome};
+ghost use Rattle.std.specs.Prelude.{◌≡◌, [], ◌++◌, length, map, IfNone, IfOk, IfSome};
 ghost use Rattle.std.specs.Option.{option_map};
 ghost use Rattle.checked_paths.specs.Meaning.{IsCheckedOver, IsEntryOver};
 ghost use Rattle.checked_paths.specs.View.{checking_view, entry_view, next_view, nexts_view, passed_by_view};
-ghost use Rattle.checked_rows.specs.Ending.{AreEntryNames, AreResultNames, EachIsEnded, Finishes, IsEnded, IsLeaving, IsThere, MayEnd, at_end, finish_at};
-ghost use Rattle.checked_rows.specs.Rows.{AreRowOf};
-ghost use Rattle.checked_rows.specs.View.{finish_view};
+ghost use Rattle.checked_rows.specs.Doubts.{IsToldThere};
+ghost use Rattle.checked_rows.specs.Ending.{AreEntryNames, DoubtsAResult, EachIsEnded, Finishes, HasNoOther, IsEnded};
+ghost use Rattle.checked_rows.specs.Ending.{EachIsExactlyEnded, FinishesExactly, IsExactlyEnded, IsLeaving, IsThere, MayEnd, at_end, finish_at};
+ghost use Rattle.checked_rows.specs.Rows.{AreRowOf, IsExactRowOf};
+ghost use Rattle.checked_rows.specs.View.{doubt_view, finish_view};
 ghost use Rattle.gil_syntax.specs.Pure.{PureCommand};
 ghost use Rattle.sym_paths.specs.View.{end_view, path_view, paths_view};
 ghost use Rattle.sym_step.specs.Stepping.{MayStep};
@@ -14,26 +16,33 @@ ghost use Rattle.footprint.specs.Consuming.{MayMatch, CasesMayMatch};
 ghost use Rattle.gil_program.specs.Program.{prog_view};
 ghost use Rattle.gil_syntax.specs.Valid.{param_names};
 ghost use Rattle.gil_syntax.specs.View.{assertion_view, proc_view};
-ghost use Rattle.pure_terms.specs.Meaning.{IsOver};
-ghost use Rattle.pure_terms.specs.View.{term_view, terms_view};
+ghost use Rattle.pure_terms.specs.Meaning.{IsOver, IsUnsatisfiable};
+ghost use Rattle.pure_terms.specs.Pure.{term_of};
+ghost use Rattle.pure_terms.specs.View.{atoms_view, term_view, terms_view};
+ghost use Rattle.sym_conditions.specs.Alternatives.{alternatives_view};
+ghost use Rattle.sym_evaluation.specs.Meaning.{IsStoreOver};
+ghost use Rattle.sym_evaluation.specs.Pure.{term_at};
 ghost use Rattle.sym_evaluation.specs.View.{store_view};
-ghost use Rattle.sym_model.specs.Lists.{Each};
+ghost use Rattle.sym_model.specs.Lists.{Each, OneOf};
+ghost use Rattle.sym_paths.specs.Frames.{IsBound};
 ghost use Rattle.sym_states.specs.Meaning.{IsOverTable};
 ghost use Rattle.sym_states.specs.View.{facts_view, state_view};
 
 use crate::names::set_all;
 use crate::nexts::{Doubt, doubted_next};
+use crate::reading::doubt_there;
 use crate::states::state_of;
 use checked_paths::{Checking, Entered, FaultKind, Next, Nexts, PassedByFrames, follow};
 use footprint::{Matching, consume_whole};
 use gil_program::Prog;
 use gil_syntax::{Assertions, Param, Params, Proc, Spec};
 use gil_values::{Place, Text};
-use pure_terms::{Decider, Term};
+use pure_terms::{Atoms, Decider, Term, VarTable};
 use rewrite_book::RuleBook;
 use sequence::Sequence;
 use std::alloc::{AllocError, Global};
 use std::mem;
+use sym_conditions::{Alternatives, terms_differ};
 use sym_evaluation::SymStore;
 use sym_model::ListedMemory;
 use sym_paths::{Frame, Path, PathEnd, Paths};
@@ -86,30 +95,66 @@ pub fn result_name(alloc: Global) -> Result<Text, AllocError>
     }
 }
 
-/// The names of the entry and the result, unless one of them has the result's name.
-fn result_names(
+/// The first of the alternatives that may come under the conditions.
+fn alternative_there<D: Decider>(
     alloc: Global,
-    proc: &Proc,
-    entered: &Entered,
-    term: &Term,
-) -> Result<Option<SymStore>, AllocError>
-    requires { length (terms_view entered.now.args) ≡ length (proc_view proc.now).params }
-    ensures { IfOk result (λ o. IfSome o (λ s. AreResultNames (proc_view proc.now).params (terms_view entered.now.args)
-        (store_view entered.now.variables) (term_view term.now) (store_view s))) }
+    vars: &VarTable,
+    conds: &Atoms,
+    alternatives: &Alternatives,
+    decider: &mut D,
+) -> Result<Option<Doubt>, AllocError>
+    requires conds { Each (λ a. IsOver vars.now (term_of a)) (atoms_view conds.now) }
+    requires alternatives { Each (Each (λ a. IsOver vars.now (term_of a))) (alternatives_view alternatives.now) }
+    ensures none { IfOk result (λ o. IfNone o (Each (λ more. IsUnsatisfiable vars.now (atoms_view conds.now ++ more))
+        (alternatives_view alternatives.now))) }
+    ensures doubt { IfOk result (λ o. IfSome o (λ d. OneOf (λ more. IsToldThere vars.now (atoms_view conds.now) more (doubt_view d))
+        (alternatives_view alternatives.now))) }
 {
-    let mut names = entry_names(alloc, proc, entered)?;
+    for more in alternatives.as_slice() {
+        if let Some(doubt) = doubt_there(alloc, vars, conds, more, decider)? {
+            return Ok(Some(doubt));
+        }
+    }
+    Ok(None)
+}
+
+/// Why the result may be another value than one that has its name at the entry: such a parameter is the result.
+fn other_result<D: Decider>(
+    alloc: Global,
+    vars: &VarTable,
+    conds: &Atoms,
+    names: &SymStore,
+    term: &Term,
+    decider: &mut D,
+) -> Result<Option<Doubt>, AllocError>
+    requires conds { Each (λ a. IsOver vars.now (term_of a)) (atoms_view conds.now) }
+    requires names { IsStoreOver vars.now (store_view names.now) }
+    requires term { IsOver vars.now (term_view term.now) }
+    ensures none { IfOk result (λ o. IfNone o (HasNoOther vars.now (atoms_view conds.now) (term_view term.now)
+        (term_at (store_view names.now) pure_result_name))) }
+    ensures doubt { IfOk result (λ o. IfSome o (λ d. DoubtsAResult vars.now (atoms_view conds.now) (term_view term.now)
+        (term_at (store_view names.now) pure_result_name) (doubt_view d))) }
+{
     let name = result_name(alloc)?;
     match names.get(&name) {
-        Some(_) => Ok(None),
-        None => {
-            names.set(name, term.copy(alloc)?)?;
-            Ok(Some(names))
+        Some(known) => {
+            let others = terms_differ(alloc, known, term)?;
+            alternative_there(alloc, vars, conds, &others, decider)
         }
+        None => Ok(None),
     }
 }
 
-/// The entry ends with a result: one of the postconditions is matched, and nothing is left. Where a name of the entry is the result's,
-/// that is left undecided as a fault.
+/// The names, and the result's.
+fn with_result(alloc: Global, names: SymStore, term: &Term) -> Result<SymStore, AllocError>
+    ensures { IfOk result (λ s. IsBound (store_view names) pure_result_name (term_view term.now) (store_view s)) }
+{
+    let mut names = names;
+    names.set(result_name(alloc)?, term.copy(alloc)?)?;
+    Ok(names)
+}
+
+/// The entry ends with a result: one of the postconditions is matched, and nothing is left.
 pub fn finish<M: ListedMemory, D: Decider>(
     alloc: Global,
     prog: &Prog,
@@ -130,12 +175,17 @@ pub fn finish<M: ListedMemory, D: Decider>(
     requires term { IsOver (state_view state).vars (term_view term.now) }
     requires may { Each (MayMatch M.Local.memory) (map assertion_view posts.now) }
     requires cases { CasesMayMatch M.Local.memory (prog_view prog.now).preds }
-    ensures { IfOk result (λ n. Finishes (prog_view prog.now) M.stands (entry_view spec.now entered.now) (map assertion_view posts.now)
+    ensures next { IfOk result (λ n. Finishes (prog_view prog.now) M.stands (entry_view spec.now entered.now) (map assertion_view posts.now)
         (term_view term.now) (state_view state) (next_view n)) }
+    ensures exact { IfOk result (λ n. FinishesExactly (prog_view prog.now) M.stands (entry_view spec.now entered.now)
+        (map assertion_view posts.now) (term_view term.now) here.now (path_view path.now) (state_view state) (next_view n)) }
 {
-    let Some(names) = result_names(alloc, proc, entered, term)? else {
-        return doubted_next(alloc, FaultKind::Post, here, path, Doubt::Always);
-    };
+    let names = entry_names(alloc, proc, entered)?;
+    let conds = state.conds.atoms();
+    if let Some(doubt) = other_result(alloc, &state.vars, conds, &names, term, decider)? {
+        return doubted_next(alloc, FaultKind::Post, here, path, doubt);
+    }
+    let names = with_result(alloc, names, term)?;
     let scope = scope_of(alloc, spec)?;
     match consume_whole(alloc, state, prog, &scope, posts, names, decider)? {
         Matching::All(_) => Ok(Next::Over),
@@ -207,8 +257,11 @@ fn finish_there<M: ListedMemory, D: Decider>(
     requires term { IsOver (path_view path.now).vars (term_view term.now) }
     requires may { Each (MayMatch M.Local.memory) (map assertion_view posts.now) }
     requires cases { CasesMayMatch M.Local.memory (prog_view prog.now).preds }
-    ensures { IfOk result (λ n. Finishes (prog_view prog.now) M.stands (entry_view spec.now entered.now) (map assertion_view posts.now)
+    ensures next { IfOk result (λ n. Finishes (prog_view prog.now) M.stands (entry_view spec.now entered.now) (map assertion_view posts.now)
         (term_view term.now) (at_end (state_view state.now) (path_view path.now)) (next_view n)) }
+    ensures exact { IfOk result (λ n. FinishesExactly (prog_view prog.now) M.stands (entry_view spec.now entered.now)
+        (map assertion_view posts.now) (term_view term.now) here.now (path_view path.now) (at_end (state_view state.now) (path_view path.now))
+        (next_view n)) }
 {
     let there = state_there(alloc, state, path)?;
     finish(
@@ -236,8 +289,10 @@ fn end_one<M: ListedMemory, D: Decider>(
     requires posts { Each (MayMatch M.Local.memory) (map assertion_view spec.now.posts) }
     requires errors { Each (MayMatch M.Local.memory) (map assertion_view spec.now.errors) }
     requires cases { CasesMayMatch M.Local.memory (prog_view prog.now).preds }
-    ensures { IfOk result (λ n. IsEnded (prog_view prog.now) M.stands M.terms (entry_view spec.now entered.now) (state_view state.now)
+    ensures next { IfOk result (λ n. IsEnded (prog_view prog.now) M.stands M.terms (entry_view spec.now entered.now) (state_view state.now)
         (facts_view preds.now) (passed_by_view passed.now) (path_view path) (next_view n)) }
+    ensures exact { IfOk result (λ n. IsExactlyEnded (prog_view prog.now) M.stands M.terms (entry_view spec.now entered.now)
+        (state_view state.now) (facts_view preds.now) (passed_by_view passed.now) here.now (path_view path) (next_view n)) }
 {
     match finish_of(alloc, &path.end)? {
         Some(EntryEnd::Return(term)) => {
@@ -276,8 +331,10 @@ fn end_all<M: ListedMemory, D: Decider>(
     requires posts { Each (MayMatch M.Local.memory) (map assertion_view spec.now.posts) }
     requires errors { Each (MayMatch M.Local.memory) (map assertion_view spec.now.errors) }
     requires cases { CasesMayMatch M.Local.memory (prog_view prog.now).preds }
-    ensures { IfOk result (λ ns. EachIsEnded (prog_view prog.now) M.stands M.terms (entry_view spec.now entered.now) (state_view state.now)
+    ensures next { IfOk result (λ ns. EachIsEnded (prog_view prog.now) M.stands M.terms (entry_view spec.now entered.now) (state_view state.now)
         (facts_view preds.now) (passed_by_view passed.now) (paths_view paths) (nexts_view ns)) }
+    ensures exact { IfOk result (λ ns. EachIsExactlyEnded (prog_view prog.now) M.stands M.terms (entry_view spec.now entered.now)
+        (state_view state.now) (facts_view preds.now) (passed_by_view passed.now) here.now (paths_view paths) (nexts_view ns)) }
 {
     let mut nexts = Sequence::new(alloc);
     for path in paths.into_vec() {
@@ -307,8 +364,10 @@ pub fn end_row<M: ListedMemory, D: Decider>(
     requires posts { Each (MayMatch M.Local.memory) (map assertion_view spec.now.posts) }
     requires errors { Each (MayMatch M.Local.memory) (map assertion_view spec.now.errors) }
     requires cases { CasesMayMatch M.Local.memory (prog_view prog.now).preds }
-    ensures { IfOk result (λ ns. (command : PureCommand) → IsLeaving command → AreRowOf (prog_view prog.now) M.Local.memory M.Local.actions
+    ensures next { IfOk result (λ ns. (command : PureCommand) → IsLeaving command → AreRowOf (prog_view prog.now) M.Local.memory M.Local.actions
         M.stands M.terms (entry_view spec.now entered.now) (checking_view checking) command [] (nexts_view ns)) }
+    ensures exact { IfOk result (λ ns. (command : PureCommand) → IsLeaving command → IsExactRowOf (prog_view prog.now) M.Local.memory
+        M.Local.actions M.stands M.terms (entry_view spec.now entered.now) (checking_view checking) command here.now (nexts_view ns)) }
 {
     let state = state_of(alloc, &checking.path, &checking.preds, here)?;
     let (path, preds, passed) = checking.into_parts();

@@ -5,8 +5,8 @@ ghost use Rattle.assert_logic.specs.Modes.{HasModes};
 ghost use Rattle.checked_paths.specs.Meaning.{IsCheckedOver};
 ghost use Rattle.checked_paths.specs.View.{checking_view, entry_view, next_view, nexts_view};
 ghost use Rattle.checked_rows.specs.Folding.{GoesOnIn};
-ghost use Rattle.checked_rows.specs.Rows.{AreRowOf};
-ghost use Rattle.checked_rows.specs.Unfolding.{AreUnfoldings, EachCaseIsAnswered, IsCaseAnswered, UnfoldsOuts};
+ghost use Rattle.checked_rows.specs.Rows.{AreRowOf, IsExactRowOf};
+ghost use Rattle.checked_rows.specs.Unfolding.{AreUnfoldings, EachUnfolded, IsUnfoldedNext, IsUndecidedIn, UnfoldsOuts, chosen_case};
 ghost use Rattle.footprint.specs.Consuming.{CasesMayMatch};
 ghost use Rattle.gil_program.specs.Program.{prog_view};
 ghost use Rattle.gil_syntax.specs.Programs.{find_pred};
@@ -34,10 +34,10 @@ use gil_program::Prog;
 use gil_syntax::{PredDef, PredDefs, PredUse, Spec};
 use gil_values::{Place, Text};
 use mem_model::Core;
-use pure_terms::{Decider, Terms};
+use pure_terms::{Decider, Reason, Terms};
 use sequence::Sequence;
 use std::alloc::{AllocError, Global};
-use sym_asking::{Satisfiability, ask, needs_form};
+use sym_asking::{Satisfiability, ask};
 use sym_conditions::copy_conditions;
 use sym_engine::pass;
 use sym_evaluation::SymStore;
@@ -73,6 +73,34 @@ pub fn go_on_in<M: ListedMemory>(
     follow(alloc, &preds, &checking.passed, here, pass(path)?)
 }
 
+/// The state, where the number of its case is a choice.
+fn with_number<M: ListedMemory>(
+    number: usize,
+    state: SymState<M>,
+) -> Result<SymState<M>, AllocError>
+    ensures { IfOk result (λ s. state_view s ≡ chosen_case number (state_view state)) }
+{
+    let mut state = state;
+    state.path.push(number as u64)?;
+    Ok(state)
+}
+
+/// The answer of a state whose conditions aren't decided, with what the path would be there.
+fn undecided_in<M: ListedMemory>(
+    alloc: Global,
+    here: &Place,
+    checking: &Checking<M>,
+    state: SymState<M>,
+    reason: Reason,
+) -> Result<Next<M>, AllocError>
+    ensures { IfOk result (λ n. IsUndecidedIn here.now (checking_view checking.now) (state_view state) reason (next_view n)) }
+{
+    let conds = copy_conditions(alloc, state.conds.atoms())?;
+    let (path, _preds) = path_with(alloc, &checking.path, state)?;
+    let doubt = Doubt::Undecided(conds, reason);
+    doubted_next(alloc, FaultKind::FoldBody, here, &path, doubt)
+}
+
 /// What is answered of a state to which the case with this number was added, which is a choice.
 fn case_next<M: ListedMemory, D: Decider>(
     alloc: Global,
@@ -85,25 +113,17 @@ fn case_next<M: ListedMemory, D: Decider>(
     requires steps { checking.now.path.steps + 1 < 2 ^ 32 }
     requires next { MayAdvance (frames_view checking.now.path.stack) }
     requires over { IsOverTable M.terms (state_view state) }
-    ensures { IfOk result (λ n. IsCaseAnswered M.stands M.terms (checking_view checking.now) (state_view state) (next_view n)) }
+    ensures { IfOk result (λ n. IsUnfoldedNext M.stands M.terms here.now (checking_view checking.now) number (state_view state) (next_view n)) }
 {
     match ask(alloc, decider, &state.vars, state.conds.atoms())? {
         Satisfiability::Satisfiable(_) => {
-            let mut state = state;
-            state.path.push(number as u64)?;
-            go_on_in(alloc, here, checking, state)
+            let next = with_number(number, state)?;
+            go_on_in(alloc, here, checking, next)
         }
-        Satisfiability::Unsatisfiable => {
-            if needs_form(state.conds.atoms()) {
-                let doubt = Doubt::Always;
-                return doubted_next(alloc, FaultKind::FoldBody, here, &checking.path, doubt);
-            }
-            Ok(Next::Over)
-        }
+        Satisfiability::Unsatisfiable => Ok(Next::Over),
         Satisfiability::Undecided(reason) => {
-            let conds = copy_conditions(alloc, state.conds.atoms())?;
-            let doubt = Doubt::Undecided(conds, reason);
-            doubted_next(alloc, FaultKind::FoldBody, here, &checking.path, doubt)
+            let next = with_number(number, state)?;
+            undecided_in(alloc, here, checking, next, reason)
         }
     }
 }
@@ -127,7 +147,8 @@ fn each_case<M: ListedMemory, D: Decider>(
     requires steps { checking.now.path.steps + 1 < 2 ^ 32 }
     requires next { MayAdvance (frames_view checking.now.path.stack) }
     requires over { Each (λ r. IsOverTable M.terms r.state) (cases_view cases) }
-    ensures { IfOk result (λ ns. EachCaseIsAnswered M.stands M.terms (checking_view checking.now) (cases_view cases) (nexts_view ns)) }
+    ensures { IfOk result (λ ns. EachUnfolded M.stands M.terms here.now (checking_view checking.now) (cases_view cases)
+        (nexts_view ns)) }
 {
     let mut nexts = Sequence::new(alloc);
     for case in cases.into_vec() {
@@ -155,8 +176,8 @@ fn unfold_read<M: ListedMemory, D: Decider>(
     requires ins_over { AreEachOver (state_view state).vars (terms_view ins.now) }
     requires outs_over { AreEachOver (state_view state).vars (terms_view outs.now) }
     requires addable { Each (Each (MayAdd M.Local.memory)) (pred_def_view pred.now).cases }
-    ensures { IfOk result (λ ns. AreUnfoldings M.Local.memory M.stands M.terms M.kept (pred_def_view pred.now) (checking_view checking.now)
-        (state_view state) (terms_view ins.now) (terms_view outs.now) (nexts_view ns)) }
+    ensures { IfOk result (λ ns. AreUnfoldings M.Local.memory M.stands M.terms M.kept here.now (pred_def_view pred.now)
+        (checking_view checking.now) (state_view state) (terms_view ins.now) (terms_view outs.now) (nexts_view ns)) }
 {
     let fits = ins.len() == pred.ins.len() && outs.len() == pred.outs.len();
     if !fits {
@@ -195,8 +216,8 @@ fn unfold_outs<M: ListedMemory, D: Decider>(
     requires store_over { IsStoreOver (state_view state).vars (store_view names.now) }
     requires ins_over { AreEachOver (state_view state).vars (terms_view ins.now) }
     requires addable { Each (Each (MayAdd M.Local.memory)) (pred_def_view pred.now).cases }
-    ensures { IfOk result (λ ns. UnfoldsOuts M.Local.memory M.stands M.terms M.kept (pred_def_view pred.now) (checking_view checking.now)
-        (store_view names.now) (pred_use_view used.now) (state_view state) (terms_view ins.now) (nexts_view ns)) }
+    ensures { IfOk result (λ ns. UnfoldsOuts M.Local.memory M.stands M.terms M.kept here.now (pred_def_view pred.now)
+        (checking_view checking.now) (store_view names.now) (pred_use_view used.now) (state_view state) (terms_view ins.now) (nexts_view ns)) }
 {
     match read_all(alloc, state, names, &used.outs, decider)? {
         Reading::Values(state, outs) => {
@@ -230,8 +251,10 @@ fn unfold_own<M: ListedMemory, D: Decider>(
     requires next { MayAdvance (frames_view checking.path.stack) }
     requires ins { IsTrue (are_spelled (exprs_view used.now.ins)) }
     requires outs { IsTrue (are_spelled (exprs_view used.now.outs)) }
-    ensures { IfOk result (λ ns. AreRowOf (prog_view prog.now) M.Local.memory M.Local.actions M.stands M.terms
+    ensures next { IfOk result (λ ns. AreRowOf (prog_view prog.now) M.Local.memory M.Local.actions M.stands M.terms
         (entry_view spec.now entered.now) (checking_view checking) (unfold_use (pred_use_view used.now)) [] (nexts_view ns)) }
+    ensures exact { IfOk result (λ ns. IsExactRowOf (prog_view prog.now) M.Local.memory M.Local.actions M.stands M.terms
+        (entry_view spec.now entered.now) (checking_view checking) (unfold_use (pred_use_view used.now)) here.now (nexts_view ns)) }
 {
     let _prog = prog;
     let _spec = spec;
@@ -267,8 +290,10 @@ fn unfold_user<M: ListedMemory, D: Decider>(
     requires next { MayAdvance (frames_view checking.path.stack) }
     requires ins { IsTrue (are_spelled (exprs_view used.now.ins)) }
     requires outs { IsTrue (are_spelled (exprs_view used.now.outs)) }
-    ensures { IfOk result (λ ns. AreRowOf (prog_view prog.now) M.Local.memory M.Local.actions M.stands M.terms
+    ensures next { IfOk result (λ ns. AreRowOf (prog_view prog.now) M.Local.memory M.Local.actions M.stands M.terms
         (entry_view spec.now entered.now) (checking_view checking) (unfold_use (pred_use_view used.now)) [] (nexts_view ns)) }
+    ensures exact { IfOk result (λ ns. IsExactRowOf (prog_view prog.now) M.Local.memory M.Local.actions M.stands M.terms
+        (entry_view spec.now entered.now) (checking_view checking) (unfold_use (pred_use_view used.now)) here.now (nexts_view ns)) }
 {
     match pred_of(prog.preds(), &used.pred) {
         Some(pred) => unfold_own(
@@ -302,8 +327,10 @@ pub fn unfold_row<M: ListedMemory, D: Decider>(
     requires next { MayAdvance (frames_view checking.path.stack) }
     requires ins { IsTrue (are_spelled (exprs_view used.now.ins)) }
     requires outs { IsTrue (are_spelled (exprs_view used.now.outs)) }
-    ensures { IfOk result (λ ns. AreRowOf (prog_view prog.now) M.Local.memory M.Local.actions M.stands M.terms
+    ensures next { IfOk result (λ ns. AreRowOf (prog_view prog.now) M.Local.memory M.Local.actions M.stands M.terms
         (entry_view spec.now entered.now) (checking_view checking) (unfold_use (pred_use_view used.now)) [] (nexts_view ns)) }
+    ensures exact { IfOk result (λ ns. IsExactRowOf (prog_view prog.now) M.Local.memory M.Local.actions M.stands M.terms
+        (entry_view spec.now entered.now) (checking_view checking) (unfold_use (pred_use_view used.now)) here.now (nexts_view ns)) }
 {
     match Core::from_name(&used.pred) {
         Some(_) => doubted(

@@ -7,7 +7,7 @@ use Rattle.sym_paths.specs.View.{path_view, paths_view}
 use Rattle.sym_states.specs.View.{facts_view, state_view}
 use Rattle.checked_paths.proofs.Lists.{with_last}
 use Rattle.checked_paths.specs.View.{entry_view, next_view, nexts_view, passed_by_view}
-use Rattle.checked_rows.specs.Ending.{EachIsEnded, IsEnded, MayEnd}
+use Rattle.checked_rows.specs.Ending.{EachIsEnded, EachIsExactlyEnded, IsEnded, IsExactlyEnded, MayEnd}
 use Rattle.checked_rows.proofs.ending.end_all.Goals as goal
 
 pub loop-path-init : goal.loop-path-init
@@ -15,6 +15,8 @@ loop-path-init g c = record {
   counted = search rules;
   rest = search rules;
   ended = subst (EachIsEnded (prog_view c.args.prog.now) g.M.SymMemory.stands g.M.SymMemory.terms (entry_view c.args.spec.now c.args.entered.now) (state_view c.args.state.now) (facts_view c.args.preds.now) (passed_by_view c.args.passed.now) []) (sym (ap nexts_view c.new-nexts.ensures)) tt;
+  exactly = subst (EachIsExactlyEnded (prog_view c.args.prog.now) g.M.SymMemory.stands g.M.SymMemory.terms (entry_view c.args.spec.now c.args.entered.now) (state_view c.args.state.now) (facts_view c.args.preds.now) (passed_by_view c.args.passed.now) c.args.here.now [])
+      (sym (ap nexts_view c.new-nexts.ensures)) tt;
 }
 
 pub end_one-requires-clause-end : goal.end_one-requires-clause-end
@@ -31,6 +33,7 @@ loop-path-preserved g c =
     let s = state_view c.args.state.now in
     let facts = facts_view c.args.preds.now in
     let passed = passed_by_view c.args.passed.now in
+    let here = c.args.here.now in
     let n = c.in_ok-end_one.field-0 in
     let longer : length (into_iter_items c.loop-path.path-iterator) ≡ length (into_iter_items c.next.new.self) + 1 = ap length c.in-Some.ensures.steps.0 ∙ omega arith in
     let seen = map-append path_view c.loop-path.yielded (c.in-Some.path ∷ []) in
@@ -40,11 +43,20 @@ loop-path-preserved g c =
       rest = rest_more c.args.paths c.loop-path.yielded (into_iter_items c.loop-path.path-iterator) (into_iter_items c.next.new.self) c.in-Some.path c.loop-path.invariant.rest c.in-Some.ensures.steps.0;
       ended = subst (λ ps. EachIsEnded p stands terms e s facts passed ps (nexts_view c.push.new.self)) (sym seen)
           (subst (EachIsEnded p stands terms e s facts passed (paths_view c.loop-path.yielded ++ path_view c.in-Some.path ∷ [])) (sym pushed)
-          (with_last (IsEnded p stands terms e s facts passed) (paths_view c.loop-path.yielded) (path_view c.in-Some.path) (nexts_view c.loop-path.nexts) (next_view n) c.loop-path.invariant.ended c.in_ok-end_one.ensures));
+          (with_last (IsEnded p stands terms e s facts passed) (paths_view c.loop-path.yielded) (path_view c.in-Some.path) (nexts_view c.loop-path.nexts) (next_view n) c.loop-path.invariant.ended c.in_ok-end_one.ensures.next));
+      exactly = subst (λ ps. EachIsExactlyEnded p stands terms e s facts passed here ps (nexts_view c.push.new.self)) (sym seen)
+          (subst (EachIsExactlyEnded p stands terms e s facts passed here (paths_view c.loop-path.yielded ++ path_view c.in-Some.path ∷ [])) (sym pushed)
+          (with_last (IsExactlyEnded p stands terms e s facts passed here) (paths_view c.loop-path.yielded) (path_view c.in-Some.path) (nexts_view c.loop-path.nexts) (next_view n) c.loop-path.invariant.exactly c.in_ok-end_one.ensures.exact));
     }
 
-pub returns : goal.returns
-returns g c =
+pub returns-clause-next : goal.returns-clause-next
+returns-clause-next g c =
     let none : into_iter_items c.loop-path.path-iterator ≡ [] = nil_from_length (into_iter_items c.loop-path.path-iterator) (sym c.loop-path.invariant.counted ∙ c.in-None.ensures.steps.0) in
     subst (λ ps. EachIsEnded (prog_view c.args.prog.now) g.M.SymMemory.stands g.M.SymMemory.terms (entry_view c.args.spec.now c.args.entered.now) (state_view c.args.state.now) (facts_view c.args.preds.now) (passed_by_view c.args.passed.now) (paths_view ps) (nexts_view c.loop-path.nexts))
     (sym (c.loop-path.invariant.rest ∙ ap (λ xs. c.loop-path.yielded ++ xs) none ∙ append-nil c.loop-path.yielded)) c.loop-path.invariant.ended
+
+pub returns-clause-exact : goal.returns-clause-exact
+returns-clause-exact g c =
+    let none : into_iter_items c.loop-path.path-iterator ≡ [] = nil_from_length (into_iter_items c.loop-path.path-iterator) (sym c.loop-path.invariant.counted ∙ c.in-None.ensures.steps.0) in
+    subst (λ ps. EachIsExactlyEnded (prog_view c.args.prog.now) g.M.SymMemory.stands g.M.SymMemory.terms (entry_view c.args.spec.now c.args.entered.now) (state_view c.args.state.now) (facts_view c.args.preds.now) (passed_by_view c.args.passed.now) c.args.here.now (paths_view ps) (nexts_view c.loop-path.nexts))
+    (sym (c.loop-path.invariant.rest ∙ ap (λ xs. c.loop-path.yielded ++ xs) none ∙ append-nil c.loop-path.yielded)) c.loop-path.invariant.exactly

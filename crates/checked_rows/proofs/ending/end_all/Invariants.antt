@@ -4,7 +4,7 @@ use Rattle.gil_program.specs.Program.{prog_view}
 use Rattle.sym_paths.specs.View.{paths_view}
 use Rattle.sym_states.specs.View.{facts_view, state_view}
 use Rattle.checked_paths.specs.View.{entry_view, nexts_view, passed_by_view}
-use Rattle.checked_rows.specs.Ending.{EachIsEnded}
+use Rattle.checked_rows.specs.Ending.{EachIsEnded, EachIsExactlyEnded}
 use Rattle.checked_rows.proofs.ending.end_all.Given as goal
 
 abbrev pub invariant-loop-path : goal.invariant-loop-path
@@ -12,4 +12,5 @@ invariant-loop-path g l = record {
   counted : into_iter_len l.path-iterator ≡ length (into_iter_items l.path-iterator);
   rest : l.fn.paths ≡ l.yielded ++ into_iter_items l.path-iterator;
   ended : EachIsEnded (prog_view l.prog) g.M.SymMemory.stands g.M.SymMemory.terms (entry_view l.spec l.entered) (state_view l.state) (facts_view l.preds) (passed_by_view l.passed) (paths_view l.yielded) (nexts_view l.nexts);
+  exactly : EachIsExactlyEnded (prog_view l.prog) g.M.SymMemory.stands g.M.SymMemory.terms (entry_view l.spec l.entered) (state_view l.state) (facts_view l.preds) (passed_by_view l.passed) l.here (paths_view l.yielded) (nexts_view l.nexts);
 }

@@ -3,13 +3,15 @@ use Rattle.gil_program.specs.Program.{prog_view}
 use Rattle.gil_syntax.specs.Pure.{PureCommand}
 use Rattle.sym_model.proofs.ListLaws.{each_to}
 use Rattle.sym_model.specs.Lists.{Each}
-use Rattle.sym_paths.specs.Steps.{Covers, Grows}
+use Rattle.sym_engine.specs.Lawful.{IsOwnAt, IsAskedByMemoryAt}
+use Rattle.sym_paths.specs.Steps.{Covers, Grows, AreNextPaths}
 use Rattle.sym_paths.specs.View.{path_view, paths_view}
 use Rattle.sym_states.proofs.Values.{ok_to}
 use Rattle.sym_states.specs.View.{facts_view, state_view}
 use Rattle.checked_paths.specs.View.{checking_view, entry_view, nexts_view, passed_by_view}
-use Rattle.checked_rows.specs.Ending.{EachIsEnded, IsLeaving, MayEnd}
-use Rattle.checked_rows.specs.Rows.{AreRowOf}
+use Rattle.checked_rows.specs.Ending.{EachIsEnded, EachIsExactlyEnded, IsLeaving, MayEnd}
+use Rattle.checked_rows.specs.Rows.{AreRowOf, IsExactRowOf}
+use Rattle.checked_rows.proofs.EndExactLaws.{end_exact}
 use Rattle.checked_rows.proofs.EndRowLaws.{may_end, end_covers}
 use Rattle.checked_rows.proofs.ending.end_row.Goals as goal
 
@@ -24,8 +26,8 @@ end_all-requires-clause-end g c =
     let growth : Each (Grows terms x.path) nexts = subst (λ q. Each (Grows terms q) nexts) (ap path_view c.into_parts-path.ensures.path) c.in_ok-paths.ensures.next.growth in
     each_to (Grows terms x.path) (MayEnd terms e s) nexts (may_end stands terms e x s c.in_ok-state.ensures c.requires.over) growth
 
-pub returns : goal.returns
-returns g c =
+pub returns-clause-next : goal.returns-clause-next
+returns-clause-next g c =
     let stands = g.M.SymMemory.stands in
     let terms = g.M.SymMemory.terms in
     let memory = g.M.Local.LocalMemory.memory in
@@ -44,4 +46,26 @@ returns g c =
     (subst (λ qs. EachIsEnded p stands terms e s x.facts qs nexts (nexts_view ns)) (ap passed_by_view c.into_parts-path.ensures.passed)
     (subst (λ fs. EachIsEnded p stands terms e s fs (passed_by_view parts.2) nexts (nexts_view ns)) (ap facts_view c.into_parts-path.ensures.preds) are))
     cover growth c.in_ok-paths.ensures.placed)
-    c.end_all.ensures
+    c.end_all.ensures.next
+
+pub returns-clause-exact : goal.returns-clause-exact
+returns-clause-exact g c =
+    let stands = g.M.SymMemory.stands in
+    let terms = g.M.SymMemory.terms in
+    let memory = g.M.Local.LocalMemory.memory in
+    let m = g.M.Local.LocalMemory.actions in
+    let p = prog_view c.args.prog.now in
+    let e = entry_view c.args.spec.now c.args.entered.now in
+    let x = checking_view c.args.checking in
+    let s = state_view c.in_ok-state.state in
+    let here = c.args.here.now in
+    let nexts = paths_view c.in_ok-paths.paths in
+    let parts = c.into_parts-path.result in
+    let laws = subst (λ q. AreNextPaths p m stands terms (IsOwnAt stands terms g.M.SymMemory.asked m p q) (IsAskedByMemoryAt stands terms g.M.SymMemory.asked m p q) q nexts) (ap path_view c.into_parts-path.ensures.path) c.in_ok-paths.ensures.next in
+    ok_to c.end_all.result (λ ns. EachIsExactlyEnded p stands terms e s (facts_view parts.1) (passed_by_view parts.2) here nexts (nexts_view ns))
+    (λ ns. (command : PureCommand) → IsLeaving command → IsExactRowOf p memory m stands terms e x command here (nexts_view ns))
+    (λ ns are. end_exact p memory m stands terms g.met.M.SymMemory.meaning _ _ e x c.requires.over s c.in_ok-state.ensures here nexts (nexts_view ns)
+    (subst (λ qs. EachIsExactlyEnded p stands terms e s x.facts qs here nexts (nexts_view ns)) (ap passed_by_view c.into_parts-path.ensures.passed)
+    (subst (λ fs. EachIsExactlyEnded p stands terms e s fs (passed_by_view parts.2) here nexts (nexts_view ns)) (ap facts_view c.into_parts-path.ensures.preds) are))
+    laws)
+    c.end_all.ensures.exact

@@ -8,8 +8,8 @@ use Rattle.sym_states.proofs.Values.{ok_to}
 use Rattle.sym_states.specs.View.{state_view}
 use Rattle.checked_paths.specs.Meaning.{IsEntryOver}
 use Rattle.checked_paths.specs.View.{entry_view, next_view}
-use Rattle.checked_rows.specs.Ending.{Finishes, at_end}
-use Rattle.checked_rows.proofs.EndRowLaws.{there_over, there_vars, finishes_there}
+use Rattle.checked_rows.specs.Ending.{Finishes, FinishesExactly, at_end}
+use Rattle.checked_rows.proofs.EndRowLaws.{there_over, there_vars, finishes_there, exactly_there}
 use Rattle.checked_rows.proofs.ending.finish_there.Goals as goal
 
 pub finish-requires-clause-over : goal.finish-requires-clause-over
@@ -24,12 +24,25 @@ pub finish-requires-clause-term : goal.finish-requires-clause-term
 finish-requires-clause-term g c =
     subst (λ vars. IsOver vars (term_view c.args.term.now)) (sym (there_vars g.M.SymMemory.stands g.M.SymMemory.terms (at_end (state_view c.args.state.now) (path_view c.args.path.now)) (state_view c.in_ok-there.there) c.in_ok-there.ensures)) c.requires.term
 
-pub returns : goal.returns
-returns g c =
+pub returns-clause-next : goal.returns-clause-next
+returns-clause-next g c =
     let p = prog_view c.args.prog.now in
     let e = entry_view c.args.spec.now c.args.entered.now in
     let posts = map assertion_view c.args.posts.now in
     let t = term_view c.args.term.now in
     let s = at_end (state_view c.args.state.now) (path_view c.args.path.now) in
     ok_to c.finish.result (λ n. Finishes p g.M.SymMemory.stands e posts t (state_view c.in_ok-there.there) (next_view n)) (λ n. Finishes p g.M.SymMemory.stands e posts t s (next_view n))
-    (λ n done. finishes_there g.M.SymMemory.stands g.M.SymMemory.terms s (state_view c.in_ok-there.there) c.in_ok-there.ensures p e posts t (next_view n) done) c.finish.ensures
+    (λ n done. finishes_there g.M.SymMemory.stands g.M.SymMemory.terms s (state_view c.in_ok-there.there) c.in_ok-there.ensures p e posts t (next_view n) done) c.finish.ensures.next
+
+pub returns-clause-exact : goal.returns-clause-exact
+returns-clause-exact g c =
+    let stands = g.M.SymMemory.stands in
+    let p = prog_view c.args.prog.now in
+    let e = entry_view c.args.spec.now c.args.entered.now in
+    let posts = map assertion_view c.args.posts.now in
+    let t = term_view c.args.term.now in
+    let here = c.args.here.now in
+    let path = path_view c.args.path.now in
+    let s = at_end (state_view c.args.state.now) path in
+    ok_to c.finish.result (λ n. FinishesExactly p stands e posts t here path (state_view c.in_ok-there.there) (next_view n)) (λ n. FinishesExactly p stands e posts t here path s (next_view n))
+    (λ n exactly. exactly_there stands g.M.SymMemory.terms s (state_view c.in_ok-there.there) c.in_ok-there.ensures p e posts t here path (next_view n) exactly) c.finish.ensures.exact

@@ -1,10 +1,33 @@
-use Rattle.std.proofs.Common.{rules, ◌≡◌, Some}
+use Rattle.std.proofs.Common.{rules, ◌≡◌, None, Some}
 use Rattle.gil_program.specs.Program.{prog_view}
 use Rattle.gil_syntax.specs.Programs.{find_pred}
-use Rattle.gil_syntax.specs.View.{pred_def_view}
+use Rattle.gil_syntax.specs.Pure.{unfold_use}
+use Rattle.gil_syntax.specs.View.{pred_def_view, pred_use_view}
+use Rattle.sym_states.proofs.Values.{ok_to}
+use Rattle.checked_paths.specs.declared.nexts.FaultKind.{FaultKind}
+use Rattle.checked_paths.specs.View.{checking_view, entry_view, nexts_view}
+use Rattle.checked_rows.specs.Doubts.{always, IsDoubtAlone}
+use Rattle.checked_rows.specs.Rows.{IsExactRowOf}
+use Rattle.checked_rows.proofs.ExactLaws.{right_alone}
+use Rattle.checked_rows.proofs.UnfoldExactLaws.{unknown_is_fault}
 use Rattle.checked_rows.proofs.unfolding.unfold_user.Goals as goal
 
 pub unfold_own-requires-clause-addable : goal.unfold_own-requires-clause-addable
 unfold_own-requires-clause-addable g c =
     let finds : find_pred (prog_view c.args.prog.now).preds c.args.used.now.pred ≡ Some (pred_def_view c.in-Some.pred.now) = search rules in
     c.requires.cases (pred_def_view c.in-Some.pred.now) c.args.used.now.pred finds
+
+pub returns-in-None-clause-exact : goal.returns-in-None-clause-exact
+returns-in-None-clause-exact g c =
+    let stands = g.M.SymMemory.stands in
+    let terms = g.M.SymMemory.terms in
+    let p = prog_view c.args.prog.now in
+    let memory = g.M.Local.LocalMemory.memory in
+    let m = g.M.Local.LocalMemory.actions in
+    let e = entry_view c.args.spec.now c.args.entered.now in
+    let x = checking_view c.args.checking in
+    let u = pred_use_view c.args.used.now in
+    let here = c.args.here.now in
+    let none : find_pred (prog_view c.args.prog.now).preds c.args.used.now.pred ≡ None = search rules in
+    ok_to c.doubted.result (λ ns. IsDoubtAlone FaultKind.FoldBody here x.path always (nexts_view ns)) (λ ns. IsExactRowOf p memory m stands terms e x (unfold_use u) here (nexts_view ns))
+    (λ ns alone n may at this place. right_alone p memory m stands e x FaultKind.FoldBody here place always (unknown_is_fault p memory m stands e x u n at this none) (nexts_view ns) alone) c.doubted.ensures.shows
