@@ -1,5 +1,5 @@
 -- Arguments that fit have the sorts of the parameters.
-use Rattle.std.proofs.Common.{◌≡◌, ⊎_elim, inl, inr, List, [], ◌∷◌, ◌++◌, length, Bool, true, false, not, ◌&&◌, ◌||◌, cond, Option, Some, None, IfNone, is_some, IsTrue, refl, sym, ap, subst, ◌∙◌, true≢false, ℕ, arith}
+use Rattle.std.proofs.Common.{◌≡◌, ⊎_elim, inl, inr, List, [], ◌∷◌, ◌++◌, length, Bool, true, false, not, ◌&&◌, ◌||◌, cond, Option, Some, None, IfNone, IfSome, is_some, IsTrue, refl, sym, ap, subst, ◌∙◌, true≢false, ℕ, arith}
 use Rattle.std.specs.Str.{bytes_eq}
 use Rattle.std.proofs.lemmas.Bool.{and_parts}
 use Rattle.std.proofs.lemmas.List.Folds.{list_all-append}
@@ -20,10 +20,11 @@ use Rattle.sym_evaluation.specs.Pure.{PureStore, term_at}
 use Rattle.sym_matching.specs.Matching.{TestsSorts}
 use Rattle.sym_matching.specs.Meaning.{SaysTest}
 use Rattle.sym_matching.specs.Pure.{PureTest}
-use Rattle.sym_model.specs.Lists.{Each}
+use Rattle.sym_model.specs.Lists.{Each, OneOf}
 use Rattle.sym_model.proofs.ListLaws.{same_some}
 use Rattle.sym_naming.proofs.Names.{none_of_two}
-use Rattle.call_rows.specs.Arguments.{FitsParam, FitParams}
+use Rattle.checked_rows.specs.Doubts.{PureDoubt, always, under, beyond, IsToldThere}
+use Rattle.call_rows.specs.Arguments.{FitsParam, FitParams, IsUnfit, IsDoubtOver}
 
 -- ---- where there is none
 
@@ -34,6 +35,10 @@ none_to None P Q f is = f is
 pub none_holds : {X : Type 0} (o : Option X) (P : Type 0) → is_some o ≡ false → IfNone o P → P
 none_holds (Some x) P there is = absurd (true≢false there)
 none_holds None P there is = is
+
+pub some_to : {X : Type 0} (o : Option X) (P Q : X → Type 0) → ((x : X) → P x → Q x) → IfSome o P → IfSome o Q
+some_to (Some x) P Q f is = f x is
+some_to None P Q f is = tt
 
 -- ---- on values
 
@@ -101,6 +106,32 @@ module _ (vars : List Sort) (conds : List PureAtom) where
       by : (o : Option PureValue) → value_of s q.name ≡ o → AreSame v (Some t) o → (w : PureValue) × ((value_of s q.name ≡ Some w) × IsTrue (fits_sorts scope q.name w))
       by (Some w) has same = (w, (has, fits w same))
       by None has same = absurd same
+
+  -- ---- a parameter of which a test may fail
+
+  unfit_told : (bs : PureStore) (scope : List Param) (q : Param) (t : PureTerm) (test : PureTest) → term_at bs q.name ≡ Some t → TestsSorts scope q.name t test
+      → (v : List PureValue) → Hold v test.otherwise → IsUnfit vars conds bs scope q v
+  unfit_told bs scope q t test at says v held s w proper over stands has =
+      let same : value v t ≡ Some w = subst (λ o. AreSame v o (Some w)) at (subst (AreSame v (term_at bs q.name)) has (stands q.name)) in
+      let told : SaysTest v test (fits_sorts scope q.name w) = says vars v w proper (over q.name t at) same in
+      told.otherwise held
+
+  by_told : (Fails : List PureValue → Type 0) (more : List PureAtom) (d : PureDoubt) → IsToldThere vars conds more d → ((v : List PureValue) → IsTrue (all_true v more) → Fails v) → IsDoubtOver vars conds Fails d
+  by_told Fails more always told fails = absurd told
+  by_told Fails more (under atoms u) (is, meets) fails =
+      ((more, is), meets, λ v met. fails v (and_parts (all_true v conds) (all_true v more) (sym (list_all-append (truth v) conds more) ∙ subst (λ a. IsTrue (all_true v a)) is met)).1)
+  by_told Fails more (beyond atoms reason) (is, outside) fails = ((more, is), outside)
+
+  pub unfit_param : (bs : PureStore) (scope : List Param) (q : Param) (t : PureTerm) (test : PureTest) (d : PureDoubt) → term_at bs q.name ≡ Some t → TestsSorts scope q.name t test → OneOf (λ more. IsToldThere vars conds more d) test.otherwise → IsDoubtOver vars conds (IsUnfit vars conds bs scope q) d
+  unfit_param bs scope q t test d at says one = by test.otherwise one (λ v held. unfit_told bs scope q t test at says v held)
+    where
+      by : (x : Alternatives) → OneOf (λ more. IsToldThere vars conds more d) x → ((v : List PureValue) → Hold v x → IsUnfit vars conds bs scope q v) → IsDoubtOver vars conds (IsUnfit vars conds bs scope q) d
+      by [] one fails = absurd one
+      by (more ∷ x) (inl here) fails = by_told (IsUnfit vars conds bs scope q) more d here (λ v met. fails v (inl met))
+      by (more ∷ x) (inr later) fails = by x later (λ v held. fails v (inr held))
+
+  pub no_argument : (bs : PureStore) (scope : List Param) (q : Param) → term_at bs q.name ≡ None → IsDoubtOver vars conds (IsUnfit vars conds bs scope q) always
+  no_argument bs scope q at v met s w proper over stands has = absurd (subst (λ o. AreSame v o (Some w)) at (subst (AreSame v (term_at bs q.name)) has (stands q.name)))
 
 -- where the arguments fit, their values do
 pub fit_arguments : (vars : List Sort) (conds : List PureAtom) (bs : PureStore) (scope qs : List Param) (v : List PureValue) (s : Store) → Satisfies vars v conds → IsStoreOver vars bs → StandsFor v bs s → FitParams vars conds bs scope qs → HaveTheirSorts scope qs s

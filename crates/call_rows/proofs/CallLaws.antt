@@ -96,6 +96,7 @@ pub record Begins (p : PureParts) (es : List PureExpr) (s t : State) : Type 0 wh
   pub found : find_proc p.procs proc.name ≡ Some proc
   pub as_many : length args ≡ length proc.params
   pub current : t.current ≡ first_frame proc.name proc.params args
+  pub counter : t.counter ≡ s.counter
 
 going_on : (s t : State) → goes_on s ≡ goes_on t → s ≡ t
 going_on s t is = cc
@@ -112,6 +113,7 @@ module _ (p : PureParts) (x : List ℕ) (handler : Option ℕ) (es : List PureEx
     found = found;
     as_many = (Decides-eqb (length args) (length q.params)).0 count;
     current = ap (λ (k : State). k.current) (sym (going_on _ t is));
+    counter = ap (λ (k : State). k.counter) (sym (going_on _ t is));
   }
   by_count args q args_are found false count is = absurd (cc)
 
@@ -133,16 +135,16 @@ module _ (p : PureParts) (x : List ℕ) (handler : Option ℕ) (es : List PureEx
   by_values (Ok f) (Err fault) args_are is = absurd (cc)
   by_values (Err fault) os args_are is = absurd (cc)
 
-call_begins : (p : PureParts) (m : Actions) (x : List ℕ) (e : PureExpr) (es : List PureExpr) (handler : Option ℤ) (here : Place) (s t : State) → do_command p m [] (call x e es handler) here s ≡ goes_on t → Begins p es s t
+pub call_begins : (p : PureParts) (m : Actions) (x : List ℕ) (e : PureExpr) (es : List PureExpr) (handler : Option ℤ) (here : Place) (s t : State) → do_command p m [] (call x e es handler) here s ≡ goes_on t → Begins p es s t
 call_begins p m x e es handler here s t is = by_values p x (handler_label handler) es here s t (evaluate e s.current.store) (evaluate_all es s.current.store) refl is
 
 -- ---- what the call leads to
 
-spec_running : (v : List PureValue) (p : PureParts) (fs : List PureFrame) (g : Frame) (gs : List Frame) → AreFrames v fs (g ∷ gs) → spec_there p fs ≡ find_spec p.specs g.procedure
+pub spec_running : (v : List PureValue) (p : PureParts) (fs : List PureFrame) (g : Frame) (gs : List Frame) → AreFrames v fs (g ∷ gs) → spec_there p fs ≡ find_spec p.specs g.procedure
 spec_running v p [] g gs are = absurd are
 spec_running v p (f ∷ fs) g gs are = ap (find_spec p.specs) are.0.procedure
 
-found_there : (p : PureParts) (fs : List PureFrame) (used : PureSpec) → spec_there p fs ≡ Some used → find_spec p.specs used.name ≡ Some used
+pub found_there : (p : PureParts) (fs : List PureFrame) (used : PureSpec) → spec_there p fs ≡ Some used → find_spec p.specs used.name ≡ Some used
 found_there p [] used there = not_none there
 found_there p (f ∷ fs) used there = ap (find_spec p.specs) (spec_at p.specs f.procedure used there).0 ∙ there
 
@@ -161,9 +163,9 @@ same_next : (c d : Checked) → goes_on_to c ≡ goes_on_to d → c ≡ d
 same_next c d is = cc
 
 module _ {S : Type 0} (p : PureParts) (memory : MemoryName) (m : Actions) (stands : S → List PureValue → Heap → Type 0) (terms : S → StateTerms) (meaning : IsMeaning memory stands terms) (kept : S → Type 0) (e : PureEntry) (x : PureChecking S) (may : MayGoOn p terms e x)
-    (made : is_well_made p ≡ true) (valid : IsValid p) (modes : HasModes p memory) where
+    (made : is_well_made p ≡ true) (valid : IsValid p) (modes : HasModes p memory) (there_is : Place) where
   -- the specification is that of a procedure with its parameters
-  has_arguments : (es : List PureExpr) (s t : State) (c : Checked) (used : PureSpec) → Begins p es s t → c.machine ≡ t → find_spec p.specs t.current.procedure ≡ Some used → (args : List PureValue) → evaluate_all es s.current.store ≡ Ok args → HasArguments used args c
+  pub has_arguments : (es : List PureExpr) (s t : State) (c : Checked) (used : PureSpec) → Begins p es s t → c.machine ≡ t → find_spec p.specs t.current.procedure ≡ Some used → (args : List PureValue) → evaluate_all es s.current.store ≡ Ok args → HasArguments used args c
   has_arguments es s t c used begins same finds args args_are =
       let named : t.current.procedure ≡ begins.proc.name = ap (λ (f : Frame). f.procedure) begins.current in
       let (q, (there, params)) = (programs_are_addable p memory made valid modes).procs used begins.proc.name (ap (find_spec p.specs) (sym named) ∙ finds) in
@@ -174,12 +176,12 @@ module _ {S : Type 0} (p : PureParts) (memory : MemoryName) (m : Actions) (stand
         bound = ap (λ (k : State). k.current.store) same ∙ ap (λ (f : Frame). f.store) begins.current ∙ (λ i. bind_all (params_are i) (same_args i));
       }
 
-  module _ (next : PurePath S) (k : PureNext S) (ks : List (PureNext S)) (answered : IsAnswered stands terms x.facts x.passed next k) (answers : AnswersNext p memory stands terms kept e (called_by p next.ending next.stack) k ks) where
+  module _ (next : PurePath S) (k : PureNext S) (ks : List (PureNext S)) (answered : IsAnswered stands terms x.facts x.passed next k) (answers : AnswersNext p memory stands terms kept e there_is (called_by p next.ending next.stack) k ks) where
     alone_covers : (P : PureNext S → Type 0) → P k → ks ≡ k ∷ [] → OneOf P ks
     alone_covers P here are = subst (OneOf P) (sym are) (inl here)
 
     -- a path that isn't called by a specification is the one answer
-    none_alone : (o : Option PureSpec) (j : PureNext S) → o ≡ None → AnswersNext p memory stands terms kept e o j ks → ks ≡ j ∷ []
+    none_alone : (o : Option PureSpec) (j : PureNext S) → o ≡ None → AnswersNext p memory stands terms kept e there_is o j ks → ks ≡ j ∷ []
     none_alone None (further y) none are = are
     none_alone None done_over none are = are
     none_alone None (caused cause) none are = are
@@ -192,9 +194,9 @@ module _ {S : Type 0} (p : PureParts) (memory : MemoryName) (m : Actions) (stand
     begun : next.ending ≡ None → (y : PureChecking S) × (k ≡ further y)
     begun ending = let (y, (is, with_it)) = subst (λ o. IsAnswerTo stands terms x.facts x.passed next o k) ending answered in (y, is)
 
-    calls_of : (used : PureSpec) (y : PureChecking S) → next.ending ≡ None → spec_there p next.stack ≡ Some used → k ≡ further y → AnswersCall p memory stands terms kept e used y ks
+    calls_of : (used : PureSpec) (y : PureChecking S) → next.ending ≡ None → spec_there p next.stack ≡ Some used → k ≡ further y → AnswersCall p memory stands terms kept e used y there_is ks
     calls_of used y ending there is =
-        subst (λ o. AnswersFurther p memory stands terms kept e o y ks) (ap (λ o. called_by p o next.stack) ending ∙ there) (subst (λ j. AnswersNext p memory stands terms kept e (called_by p next.ending next.stack) j ks) is answers)
+        subst (λ o. AnswersFurther p memory stands terms kept e there_is o y ks) (ap (λ o. called_by p o next.stack) ending ∙ there) (subst (λ j. AnswersNext p memory stands terms kept e there_is (called_by p next.ending next.stack) j ks) is answers)
 
     module _ (growth : Grows terms x.path next) (placed : GoesOnAtCommands p next) where
       follows_k : FollowsOn p terms e x k
@@ -205,7 +207,7 @@ module _ {S : Type 0} (p : PureParts) (memory : MemoryName) (m : Actions) (stand
 
       called_is : (used : PureSpec) (y : PureChecking S) → next.ending ≡ None → spec_there p next.stack ≡ Some used → find_spec p.specs used.name ≡ Some used → k ≡ further y → AreCalled p memory m stands terms e used y ks
       called_is used y ending there finds is =
-          call_answers p memory m stands terms meaning kept e y (may_of y is).0 used (good_spec p memory used.name used made valid modes finds) valid ks (calls_of used y ending there is)
+          call_answers p memory m stands terms meaning kept e y (may_of y is).0 used (good_spec p memory used.name used made valid modes finds) there_is valid ks (calls_of used y ending there is)
 
       -- ---- what follows
 
@@ -330,7 +332,7 @@ module _ {S : Type 0} (p : PureParts) (memory : MemoryName) (m : Actions) (stand
   each_good names [] growth placed named = tt
   each_good names (q ∷ qs) growth placed named = (record { growth = growth.0; placed = placed.0; named = named.0 }, each_good names qs growth.1 placed.1 named.1)
 
-  module _ (nexts : List (PurePath S)) (ks : List (PureNext S)) (names : List (List ℕ)) (are : EachIsCalled p memory stands terms kept e x.facts x.passed nexts ks) (cover : Covers p m stands x.path nexts) (good : Each (IsGoodNext names) nexts)
+  module _ (nexts : List (PurePath S)) (ks : List (PureNext S)) (names : List (List ℕ)) (are : EachIsCalled p memory stands terms kept e there_is x.facts x.passed nexts ks) (cover : Covers p m stands x.path nexts) (good : Each (IsGoodNext names) nexts)
       (n : PureNumberedCommand) (at : command_of_path p x.path ≡ Some n) (y : List ℕ) (f : PureExpr) (es : List PureExpr) (handler : Option ℤ) (this : n.command ≡ call y f es handler) where
     abbrev place_of : Checked → Place
     place_of c = record { proc = c.machine.current.procedure; at = n.at }
@@ -363,26 +365,26 @@ module _ {S : Type 0} (p : PureParts) (memory : MemoryName) (m : Actions) (stand
           let led : Calls p memory m entry (evaluate_all es c.machine.current.store) (place_of c) c (do_command p m [] (call y f es handler) (place_of c) c.machine) out = subst (λ j. LeadsBy p memory m entry j (place_of c) c out) this by in
           let calls : Calls p memory m entry (evaluate_all es c.machine.current.store) (place_of c) c (step p m [] c.machine) out =
           subst (λ r. Calls p memory m entry (evaluate_all es c.machine.current.store) (place_of c) c r out) (sym (does v entry c standing)) led in
-          one_gathered (IsCalled p memory stands terms kept e x.facts x.passed) (Reached v c) (CoversOutcome stands e entry v out) nexts ks are
-          (λ next ns (k, (answered, answers)) (g, (w, (ext, stood))).
+          one_gathered (IsCalled p memory stands terms kept e there_is x.facts x.passed) (Reached v c) (CoversOutcome stands e entry v out) nexts ks are
+          (λ next ns (k, (answered, shows, answers)) (g, (w, (ext, stood))).
           called_covers next k ns answered answers g.growth g.placed v w entry c standing ext es (evaluate_all es c.machine.current.store) refl (begins_so v entry c standing) (place_of c) out (step p m [] c.machine) refl calls stood)
           (reached v entry c standing);
       uses = λ v entry c used standing uses.
           let there : used_by p m (Some n) c.machine ≡ Some used = subst (λ o. used_by p m o c.machine ≡ Some used) (at_state v entry c standing) uses in
           let used_there : used_in p (step p m [] c.machine) ≡ Some used = sym (ap (λ j. if is_call j then used_in p (step p m [] c.machine) else None) this) ∙ there in
-          gathered_or (IsCalled p memory stands terms kept e x.facts x.passed) (IsTrue (is_among names used.name)) (Reached v c) IsCaused nexts ks are
-          (λ next ns (k, (answered, answers)) (g, (w, (ext, stood))).
+          gathered_or (IsCalled p memory stands terms kept e there_is x.facts x.passed) (IsTrue (is_among names used.name)) (Reached v c) IsCaused nexts ks are
+          (λ next ns (k, (answered, shows, answers)) (g, (w, (ext, stood))).
           uses_named next k ns answered answers g.growth g.placed v w entry c standing ext names used (step p m [] c.machine) g.named refl used_there next.ending refl stood)
           (reached v entry c standing);
-      follow = each_gathered (IsCalled p memory stands terms kept e x.facts x.passed) (IsGoodNext names) (FollowsOn p terms e x) nexts ks are (λ next ns (k, (answered, answers)) g. called_follow next k ns answered answers g.growth g.placed) good;
+      follow = each_gathered (IsCalled p memory stands terms kept e there_is x.facts x.passed) (IsGoodNext names) (FollowsOn p terms e x) nexts ks are (λ next ns (k, (answered, shows, answers)) g. called_follow next k ns answered answers g.growth g.placed) good;
     }
 
-pub row_covers : {S : Type 0} (p : PureParts) (memory : MemoryName) (m : Actions) (stands : S → List PureValue → Heap → Type 0) (terms : S → StateTerms) (meaning : IsMeaning memory stands terms) (kept : S → Type 0) (e : PureEntry) (x : PureChecking S) → is_well_made p ≡ true → IsValid p → HasModes p memory
-    → (nexts : List (PurePath S)) (ks : List (PureNext S)) (names : List (List ℕ)) → EachIsCalled p memory stands terms kept e x.facts x.passed nexts ks → Covers p m stands x.path nexts → Each (Grows terms x.path) nexts → Each (GoesOnAtCommands p) nexts → AreNamed p names nexts
+pub row_covers : {S : Type 0} (p : PureParts) (memory : MemoryName) (m : Actions) (stands : S → List PureValue → Heap → Type 0) (terms : S → StateTerms) (meaning : IsMeaning memory stands terms) (kept : S → Type 0) (e : PureEntry) (x : PureChecking S) → is_well_made p ≡ true → IsValid p → HasModes p memory → (there_is : Place)
+    → (nexts : List (PurePath S)) (ks : List (PureNext S)) (names : List (List ℕ)) → EachIsCalled p memory stands terms kept e there_is x.facts x.passed nexts ks → Covers p m stands x.path nexts → Each (Grows terms x.path) nexts → Each (GoesOnAtCommands p) nexts → AreNamed p names nexts
     → (command : PureCommand) → IsCall command → AreRowOf p memory m stands terms e x command names ks
-row_covers p memory m stands terms meaning kept e x made valid modes nexts ks names are cover growth placed named (call y f es handler) is n may at this =
-    all_called p memory m stands terms meaning kept e x may made valid modes nexts ks names are cover (each_good p memory m stands terms meaning kept e x may made valid modes names nexts growth placed named) n at y f es handler this
-row_covers p memory m stands terms meaning kept e x made valid modes nexts ks names are cover growth placed named command is n may at this = absurd is
+row_covers p memory m stands terms meaning kept e x made valid modes there_is nexts ks names are cover growth placed named (call y f es handler) is n may at this =
+    all_called p memory m stands terms meaning kept e x may made valid modes there_is nexts ks names are cover (each_good p memory m stands terms meaning kept e x may made valid modes there_is names nexts growth placed named) n at y f es handler this
+row_covers p memory m stands terms meaning kept e x made valid modes there_is nexts ks names are cover growth placed named command is n may at this = absurd is
 
 -- ---- what the row's parts need
 

@@ -14,7 +14,7 @@ use Rattle.assert_logic.specs.LogicStates.{LogicState}
 use Rattle.checked_runs.specs.Checked.{Checked, Outcome, goes_on_to, Entry, with_logic, moved, stepped, over_or, some_matches, result_store, post}
 use Rattle.pure_terms.specs.declared.variables.Sort.{Sort}
 use Rattle.pure_terms.specs.Meaning.{value, IsProper, IsOver}
-use Rattle.pure_terms.specs.Pure.{PureTerm, term_of}
+use Rattle.pure_terms.specs.Pure.{PureTerm, PureAtom, term_of}
 use Rattle.sym_engine.specs.Placed.{AreAtCommands}
 use Rattle.sym_leaving.specs.Leaving.{StandsWhereGoesOn, KeepsAllButFrames, caught, uncaught}
 use Rattle.sym_model.specs.Laws.{IsMeaning}
@@ -34,7 +34,7 @@ use Rattle.checked_paths.specs.Pure.{PureEntry, PureChecking, PureNext, further,
 use Rattle.checked_rows.specs.States.{IsStateOf, with_state}
 use Rattle.checked_rows.proofs.RowLaws.{answer_of_cause, passed_longer, goes_covers}
 use Rattle.call_rows.specs.declared.leaving.Completion.{Completion}
-use Rattle.call_rows.specs.Leaving.{after, MayComplete, EndsOver, EndsEntry, GoesOnAfter}
+use Rattle.call_rows.specs.Leaving.{after, with_number, MayComplete, EndsOver, EndsEntry, GoesOnAfter}
 use Rattle.call_rows.specs.Matches.{StaysAt}
 
 -- a cause lets any path stay
@@ -67,7 +67,7 @@ module _ {S : Type 0} (p : PureParts) (memory : MemoryName) (m : Actions) (stand
     abbrev pub there : PurePath S
     there = with_state y.path r
 
-    there_over : states.IsOverTable terms r → IsOverTable terms there
+    pub there_over : states.IsOverTable terms r → IsOverTable terms there
     there_over over =
         let grown = path_over terms y.path sorts may.over.path in
         record {
@@ -90,15 +90,14 @@ module _ {S : Type 0} (p : PureParts) (memory : MemoryName) (m : Actions) (stand
         (stays_on next r.facts z with_it sorts still (keeps.placed p valid may.placed) (keeps.over (there_over over) t_over) (subst (λ vs. AreFactsOver vs r.facts) (sym same_vars) over.facts) (same_vars ∙ vars)
         (ap (λ (q : PurePath S). q.steps) keeps.same_else))
 
-    ends_stays : (t : PureTerm) (path : PurePath S) (k : PureNext S) → EndsEntry p stands terms e r.facts t path k → StaysAt p terms e y k
-    ends_stays t path k (inl cause) = cause_stays p terms e y k cause
-    ends_stays t path k (inr (q, (is, inl cause))) = cause_stays p terms e y k cause
-    ends_stays t path k (inr (q, (is, inr (done, law)))) = subst (StaysAt p terms e y) (sym done) tt
+    ends_stays : (here : Place) (t : PureTerm) (path : PurePath S) (k : PureNext S) → EndsEntry p stands terms e here r.facts t path k → StaysAt p terms e y k
+    ends_stays here t path k (q, (is, inl cause, exactly)) = cause_stays p terms e y k cause
+    ends_stays here t path k (q, (is, inr (done, law), exactly)) = subst (StaysAt p terms e y) (sym done) tt
 
-    pub after_stays : (how : Completion) (t : PureTerm) (k : PureNext S) → IsValid p → states.IsOverTable terms r → IsOver r.vars t → GoesOnAfter p stands terms e y how t r k → StaysAt p terms e y k
-    after_stays Completion.Returns t k valid over t_over (next, (left, answered)) = keeps_stays t next k valid over t_over left.keeps answered
-    after_stays Completion.Throws t k valid over t_over (caught next, (thrown, answered)) = keeps_stays t next k valid over t_over thrown.keeps answered
-    after_stays Completion.Throws t k valid over t_over (uncaught next, (thrown, answered)) = ends_stays t next k answered
+    pub after_stays : (there_is : Place) (how : Completion) (t : PureTerm) (k : PureNext S) → IsValid p → states.IsOverTable terms r → IsOver r.vars t → GoesOnAfter p stands terms e y there_is how t r k → StaysAt p terms e y k
+    after_stays there_is Completion.Returns t k valid over t_over (next, (left, answered)) = keeps_stays t next k valid over t_over left.keeps answered
+    after_stays there_is Completion.Throws t k valid over t_over (caught next, (thrown, answered)) = keeps_stays t next k valid over t_over thrown.keeps answered
+    after_stays there_is Completion.Throws t k valid over t_over (uncaught next, (thrown, answered)) = ends_stays there_is t next k answered
 
     -- ---- what is covered
 
@@ -106,7 +105,7 @@ module _ {S : Type 0} (p : PureParts) (memory : MemoryName) (m : Actions) (stand
       abbrev pub d : Checked
       d = with_logic l counter c
 
-      stands_there : Stands stands there w d.machine
+      pub stands_there : Stands stands there w d.machine
       stands_there =
           let proper : IsProper (y.path.vars ++ sorts) (v ++ more) = subst (IsProper (y.path.vars ++ sorts)) longer (subst (λ vs. IsProper vs w) vars is.proper) in
           let grown = path_stands memory stands terms meaning y.path v c.machine sorts more counter may.over.path stand.path proper higher below in
@@ -130,28 +129,27 @@ module _ {S : Type 0} (p : PureParts) (memory : MemoryName) (m : Actions) (stand
       step_covers t next k (goes_on s) keeps answered is_next leads = keeps_covers t next k s keeps answered is_next leads
       step_covers t next k (ends end) keeps answered is_next leads = absurd is_next
 
-      entered : IsEntered w e entry
+      pub entered : IsEntered w e entry
       entered = subst (λ u. IsEntered u e entry) (sym longer) (entered_more y.path.vars v more stand.path.proper.one_each e entry may.over.entry stand.entered)
 
-      state_there : (q : PureState S) (path : PurePath S) → path ≡ record there { stack = [] } → IsStateOf stands terms path r.facts q → states.Stands stands q w l
+      pub state_there : (q : PureState S) (path : PurePath S) → path ≡ record there { stack = [] } → IsStateOf stands terms path r.facts q → states.Stands stands q w l
       state_there q path same is_state =
           let at : IsStateOf stands terms (record there { stack = [] }) r.facts q = subst (λ n. IsStateOf stands terms n r.facts q) same is_state in
           subst (λ s. states.Stands stands s w l) (sym at.is) (record { proper = is.proper; meets = is.meets; memory = at.stands_for w l.heap is.memory; facts = is.facts })
 
-      ends_covers : (t : PureTerm) (path : PurePath S) (result : PureValue) (here : Place) (k : PureNext S) → path ≡ record there { stack = [] } → value w t ≡ Some result → EndsEntry p stands terms e r.facts t path k → out ≡ stepped p memory m entry d (ends (end_at d.machine (threw result here))) → CoversOutcome stands e entry v out k
-      ends_covers t path result here k same has (inl cause) leads = answer_of_cause stands e entry v out k cause
-      ends_covers t path result here k same has (inr (q, (is_state, inl cause))) leads = answer_of_cause stands e entry v out k cause
-      ends_covers t path result here k same has (inr (q, (is_state, inr (done, law)))) leads =
+      ends_covers : (there_is : Place) (t : PureTerm) (path : PurePath S) (result : PureValue) (here : Place) (k : PureNext S) → path ≡ record there { stack = [] } → value w t ≡ Some result → EndsEntry p stands terms e there_is r.facts t path k → out ≡ stepped p memory m entry d (ends (end_at d.machine (threw result here))) → CoversOutcome stands e entry v out k
+      ends_covers there_is t path result here k same has (q, (is_state, inl cause, exactly)) leads = answer_of_cause stands e entry v out k cause
+      ends_covers there_is t path result here k same has (q, (is_state, inr (done, law), exactly)) leads =
           let matched : some_matches p entry e.spec.errors (result_store entry result) l ≡ true = law w entry l result entered (state_there q path same is_state) has in
           let there_too : some_matches p entry entry.spec.errors (result_store entry result) l ≡ true = ap (λ s. some_matches p entry s.errors (result_store entry result) l) entered.spec ∙ matched in
           subst (CoversOutcome stands e entry v out) (sym done) (leads ∙ ap (λ b. over_or b post) there_too)
 
-      pub after_covers : (how : Completion) (t : PureTerm) (result : PureValue) (here : Place) (k : PureNext S) → value w t ≡ Some result → GoesOnAfter p stands terms e y how t r k → out ≡ stepped p memory m entry d (after how here c.machine.callers result d.machine) → CoversOutcome stands e entry v out k
-      after_covers Completion.Returns t result here k has (next, (left, answered)) leads = step_covers t next k (leave c.machine.callers result d.machine) left.keeps answered (left.stands_for w d.machine result stands_there has) leads
-      after_covers Completion.Throws t result here k has (caught next, (thrown, answered)) leads =
+      pub after_covers : (there_is : Place) (how : Completion) (t : PureTerm) (result : PureValue) (here : Place) (k : PureNext S) → value w t ≡ Some result → GoesOnAfter p stands terms e y there_is how t r k → out ≡ stepped p memory m entry d (after how here c.machine.callers result d.machine) → CoversOutcome stands e entry v out k
+      after_covers there_is Completion.Returns t result here k has (next, (left, answered)) leads = step_covers t next k (leave c.machine.callers result d.machine) left.keeps answered (left.stands_for w d.machine result stands_there has) leads
+      after_covers there_is Completion.Throws t result here k has (caught next, (thrown, answered)) leads =
           step_covers t next k (throw_to (handling c.machine.callers) result here d.machine) thrown.keeps answered (thrown.stands_for w d.machine result here stands_there has) leads
-      after_covers Completion.Throws t result here k has (uncaught next, (thrown, answered)) leads =
-          ends_covers t next result here k thrown.no_frame has answered (leads ∙ ap (stepped p memory m entry d) (thrown.ends_there w d.machine result here stands_there))
+      after_covers there_is Completion.Throws t result here k has (uncaught next, (thrown, answered)) leads =
+          ends_covers there_is t next result here k thrown.no_frame has answered (leads ∙ ap (stepped p memory m entry d) (thrown.ends_there w d.machine result here stands_there))
 
 -- ---- where a throw ends the entry
 
@@ -173,3 +171,13 @@ uncaught_over terms e t y r path may is = subst (EndsOver terms e t r.facts) (sy
   entry = may.entry;
   result = may.result;
 })
+
+-- ---- a choice more
+
+pub numbered_may : {S : Type 0} (terms : S → StateTerms) (e : PureEntry) (given : List PureAtom) (t : PureTerm) (r : PureState S) (number : ℕ) → MayComplete terms e given t r → MayComplete terms e given t (with_number r number)
+numbered_may terms e given t r number may = record {
+  over = record { conds = may.over.conds; given = may.over.given; memory = may.over.memory; facts = may.over.facts };
+  entry = may.entry;
+  assumed = may.assumed;
+  result = may.result;
+}

@@ -1,7 +1,13 @@
 pub mod ArgumentLaws
 pub mod CallLaws
+pub mod Called
 pub mod CallingLaws
+pub mod FrontLaws
 pub mod GatheringLaws
 pub mod LeavingLaws
+pub mod MatchExact
 pub mod MatchedNames
+pub mod MatchedSorts
+pub mod PostExact
 pub mod PostLaws
+pub mod RowExact

@@ -1,5 +1,5 @@
 -- Postconditions that are added to what a match left cover whatever values the names and the result may have.
-use Rattle.std.proofs.Common.{◌≡◌, ◌⊎◌, ⊎_elim, inl, inr, ℕ, List, [], ◌∷◌, ◌++◌, length, Bool, true, false, ◌||◌, Option, Some, None, is_some, IsTrue, slice_get, refl, sym, ap, subst, ◌∙◌, true≢false, append_assoc, arith}
+use Rattle.std.proofs.Common.{◌≡◌, ◌⊎◌, ⊎_elim, inl, inr, ℕ, ◌+◌, List, [], ◌∷◌, ◌++◌, length, Bool, true, false, ◌||◌, Option, Some, None, is_some, IsTrue, slice_get, refl, sym, ap, subst, ◌∙◌, true≢false, append_assoc, arith}
 use Rattle.std.specs.Str.{bytes_eq}
 use Rattle.std.specs.List.{list_all}
 use Rattle.std.proofs.lemmas.Bool.{and_parts}
@@ -30,7 +30,7 @@ use Rattle.checked_runs.proofs.Readable.{either_none, first_fault_at, names_leng
 use Rattle.checked_runs.proofs.Stores.{IsGoodSpec, all_at, one_of_two, no_param, no_value, same_some, first_value}
 use Rattle.footprint.specs.Pure.{PureMatch}
 use Rattle.pure_terms.specs.Laws.{AgreeOn}
-use Rattle.pure_terms.specs.Meaning.{value, IsOver, IsUnsatisfiable}
+use Rattle.pure_terms.specs.Meaning.{value, IsOver}
 use Rattle.pure_terms.specs.Pure.{PureTerm, PureAtom, term_of, variables}
 use Rattle.pure_terms.proofs.VariableLaws.{stay_when_tables_grow}
 use Rattle.sym_evaluation.specs.Meaning.{AreSame}
@@ -57,17 +57,16 @@ use Rattle.checked_paths.proofs.Growing.{facts_more, agree_more, facts_over_more
 use Rattle.checked_paths.proofs.Lists.{one_across, each_across}
 use Rattle.checked_paths.specs.Covering.{CoversOutcome}
 use Rattle.checked_paths.specs.Meaning.{IsEntryOver, StandsForChecked, MayGoOn}
-use Rattle.checked_paths.specs.Pure.{PureEntry, PureChecking, PureNext, over as done_over}
+use Rattle.checked_paths.specs.Pure.{PureEntry, PureChecking, PureNext}
 use Rattle.checked_rows.proofs.BelowLaws.{each_below, all_each, value_below}
 use Rattle.checked_rows.proofs.MatchLaws.{one_of_each}
-use Rattle.checked_rows.proofs.RowLaws.{answer_of_cause}
 use Rattle.call_rows.specs.declared.leaving.Completion.{Completion}
 use Rattle.call_rows.specs.Arguments.{HasArguments}
-use Rattle.call_rows.specs.Leaving.{after, GoesOnAfter, IsCompleted, MayComplete}
+use Rattle.call_rows.specs.Leaving.{after, with_number, IsCompleted, MayComplete}
 use Rattle.call_rows.specs.Matches.{MatchOver, scope_of, StaysAt}
-use Rattle.call_rows.specs.Posts.{PureReady, only_result, IsReady, ReadyOver, AnswersPost, AnswersPosts}
+use Rattle.call_rows.specs.Posts.{PureReady, only_result, IsReady, ReadyOver, AnswersPost, AnswersOneOf, AnswersPosts}
 use Rattle.call_rows.proofs.GatheringLaws.{place_gathered, all_gathered}
-use Rattle.call_rows.proofs.LeavingLaws.{cause_stays, after_stays, after_covers}
+use Rattle.call_rows.proofs.LeavingLaws.{after_stays, after_covers}
 use Rattle.call_rows.proofs.MatchedNames.{matched_known}
 
 -- ---- postconditions can be read
@@ -267,9 +266,10 @@ module _ {S : Type 0} (p : PureParts) (memory : MemoryName) (m : Actions) (stand
       vars_of : (r : PureState S) (f : IsFurther terms kept ready.state r) → r.vars ≡ y.path.vars ++ (is_ready.naming.more ++ f.sorts)
       vars_of r f = f.vars ∙ ap (λ vs. vs ++ f.sorts) (is_ready.naming.grows ∙ ap (λ vs. vs ++ is_ready.naming.more) q_vars) ∙ append_assoc y.path.vars is_ready.naming.more f.sorts
 
-      one_covers : (r : PureState S) (k : PureNext S) → IsCompleted p stands terms e y how ready.result r k → IsAddedAs memory stands terms kept (scope_of used) ready.store [] ready.state u comes.items comes.store comes.state r × IsFurther terms kept ready.state r → CoversOutcome stands e entry v out k
-      one_covers r k (inl cause) both = answer_of_cause stands e entry v out k cause
-      one_covers r k (inr (no_form, rest)) (a, f) = by a.is rest
+      one_covers : (there_is : Place) (number : ℕ) (r : PureState S) (k : PureNext S) → IsCompleted p stands terms e y there_is how number ready.result r k → IsAddedAs memory stands terms kept (scope_of used) ready.store [] ready.state u comes.items comes.store comes.state r × IsFurther terms kept ready.state r → CoversOutcome stands e entry v out k
+      one_covers there_is number r k (inr (inl (done, unsat))) (a, f) = absurd (unsat (u ++ a.values) (record { proper = a.proper; true_there = a.meets }))
+      one_covers there_is number r k (inr (inr (reason, (outside, (cause, (is_cause, shows)))))) both = subst (CoversOutcome stands e entry v out) (sym is_cause) tt
+      one_covers there_is number r k (inl (met, no_form, goes)) (a, f) = by a.is
         where
           longer : u ++ a.values ≡ v ++ (n.values ++ a.values)
           longer = append_assoc v n.values a.values
@@ -277,39 +277,40 @@ module _ {S : Type 0} (p : PureParts) (memory : MemoryName) (m : Actions) (stand
           below : AreBelow comes.counter (n.values ++ a.values)
           below = below_both comes.counter n.values a.values first_below (later_below a.values a.come)
 
-          by : IsTrue (has_open (added_conds ready.state r)) ⊎ states.Stands stands r (u ++ a.values) comes.state → ((k ≡ done_over) × IsUnsatisfiable r.vars r.conds) ⊎ ((choices : List ℕ) × GoesOnAfter p stands terms e y how ready.result (record r { path = choices }) k) → CoversOutcome stands e entry v out k
-          by (inl open_there) rest =
+          by : IsTrue (has_open (added_conds ready.state r)) ⊎ states.Stands stands r (u ++ a.values) comes.state → CoversOutcome stands e entry v out k
+          by (inl open_there) =
               absurd (true≢false (sym (subst (λ atoms. IsTrue (has_open atoms)) (sym f.conds) (open_right ready.state.conds f.more (subst (λ atoms. IsTrue (has_open atoms)) (added_is ready.state r f.more f.conds) open_there))) ∙ no_form))
-          by (inr stand_r) (inl (done, unsat)) = absurd (unsat (u ++ a.values) (record { proper = stand_r.proper; true_there = stand_r.meets }))
-          by (inr stand_r) (inr (choices, goes)) =
+          by (inr stand_r) =
               let has : value (u ++ a.values) ready.result ≡ Some comes.result = stay_when_tables_grow.values ready.result ready.state.vars u a.values over_ready.result ready_stands.proper.one_each ∙ result_value in
-              after_covers p memory m stands terms meaning e y may (record r { path = choices }) (is_ready.naming.more ++ f.sorts) (vars_of r f) v (u ++ a.values) (n.values ++ a.values) entry c comes.state comes.counter out longer is.standing
-              (record { proper = stand_r.proper; meets = stand_r.meets; memory = stand_r.memory; facts = stand_r.facts }) comes.not_lower below how ready.result comes.result here k has goes comes.leads
+              after_covers p memory m stands terms meaning e y may (with_number r number) (is_ready.naming.more ++ f.sorts) (vars_of r f) v (u ++ a.values) (n.values ++ a.values) entry c comes.state comes.counter out longer is.standing
+              (record { proper = stand_r.proper; meets = stand_r.meets; memory = stand_r.memory; facts = stand_r.facts }) comes.not_lower below there_is how ready.result comes.result here k has goes comes.leads
 
-      post_covers : (ks : List (PureNext S)) → AnswersPost p memory stands terms kept e y (scope_of used) ready how comes.items ks → OneOf (CoversOutcome stands e entry v out) ks
-      post_covers ks (rs, (adds, each)) =
-          one_across (IsCompleted p stands terms e y how ready.result) (λ r. IsAddedAs memory stands terms kept (scope_of used) ready.store [] ready.state u comes.items comes.store comes.state r × IsFurther terms kept ready.state r) (CoversOutcome stands e entry v out) rs ks each one_covers
+      post_covers : (there_is : Place) (number : ℕ) (ks : List (PureNext S)) → AnswersPost p memory stands terms kept e y there_is (scope_of used) ready how number comes.items ks → OneOf (CoversOutcome stands e entry v out) ks
+      post_covers there_is number ks (rs, (adds, each)) =
+          one_across (IsCompleted p stands terms e y there_is how number ready.result) (λ r. IsAddedAs memory stands terms kept (scope_of used) ready.store [] ready.state u comes.items comes.store comes.state r × IsFurther terms kept ready.state r) (CoversOutcome stands e entry v out) rs ks each (one_covers there_is number)
           (one_of_each (IsFurther terms kept ready.state) (IsAddedAs memory stands terms kept (scope_of used) ready.store [] ready.state u comes.items comes.store comes.state) (λ r. IsAddedAs memory stands terms kept (scope_of used) ready.store [] ready.state u comes.items comes.store comes.state r × IsFurther terms kept ready.state r) rs
           (λ r f a. (a, f)) (adds.follow over_ready.state over_ready.store tt) (adds.cover u n.store comes.store found.state comes.state may_add comes.adding))
 
-      pub posts_cover : (ks : List (PureNext S)) → AnswersPosts p memory stands terms kept e y (scope_of used) ready how posts ks → OneOf (CoversOutcome stands e entry v out) ks
-      posts_cover ks gathers = place_gathered (AnswersPost p memory stands terms kept e y (scope_of used) ready how) (CoversOutcome stands e entry v out) posts ks comes.number comes.items gathers comes.is_post post_covers
+      pub posts_cover : (there_is : Place) (first : ℕ) (ks : List (PureNext S)) → AnswersPosts p memory stands terms kept e y there_is (scope_of used) ready how first posts ks → OneOf (CoversOutcome stands e entry v out) ks
+      posts_cover there_is first ks gathers =
+          place_gathered (AnswersOneOf p memory stands terms kept e y there_is (scope_of used) ready how first posts) (CoversOutcome stands e entry v out) posts ks comes.number comes.items gathers comes.is_post
+          (λ ns (i, (at, answers)). post_covers there_is (first + i) ns answers)
 
   -- ---- what may go on
 
-  module _ (valid : IsValid p) (ready : PureReady S) (is_ready : IsReady (scope_of used) q ready) (how : Completion) where
-    completed_stays : (r : PureState S) (k : PureNext S) → IsCompleted p stands terms e y how ready.result r k → IsFurther terms kept ready.state r → StaysAt p terms e y k
-    completed_stays r k (inl cause) f = cause_stays p terms e y k cause
-    completed_stays r k (inr (no_form, inl (done, unsat))) f = subst (StaysAt p terms e y) (sym done) tt
-    completed_stays r k (inr (no_form, inr (choices, goes))) f =
+  module _ (valid : IsValid p) (ready : PureReady S) (is_ready : IsReady (scope_of used) q ready) (how : Completion) (there_is : Place) where
+    completed_stays : (number : ℕ) (r : PureState S) (k : PureNext S) → IsCompleted p stands terms e y there_is how number ready.result r k → IsFurther terms kept ready.state r → StaysAt p terms e y k
+    completed_stays number r k (inr (inl (done, unsat))) f = subst (StaysAt p terms e y) (sym done) tt
+    completed_stays number r k (inr (inr (reason, (outside, (cause, (is_cause, shows)))))) f = subst (StaysAt p terms e y) (sym is_cause) tt
+    completed_stays number r k (inl (met, no_form, goes)) f =
         let may_end = may_complete terms kept e y.path.given ready r (ready_over terms e y.path.given (scope_of used) q over ready is_ready) f in
         let vars : r.vars ≡ y.path.vars ++ (is_ready.naming.more ++ f.sorts) = f.vars ∙ ap (λ vs. vs ++ f.sorts) (is_ready.naming.grows ∙ ap (λ vs. vs ++ is_ready.naming.more) q_vars) ∙ append_assoc y.path.vars is_ready.naming.more f.sorts in
-        after_stays p memory m stands terms meaning e y may (record r { path = choices }) (is_ready.naming.more ++ f.sorts) vars how ready.result k valid (record { conds = f.over.conds; given = f.over.given; memory = f.over.memory; facts = f.over.facts }) may_end.result goes
+        after_stays p memory m stands terms meaning e y may (with_number r number) (is_ready.naming.more ++ f.sorts) vars there_is how ready.result k valid (record { conds = f.over.conds; given = f.over.given; memory = f.over.memory; facts = f.over.facts }) may_end.result goes
 
-    post_stays : (items : List PureItem) (ks : List (PureNext S)) → AnswersPost p memory stands terms kept e y (scope_of used) ready how items ks → Each (StaysAt p terms e y) ks
-    post_stays items ks (rs, (adds, each)) =
+    post_stays : (number : ℕ) (items : List PureItem) (ks : List (PureNext S)) → AnswersPost p memory stands terms kept e y there_is (scope_of used) ready how number items ks → Each (StaysAt p terms e y) ks
+    post_stays number items ks (rs, (adds, each)) =
         let over_ready = ready_over terms e y.path.given (scope_of used) q over ready is_ready in
-        each_across (IsCompleted p stands terms e y how ready.result) (IsFurther terms kept ready.state) (StaysAt p terms e y) rs ks each completed_stays (adds.follow over_ready.state over_ready.store tt)
+        each_across (IsCompleted p stands terms e y there_is how number ready.result) (IsFurther terms kept ready.state) (StaysAt p terms e y) rs ks each (completed_stays number) (adds.follow over_ready.state over_ready.store tt)
 
-    pub posts_stay : (posts : List (List PureItem)) (ks : List (PureNext S)) → AnswersPosts p memory stands terms kept e y (scope_of used) ready how posts ks → Each (StaysAt p terms e y) ks
-    posts_stay posts ks gathers = all_gathered (AnswersPost p memory stands terms kept e y (scope_of used) ready how) (StaysAt p terms e y) posts ks gathers post_stays
+    pub posts_stay : (first : ℕ) (posts : List (List PureItem)) (ks : List (PureNext S)) → AnswersPosts p memory stands terms kept e y there_is (scope_of used) ready how first posts ks → Each (StaysAt p terms e y) ks
+    posts_stay first posts ks gathers = all_gathered (AnswersOneOf p memory stands terms kept e y there_is (scope_of used) ready how first posts) (StaysAt p terms e y) posts ks gathers (λ items ns (i, (at, answers)). post_stays (first + i) items ns answers)

@@ -1,5 +1,6 @@
 -- What is answered of the next paths at a call.
 use Rattle.std.specs.Prelude.{◌≡◌, ℕ, List, [], ◌∷◌, Option, Some, None, IsTrue, ⊤}
+use Rattle.gil_values.specs.declared.places.Place.{Place}
 use Rattle.gil_values.specs.Pure.{PureValue}
 use Rattle.gil_syntax.specs.Programs.{find_spec}
 use Rattle.gil_syntax.specs.Pure.{PureParts, PureCommand, call, PureNumberedCommand, PureSpec}
@@ -12,6 +13,7 @@ use Rattle.sym_model.specs.Terms.{StateTerms}
 use Rattle.sym_paths.specs.Meaning.{IsOverTable, command_of_path}
 use Rattle.sym_paths.specs.Pure.{PureFrame, PureEnd, PurePath}
 use Rattle.sym_states.specs.Pure.{PureFact}
+use Rattle.checked_paths.specs.Causes.{ShowsEnd}
 use Rattle.checked_paths.specs.Following.{IsAnswered}
 use Rattle.checked_paths.specs.Meaning.{AreFactsOver, IsEntryOver, IsPassedOver}
 use Rattle.checked_paths.specs.Pure.{PureEntry, PurePassed, PureChecking, PureNext, further, over, caused}
@@ -61,11 +63,11 @@ pub record IsNextOver {S : Type 0} (terms : S → StateTerms) (e : PureEntry) (f
   pub waits : next.ending ≡ None → HasCaller next.stack
 
 module _ {S : Type 0} (p : PureParts) (memory : MemoryName) (stands : S → List PureValue → Heap → Type 0) (terms : S → StateTerms)
-    (kept : S → Type 0) (e : PureEntry) where
+    (kept : S → Type 0) (e : PureEntry) (here : Place) where
   -- a path that goes on is the one answer, unless it is called by a specification
   abbrev pub AnswersFurther : Option PureSpec → PureChecking S → List (PureNext S) → Type 0
   AnswersFurther None y ks = ks ≡ further y ∷ []
-  AnswersFurther (Some used) y ks = AnswersCall p memory stands terms kept e used y ks
+  AnswersFurther (Some used) y ks = AnswersCall p memory stands terms kept e used y here ks
 
   abbrev pub AnswersNext : Option PureSpec → PureNext S → List (PureNext S) → Type 0
   AnswersNext o (further y) ks = AnswersFurther o y ks
@@ -75,7 +77,8 @@ module _ {S : Type 0} (p : PureParts) (memory : MemoryName) (stands : S → List
   module _ (facts : List PureFact) (passed : List (List (PurePassed S))) where
     abbrev pub IsCalled : PurePath S → List (PureNext S) → Type 0
     IsCalled next ks =
-        (k : PureNext S) × (IsAnswered stands terms facts passed next k × AnswersNext (called_by p next.ending next.stack) k ks)
+        (k : PureNext S) × (IsAnswered stands terms facts passed next k × ShowsEnd here next k
+        × AnswersNext (called_by p next.ending next.stack) k ks)
 
     abbrev pub EachIsCalled : List (PurePath S) → List (PureNext S) → Type 0
     EachIsCalled nexts ks = GathersNexts IsCalled nexts ks

@@ -1,12 +1,15 @@
 -- What a call by specification comes to, from where the called procedure begins.
-use Rattle.std.specs.Prelude.{◌≡◌, ◌⊎◌, List, [], ◌++◌, None, ⊤}
+use Rattle.std.specs.Prelude.{◌≡◌, ◌⊎◌, ℕ, List, [], ◌++◌, length, None, ⊤}
 use Rattle.gil_values.specs.declared.places.Place.{Place}
 use Rattle.gil_values.specs.Pure.{PureValue}
 use Rattle.gil_syntax.specs.declared.assertions.Param.{Param}
+use Rattle.gil_syntax.specs.Evaluation.{Store}
 use Rattle.gil_syntax.specs.Pure.{PureParts, PureSpec}
 use Rattle.mem_model.specs.Actions.{Actions}
 use Rattle.mem_model.specs.declared.keys.MemoryName.{MemoryName}
 use Rattle.mem_model.specs.Heaps.{Heap}
+use Rattle.assert_logic.specs.LogicStates.{LogicState}
+use Rattle.assert_logic.specs.Matching.{stops, match_assertion}
 use Rattle.checked_runs.specs.Checked.{Checked, Outcome, Entry, CalledIfFit}
 use Rattle.checked_runs.specs.Specifications.{fit_params}
 use Rattle.footprint.specs.Consuming.{Matches}
@@ -23,10 +26,11 @@ use Rattle.sym_states.specs.Pure.{PureState}
 use Rattle.checked_paths.specs.Covering.{CoversOutcome}
 use Rattle.checked_paths.specs.Meaning.{StandsForChecked, IsEntryOver, MayGoOn}
 use Rattle.checked_paths.specs.Pure.{PureEntry, PureChecking, PureNext, further, over, caused}
-use Rattle.checked_rows.specs.Rows.{IsCauseAlone}
+use Rattle.checked_paths.specs.declared.nexts.FaultKind.{FaultKind}
+use Rattle.checked_rows.specs.Doubts.{PureDoubt, IsDoubtAlone, DoubtsAlone}
 use Rattle.checked_rows.specs.States.{IsStateOf}
 use Rattle.call_rows.specs.declared.leaving.Completion.{Completion}
-use Rattle.call_rows.specs.Arguments.{HasArguments, FitParams}
+use Rattle.call_rows.specs.Arguments.{HasArguments, FitParams, IsUnfitDoubt}
 use Rattle.call_rows.specs.Gathering.{GathersNexts}
 use Rattle.call_rows.specs.Posts.{PureReady, IsReady, IsReadyIfAny, AnswersPosts}
 
@@ -57,20 +61,21 @@ module _ {S : Type 0} (p : PureParts) (memory : MemoryName) (m : Actions) (stand
     pub follow : Each (StaysAt p terms e y) ks
 
 module _ {S : Type 0} (p : PureParts) (memory : MemoryName) (stands : S → List PureValue → Heap → Type 0) (terms : S → StateTerms)
-    (kept : S → Type 0) (e : PureEntry) (used : PureSpec) (y : PureChecking S) where
+    (kept : S → Type 0) (e : PureEntry) (used : PureSpec) (y : PureChecking S) (here : Place) where
   -- each postcondition is added, and then each error postcondition, where the result can have its name
   abbrev pub AnswersReady : PureReady S → List (PureNext S) → Type 0
   AnswersReady ready ks =
       (returned : List (PureNext S)) × ((thrown : List (PureNext S))
-      × (AnswersPosts p memory stands terms kept e y (scope_of used) ready Completion.Returns used.posts returned
-      × AnswersPosts p memory stands terms kept e y (scope_of used) ready Completion.Throws used.errors thrown × (ks ≡ returned ++ thrown)))
+      × (AnswersPosts p memory stands terms kept e y here (scope_of used) ready Completion.Returns 0 used.posts returned
+      × AnswersPosts p memory stands terms kept e y here (scope_of used) ready Completion.Throws (length used.posts) used.errors thrown
+      × (ks ≡ returned ++ thrown)))
 
   abbrev pub AnswersMatch : PureMatch S → List (PureNext S) → Type 0
   AnswersMatch m ks =
       (IsReadyIfAny (scope_of used) m None × (ks ≡ []))
       ⊎ ((ready : PureReady S) × (IsReady (scope_of used) m ready × AnswersReady ready ks))
 
-  -- a cause alone, or the state where the procedure begins, the terms of its variables, and matches of the precondition with answers
+  -- the state where the procedure begins, the terms of its variables, and matches of the precondition with answers
   pub record AnswersMatches (ks : List (PureNext S)) : Type 0 where
     pub state : PureState S
     pub is_state : IsStateOf stands terms y.path y.facts state
@@ -79,11 +84,28 @@ module _ {S : Type 0} (p : PureParts) (memory : MemoryName) (stands : S → List
         (Matches p.preds (scope_of used) used.pre) matches
     pub nexts : GathersNexts AnswersMatch matches ks
 
-  abbrev pub AnswersFitting : List (PureNext S) → Type 0
-  AnswersFitting ks = IsCauseAlone ks ⊎ AnswersMatches ks
+  -- under the valuation the precondition isn't matched, whatever the state stands for
+  abbrev pub MatchFails : PureState S → List PureValue → Type 0
+  MatchFails s v =
+      (t : Store) (l : LogicState) → Serves stands terms s (running_store y.path.stack) v t l
+      → (n : ℕ) × (match_assertion p.preds (scope_of used) used.pre t l ≡ stops n)
 
-  -- the same, where the values of the terms have the sorts of the parameters
+  -- a doubt of the match alone
+  abbrev pub DoubtsMatch : List (PureNext S) → Type 0
+  DoubtsMatch ks =
+      (s : PureState S) × (IsStateOf stands terms y.path y.facts s × DoubtsAlone FaultKind.CallPrecondition here y s (MatchFails s) ks)
+
+  abbrev pub AnswersFitting : List (PureNext S) → Type 0
+  AnswersFitting ks = DoubtsMatch ks ⊎ AnswersMatches ks
+
+  -- a doubt of the sorts of an argument alone
+  abbrev pub DoubtsArguments : List (PureNext S) → Type 0
+  DoubtsArguments ks =
+      (doubt : PureDoubt) × (IsUnfitDoubt y.path.vars y.path.conds (running_store y.path.stack) used.params doubt
+      × IsDoubtAlone FaultKind.CallPrecondition here y.path doubt ks)
+
+  -- that, or the same of the match where the values of the terms have the sorts of the parameters
   abbrev pub AnswersCall : List (PureNext S) → Type 0
   AnswersCall ks =
-      IsCauseAlone ks
+      DoubtsArguments ks
       ⊎ (FitParams y.path.vars y.path.conds (running_store y.path.stack) used.params used.params × AnswersFitting ks)

@@ -1,5 +1,6 @@
 -- What comes of postconditions, added to what matching a precondition left.
-use Rattle.std.specs.Prelude.{◌≡◌, ℕ, List, [], ◌∷◌, Option, Some, None}
+use Rattle.std.specs.Prelude.{◌≡◌, ℕ, ◌+◌, List, [], ◌∷◌, Option, Some, None, slice_get}
+use Rattle.gil_values.specs.declared.places.Place.{Place}
 use Rattle.gil_values.specs.Pure.{PureValue}
 use Rattle.gil_syntax.specs.declared.assertions.Param.{Param}
 use Rattle.gil_syntax.specs.Pure.{PureParts, PureItem}
@@ -52,12 +53,16 @@ pub record ReadyOver {S : Type 0} (terms : S → StateTerms) (e : PureEntry) (gi
   pub assumed : Each (λ a. IsOver ready.state.vars (term_of a)) given
 
 module _ {S : Type 0} (p : PureParts) (memory : MemoryName) (stands : S → List PureValue → Heap → Type 0) (terms : S → StateTerms)
-    (kept : S → Type 0) (e : PureEntry) (y : PureChecking S) (scope : List Param) (ready : PureReady S) (how : Completion) where
-  -- the postcondition is added, and each state is answered
-  abbrev pub AnswersPost : List PureItem → List (PureNext S) → Type 0
-  AnswersPost items ks =
+    (kept : S → Type 0) (e : PureEntry) (y : PureChecking S) (here : Place) (scope : List Param) (ready : PureReady S) (how : Completion) where
+  -- the postcondition of this number is added, and each state is answered
+  abbrev pub AnswersPost : ℕ → List PureItem → List (PureNext S) → Type 0
+  AnswersPost number items ks =
       (rs : List (PureState S)) × (AddsItems memory stands terms kept scope ready.store [] items ready.state rs
-      × EachWith (IsCompleted p stands terms e y how ready.result) rs ks)
+      × EachWith (IsCompleted p stands terms e y here how number ready.result) rs ks)
 
-  abbrev pub AnswersPosts : List (List PureItem) → List (PureNext S) → Type 0
-  AnswersPosts posts ks = GathersNexts AnswersPost posts ks
+  -- the same of one of these, of which the first one has the number `first`
+  abbrev pub AnswersOneOf : ℕ → List (List PureItem) → List PureItem → List (PureNext S) → Type 0
+  AnswersOneOf first posts items ks = (i : ℕ) × ((slice_get posts i ≡ Some items) × AnswersPost (first + i) items ks)
+
+  abbrev pub AnswersPosts : ℕ → List (List PureItem) → List (PureNext S) → Type 0
+  AnswersPosts first posts ks = GathersNexts (AnswersOneOf first posts) posts ks

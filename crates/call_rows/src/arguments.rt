@@ -1,13 +1,15 @@
 //! The sorts of the arguments of a call.
-ghost use Rattle.std.specs.Prelude.{◌≡◌, ◌++◌, IfNone, IfOk};
-ghost use Rattle.call_rows.specs.Arguments.{FitParams, FitsParam};
+ghost use Rattle.std.specs.Prelude.{◌≡◌, ◌++◌, IfNone, IfOk, IfSome};
+ghost use Rattle.call_rows.specs.Arguments.{FitParams, FitsParam, IsDoubtOver, IsUnfit, IsUnfitDoubt};
+ghost use Rattle.checked_rows.specs.Doubts.{IsToldThere};
+ghost use Rattle.checked_rows.specs.View.{doubt_view};
 ghost use Rattle.pure_terms.specs.Meaning.{IsOver, IsUnsatisfiable};
 ghost use Rattle.pure_terms.specs.Pure.{term_of};
 ghost use Rattle.pure_terms.specs.View.{atoms_view};
 ghost use Rattle.sym_conditions.specs.Alternatives.{alternatives_view};
 ghost use Rattle.sym_evaluation.specs.Meaning.{IsStoreOver};
 ghost use Rattle.sym_evaluation.specs.View.{store_view};
-ghost use Rattle.sym_model.specs.Lists.{Each};
+ghost use Rattle.sym_model.specs.Lists.{Each, OneOf};
 
 use checked_rows::{Doubt, doubt_there};
 use gil_syntax::{Param, Params};
@@ -27,13 +29,14 @@ fn alternatives_doubt<D: Decider>(
 ) -> Result<Option<Doubt>, AllocError>
     requires conds { Each (λ a. IsOver vars.now (term_of a)) (atoms_view conds.now) }
     requires alternatives { Each (Each (λ a. IsOver vars.now (term_of a))) (alternatives_view alternatives.now) }
-    ensures { IfOk result (λ o. IfNone o (Each (λ more. IsUnsatisfiable vars.now (atoms_view conds.now ++ more))
+    ensures none { IfOk result (λ o. IfNone o (Each (λ more. IsUnsatisfiable vars.now (atoms_view conds.now ++ more))
+        (alternatives_view alternatives.now))) }
+    ensures doubt { IfOk result (λ o. IfSome o (λ d. OneOf (λ more. IsToldThere vars.now (atoms_view conds.now) more (doubt_view d))
         (alternatives_view alternatives.now))) }
 {
     for more in alternatives.as_slice() {
-        let doubt = doubt_there(alloc, vars, conds, more, decider)?;
-        if doubt.is_some() {
-            return Ok(doubt);
+        if let Some(doubt) = doubt_there(alloc, vars, conds, more, decider)? {
+            return Ok(Some(doubt));
         }
     }
     Ok(None)
@@ -51,7 +54,9 @@ fn argument_doubt<D: Decider>(
 ) -> Result<Option<Doubt>, AllocError>
     requires conds { Each (λ a. IsOver vars.now (term_of a)) (atoms_view conds.now) }
     requires store { IsStoreOver vars.now (store_view store.now) }
-    ensures { IfOk result (λ o. IfNone o (FitsParam vars.now (atoms_view conds.now) (store_view store.now) scope.now param.now)) }
+    ensures fit { IfOk result (λ o. IfNone o (FitsParam vars.now (atoms_view conds.now) (store_view store.now) scope.now param.now)) }
+    ensures doubt { IfOk result (λ o. IfSome o (λ d. IsDoubtOver vars.now (atoms_view conds.now)
+        (IsUnfit vars.now (atoms_view conds.now) (store_view store.now) scope.now param.now) (doubt_view d))) }
 {
     match store.get(&param.name) {
         Some(term) => {
@@ -73,12 +78,13 @@ pub(crate) fn arguments_doubt<D: Decider>(
 ) -> Result<Option<Doubt>, AllocError>
     requires conds { Each (λ a. IsOver vars.now (term_of a)) (atoms_view conds.now) }
     requires store { IsStoreOver vars.now (store_view store.now) }
-    ensures { IfOk result (λ o. IfNone o (FitParams vars.now (atoms_view conds.now) (store_view store.now) params.now params.now)) }
+    ensures fit { IfOk result (λ o. IfNone o (FitParams vars.now (atoms_view conds.now) (store_view store.now) params.now params.now)) }
+    ensures doubt { IfOk result (λ o. IfSome o (λ d. IsUnfitDoubt vars.now (atoms_view conds.now) (store_view store.now) params.now
+        (doubt_view d))) }
 {
     for param in params.as_slice() {
-        let doubt = argument_doubt(alloc, vars, conds, store, params, param, decider)?;
-        if doubt.is_some() {
-            return Ok(doubt);
+        if let Some(doubt) = argument_doubt(alloc, vars, conds, store, params, param, decider)? {
+            return Ok(Some(doubt));
         }
     }
     Ok(None)

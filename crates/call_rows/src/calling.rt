@@ -5,7 +5,7 @@ ghost use Rattle.assert_logic.specs.Modes.{HasModes};
 ghost use Rattle.call_rows.specs.Calling.{AnswersFurther, AreNamed, EachIsCalled, IsSpecOf, IsAtCall, IsCall, IsCalled, IsNextOver, called_by, name_of, spec_there};
 ghost use Rattle.checked_paths.specs.Meaning.{IsCheckedOver};
 ghost use Rattle.checked_paths.specs.View.{checking_view, entry_view, next_view, nexts_view, passed_by_view};
-ghost use Rattle.checked_rows.specs.Rows.{AreRowOf};
+ghost use Rattle.checked_rows.specs.Rows.{AreRowOf, IsExactRowOf};
 ghost use Rattle.gil_program.specs.Program.{prog_view};
 ghost use Rattle.gil_syntax.specs.Programs.{find_spec};
 ghost use Rattle.gil_syntax.specs.Pure.{PureCommand};
@@ -116,7 +116,7 @@ fn further_nexts<M: ListedMemory, D: Decider>(
     requires caller { HasCaller (frames_view checking.path.stack) }
     requires over { IsCheckedOver M.terms (entry_view spec.now entered.now) (checking_view checking) }
     ensures { IfOk result (λ ns. AnswersFurther (prog_view prog.now) M.Local.memory M.stands M.terms M.kept
-        (entry_view spec.now entered.now) (option_map (λ s. spec_view s.now) used.entry) (checking_view checking) (nexts_view ns)) }
+        (entry_view spec.now entered.now) here.now (option_map (λ s. spec_view s.now) used.entry) (checking_view checking) (nexts_view ns)) }
 {
     match used {
         Some(used) => specified_nexts(alloc, prog, spec, entered, used, &checking, here, decider),
@@ -140,7 +140,7 @@ fn call_one<M: ListedMemory, D: Decider>(
     requires modes { HasModes (prog_view prog.now) M.Local.memory }
     requires over { IsNextOver M.terms (entry_view spec.now entered.now) (facts_view preds.now) (passed_by_view passed.now) (path_view path) }
     ensures { IfOk result (λ ns. IsCalled (prog_view prog.now) M.Local.memory M.stands M.terms M.kept (entry_view spec.now entered.now)
-        (facts_view preds.now) (passed_by_view passed.now) (path_view path) (nexts_view ns)) }
+        here.now (facts_view preds.now) (passed_by_view passed.now) (path_view path) (nexts_view ns)) }
 {
     let used = used_by(prog, &path);
     match follow(alloc, preds, passed, here, path)? {
@@ -169,7 +169,7 @@ fn call_all<M: ListedMemory, D: Decider>(
     requires over { Each (IsNextOver M.terms (entry_view spec.now entered.now) (facts_view preds.now) (passed_by_view passed.now))
         (paths_view paths) }
     ensures { IfOk result (λ ns. EachIsCalled (prog_view prog.now) M.Local.memory M.stands M.terms M.kept (entry_view spec.now entered.now)
-        (facts_view preds.now) (passed_by_view passed.now) (paths_view paths) (nexts_view ns)) }
+        here.now (facts_view preds.now) (passed_by_view passed.now) (paths_view paths) (nexts_view ns)) }
 {
     let mut nexts = Sequence::new(alloc);
     for path in paths.into_vec() {
@@ -199,8 +199,10 @@ pub fn call_row<M: ListedMemory, D: Decider>(
     requires may { MayStep (prog_view prog.now) M.terms (path_view checking.path) }
     requires over { IsCheckedOver M.terms (entry_view spec.now entered.now) (checking_view checking) }
     requires at { IsAtCall (prog_view prog.now) (path_view checking.path) }
-    ensures { IfOk result (λ s. (command : PureCommand) → IsCall command → AreRowOf (prog_view prog.now) M.Local.memory M.Local.actions
+    ensures next { IfOk result (λ s. (command : PureCommand) → IsCall command → AreRowOf (prog_view prog.now) M.Local.memory M.Local.actions
         M.stands M.terms (entry_view spec.now entered.now) (checking_view checking) command s.uses (nexts_view s.nexts)) }
+    ensures exact { IfOk result (λ s. (command : PureCommand) → IsCall command → IsExactRowOf (prog_view prog.now) M.Local.memory
+        M.Local.actions M.stands M.terms (entry_view spec.now entered.now) (checking_view checking) command here.now (nexts_view s.nexts)) }
 {
     let (path, preds, passed) = checking.into_parts();
     let paths = step(alloc, prog, path, rules, decider)?;

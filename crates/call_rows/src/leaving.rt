@@ -1,9 +1,12 @@
 //! Where a called procedure has ended by its specification.
 ghost use Rattle.std.specs.Prelude.{◌≡◌, Some, IfOk};
 ghost use Rattle.assert_logic.specs.Modes.{HasModes};
-ghost use Rattle.call_rows.specs.Leaving.{EndsEntry, EndsOver, GoesOnAfter, IsCompleted, MayComplete};
+ghost use Rattle.call_rows.specs.Leaving.{EndsEntry, EndsOver, GoesOnAfter, IsCompleted, MayComplete, with_number};
 ghost use Rattle.call_rows.specs.declared.leaving.Completion.TheVariants.{Returns, Throws};
+ghost use Rattle.checked_paths.specs.declared.nexts.FaultKind.TheVariants.{CallPrecondition};
 ghost use Rattle.checked_paths.specs.View.{checking_view, entry_view, next_view};
+ghost use Rattle.checked_rows.specs.Doubts.{beyond, IsDoubtNext};
+ghost use Rattle.checked_rows.specs.States.{with_state};
 ghost use Rattle.gil_program.specs.Program.{prog_view};
 ghost use Rattle.gil_syntax.specs.Programs.{find_spec};
 ghost use Rattle.gil_syntax.specs.View.{spec_view};
@@ -17,9 +20,9 @@ use checked_rows::{Doubt, doubted_next, finish, path_with, state_of};
 use gil_program::Prog;
 use gil_syntax::Spec;
 use gil_values::Place;
-use pure_terms::{Decider, Term};
+use pure_terms::{Decider, Reason, Term};
 use std::alloc::{AllocError, Global};
-use sym_asking::{Satisfiability, ask, needs_form};
+use sym_asking::{Satisfiability, ask};
 use sym_conditions::copy_conditions;
 use sym_leaving::{Thrown, leave_with, throw_with};
 use sym_model::ListedMemory;
@@ -46,7 +49,7 @@ fn returned_next<M: ListedMemory>(
 ) -> Result<Next<M>, AllocError>
     requires { HasCaller (frames_view checking.now.path.stack) }
     ensures { IfOk result (λ n. GoesOnAfter (prog_view prog.now) M.stands M.terms (entry_view spec.now entered.now)
-        (checking_view checking.now) Returns (term_view term.now) (state_view state) (next_view n)) }
+        (checking_view checking.now) here.now Returns (term_view term.now) (state_view state) (next_view n)) }
 {
     let _prog = prog;
     let _spec = spec;
@@ -71,8 +74,8 @@ fn uncaught_next<M: ListedMemory, D: Decider>(
     requires found { find_spec (prog_view prog.now).specs (spec_view spec.now).name ≡ Some (spec_view spec.now) }
     requires modes { HasModes (prog_view prog.now) M.Local.memory }
     requires over { EndsOver M.terms (entry_view spec.now entered.now) (term_view term.now) (facts_view preds.now) (path_view path.now) }
-    ensures { IfOk result (λ n. EndsEntry (prog_view prog.now) M.stands M.terms (entry_view spec.now entered.now) (facts_view preds.now)
-        (term_view term.now) (path_view path.now) (next_view n)) }
+    ensures { IfOk result (λ n. EndsEntry (prog_view prog.now) M.stands M.terms (entry_view spec.now entered.now) here.now
+        (facts_view preds.now) (term_view term.now) (path_view path.now) (next_view n)) }
 {
     let Some(proc) = prog.proc(&spec.name) else {
         unreachable!();
@@ -101,7 +104,7 @@ fn thrown_next<M: ListedMemory, D: Decider>(
     requires caller { HasCaller (frames_view checking.now.path.stack) }
     requires may { MayComplete M.terms (entry_view spec.now entered.now) (checking_view checking.now).path.given (term_view term.now) (state_view state) }
     ensures { IfOk result (λ n. GoesOnAfter (prog_view prog.now) M.stands M.terms (entry_view spec.now entered.now)
-        (checking_view checking.now) Throws (term_view term.now) (state_view state) (next_view n)) }
+        (checking_view checking.now) here.now Throws (term_view term.now) (state_view state) (next_view n)) }
 {
     let (path, preds) = path_with(alloc, &checking.path, state)?;
     match throw_with(alloc, path, term)? {
@@ -130,7 +133,7 @@ fn next_after<M: ListedMemory, D: Decider>(
     requires caller { HasCaller (frames_view checking.now.path.stack) }
     requires may { MayComplete M.terms (entry_view spec.now entered.now) (checking_view checking.now).path.given (term_view term.now) (state_view state) }
     ensures { IfOk result (λ n. GoesOnAfter (prog_view prog.now) M.stands M.terms (entry_view spec.now entered.now)
-        (checking_view checking.now) how (term_view term.now) (state_view state) (next_view n)) }
+        (checking_view checking.now) here.now how (term_view term.now) (state_view state) (next_view n)) }
 {
     match how {
         Completion::Returns => {
@@ -142,7 +145,33 @@ fn next_after<M: ListedMemory, D: Decider>(
     }
 }
 
-/// What is answered of a state to which a postcondition was added, which is a choice.
+/// Whether a state with a choice more is met isn't decided: its conditions are outside the fragment.
+fn undecided_next<M: ListedMemory>(
+    alloc: Global,
+    checking: &Checking<M>,
+    here: &Place,
+    state: SymState<M>,
+    reason: Reason,
+) -> Result<Next<M>, AllocError>
+    ensures { IfOk result (λ n. IsDoubtNext CallPrecondition here.now (with_state (checking_view checking.now).path (state_view state))
+        (beyond (state_view state).conds reason) (next_view n)) }
+{
+    let conds = copy_conditions(alloc, state.conds.atoms())?;
+    let (path, _) = path_with(alloc, &checking.path, state)?;
+    let doubt = Doubt::Undecided(conds, reason);
+    doubted_next(alloc, FaultKind::CallPrecondition, here, &path, doubt)
+}
+
+/// The state with a choice more.
+fn choosing<M: Drop>(state: SymState<M>, choice: u64) -> Result<SymState<M>, AllocError>
+    ensures { IfOk result (λ s. state_view s ≡ with_number (state_view state) choice) }
+{
+    let mut state = state;
+    state.path.push(choice)?;
+    Ok(state)
+}
+
+/// What is answered of a state to which a postcondition was added, whose number is a choice.
 pub(crate) fn completed_next<M: ListedMemory, D: Decider>(
     alloc: Global,
     prog: &Prog,
@@ -161,27 +190,19 @@ pub(crate) fn completed_next<M: ListedMemory, D: Decider>(
     requires caller { HasCaller (frames_view checking.now.path.stack) }
     requires may { MayComplete M.terms (entry_view spec.now entered.now) (checking_view checking.now).path.given (term_view term.now) (state_view state) }
     ensures { IfOk result (λ n. IsCompleted (prog_view prog.now) M.stands M.terms (entry_view spec.now entered.now)
-        (checking_view checking.now) how (term_view term.now) (state_view state) (next_view n)) }
+        (checking_view checking.now) here.now how choice (term_view term.now) (state_view state) (next_view n)) }
 {
-    let kind = FaultKind::CallPrecondition;
     match ask(alloc, decider, &state.vars, state.conds.atoms())? {
         Satisfiability::Satisfiable(_) => {
-            let mut state = state;
-            state.path.push(choice)?;
+            let state = choosing(state, choice)?;
             next_after(
                 alloc, prog, spec, entered, checking, here, how, state, term, decider,
             )
         }
-        Satisfiability::Unsatisfiable => {
-            if needs_form(state.conds.atoms()) {
-                return doubted_next(alloc, kind, here, &checking.path, Doubt::Always);
-            }
-            Ok(Next::Over)
-        }
+        Satisfiability::Unsatisfiable => Ok(Next::Over),
         Satisfiability::Undecided(reason) => {
-            let conds = copy_conditions(alloc, state.conds.atoms())?;
-            let doubt = Doubt::Undecided(conds, reason);
-            doubted_next(alloc, kind, here, &checking.path, doubt)
+            let state = choosing(state, choice)?;
+            undecided_next(alloc, checking, here, state, reason)
         }
     }
 }

@@ -1,5 +1,5 @@
 //! Calls by specification, from where the called procedure begins.
-ghost use Rattle.std.specs.Prelude.{◌≡◌, Some, IfOk};
+ghost use Rattle.std.specs.Prelude.{◌≡◌, length, map, Some, IfOk};
 ghost use Rattle.addable_programs.specs.Addable.{IsAddableSpec};
 ghost use Rattle.assert_logic.specs.Modes.{HasModes};
 ghost use Rattle.call_rows.specs.Gathering.{GathersNexts};
@@ -10,7 +10,7 @@ ghost use Rattle.footprint.specs.Consuming.{CasesMayMatch};
 ghost use Rattle.footprint.specs.View.{match_view, matches_view};
 ghost use Rattle.gil_program.specs.Program.{prog_view};
 ghost use Rattle.gil_syntax.specs.Programs.{find_spec};
-ghost use Rattle.gil_syntax.specs.View.{spec_view};
+ghost use Rattle.gil_syntax.specs.View.{assertion_view, spec_view};
 ghost use Rattle.sym_evaluation.specs.View.{store_view};
 ghost use Rattle.sym_leaving.specs.Leaving.{HasCaller};
 ghost use Rattle.sym_model.specs.Lists.{Each};
@@ -24,7 +24,7 @@ use checked_paths::{Checking, Entered, FaultKind, Nexts};
 use checked_rows::{Doubt, doubted, nothing, scope_of, state_of};
 use footprint::{Match, Matches, Matching, consume_all};
 use gil_program::Prog;
-use gil_syntax::{Params, Spec};
+use gil_syntax::{Assertions, Params, Spec};
 use gil_values::Place;
 use pure_terms::Decider;
 use sequence::Sequence;
@@ -41,6 +41,13 @@ fn store_there(alloc: Global, frames: &Frames) -> Result<SymStore, AllocError>
         Some(frame) => frame.store.copy(alloc),
         None => Ok(SymStore::new(alloc)),
     }
+}
+
+/// How many assertions there are.
+fn count_of(posts: &Assertions) -> u64
+    ensures { result ≡ length (map assertion_view posts.now) }
+{
+    posts.len() as u64
 }
 
 /// The answers where the precondition is matched so: each postcondition is added, and then each error postcondition.
@@ -63,7 +70,7 @@ fn match_nexts<M: ListedMemory, D: Decider>(
     requires caller { HasCaller (frames_view checking.now.path.stack) }
     requires over { MatchOver M.terms (entry_view spec.now entered.now) (checking_view checking.now).path.given (match_view found) }
     ensures { IfOk result (λ ns. AnswersMatch (prog_view prog.now) M.Local.memory M.stands M.terms M.kept (entry_view spec.now entered.now)
-        (spec_view used.now) (checking_view checking.now) (match_view found) (nexts_view ns)) }
+        (spec_view used.now) (checking_view checking.now) here.now (match_view found) (nexts_view ns)) }
 {
     let Some(ready) = with_result(alloc, found, scope)? else {
         return nothing(alloc);
@@ -84,7 +91,7 @@ fn match_nexts<M: ListedMemory, D: Decider>(
         decider,
     )?;
     let throws = Completion::Throws;
-    let first = used.posts.len() as u64;
+    let first = count_of(&used.posts);
     let thrown = posts_nexts(
         alloc,
         prog,
@@ -122,7 +129,7 @@ fn matches_nexts<M: ListedMemory, D: Decider>(
     requires caller { HasCaller (frames_view checking.now.path.stack) }
     requires over { Each (MatchOver M.terms (entry_view spec.now entered.now) (checking_view checking.now).path.given) (matches_view matches) }
     ensures { IfOk result (λ ns. GathersNexts (AnswersMatch (prog_view prog.now) M.Local.memory M.stands M.terms M.kept
-        (entry_view spec.now entered.now) (spec_view used.now) (checking_view checking.now)) (matches_view matches) (nexts_view ns)) }
+        (entry_view spec.now entered.now) (spec_view used.now) (checking_view checking.now) here.now) (matches_view matches) (nexts_view ns)) }
 {
     let mut nexts = Sequence::new(alloc);
     for found in matches.into_vec() {
@@ -152,7 +159,7 @@ fn fitting_nexts<M: ListedMemory, D: Decider>(
     requires caller { HasCaller (frames_view checking.now.path.stack) }
     requires over { IsCheckedOver M.terms (entry_view spec.now entered.now) (checking_view checking.now) }
     ensures { IfOk result (λ ns. AnswersFitting (prog_view prog.now) M.Local.memory M.stands M.terms M.kept (entry_view spec.now entered.now)
-        (spec_view used.now) (checking_view checking.now) (nexts_view ns)) }
+        (spec_view used.now) (checking_view checking.now) here.now (nexts_view ns)) }
 {
     let scope = scope_of(alloc, used)?;
     let store = store_there(alloc, &checking.path.stack)?;
@@ -206,7 +213,7 @@ pub(crate) fn specified_nexts<M: ListedMemory, D: Decider>(
     requires caller { HasCaller (frames_view checking.now.path.stack) }
     requires over { IsCheckedOver M.terms (entry_view spec.now entered.now) (checking_view checking.now) }
     ensures { IfOk result (λ ns. AnswersCall (prog_view prog.now) M.Local.memory M.stands M.terms M.kept (entry_view spec.now entered.now)
-        (spec_view used.now) (checking_view checking.now) (nexts_view ns)) }
+        (spec_view used.now) (checking_view checking.now) here.now (nexts_view ns)) }
 {
     let path = &checking.path;
     let store = store_there(alloc, &path.stack)?;

@@ -1,5 +1,5 @@
 //! Postconditions, added to what matching a precondition left.
-ghost use Rattle.std.specs.Prelude.{◌≡◌, ◌++◌, map, Some, IfOk};
+ghost use Rattle.std.specs.Prelude.{◌≡◌, ◌+◌, ◌++◌, map, Some, IfOk};
 ghost use Rattle.std.specs.Option.{option_map};
 ghost use Rattle.assert_logic.specs.Modes.{HasModes};
 ghost use Rattle.call_rows.specs.Posts.{AnswersPost, AnswersPosts, IsReadyIfAny, ReadyOver, only_result};
@@ -111,7 +111,7 @@ fn each_completed<M: ListedMemory, D: Decider>(
     requires caller { HasCaller (frames_view checking.now.path.stack) }
     requires may { Each (MayComplete M.terms (entry_view spec.now entered.now) (checking_view checking.now).path.given (term_view term.now)) (states_view states) }
     ensures { IfOk result (λ ns. EachWith (IsCompleted (prog_view prog.now) M.stands M.terms (entry_view spec.now entered.now)
-        (checking_view checking.now) how (term_view term.now)) (states_view states) (nexts_view ns)) }
+        (checking_view checking.now) here.now how choice (term_view term.now)) (states_view states) (nexts_view ns)) }
 {
     let mut nexts = Sequence::new(alloc);
     for state in states.into_vec() {
@@ -143,7 +143,7 @@ fn post_nexts<M: ListedMemory, D: Decider>(
     requires over { ReadyOver M.terms (entry_view spec.now entered.now) (checking_view checking.now).path.given (ready_view ready.now) }
     requires addable { Each (MayAdd M.Local.memory) (assertion_view items.now) }
     ensures { IfOk result (λ ns. AnswersPost (prog_view prog.now) M.Local.memory M.stands M.terms M.kept (entry_view spec.now entered.now)
-        (checking_view checking.now) scope.now (ready_view ready.now) how (assertion_view items.now) (nexts_view ns)) }
+        (checking_view checking.now) here.now scope.now (ready_view ready.now) how choice (assertion_view items.now) (nexts_view ns)) }
 {
     let none = Sequence::new(alloc);
     let states = add_items(alloc, &ready.state, &ready.store, &none, scope, items)?;
@@ -151,6 +151,16 @@ fn post_nexts<M: ListedMemory, D: Decider>(
     each_completed(
         alloc, prog, spec, entered, checking, here, how, choice, states, term, decider,
     )
+}
+
+/// The number of a postcondition among all of them, where so many come before its list. More than 64 bits count are more than memory holds.
+fn choice_of(first: u64, number: usize) -> Result<u64, AllocError>
+    ensures { IfOk result (λ choice. choice ≡ first + number) }
+{
+    match first.checked_add(number as u64) {
+        Some(choice) => Ok(choice),
+        None => Err(AllocError),
+    }
 }
 
 /// The answers where each postcondition is added, of which the first one is the choice of this number.
@@ -174,16 +184,27 @@ pub(crate) fn posts_nexts<M: ListedMemory, D: Decider>(
     requires over { ReadyOver M.terms (entry_view spec.now entered.now) (checking_view checking.now).path.given (ready_view ready.now) }
     requires addable { Each (Each (MayAdd M.Local.memory)) (map assertion_view posts.now) }
     ensures { IfOk result (λ ns. AnswersPosts (prog_view prog.now) M.Local.memory M.stands M.terms M.kept (entry_view spec.now entered.now)
-        (checking_view checking.now) scope.now (ready_view ready.now) how (map assertion_view posts.now) (nexts_view ns)) }
+        (checking_view checking.now) here.now scope.now (ready_view ready.now) how first (map assertion_view posts.now) (nexts_view ns)) }
 {
     let mut nexts = Sequence::new(alloc);
-    let mut choice = first;
-    for items in posts.as_slice() {
+    let bodies = posts.as_slice();
+    for number in 0..bodies.len() {
+        let choice = choice_of(first, number)?;
         let more = post_nexts(
-            alloc, prog, spec, entered, checking, here, scope, ready, how, choice, items, decider,
+            alloc,
+            prog,
+            spec,
+            entered,
+            checking,
+            here,
+            scope,
+            ready,
+            how,
+            choice,
+            &bodies[number],
+            decider,
         )?;
         nexts = push_nexts(nexts, more)?;
-        choice = choice.saturating_add(1);
     }
     Ok(nexts)
 }

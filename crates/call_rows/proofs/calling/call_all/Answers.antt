@@ -24,19 +24,19 @@ call_one-requires-clause-over g c =
 
 pub loop-path-preserved : goal.loop-path-preserved
 loop-path-preserved g c =
-    let R = IsCalled (prog_view c.args.prog.now) g.M.Local.LocalMemory.memory g.M.SymMemory.stands g.M.SymMemory.terms g.M.SymMemory.kept (entry_view c.args.spec.now c.args.entered.now) (facts_view c.args.preds.now) (passed_by_view c.args.passed.now) in
+    let R = IsCalled (prog_view c.args.prog.now) g.M.Local.LocalMemory.memory g.M.SymMemory.stands g.M.SymMemory.terms g.M.SymMemory.kept (entry_view c.args.spec.now c.args.entered.now) c.args.here.now (facts_view c.args.preds.now) (passed_by_view c.args.passed.now) in
     let longer : length (into_iter_items c.loop-path.path-iterator) ≡ length (into_iter_items c.next.new.self) + 1 = ap length c.in-Some.ensures.steps.0 ∙ omega arith in
     let seen = map-append path_view c.loop-path.yielded (c.in-Some.path ∷ []) in
     record {
       counted = omega (arith, longer, c.in-Some.ensures.steps.1, c.loop-path.invariant.counted);
       rest = rest_more c.args.paths c.loop-path.yielded (into_iter_items c.loop-path.path-iterator) (into_iter_items c.next.new.self) c.in-Some.path c.loop-path.invariant.rest c.in-Some.ensures.steps.0;
-      answered = subst (λ ps. EachIsCalled (prog_view c.args.prog.now) g.M.Local.LocalMemory.memory g.M.SymMemory.stands g.M.SymMemory.terms g.M.SymMemory.kept (entry_view c.args.spec.now c.args.entered.now) (facts_view c.args.preds.now) (passed_by_view c.args.passed.now) ps (nexts_view c.in_ok-nexts.nexts)) (sym seen)
-          (subst (EachIsCalled (prog_view c.args.prog.now) g.M.Local.LocalMemory.memory g.M.SymMemory.stands g.M.SymMemory.terms g.M.SymMemory.kept (entry_view c.args.spec.now c.args.entered.now) (facts_view c.args.preds.now) (passed_by_view c.args.passed.now) (paths_view c.loop-path.yielded ++ path_view c.in-Some.path ∷ []))
+      answered = subst (λ ps. EachIsCalled (prog_view c.args.prog.now) g.M.Local.LocalMemory.memory g.M.SymMemory.stands g.M.SymMemory.terms g.M.SymMemory.kept (entry_view c.args.spec.now c.args.entered.now) c.args.here.now (facts_view c.args.preds.now) (passed_by_view c.args.passed.now) ps (nexts_view c.in_ok-nexts.nexts)) (sym seen)
+          (subst (EachIsCalled (prog_view c.args.prog.now) g.M.Local.LocalMemory.memory g.M.SymMemory.stands g.M.SymMemory.terms g.M.SymMemory.kept (entry_view c.args.spec.now c.args.entered.now) c.args.here.now (facts_view c.args.preds.now) (passed_by_view c.args.passed.now) (paths_view c.loop-path.yielded ++ path_view c.in-Some.path ∷ []))
           (sym c.in_ok-nexts.ensures) (gathers_last R (paths_view c.loop-path.yielded) (path_view c.in-Some.path) (nexts_view c.loop-path.nexts) (nexts_view c.in_ok-more.more) c.loop-path.invariant.answered c.in_ok-more.ensures));
     }
 
 pub returns : goal.returns
 returns g c =
     let none : into_iter_items c.loop-path.path-iterator ≡ [] = nil_from_length (into_iter_items c.loop-path.path-iterator) (sym c.loop-path.invariant.counted ∙ c.in-None.ensures.steps.0) in
-    subst (λ ps. EachIsCalled (prog_view c.args.prog.now) g.M.Local.LocalMemory.memory g.M.SymMemory.stands g.M.SymMemory.terms g.M.SymMemory.kept (entry_view c.args.spec.now c.args.entered.now) (facts_view c.args.preds.now) (passed_by_view c.args.passed.now) (paths_view ps) (nexts_view c.loop-path.nexts))
+    subst (λ ps. EachIsCalled (prog_view c.args.prog.now) g.M.Local.LocalMemory.memory g.M.SymMemory.stands g.M.SymMemory.terms g.M.SymMemory.kept (entry_view c.args.spec.now c.args.entered.now) c.args.here.now (facts_view c.args.preds.now) (passed_by_view c.args.passed.now) (paths_view ps) (nexts_view c.loop-path.nexts))
     (sym (c.loop-path.invariant.rest ∙ ap (λ xs. c.loop-path.yielded ++ xs) none ∙ append-nil c.loop-path.yielded)) c.loop-path.invariant.answered

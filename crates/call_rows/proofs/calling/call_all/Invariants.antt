@@ -12,6 +12,6 @@ invariant-loop-path g l = record {
   counted : into_iter_len l.path-iterator ≡ length (into_iter_items l.path-iterator);
   rest : l.fn.paths ≡ l.yielded ++ into_iter_items l.path-iterator;
   answered :
-      EachIsCalled (prog_view l.prog) g.M.Local.LocalMemory.memory g.M.SymMemory.stands g.M.SymMemory.terms g.M.SymMemory.kept (entry_view l.spec l.entered) (facts_view l.preds) (passed_by_view l.passed) (paths_view l.yielded)
+      EachIsCalled (prog_view l.prog) g.M.Local.LocalMemory.memory g.M.SymMemory.stands g.M.SymMemory.terms g.M.SymMemory.kept (entry_view l.spec l.entered) l.here (facts_view l.preds) (passed_by_view l.passed) (paths_view l.yielded)
       (nexts_view l.nexts);
 }

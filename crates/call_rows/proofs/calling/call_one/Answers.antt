@@ -5,6 +5,7 @@ use Rattle.gil_syntax.specs.View.{spec_view}
 use Rattle.sym_paths.specs.View.{path_view}
 use Rattle.sym_states.proofs.Values.{ok_to}
 use Rattle.sym_states.specs.View.{facts_view}
+use Rattle.checked_paths.specs.Causes.{ShowsEnd}
 use Rattle.checked_paths.specs.Following.{IsAnswered}
 use Rattle.checked_paths.specs.Pure.{over, caused}
 use Rattle.checked_paths.specs.View.{checking_view, entry_view, next_view, nexts_view, passed_by_view}
@@ -43,8 +44,9 @@ returns-in-Further g c =
     let next = path_view c.args.path in
     let y = checking_view c.in-Further.checking in
     let answered = subst (λ k. IsAnswered stands terms facts passed next (next_view k)) c.in-Further.is c.in_ok-checking.ensures.answer in
-    ok_to c.further_nexts.result (λ ns. AnswersFurther p memory stands terms kept e (option_map (λ s. spec_view s.now) c.used_by-used.result) y (nexts_view ns)) (λ ns. IsCalled p memory stands terms kept e facts passed next (nexts_view ns))
-    (λ ns answers. (further y, (answered, subst (λ o. AnswersFurther p memory stands terms kept e o y (nexts_view ns)) c.used_by-used.ensures answers))) c.further_nexts.ensures
+    let shows = subst (λ k. ShowsEnd c.args.here.now next (next_view k)) c.in-Further.is c.in_ok-checking.ensures.shows in
+    ok_to c.further_nexts.result (λ ns. AnswersFurther p memory stands terms kept e c.args.here.now (option_map (λ s. spec_view s.now) c.used_by-used.result) y (nexts_view ns)) (λ ns. IsCalled p memory stands terms kept e c.args.here.now facts passed next (nexts_view ns))
+    (λ ns answers. (further y, (answered, shows, subst (λ o. AnswersFurther p memory stands terms kept e c.args.here.now o y (nexts_view ns)) c.used_by-used.ensures answers))) c.further_nexts.ensures
 
 pub returns-in-Over : goal.returns-in-Over
 returns-in-Over g c =
@@ -54,8 +56,9 @@ returns-in-Over g c =
     let passed = passed_by_view c.args.passed.now in
     let next = path_view c.args.path in
     let answered = subst (λ k. IsAnswered stands terms facts passed next (next_view k)) c.in-Over.is c.in_ok-checking.ensures.answer in
-    ok_to c.alone.result (λ ns. nexts_view ns ≡ over ∷ []) (λ ns. IsCalled (prog_view c.args.prog.now) g.M.Local.LocalMemory.memory stands terms g.M.SymMemory.kept (entry_view c.args.spec.now c.args.entered.now) facts passed next (nexts_view ns))
-    (λ ns are. (over, (answered, are))) c.alone.ensures
+    let shows = subst (λ k. ShowsEnd c.args.here.now next (next_view k)) c.in-Over.is c.in_ok-checking.ensures.shows in
+    ok_to c.alone.result (λ ns. nexts_view ns ≡ over ∷ []) (λ ns. IsCalled (prog_view c.args.prog.now) g.M.Local.LocalMemory.memory stands terms g.M.SymMemory.kept (entry_view c.args.spec.now c.args.entered.now) c.args.here.now facts passed next (nexts_view ns))
+    (λ ns are. (over, (answered, shows, are))) c.alone.ensures
 
 pub returns-in-Caused : goal.returns-in-Caused
 returns-in-Caused g c =
@@ -65,5 +68,6 @@ returns-in-Caused g c =
     let passed = passed_by_view c.args.passed.now in
     let next = path_view c.args.path in
     let answered = subst (λ k. IsAnswered stands terms facts passed next (next_view k)) c.in-Caused.is c.in_ok-checking.ensures.answer in
-    ok_to c.alone-in-Caused.result (λ ns. nexts_view ns ≡ caused c.in-Caused.cause ∷ []) (λ ns. IsCalled (prog_view c.args.prog.now) g.M.Local.LocalMemory.memory stands terms g.M.SymMemory.kept (entry_view c.args.spec.now c.args.entered.now) facts passed next (nexts_view ns))
-    (λ ns are. (caused c.in-Caused.cause, (answered, are))) c.alone-in-Caused.ensures
+    let shows = subst (λ k. ShowsEnd c.args.here.now next (next_view k)) c.in-Caused.is c.in_ok-checking.ensures.shows in
+    ok_to c.alone-in-Caused.result (λ ns. nexts_view ns ≡ caused c.in-Caused.cause ∷ []) (λ ns. IsCalled (prog_view c.args.prog.now) g.M.Local.LocalMemory.memory stands terms g.M.SymMemory.kept (entry_view c.args.spec.now c.args.entered.now) c.args.here.now facts passed next (nexts_view ns))
+    (λ ns are. (caused c.in-Caused.cause, (answered, shows, are))) c.alone-in-Caused.ensures

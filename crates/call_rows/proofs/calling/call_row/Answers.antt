@@ -2,12 +2,14 @@ use Rattle.std.proofs.Common.{sym, ap, subst}
 use Rattle.gil_program.specs.Program.{prog_view}
 use Rattle.sym_model.specs.Lists.{Each}
 use Rattle.sym_paths.specs.Origins.{Follows}
-use Rattle.sym_paths.specs.Steps.{Covers, Grows}
+use Rattle.sym_engine.specs.Lawful.{IsOwnAt, IsAskedByMemoryAt}
+use Rattle.sym_paths.specs.Steps.{AreNextPaths, Covers, Grows}
 use Rattle.sym_paths.specs.View.{path_view, paths_view}
 use Rattle.sym_states.specs.View.{facts_view}
 use Rattle.checked_paths.specs.View.{checking_view, entry_view, nexts_view, passed_by_view}
 use Rattle.call_rows.specs.Calling.{EachIsCalled, IsNextOver}
 use Rattle.call_rows.proofs.CallLaws.{nexts_over, row_covers}
+use Rattle.call_rows.proofs.RowExact.{row_exact}
 use Rattle.call_rows.proofs.calling.call_row.Goals as goal
 
 pub call_all-requires-clause-over : goal.call_all-requires-clause-over
@@ -24,8 +26,8 @@ call_all-requires-clause-over g c =
     subst (λ qs. Each (IsNextOver terms e (facts_view parts.1) qs) nexts) (sym (ap passed_by_view c.into_parts-path.ensures.passed))
     (subst (λ fs. Each (IsNextOver terms e fs x.passed) nexts) (sym (ap facts_view c.into_parts-path.ensures.preds)) (nexts_over p m terms e x c.requires.over c.requires.at nexts growth origin))
 
-pub returns : goal.returns
-returns g c =
+pub returns-clause-next : goal.returns-clause-next
+returns-clause-next g c =
     let stands = g.M.SymMemory.stands in
     let terms = g.M.SymMemory.terms in
     let kept = g.M.SymMemory.kept in
@@ -39,7 +41,29 @@ returns g c =
     let parts = c.into_parts-path.result in
     let growth : Each (Grows terms x.path) nexts = subst (λ q. Each (Grows terms q) nexts) (ap path_view c.into_parts-path.ensures.path) c.in_ok-paths.ensures.next.growth in
     let cover : Covers p m stands x.path nexts = subst (λ q. Covers p m stands q nexts) (ap path_view c.into_parts-path.ensures.path) c.in_ok-paths.ensures.next.cover in
-    row_covers p memory m stands terms g.met.M.SymMemory.meaning kept e x c.args.prog.now.well_made c.args.prog.now.valid c.requires.modes nexts ns c.in_ok-uses.uses
-    (subst (λ qs. EachIsCalled p memory stands terms kept e x.facts qs nexts ns) (ap passed_by_view c.into_parts-path.ensures.passed)
-    (subst (λ fs. EachIsCalled p memory stands terms kept e fs (passed_by_view parts.2) nexts ns) (ap facts_view c.into_parts-path.ensures.preds) c.in_ok-nexts.ensures))
+    row_covers p memory m stands terms g.met.M.SymMemory.meaning kept e x c.args.prog.now.well_made c.args.prog.now.valid c.requires.modes c.args.here.now nexts ns c.in_ok-uses.uses
+    (subst (λ qs. EachIsCalled p memory stands terms kept e c.args.here.now x.facts qs nexts ns) (ap passed_by_view c.into_parts-path.ensures.passed)
+    (subst (λ fs. EachIsCalled p memory stands terms kept e c.args.here.now fs (passed_by_view parts.2) nexts ns) (ap facts_view c.into_parts-path.ensures.preds) c.in_ok-nexts.ensures))
     cover growth c.in_ok-paths.ensures.placed c.in_ok-uses.ensures
+
+pub returns-clause-exact : goal.returns-clause-exact
+returns-clause-exact g c =
+    let stands = g.M.SymMemory.stands in
+    let terms = g.M.SymMemory.terms in
+    let kept = g.M.SymMemory.kept in
+    let memory = g.M.Local.LocalMemory.memory in
+    let m = g.M.Local.LocalMemory.actions in
+    let p = prog_view c.args.prog.now in
+    let e = entry_view c.args.spec.now c.args.entered.now in
+    let x = checking_view c.args.checking in
+    let here = c.args.here.now in
+    let nexts = paths_view c.in_ok-paths.paths in
+    let ns = nexts_view c.in_ok-nexts.nexts in
+    let parts = c.into_parts-path.result in
+    let Own = IsOwnAt stands terms g.M.SymMemory.asked m p (path_view parts.0) in
+    let ByMemory = IsAskedByMemoryAt stands terms g.M.SymMemory.asked m p (path_view parts.0) in
+    let laws : AreNextPaths p m stands terms Own ByMemory x.path nexts = subst (λ q. AreNextPaths p m stands terms Own ByMemory q nexts) (ap path_view c.into_parts-path.ensures.path) c.in_ok-paths.ensures.next in
+    row_exact p memory m stands terms g.met.M.SymMemory.meaning kept Own ByMemory e x c.args.prog.now.well_made c.args.prog.now.valid c.requires.modes here nexts ns
+    (subst (λ qs. EachIsCalled p memory stands terms kept e here x.facts qs nexts ns) (ap passed_by_view c.into_parts-path.ensures.passed)
+    (subst (λ fs. EachIsCalled p memory stands terms kept e here fs (passed_by_view parts.2) nexts ns) (ap facts_view c.into_parts-path.ensures.preds) c.in_ok-nexts.ensures))
+    laws c.in_ok-paths.ensures.placed

@@ -1,22 +1,67 @@
-use Rattle.std.proofs.Common.{◌≡◌, false, inl, inr, refl, sym, ap, subst, ◌∙◌}
+use Rattle.std.proofs.Common.{inl, inr, refl, sym, subst}
+use Rattle.gil_program.specs.Program.{prog_view}
+use Rattle.gil_values.specs.View.{values_view}
 use Rattle.pure_terms.specs.Meaning.{AreOver, IsUnsatisfiable}
-use Rattle.pure_terms.specs.View.{atoms_view}
+use Rattle.pure_terms.specs.View.{atoms_view, term_view}
 use Rattle.sym_asking.proofs.Fragments.{each_over_all}
-use Rattle.sym_asking.specs.Asking.{IsRightly}
+use Rattle.sym_asking.specs.Asking.{IsOutside, IsRightly, IsSolution}
 use Rattle.sym_asking.specs.View.{satisfiability_view}
-use Rattle.sym_model.specs.Meaning.{has_open}
-use Rattle.sym_states.proofs.Conditions.{open_seen}
+use Rattle.sym_states.proofs.Values.{ok_to}
 use Rattle.sym_states.specs.View.{state_view}
+use Rattle.checked_paths.specs.declared.nexts.FaultKind.{FaultKind}
+use Rattle.checked_paths.specs.View.{checking_view, entry_view, next_view}
+use Rattle.checked_rows.specs.Doubts.{beyond, IsDoubtNext}
+use Rattle.checked_rows.specs.States.{with_state}
+use Rattle.call_rows.specs.Leaving.{GoesOnAfter, IsCompleted, MayComplete}
+use Rattle.call_rows.proofs.LeavingLaws.{numbered_may}
 use Rattle.call_rows.proofs.leaving.completed_next.Goals as goal
 
 pub ask-requires : goal.ask-requires
 ask-requires g c = subst (AreOver c.args.state.vars) (sym c.atoms.ensures) (each_over_all c.args.state.vars (state_view c.args.state).conds c.requires.may.over.conds)
 
-pub returns-else-needs_form : goal.returns-else-needs_form
-returns-else-needs_form g c =
+pub next_after-requires-clause-may : goal.next_after-requires-clause-may
+next_after-requires-clause-may g c =
+    let terms = g.M.SymMemory.terms in
+    let e = entry_view c.args.spec.now c.args.entered.now in
+    let given = (checking_view c.args.checking.now).path.given in
+    let t = term_view c.args.term.now in
+    subst (MayComplete terms e given t) (sym c.in_ok-state-in-Satisfiable.ensures) (numbered_may terms e given t (state_view c.args.state) c.args.choice c.requires.may)
+
+pub returns-in_ok-state-in-Satisfiable : goal.returns-in_ok-state-in-Satisfiable
+returns-in_ok-state-in-Satisfiable g c =
+    let p = prog_view c.args.prog.now in
+    let stands = g.M.SymMemory.stands in
+    let terms = g.M.SymMemory.terms in
+    let e = entry_view c.args.spec.now c.args.entered.now in
+    let y = checking_view c.args.checking.now in
+    let here = c.args.here.now in
+    let t = term_view c.args.term.now in
     let s = state_view c.args.state in
-    let no_form : has_open s.conds ≡ false =
-    ap has_open (sym c.atoms-in-Unsatisfiable.ensures) ∙ (open_seen c.atoms-in-Unsatisfiable.result.now ∙ (sym c.needs_form.ensures ∙ c.if-needs_form.false)) in
+    let v = values_view c.in-Satisfiable.field-0 in
+    let told = subst (λ r. IsRightly c.args.state.vars (atoms_view c.atoms.result.now) (satisfiability_view r)) c.in-Satisfiable.is c.in_ok-ask.ensures in
+    let met : IsSolution s.vars s.conds v = subst (λ cs. IsSolution s.vars cs v) c.atoms.ensures told in
+    ok_to c.next_after.result (λ n. GoesOnAfter p stands terms e y here c.args.how t (state_view c.in_ok-state-in-Satisfiable.state) (next_view n)) (λ n. IsCompleted p stands terms e y here c.args.how c.args.choice t s (next_view n))
+    (λ n goes. inl ((v, met.meets), met.no_form, subst (λ r. GoesOnAfter p stands terms e y here c.args.how t r (next_view n)) c.in_ok-state-in-Satisfiable.ensures goes)) c.next_after.ensures
+
+pub returns-in-Unsatisfiable : goal.returns-in-Unsatisfiable
+returns-in-Unsatisfiable g c =
+    let s = state_view c.args.state in
     let told = subst (λ r. IsRightly c.args.state.vars (atoms_view c.atoms.result.now) (satisfiability_view r)) c.in-Unsatisfiable.is c.in_ok-ask.ensures in
     let unsat : IsUnsatisfiable s.vars s.conds = subst (IsUnsatisfiable c.args.state.vars) c.atoms.ensures told in
-    inr (no_form, inl (refl, unsat))
+    inr (inl (refl, unsat))
+
+pub returns-in_ok-state-in-Undecided : goal.returns-in_ok-state-in-Undecided
+returns-in_ok-state-in-Undecided g c =
+    let p = prog_view c.args.prog.now in
+    let stands = g.M.SymMemory.stands in
+    let terms = g.M.SymMemory.terms in
+    let e = entry_view c.args.spec.now c.args.entered.now in
+    let y = checking_view c.args.checking.now in
+    let here = c.args.here.now in
+    let t = term_view c.args.term.now in
+    let s = state_view c.args.state in
+    let told = subst (λ r. IsRightly c.args.state.vars (atoms_view c.atoms.result.now) (satisfiability_view r)) c.in-Undecided.is c.in_ok-ask.ensures in
+    let outside : IsOutside s.conds c.in-Undecided.reason = subst (λ cs. IsOutside cs c.in-Undecided.reason) c.atoms.ensures told in
+    ok_to c.undecided_next.result (λ n. IsDoubtNext FaultKind.CallPrecondition here (with_state y.path (state_view c.in_ok-state-in-Undecided.state)) (beyond (state_view c.in_ok-state-in-Undecided.state).conds c.in-Undecided.reason) (next_view n))
+    (λ n. IsCompleted p stands terms e y here c.args.how c.args.choice t s (next_view n))
+    (λ n doubt. inr (inr (c.in-Undecided.reason, (outside, subst (λ r. IsDoubtNext FaultKind.CallPrecondition here (with_state y.path r) (beyond r.conds c.in-Undecided.reason) (next_view n)) c.in_ok-state-in-Undecided.ensures doubt)))) c.undecided_next.ensures

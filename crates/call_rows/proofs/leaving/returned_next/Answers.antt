@@ -22,5 +22,5 @@ returns g c =
     let next = path_view c.in_ok-path-2.path in
     let left : IsLeft stands terms (with_state y.path r) t next =
     subst (λ q. IsLeft stands terms q t next) c.in_ok-path.ensures.path (subst (λ u. IsLeft stands terms (path_view c.in_ok-path.path) u next) c.in_ok-copy.ensures c.in_ok-path-2.ensures) in
-    ok_to c.follow.result (λ n. IsAnswered stands terms (facts_view c.in_ok-path.preds) y.passed next (next_view n)) (λ n. GoesOnAfter (prog_view c.args.prog.now) stands terms (entry_view c.args.spec.now c.args.entered.now) y Completion.Returns t r (next_view n))
+    ok_to c.follow.result (λ n. IsAnswered stands terms (facts_view c.in_ok-path.preds) y.passed next (next_view n)) (λ n. GoesOnAfter (prog_view c.args.prog.now) stands terms (entry_view c.args.spec.now c.args.entered.now) y c.args.here.now Completion.Returns t r (next_view n))
     (λ n answered. (next, (left, subst (λ fs. IsAnswered stands terms fs y.passed next (next_view n)) c.in_ok-path.ensures.facts answered))) c.follow.ensures.answer

@@ -24,7 +24,7 @@ returns-in-Caught g c =
     let next = path_view c.in-Caught.path in
     let thrown : IsThrown stands terms (with_state y.path r) t (caught next) =
     subst (λ q. IsThrown stands terms q t (caught next)) c.in_ok-path.ensures.path (subst (λ k. IsThrown stands terms (path_view c.in_ok-path.path) t (thrown_view k)) c.in-Caught.is c.in_ok-path-2.ensures) in
-    ok_to c.follow.result (λ n. IsAnswered stands terms (facts_view c.in_ok-path.preds) y.passed next (next_view n)) (λ n. GoesOnAfter (prog_view c.args.prog.now) stands terms (entry_view c.args.spec.now c.args.entered.now) y Completion.Throws t r (next_view n))
+    ok_to c.follow.result (λ n. IsAnswered stands terms (facts_view c.in_ok-path.preds) y.passed next (next_view n)) (λ n. GoesOnAfter (prog_view c.args.prog.now) stands terms (entry_view c.args.spec.now c.args.entered.now) y c.args.here.now Completion.Throws t r (next_view n))
     (λ n answered. (caught next, (thrown, subst (λ fs. IsAnswered stands terms fs y.passed next (next_view n)) c.in_ok-path.ensures.facts answered))) c.follow.ensures.answer
 
 pub uncaught_next-requires-clause-over : goal.uncaught_next-requires-clause-over
@@ -52,5 +52,5 @@ returns g c =
     let next = path_view c.in-Uncaught.path in
     let thrown : IsThrown stands terms (with_state y.path r) t (uncaught next) =
     subst (λ q. IsThrown stands terms q t (uncaught next)) c.in_ok-path.ensures.path (subst (λ k. IsThrown stands terms (path_view c.in_ok-path.path) t (thrown_view k)) c.in-Uncaught.is c.in_ok-path-2.ensures) in
-    ok_to c.uncaught_next.result (λ n. EndsEntry p stands terms e (facts_view c.in_ok-path.preds) t next (next_view n)) (λ n. GoesOnAfter p stands terms e y Completion.Throws t r (next_view n))
-    (λ n ends. (uncaught next, (thrown, subst (λ fs. EndsEntry p stands terms e fs t next (next_view n)) c.in_ok-path.ensures.facts ends))) c.uncaught_next.ensures
+    ok_to c.uncaught_next.result (λ n. EndsEntry p stands terms e c.args.here.now (facts_view c.in_ok-path.preds) t next (next_view n)) (λ n. GoesOnAfter p stands terms e y c.args.here.now Completion.Throws t r (next_view n))
+    (λ n ends. (uncaught next, (thrown, subst (λ fs. EndsEntry p stands terms e c.args.here.now fs t next (next_view n)) c.in_ok-path.ensures.facts ends))) c.uncaught_next.ensures

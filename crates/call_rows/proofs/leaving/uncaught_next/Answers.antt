@@ -1,4 +1,4 @@
-use Rattle.std.proofs.Common.{inr, length, map, sym, ap, ◌∙◌}
+use Rattle.std.proofs.Common.{length, map, sym, ap, ◌∙◌}
 use Rattle.std.specs.Option.{option_map}
 use Rattle.gil_program.specs.Program.{prog_view}
 use Rattle.gil_syntax.specs.Pure.{PureProc}
@@ -8,10 +8,10 @@ use Rattle.pure_terms.specs.View.{term_view}
 use Rattle.checked_runs.proofs.Readable.{names_length}
 use Rattle.sym_model.proofs.ListLaws.{not_none, same_some}
 use Rattle.sym_paths.specs.View.{path_view}
-use Rattle.sym_states.proofs.Values.{ok_to}
 use Rattle.sym_states.specs.View.{facts_view, state_view}
 use Rattle.checked_paths.specs.View.{entry_view, next_view}
-use Rattle.checked_rows.specs.Ending.{Finishes}
+use Rattle.checked_paths.proofs.Exact.{if_ok_both as both_ok}
+use Rattle.checked_rows.specs.Ending.{Finishes, FinishesExactly}
 use Rattle.call_rows.specs.Leaving.{EndsEntry}
 use Rattle.call_rows.proofs.LeavingLaws.{ends_over}
 use Rattle.call_rows.proofs.leaving.uncaught_next.Goals as goal
@@ -60,5 +60,8 @@ returns g c =
     let e = entry_view c.args.spec.now c.args.entered.now in
     let t = term_view c.args.term.now in
     let q = state_view c.in_ok-state.state in
-    ok_to c.finish.result (λ n. Finishes p stands e (map assertion_view c.args.spec.now.errors) t q (next_view n)) (λ n. EndsEntry p stands g.M.SymMemory.terms e (facts_view c.args.preds.now) t (path_view c.args.path.now) (next_view n))
-    (λ n done. inr (q, (c.in_ok-state.ensures, done))) c.finish.ensures
+    let posts = map assertion_view c.args.spec.now.errors in
+    let path = path_view c.args.path.now in
+    both_ok (λ n. Finishes p stands e posts t q (next_view n)) (λ n. FinishesExactly p stands e posts t c.args.here.now path q (next_view n))
+    (λ n. EndsEntry p stands g.M.SymMemory.terms e c.args.here.now (facts_view c.args.preds.now) t path (next_view n)) c.finish.result
+    (λ n done exactly. (q, (c.in_ok-state.ensures, done, exactly))) c.finish.ensures.next c.finish.ensures.exact

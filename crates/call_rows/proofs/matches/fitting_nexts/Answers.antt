@@ -1,8 +1,11 @@
-use Rattle.std.proofs.Common.{inr, sym, subst}
+use Rattle.std.proofs.Common.{inl, inr, sym, subst}
+use Rattle.gil_values.specs.View.{values_view}
+use Rattle.pure_terms.specs.View.{atoms_view}
+use Rattle.sym_asking.specs.Asking.{IsOutside}
 use Rattle.gil_program.specs.Program.{prog_view}
 use Rattle.gil_syntax.specs.View.{spec_view}
 use Rattle.footprint.specs.Consuming.{Matches, StopsAt}
-use Rattle.footprint.specs.Leaves.{IsMatch, AreAll, IsAnswer}
+use Rattle.footprint.specs.Leaves.{IsLonger, IsMatch, AreAll, IsUnmatched, IsAnswer}
 use Rattle.footprint.specs.View.{matches_view, matching_view}
 use Rattle.sym_evaluation.specs.Meaning.{IsStoreOver}
 use Rattle.sym_evaluation.specs.View.{store_view}
@@ -11,7 +14,9 @@ use Rattle.sym_paths.specs.Frames.{running_store}
 use Rattle.sym_states.proofs.Values.{ok_to}
 use Rattle.sym_states.specs.Meaning.{Serves}
 use Rattle.sym_states.specs.View.{state_view}
+use Rattle.checked_paths.specs.declared.nexts.FaultKind.{FaultKind}
 use Rattle.checked_paths.specs.View.{checking_view, entry_view, nexts_view}
+use Rattle.checked_rows.specs.Doubts.{under, beyond, IsDoubtAlone}
 use Rattle.call_rows.specs.Gathering.{GathersNexts}
 use Rattle.call_rows.specs.Matches.{MatchOver, AnswersMatch, AnswersFitting, scope_of}
 use Rattle.call_rows.proofs.CallingLaws.{begun_over, running_over, match_over}
@@ -60,5 +65,43 @@ returns-in-All g c =
     (subst (λ ps. IsAnswer stands terms kept s (Serves stands terms s (store_view c.in_ok-store.store)) (Matches p.preds ps used.pre) (StopsAt p.preds ps used.pre) (matching_view c.in_ok-matches.field-0)) c.in_ok-scope.ensures c.in_ok-matches.ensures) in
     let all : AreAll stands terms kept s If (Matches p.preds (scope_of used) used.pre) (matches_view c.in-All.matches) =
     subst (λ r. IsAnswer stands terms kept s If (Matches p.preds (scope_of used) used.pre) (StopsAt p.preds (scope_of used) used.pre) (matching_view r)) c.in-All.is answer in
-    ok_to c.matches_nexts.result (λ ns. GathersNexts (AnswersMatch p memory stands terms kept e used y) (matches_view c.in-All.matches) (nexts_view ns)) (λ ns. AnswersFitting p memory stands terms kept e used y (nexts_view ns))
+    ok_to c.matches_nexts.result (λ ns. GathersNexts (AnswersMatch p memory stands terms kept e used y c.args.here.now) (matches_view c.in-All.matches) (nexts_view ns)) (λ ns. AnswersFitting p memory stands terms kept e used y c.args.here.now (nexts_view ns))
     (λ ns gathers. inr (record { state = s; is_state = c.in_ok-state.ensures; matches = matches_view c.in-All.matches; all = all; nexts = gathers })) c.matches_nexts.ensures
+
+pub returns-in-Unmatched : goal.returns-in-Unmatched
+returns-in-Unmatched g c =
+    let stands = g.M.SymMemory.stands in
+    let terms = g.M.SymMemory.terms in
+    let kept = g.M.SymMemory.kept in
+    let memory = g.M.Local.LocalMemory.memory in
+    let p = prog_view c.args.prog.now in
+    let e = entry_view c.args.spec.now c.args.entered.now in
+    let y = checking_view c.args.checking.now in
+    let s = state_view c.in_ok-state.state in
+    let used = spec_view c.args.used.now in
+    let If = Serves stands terms s (running_store y.path.stack) in
+    let conds = atoms_view c.in-Unmatched.conds in
+    let u = values_view c.in-Unmatched.valuation in
+    let answer = subst (λ bs. IsAnswer stands terms kept s (Serves stands terms s bs) (Matches p.preds (scope_of used) used.pre) (StopsAt p.preds (scope_of used) used.pre) (matching_view c.in_ok-matches.field-0)) c.in_ok-store.ensures
+    (subst (λ ps. IsAnswer stands terms kept s (Serves stands terms s (store_view c.in_ok-store.store)) (Matches p.preds ps used.pre) (StopsAt p.preds ps used.pre) (matching_view c.in_ok-matches.field-0)) c.in_ok-scope.ensures c.in_ok-matches.ensures) in
+    let none : IsUnmatched stands terms kept s If (StopsAt p.preds (scope_of used) used.pre) (record { item = c.in-Unmatched.item; conds = conds }) u =
+    subst (λ r. IsAnswer stands terms kept s If (Matches p.preds (scope_of used) used.pre) (StopsAt p.preds (scope_of used) used.pre) (matching_view r)) c.in-Unmatched.is answer in
+    ok_to c.doubted.result (λ ns. IsDoubtAlone FaultKind.CallPrecondition c.args.here.now y.path (under conds u) (nexts_view ns)) (λ ns. AnswersFitting p memory stands terms kept e used y c.args.here.now (nexts_view ns))
+    (λ ns alone. inl (s, (c.in_ok-state.ensures, (under conds u, ((none.stop.longer, none.meets, λ v met t l serves. (c.in-Unmatched.item, none.stop.exact v t l serves met)), alone))))) c.doubted.ensures.shows
+
+pub returns : goal.returns
+returns g c =
+    let stands = g.M.SymMemory.stands in
+    let terms = g.M.SymMemory.terms in
+    let kept = g.M.SymMemory.kept in
+    let memory = g.M.Local.LocalMemory.memory in
+    let p = prog_view c.args.prog.now in
+    let e = entry_view c.args.spec.now c.args.entered.now in
+    let y = checking_view c.args.checking.now in
+    let s = state_view c.in_ok-state.state in
+    let used = spec_view c.args.used.now in
+    let conds = atoms_view c.in-Unknown.conds in
+    let und : IsLonger s.conds conds × IsOutside conds c.in-Unknown.reason =
+    subst (λ r. IsAnswer stands terms kept s (Serves stands terms s (store_view c.in_ok-store.store)) (Matches p.preds c.in_ok-scope.scope used.pre) (StopsAt p.preds c.in_ok-scope.scope used.pre) (matching_view r)) c.in-Unknown.is c.in_ok-matches.ensures in
+    ok_to c.doubted-in-Unknown.result (λ ns. IsDoubtAlone FaultKind.CallPrecondition c.args.here.now y.path (beyond conds c.in-Unknown.reason) (nexts_view ns)) (λ ns. AnswersFitting p memory stands terms kept e used y c.args.here.now (nexts_view ns))
+    (λ ns alone. inl (s, (c.in_ok-state.ensures, (beyond conds c.in-Unknown.reason, (und, alone))))) c.doubted-in-Unknown.ensures.shows

@@ -1,4 +1,4 @@
-use Rattle.std.proofs.Common.{◌≡◌, [], ◌++◌, None, inl, inr, subst}
+use Rattle.std.proofs.Common.{◌≡◌, [], ◌++◌, length, None, inl, inr, subst}
 use Rattle.std.specs.Option.{option_map}
 use Rattle.gil_program.specs.Program.{prog_view}
 use Rattle.gil_syntax.specs.View.{spec_view}
@@ -19,7 +19,7 @@ returns-in_default g c =
     let none : IsReadyIfAny (scope_of used) m None =
     subst (λ ps. IsReadyIfAny ps m None) c.requires.scope (subst (λ o. IsReadyIfAny c.args.scope.now m (option_map ready_view o)) c.in_default.is c.in_ok-ready.ensures) in
     ok_to c.nothing.result (λ ns. nexts_view ns ≡ [])
-    (λ ns. AnswersMatch (prog_view c.args.prog.now) g.M.Local.LocalMemory.memory g.M.SymMemory.stands g.M.SymMemory.terms g.M.SymMemory.kept (entry_view c.args.spec.now c.args.entered.now) used (checking_view c.args.checking.now) m (nexts_view ns))
+    (λ ns. AnswersMatch (prog_view c.args.prog.now) g.M.Local.LocalMemory.memory g.M.SymMemory.stands g.M.SymMemory.terms g.M.SymMemory.kept (entry_view c.args.spec.now c.args.entered.now) used (checking_view c.args.checking.now) c.args.here.now m (nexts_view ns))
     (λ ns are. inl (none, are)) c.nothing.ensures
 
 pub posts_nexts-requires-clause-over : goal.posts_nexts-requires-clause-over
@@ -52,9 +52,10 @@ returns g c =
     let thrown = nexts_view c.in_ok-thrown.thrown in
     let is_ready : IsReady (scope_of used) m ready =
     subst (λ ps. IsReady ps m ready) c.requires.scope (subst (λ o. IsReadyIfAny c.args.scope.now m (option_map ready_view o)) c.in-Some.is c.in_ok-ready.ensures) in
-    let posts : AnswersPosts p memory stands terms kept e y (scope_of used) ready Completion.Returns used.posts returned =
-    subst (λ ps. AnswersPosts p memory stands terms kept e y ps ready Completion.Returns used.posts returned) c.requires.scope c.in_ok-returned.ensures in
-    let errors : AnswersPosts p memory stands terms kept e y (scope_of used) ready Completion.Throws used.errors thrown =
-    subst (λ ps. AnswersPosts p memory stands terms kept e y ps ready Completion.Throws used.errors thrown) c.requires.scope c.in_ok-thrown.ensures in
-    ok_to c.push_nexts.result (λ ns. nexts_view ns ≡ returned ++ thrown) (λ ns. AnswersMatch p memory stands terms kept e used y m (nexts_view ns))
+    let posts : AnswersPosts p memory stands terms kept e y c.args.here.now (scope_of used) ready Completion.Returns 0 used.posts returned =
+    subst (λ ps. AnswersPosts p memory stands terms kept e y c.args.here.now ps ready Completion.Returns 0 used.posts returned) c.requires.scope c.in_ok-returned.ensures in
+    let errors : AnswersPosts p memory stands terms kept e y c.args.here.now (scope_of used) ready Completion.Throws (length used.posts) used.errors thrown =
+    subst (λ n. AnswersPosts p memory stands terms kept e y c.args.here.now (scope_of used) ready Completion.Throws n used.errors thrown) c.count_of-first.ensures
+    (subst (λ ps. AnswersPosts p memory stands terms kept e y c.args.here.now ps ready Completion.Throws c.count_of-first.result used.errors thrown) c.requires.scope c.in_ok-thrown.ensures) in
+    ok_to c.push_nexts.result (λ ns. nexts_view ns ≡ returned ++ thrown) (λ ns. AnswersMatch p memory stands terms kept e used y c.args.here.now m (nexts_view ns))
     (λ ns are. inr (ready, (is_ready, (returned, (thrown, (posts, errors, are)))))) c.push_nexts.ensures

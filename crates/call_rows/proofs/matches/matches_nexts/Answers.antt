@@ -25,7 +25,7 @@ match_nexts-requires-clause-over g c =
 
 pub loop-found-preserved : goal.loop-found-preserved
 loop-found-preserved g c =
-    let R = AnswersMatch (prog_view c.args.prog.now) g.M.Local.LocalMemory.memory g.M.SymMemory.stands g.M.SymMemory.terms g.M.SymMemory.kept (entry_view c.args.spec.now c.args.entered.now) (spec_view c.args.used.now) (checking_view c.args.checking.now) in
+    let R = AnswersMatch (prog_view c.args.prog.now) g.M.Local.LocalMemory.memory g.M.SymMemory.stands g.M.SymMemory.terms g.M.SymMemory.kept (entry_view c.args.spec.now c.args.entered.now) (spec_view c.args.used.now) (checking_view c.args.checking.now) c.args.here.now in
     let longer : length (into_iter_items c.loop-found.found-iterator) ≡ length (into_iter_items c.next.new.self) + 1 = ap length c.in-Some.ensures.steps.0 ∙ omega arith in
     let seen = map-append match_view c.loop-found.yielded (c.in-Some.found ∷ []) in
     record {
@@ -38,7 +38,7 @@ loop-found-preserved g c =
 
 pub returns : goal.returns
 returns g c =
-    let R = AnswersMatch (prog_view c.args.prog.now) g.M.Local.LocalMemory.memory g.M.SymMemory.stands g.M.SymMemory.terms g.M.SymMemory.kept (entry_view c.args.spec.now c.args.entered.now) (spec_view c.args.used.now) (checking_view c.args.checking.now) in
+    let R = AnswersMatch (prog_view c.args.prog.now) g.M.Local.LocalMemory.memory g.M.SymMemory.stands g.M.SymMemory.terms g.M.SymMemory.kept (entry_view c.args.spec.now c.args.entered.now) (spec_view c.args.used.now) (checking_view c.args.checking.now) c.args.here.now in
     let none : into_iter_items c.loop-found.found-iterator ≡ [] = nil_from_length (into_iter_items c.loop-found.found-iterator) (sym c.loop-found.invariant.counted ∙ c.in-None.ensures.steps.0) in
     subst (λ qs. GathersNexts R (matches_view qs) (nexts_view c.loop-found.nexts))
     (sym (c.loop-found.invariant.rest ∙ ap (λ xs. c.loop-found.yielded ++ xs) none ∙ append-nil c.loop-found.yielded)) c.loop-found.invariant.answered

@@ -13,6 +13,6 @@ invariant-loop-found g l = record {
   counted : into_iter_len l.found-iterator ≡ length (into_iter_items l.found-iterator);
   rest : l.fn.matches ≡ l.yielded ++ into_iter_items l.found-iterator;
   answered :
-      GathersNexts (AnswersMatch (prog_view l.prog) g.M.Local.LocalMemory.memory g.M.SymMemory.stands g.M.SymMemory.terms g.M.SymMemory.kept (entry_view l.spec l.entered) (spec_view l.used) (checking_view l.checking)) (matches_view l.yielded)
+      GathersNexts (AnswersMatch (prog_view l.prog) g.M.Local.LocalMemory.memory g.M.SymMemory.stands g.M.SymMemory.terms g.M.SymMemory.kept (entry_view l.spec l.entered) (spec_view l.used) (checking_view l.checking) l.here) (matches_view l.yielded)
       (nexts_view l.nexts);
 }

@@ -15,7 +15,7 @@ pub loop-state-init : goal.loop-state-init
 loop-state-init g c = record {
   counted = search rules;
   rest = search rules;
-  answered = subst (EachWith (IsCompleted (prog_view c.args.prog.now) g.M.SymMemory.stands g.M.SymMemory.terms (entry_view c.args.spec.now c.args.entered.now) (checking_view c.args.checking.now) c.args.how (term_view c.args.term.now)) []) (sym (ap nexts_view c.new-nexts.ensures)) tt;
+  answered = subst (EachWith (IsCompleted (prog_view c.args.prog.now) g.M.SymMemory.stands g.M.SymMemory.terms (entry_view c.args.spec.now c.args.entered.now) (checking_view c.args.checking.now) c.args.here.now c.args.how c.args.choice (term_view c.args.term.now)) []) (sym (ap nexts_view c.new-nexts.ensures)) tt;
 }
 
 pub completed_next-requires-clause-may : goal.completed_next-requires-clause-may
@@ -25,7 +25,7 @@ completed_next-requires-clause-may g c =
 
 pub loop-state-preserved : goal.loop-state-preserved
 loop-state-preserved g c =
-    let R = IsCompleted (prog_view c.args.prog.now) g.M.SymMemory.stands g.M.SymMemory.terms (entry_view c.args.spec.now c.args.entered.now) (checking_view c.args.checking.now) c.args.how (term_view c.args.term.now) in
+    let R = IsCompleted (prog_view c.args.prog.now) g.M.SymMemory.stands g.M.SymMemory.terms (entry_view c.args.spec.now c.args.entered.now) (checking_view c.args.checking.now) c.args.here.now c.args.how c.args.choice (term_view c.args.term.now) in
     let n = c.in_ok-completed_next.field-0 in
     let longer : length (into_iter_items c.loop-state.state-iterator) ≡ length (into_iter_items c.next.new.self) + 1 = ap length c.in-Some.ensures.steps.0 ∙ omega arith in
     let seen = map-append state_view c.loop-state.yielded (c.in-Some.state ∷ []) in
@@ -40,7 +40,7 @@ loop-state-preserved g c =
 
 pub returns : goal.returns
 returns g c =
-    let R = IsCompleted (prog_view c.args.prog.now) g.M.SymMemory.stands g.M.SymMemory.terms (entry_view c.args.spec.now c.args.entered.now) (checking_view c.args.checking.now) c.args.how (term_view c.args.term.now) in
+    let R = IsCompleted (prog_view c.args.prog.now) g.M.SymMemory.stands g.M.SymMemory.terms (entry_view c.args.spec.now c.args.entered.now) (checking_view c.args.checking.now) c.args.here.now c.args.how c.args.choice (term_view c.args.term.now) in
     let none : into_iter_items c.loop-state.state-iterator ≡ [] = nil_from_length (into_iter_items c.loop-state.state-iterator) (sym c.loop-state.invariant.counted ∙ c.in-None.ensures.steps.0) in
     subst (λ rs. EachWith R (states_view rs) (nexts_view c.loop-state.nexts))
     (sym (c.loop-state.invariant.rest ∙ ap (λ xs. c.loop-state.yielded ++ xs) none ∙ append-nil c.loop-state.yielded)) c.loop-state.invariant.answered

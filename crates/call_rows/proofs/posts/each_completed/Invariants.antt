@@ -12,5 +12,5 @@ abbrev pub invariant-loop-state : goal.invariant-loop-state
 invariant-loop-state g l = record {
   counted : into_iter_len l.state-iterator ≡ length (into_iter_items l.state-iterator);
   rest : l.fn.states ≡ l.yielded ++ into_iter_items l.state-iterator;
-  answered : EachWith (IsCompleted (prog_view l.prog) g.M.SymMemory.stands g.M.SymMemory.terms (entry_view l.spec l.entered) (checking_view l.checking) l.how (term_view l.term)) (states_view l.yielded) (nexts_view l.nexts);
+  answered : EachWith (IsCompleted (prog_view l.prog) g.M.SymMemory.stands g.M.SymMemory.terms (entry_view l.spec l.entered) (checking_view l.checking) l.here l.how l.choice (term_view l.term)) (states_view l.yielded) (nexts_view l.nexts);
 }

@@ -36,5 +36,5 @@ returns g c =
     let ready = ready_view c.args.ready.now in
     let rs = states_view c.in_ok-states.states in
     let adds = subst (λ more. AddsItems memory stands terms kept c.args.scope.now ready.store more (assertion_view c.args.items.now) ready.state rs) (ap atoms_view c.new-none.ensures) c.in_ok-states.ensures in
-    ok_to c.each_completed.result (λ ns. EachWith (IsCompleted p stands terms e y c.args.how ready.result) rs (nexts_view ns)) (λ ns. AnswersPost p memory stands terms kept e y c.args.scope.now ready c.args.how (assertion_view c.args.items.now) (nexts_view ns))
+    ok_to c.each_completed.result (λ ns. EachWith (IsCompleted p stands terms e y c.args.here.now c.args.how c.args.choice ready.result) rs (nexts_view ns)) (λ ns. AnswersPost p memory stands terms kept e y c.args.here.now c.args.scope.now ready c.args.how c.args.choice (assertion_view c.args.items.now) (nexts_view ns))
     (λ ns each. (rs, (adds, each))) c.each_completed.ensures

@@ -2,10 +2,13 @@ use Rattle.std.proofs.Common.{map, take}
 use Rattle.gil_program.specs.Program.{prog_view}
 use Rattle.gil_syntax.specs.View.{assertion_view}
 use Rattle.checked_paths.specs.View.{checking_view, entry_view, nexts_view}
-use Rattle.call_rows.specs.Posts.{AnswersPosts}
+use Rattle.call_rows.specs.Gathering.{GathersNexts}
+use Rattle.call_rows.specs.Posts.{AnswersOneOf}
 use Rattle.call_rows.specs.View.{ready_view}
 use Rattle.call_rows.proofs.posts.posts_nexts.Given as goal
 
-abbrev pub invariant-loop-items : goal.invariant-loop-items
-invariant-loop-items g l =
-    AnswersPosts (prog_view l.prog) g.M.Local.LocalMemory.memory g.M.SymMemory.stands g.M.SymMemory.terms g.M.SymMemory.kept (entry_view l.spec l.entered) (checking_view l.checking) l.scope (ready_view l.ready) l.how (map assertion_view (take l.items-index l.items-items)) (nexts_view l.nexts)
+abbrev pub invariant-loop-number : goal.invariant-loop-number
+invariant-loop-number g l =
+    GathersNexts
+    (AnswersOneOf (prog_view l.prog) g.M.Local.LocalMemory.memory g.M.SymMemory.stands g.M.SymMemory.terms g.M.SymMemory.kept (entry_view l.spec l.entered) (checking_view l.checking) l.here l.scope (ready_view l.ready) l.how l.first (map assertion_view l.bodies))
+    (map assertion_view (take l.number l.bodies)) (nexts_view l.nexts)
