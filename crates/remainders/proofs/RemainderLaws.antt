@@ -36,11 +36,11 @@ module _ (g h : Heap) (k : Key) (w : PureValue) (left : Holds g k w) (right : Ho
       sym (left_alone (key_eq q k) (get g q) is) ∙ sym (get-remove key_cmp-total g k q) ∙ ap (λ (x : Heap). get x q) rest
       ∙ get-remove key_cmp-total h k q ∙ left_alone (key_eq q k) (get h q) is
 
-  same_with : g ≡ h
+  pub same_with : g ≡ h
   same_with = same_heap g h (λ q. at_key q (key_eq q k) refl)
 
 -- a use stands for one key and one value
-one_entry : (v : List PureValue) (u : PureUse) (k l : Key) (w x : PureValue) → IsUse v u k w → IsUse v u l x → (k ≡ l) × (w ≡ x)
+pub one_entry : (v : List PureValue) (u : PureUse) (k l : Key) (w x : PureValue) → IsUse v u k w → IsUse v u l x → (k ≡ l) × (w ≡ x)
 one_entry v u k l w x first second =
     let values : first.ws ≡ second.ws = same_some (sym first.have ∙ second.have) in
     let entry = same_some (sym first.entry ∙ ap (λ ws. core_entry u.core ws) values ∙ second.entry) in
@@ -56,7 +56,7 @@ one_heap v (u ∷ us) g h (k, (w, (is, holds, rest))) (l, (x, (is_too, holds_too
 
 -- ---- facts and values
 
-same_fact : (v : List PureValue) (c : PureFact) (f g : Fact) → IsFact v c f → IsFact v c g → f ≡ g
+pub same_fact : (v : List PureValue) (c : PureFact) (f g : Fact) → IsFact v c f → IsFact v c g → f ≡ g
 same_fact v c f g first second =
     let pred : f.pred ≡ g.pred = sym first.pred ∙ second.pred in
     let ins : f.ins ≡ g.ins = same_some (sym first.ins ∙ second.ins) in

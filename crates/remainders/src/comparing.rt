@@ -25,7 +25,7 @@ fn has_same_term(left: &Terms, right: &Terms, place: usize) -> bool
 }
 
 /// Whether two lists have the same terms.
-fn are_same_terms(left: &Terms, right: &Terms) -> bool
+pub(crate) fn are_same_terms(left: &Terms, right: &Terms) -> bool
     ensures { IsTrue result → terms_view left.now ≡ terms_view right.now }
 {
     if left.len() != right.len() {
@@ -39,7 +39,7 @@ fn are_same_terms(left: &Terms, right: &Terms) -> bool
     true
 }
 
-fn is_same_use(left: &CoreUse, right: &CoreUse) -> bool
+pub(crate) fn is_same_use(left: &CoreUse, right: &CoreUse) -> bool
     ensures { IsTrue result → use_view left.now ≡ use_view right.now }
 {
     left.core == right.core

@@ -2,6 +2,8 @@
 #![tactic(auto)]
 
 mod comparing;
+mod differing;
 mod remainders;
 
+pub use differing::{Difference, compare};
 pub use remainders::is_as_before;
