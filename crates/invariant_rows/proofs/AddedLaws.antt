@@ -1,5 +1,6 @@
 -- The invariant is added where a checked path stands in its loop: the answers cover each checked state to which it is added.
 use Rattle.std.proofs.Common.{◌≡◌, ◌⊎◌, inl, inr, ℕ, List, [], ◌++◌, true, false, Some, IsTrue, refl, sym, ap, subst, ◌∙◌, true≢false, arith}
+use Rattle.gil_values.specs.declared.places.Place.{Place}
 use Rattle.gil_values.specs.Pure.{PureValue}
 use Rattle.gil_values.specs.Symbols.{IsBelow, AreBelow}
 use Rattle.gil_machine.specs.Step.{to_next}
@@ -15,7 +16,6 @@ use Rattle.assert_logic.specs.LogicStates.{LogicState}
 use Rattle.assert_logic.specs.Names.{named_by_items}
 use Rattle.assert_logic.specs.Sorts.{HasSorts, Extends}
 use Rattle.checked_runs.specs.Checked.{Checked, Outcome, Entry, names_at, logic_state, with_logic, stepped}
-use Rattle.pure_terms.specs.Meaning.{IsUnsatisfiable}
 use Rattle.sym_model.proofs.ListLaws.{each_to}
 use Rattle.sym_model.specs.Laws.{IsMeaning}
 use Rattle.sym_model.specs.Lists.{Each, OneOf}
@@ -31,18 +31,15 @@ use Rattle.sym_unfolding.specs.Further.{IsFurther}
 use Rattle.checked_paths.proofs.Lists.{one_across, each_across}
 use Rattle.checked_paths.specs.Covering.{CoversOutcome, FollowsOn}
 use Rattle.checked_paths.specs.Meaning.{StandsForChecked, MayGoOn}
-use Rattle.checked_paths.specs.Pure.{PureEntry, PureChecking, PureNext, over as done_over}
-use Rattle.checked_rows.specs.Folding.{GoesOnIn}
-use Rattle.checked_rows.specs.Unfolding.{IsCaseAnswered}
+use Rattle.checked_paths.specs.Pure.{PureEntry, PureChecking, PureNext}
 use Rattle.checked_rows.proofs.BelowLaws.{each_below}
 use Rattle.checked_rows.proofs.MatchLaws.{one_of_each, names_over, over_there, serves_there}
-use Rattle.checked_rows.proofs.RowLaws.{answer_of_cause, cause_follows}
 use Rattle.checked_rows.proofs.StateLaws.{state_vars}
 use Rattle.checked_rows.proofs.StepLaws.{state_covers, state_follows}
-use Rattle.invariant_rows.specs.Entering.{AreAdded}
+use Rattle.invariant_rows.specs.Entering.{AreAdded, IsAdditionAnswered}
 
 module _ (p : PureParts) (memory : MemoryName) (m : Actions) {S : Type 0} (stands : S → List PureValue → Heap → Type 0) (terms : S → StateTerms) (meaning : IsMeaning memory stands terms) (kept : S → Type 0) (e : PureEntry) (scope : List Param) (items : List PureItem)
-    (y : PureChecking S) (may : MayGoOn p terms e y) (nexts : List (PureNext S)) (are : AreAdded memory stands terms kept e scope items y nexts) where
+    (here : Place) (y : PureChecking S) (may : MayGoOn p terms e y) (nexts : List (PureNext S)) (are : AreAdded memory stands terms kept e scope items here y nexts) where
   further : Each (IsFurther terms kept are.state) are.added
   further = are.adds.follow (over_there stands terms kept e y are.state are.store may.over are.is_state are.names) (names_over stands terms kept e y are.state are.store may.over are.is_state are.names) tt
 
@@ -74,29 +71,26 @@ module _ (p : PureParts) (memory : MemoryName) (m : Actions) {S : Type 0} (stand
         each_below d.machine.counter values
         (each_to (λ u. (z : List ℕ) × (IsTrue (named_by_items items z) × (value_of t z ≡ Some u))) (IsBelow d.machine.counter) values (λ u (z, (named, at)). below z u named at) come)
 
-    one_covers : (r : PureState S) (k : PureNext S) → IsCaseAnswered stands terms y r k → Added r × IsFurther terms kept are.state r → CoversOutcome stands e entry w out k
-    one_covers r k (inl cause) both = answer_of_cause stands e entry w out k cause
-    one_covers r k (inr (no_form, rest)) (is, f) = by is.is rest
+    one_covers : (r : PureState S) (k : PureNext S) → IsAdditionAnswered stands terms here y r k → Added r × IsFurther terms kept are.state r → CoversOutcome stands e entry w out k
+    one_covers r k (inr (inl (done, unsat))) (is, f) = absurd (unsat (w ++ is.values) (record { proper = is.proper; true_there = is.meets }))
+    one_covers r k (inr (inr (reason, (outside, (cause, (is_cause, shows)))))) (is, f) = subst (CoversOutcome stands e entry w out) (sym is_cause) tt
+    one_covers r k (inl (no_form, (met, goes))) (is, f) = by is.is
       where
-        by : IsTrue (has_open (added_conds are.state r)) ⊎ states.Stands stands r (w ++ is.values) l → ((k ≡ done_over) × IsUnsatisfiable r.vars r.conds) ⊎ ((choices : List ℕ) × GoesOnIn stands terms y (record r { path = choices }) r.facts k) → CoversOutcome stands e entry w out k
-        by (inl open_there) rest = absurd (true≢false (sym (subst (λ atoms. IsTrue (has_open atoms)) (sym f.conds) (open_right are.state.conds f.more (subst (λ atoms. IsTrue (has_open atoms)) (added_is are.state r f.more f.conds) open_there))) ∙ no_form))
-        by (inr stand_r) (inl (done, unsat)) = absurd (unsat (w ++ is.values) (record { proper = stand_r.proper; true_there = stand_r.meets }))
-        by (inr stand_r) (inr (choices, goes)) =
-            state_covers p memory m stands terms meaning e y may (record r { path = choices }) r.facts k goes f.sorts (vars_of r f) w (w ++ is.values) is.values entry d l l.facts d.machine.counter out refl stand
-            (record { proper = stand_r.proper; meets = stand_r.meets; memory = stand_r.memory; facts = stand_r.facts }) stand_r.facts (omega arith) (values_below is.values is.come) leads
+        by : IsTrue (has_open (added_conds are.state r)) ⊎ states.Stands stands r (w ++ is.values) l → CoversOutcome stands e entry w out k
+        by (inl open_there) = absurd (true≢false (sym (subst (λ atoms. IsTrue (has_open atoms)) (sym f.conds) (open_right are.state.conds f.more (subst (λ atoms. IsTrue (has_open atoms)) (added_is are.state r f.more f.conds) open_there))) ∙ no_form))
+        by (inr stand_r) =
+            state_covers p memory m stands terms meaning e y may r r.facts k goes f.sorts (vars_of r f) w (w ++ is.values) is.values entry d l l.facts d.machine.counter out refl stand stand_r stand_r.facts (omega arith) (values_below is.values is.come) leads
 
     pub added_covers : OneOf (CoversOutcome stands e entry w out) nexts
     added_covers =
-        one_across (IsCaseAnswered stands terms y) (λ r. Added r × IsFurther terms kept are.state r) (CoversOutcome stands e entry w out) are.added nexts are.answered one_covers
+        one_across (IsAdditionAnswered stands terms here y) (λ r. Added r × IsFurther terms kept are.state r) (CoversOutcome stands e entry w out) are.added nexts are.answered one_covers
         (one_of_each (IsFurther terms kept are.state) Added (λ r. Added r × IsFurther terms kept are.state r) are.added (λ r f is. (is, f)) further (are.adds.cover w (names_at entry d) t (logic_state d) l may_be_added adding))
 
   module _ (n : PureNumberedCommand) (valid : IsValid p) (at : command_of_path p y.path ≡ Some n) (stays : ends_body n.command ≡ false) where
-    one_follows : (r : PureState S) (k : PureNext S) → IsCaseAnswered stands terms y r k → IsFurther terms kept are.state r → FollowsOn p terms e y k
-    one_follows r k (inl cause) f = cause_follows p terms e y k cause
-    one_follows r k (inr (no_form, inl (done, unsat))) f = subst (FollowsOn p terms e y) (sym done) tt
-    one_follows r k (inr (no_form, inr (choices, goes))) f =
-        state_follows p memory m stands terms meaning e y may (record r { path = choices }) r.facts k goes f.sorts (vars_of r f) n valid at stays
-        (record { conds = f.over.conds; given = f.over.given; memory = f.over.memory; facts = f.over.facts }) f.over.facts
+    one_follows : (r : PureState S) (k : PureNext S) → IsAdditionAnswered stands terms here y r k → IsFurther terms kept are.state r → FollowsOn p terms e y k
+    one_follows r k (inr (inl (done, unsat))) f = subst (FollowsOn p terms e y) (sym done) tt
+    one_follows r k (inr (inr (reason, (outside, (cause, (is_cause, shows)))))) f = subst (FollowsOn p terms e y) (sym is_cause) tt
+    one_follows r k (inl (no_form, (met, goes))) f = state_follows p memory m stands terms meaning e y may r r.facts k goes f.sorts (vars_of r f) n valid at stays f.over f.over.facts
 
     pub added_follow : Each (FollowsOn p terms e y) nexts
-    added_follow = each_across (IsCaseAnswered stands terms y) (IsFurther terms kept are.state) (FollowsOn p terms e y) are.added nexts are.answered one_follows further
+    added_follow = each_across (IsAdditionAnswered stands terms here y) (IsFurther terms kept are.state) (FollowsOn p terms e y) are.added nexts are.answered one_follows further

@@ -6,3 +6,6 @@ pub mod LoopLaws
 pub mod MatchedModes
 pub mod PassedLaws
 pub mod VisitLaws
+pub mod FirstLaws
+pub mod AgainLaws
+pub mod LeftLaws

@@ -1,6 +1,7 @@
 -- A checked path in its loop: what it names is in its table, and it may go on.
 use Rattle.std.proofs.Common.{◌≡◌, ℕ, List, [], ◌∷◌, ◌++◌, refl, sym, ap, subst, ◌∙◌}
 use Rattle.gil_values.specs.Pure.{PureValue}
+use Rattle.gil_syntax.specs.declared.assertions.Param.{Param}
 use Rattle.gil_syntax.specs.Pure.{PureParts}
 use Rattle.mem_model.specs.Heaps.{Heap}
 use Rattle.pure_terms.specs.declared.variables.Sort.{Sort}
@@ -54,8 +55,8 @@ unlisted_over terms e xs bs x over unlisted = unlisted_each (IsOver x.path.vars)
 pub left_over : {S : Type 0} (terms : S → StateTerms) (e : PureEntry) (xs : List (List ℕ)) (bs : PureStore) (x : PureChecking S) (s : PureState S) → IsCheckedOver terms e x → IsOfPath terms x s → AreUnlisted xs (running_store x.path.stack) bs → IsStoreOver s.vars bs
 left_over terms e xs bs x s over of_path unlisted = subst (λ vs. IsStoreOver vs bs) (sym of_path.vars) (unlisted_over terms e xs bs x over unlisted)
 
-module _ {S : Type 0} (stands : S → List PureValue → Heap → Type 0) (terms : S → StateTerms) (e : PureEntry) (xs : List (List ℕ)) (bs : PureStore) (x : PureChecking S) (s : PureState S) (y : PureChecking S)
-    (over : IsCheckedOver terms e x) (of_path : IsOfPath terms x s) (unlisted : AreUnlisted xs (running_store x.path.stack) bs) (inside : IsInLoop stands terms xs bs x s y) where
+module _ {S : Type 0} (stands : S → List PureValue → Heap → Type 0) (terms : S → StateTerms) (e : PureEntry) (qs : List Param) (xs : List (List ℕ)) (bs : PureStore) (x : PureChecking S) (s : PureState S) (y : PureChecking S)
+    (over : IsCheckedOver terms e x) (of_path : IsOfPath terms x s) (unlisted : AreUnlisted xs (running_store x.path.stack) bs) (inside : IsInLoop stands terms qs xs bs x s y) where
   abbrev vars : List Sort
   vars = inside.named.vars
 

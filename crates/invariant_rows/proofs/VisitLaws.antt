@@ -2,6 +2,7 @@
 use Rattle.std.proofs.Common.{◌≡◌, ⊎_elim, inl, inr, ℕ, ◌+◌, List, [], ◌∷◌, ◌++◌, map, Bool, true, false, ◌&&◌, Option, Some, None, IsSome, refl, sym, ap, subst, ◌∙◌, true≢false, append_assoc}
 use Rattle.std.specs.List.{list_all}
 use Rattle.std.proofs.lemmas.Bool.{and_parts}
+use Rattle.gil_values.specs.declared.places.Place.{Place}
 use Rattle.gil_values.specs.Pure.{PureValue}
 use Rattle.gil_values.specs.Symbols.{IsBelow}
 use Rattle.gil_machine.proofs.Proper.{procs_made, find_made, command_made, MadeCommand}
@@ -46,7 +47,7 @@ use Rattle.checked_paths.specs.Pure.{PureEntry, PurePassed, PureChecking, PureNe
 use Rattle.checked_rows.proofs.BelowLaws.{all_each, below_more}
 use Rattle.checked_rows.proofs.MatchLaws.{found_one}
 use Rattle.checked_rows.proofs.NameLaws.{names_stand, same_logicals}
-use Rattle.checked_rows.proofs.RowLaws.{leads_by, answer_of_cause, cause_follows, uses_nothing}
+use Rattle.checked_rows.proofs.RowLaws.{leads_by, uses_nothing}
 use Rattle.checked_rows.specs.Matching.{IsOfPath, IsFound, MatchesThere}
 use Rattle.checked_rows.specs.Names.{logicals_there, AreNames}
 use Rattle.checked_rows.specs.Rows.{AreRowOf}
@@ -123,7 +124,7 @@ module _ (p : PureParts) (memory : MemoryName) (m : Actions) {S : Type 0} (stand
 
   -- ---- the first visit
 
-  module _ (may : MayGoOn p terms e x) (addable : Each (MayAdd memory) items) (made : is_well_made_assertion items ≡ true) (s : PureState S) (of_path : IsOfPath terms x s) where
+  module _ (here : Place) (may : MayGoOn p terms e x) (addable : Each (MayAdd memory) items) (made : is_well_made_assertion items ≡ true) (s : PureState S) (of_path : IsOfPath terms x s) where
     module _ (v : List PureValue) (entry : Entry) (c : Checked) (out : Outcome) (found : Match) (stand : StandsForChecked stands e x v entry c) (is_match : invariant_match p memory m entry xs ps items c ≡ Some found) (is_left : states.Stands stands s v found.state)
         (visit : PassesFirst p memory m entry xs ps items found.state c out) where
       abbrev logical : List Param
@@ -133,7 +134,7 @@ module _ (p : PureParts) (memory : MemoryName) (m : Actions) {S : Type 0} (stand
       is_matched = match_within (has_all xs c.machine.current.store && known_fit (names_at entry c) logical) (match_assertion p.preds logical items (names_at entry c) (logic_state c)) found is_match
 
       above : IsAbove (with_logic visit.adds.state visit.counter (at_invariant p memory m entry xs found.state visit.store c))
-      above = above_next p memory m stands terms meaning e xs ps items bs x s may.over of_path unlisted v entry c out found.state stand is_left visit
+      above = above_next p memory m stands terms meaning e xs ps scope items bs x s may.over of_path unlisted v entry c out found.state stand is_left visit (same_scope v entry c stand)
 
       -- a name that was known has a value that is below the counter
       known_below : (y : List ℕ) (u : PureValue) → is_among (param_names (ins_from (names_at entry c))) y ≡ true → value_of visit.names y ≡ Some u → IsBelow visit.counter u
@@ -164,17 +165,17 @@ module _ (p : PureParts) (memory : MemoryName) (m : Actions) {S : Type 0} (stand
           (matched_reads memory p.preds logical items (names_at entry c) (logic_state c) found addable is_matched) visit.adds.adding.added_is
           (record { heap = above.heap_below; facts = all_each (IsFactBelow visit.counter) visit.adds.state.facts above.facts_below }) known_below z u named at
 
-      pub enters_covers : (y : PureChecking S) (inside : IsInLoop stands terms xs bs x s y) (nexts : List (PureNext S)) → AreAdded memory stands terms kept e scope items y nexts → OneOf (CoversOutcome stands e entry v out) nexts
+      pub enters_covers : (y : PureChecking S) (inside : IsInLoop stands terms scope xs bs x s y) (nexts : List (PureNext S)) → AreAdded memory stands terms kept e scope items here y nexts → OneOf (CoversOutcome stands e entry v out) nexts
       enters_covers y inside nexts added =
-          let in_loop = begun_stands p memory m stands terms meaning e xs ps items bs x s may.over of_path unlisted v entry c out found.state stand is_left visit y inside in
-          let values = values_of p memory m stands terms meaning e xs ps items bs x s may.over of_path unlisted v entry c out found.state stand is_left visit y inside in
+          let in_loop = begun_stands p memory m stands terms meaning e xs ps scope items bs x s may.over of_path unlisted v entry c out found.state stand is_left visit (same_scope v entry c stand) y inside in
+          let values = values_of p memory m stands terms meaning e xs ps scope items bs x s may.over of_path unlisted v entry c out found.state stand is_left visit (same_scope v entry c stand) y inside in
           one_to (CoversOutcome stands e entry (v ++ values) out) (CoversOutcome stands e entry v out) nexts (longer_covers stands e entry v values out)
-          (added_covers p memory m stands terms meaning kept e scope items y (loop_goes_on stands terms e xs bs x s y may.over of_path unlisted inside p may) nexts added (v ++ values) entry
-          (begun p memory m stands terms meaning e xs ps items bs x s may.over of_path unlisted v entry c out found.state stand is_left visit) out in_loop visit.names visit.adds.state visit.known_stay
+          (added_covers p memory m stands terms meaning kept e scope items here y (loop_goes_on stands terms e scope xs bs x s y may.over of_path unlisted inside p may) nexts added (v ++ values) entry
+          (begun p memory m stands terms meaning e xs ps scope items bs x s may.over of_path unlisted v entry c out found.state stand is_left visit (same_scope v entry c stand)) out in_loop visit.names visit.adds.state visit.known_stay
           (subst (λ qs. HasSorts qs visit.names) (sym (same_scope v entry c stand)) visit.sorts) visit.adds.adding named_below
           (visit.leads ∙ ap (λ (k : Checked). stepped p memory m entry k (to_next k.machine)) visit.adds.is_next))
 
-    pub enters : (n : PureNumberedCommand) → IsValid p → command_of_path p x.path ≡ Some n → n.command ≡ loop_invariant xs ps items → (nexts : List (PureNext S)) → AreEntered memory stands terms kept e xs scope items bs x s nexts
+    pub enters : (n : PureNumberedCommand) → IsValid p → command_of_path p x.path ≡ Some n → n.command ≡ loop_invariant xs ps items → (nexts : List (PureNext S)) → AreEntered memory stands terms kept e xs scope items bs here x s nexts
         → CoverVisits p memory m stands terms e x xs ps items None (s ∷ []) nexts
     enters n valid at this nexts (inl (none, empty)) = record {
       cover = λ v entry c out r found stand above passed is_match lefts visits.
@@ -185,14 +186,14 @@ module _ (p : PureParts) (memory : MemoryName) (m : Actions) {S : Type 0} (stand
         by : (v : List PureValue) (entry : Entry) (c : Checked) (out : Outcome) (r : Option Passed) (found : Match) → StandsForChecked stands e x v entry c → ArePassedIfAny stands v None r → OneOf (λ q. states.Stands stands q v found.state) (s ∷ [])
             → Visits p memory m entry r (Some found) xs ps items c out → OneOf (CoversOutcome stands e entry v out) nexts
         by v entry c out None found stand passed (inl is_left) visits =
-            absurd (never_unnamed p memory m stands terms meaning e xs ps items bs x s may.over of_path unlisted v entry c out found.state stand is_left visits none)
+            absurd (never_unnamed p memory m stands terms meaning e xs ps scope items bs x s may.over of_path unlisted v entry c out found.state stand is_left visits (same_scope v entry c stand) none)
         by v entry c out None found stand passed (inr nothing_left) visits = absurd nothing_left
         by v entry c out (Some r) found stand passed lefts visits = absurd passed
     enters n valid at this nexts (inr (y, (inside, added))) = record {
       cover = λ v entry c out r found stand above passed is_match lefts visits. by v entry c out r found stand passed is_match lefts visits;
-      follow = each_to (FollowsOn p terms e y) (FollowsOn p terms e x) nexts (λ k. same_follows p terms e x y k (loop_steps stands terms e xs bs x s y may.over of_path unlisted inside))
-          (added_follow p memory m stands terms meaning kept e scope items y (loop_goes_on stands terms e xs bs x s y may.over of_path unlisted inside p may) nexts added n valid
-          (loop_command stands terms e xs bs x s y may.over of_path unlisted inside p ∙ at) (ap (λ h. ends_body h) this));
+      follow = each_to (FollowsOn p terms e y) (FollowsOn p terms e x) nexts (λ k. same_follows p terms e x y k (loop_steps stands terms e scope xs bs x s y may.over of_path unlisted inside))
+          (added_follow p memory m stands terms meaning kept e scope items here y (loop_goes_on stands terms e scope xs bs x s y may.over of_path unlisted inside p may) nexts added n valid
+          (loop_command stands terms e scope xs bs x s y may.over of_path unlisted inside p ∙ at) (ap (λ h. ends_body h) this));
     }
       where
         by : (v : List PureValue) (entry : Entry) (c : Checked) (out : Outcome) (r : Option Passed) (found : Match) → StandsForChecked stands e x v entry c → ArePassedIfAny stands v None r → invariant_match p memory m entry xs ps items c ≡ Some found
@@ -203,26 +204,25 @@ module _ (p : PureParts) (memory : MemoryName) (m : Actions) {S : Type 0} (stand
 
   -- ---- the second visit
 
-  pub comes_again : (q : PurePassed S) (s : PureState S) (k : PureNext S) → IsVisitedAgain stands bs q s k → CoverVisits p memory m stands terms e x xs ps items (Some q) (s ∷ []) (k ∷ [])
-  comes_again q s k is = record {
+  pub comes_again : (here : Place) (q : PurePassed S) (s : PureState S) (k : PureNext S) → IsVisitedAgain stands bs q s here x k → CoverVisits p memory m stands terms e x xs ps items (Some q) (s ∷ []) (k ∷ [])
+  comes_again here q s k is = record {
     cover = λ v entry c out r found stand above passed is_match lefts visits. inl (by v entry c out r found stand passed lefts visits is);
     follow = (follows is, tt);
   }
     where
-      follows : IsVisitedAgain stands bs q s k → FollowsOn p terms e x k
-      follows (inl cause) = cause_follows p terms e x k cause
-      follows (inr (over_is, why)) = subst (FollowsOn p terms e x) (sym over_is) tt
+      follows : IsVisitedAgain stands bs q s here x k → FollowsOn p terms e x k
+      follows (inl (over_is, same)) = subst (FollowsOn p terms e x) (sym over_is) tt
+      follows (inr (doubt, (right, (cause, (is_cause, shows))))) = subst (FollowsOn p terms e x) (sym is_cause) tt
 
       by : (v : List PureValue) (entry : Entry) (c : Checked) (out : Outcome) (r : Option Passed) (found : Match) → StandsForChecked stands e x v entry c → ArePassedIfAny stands v (Some q) r → OneOf (λ z. states.Stands stands z v found.state) (s ∷ [])
-          → Visits p memory m entry r (Some found) xs ps items c out → IsVisitedAgain stands bs q s k → CoversOutcome stands e entry v out k
+          → Visits p memory m entry r (Some found) xs ps items c out → IsVisitedAgain stands bs q s here x k → CoversOutcome stands e entry v out k
       by v entry c out None found stand passed lefts visits is = absurd passed
       by v entry c out (Some r) found stand passed (inr nothing_left) visits is = absurd nothing_left
-      by v entry c out (Some r) found stand passed (inl is_left) visits (inl cause) = answer_of_cause stands e entry v out k cause
-      by v entry c out (Some r) found stand passed (inl is_left) visits (inr (over_is, inr unsat)) = absurd (unsat v (record { proper = is_left.proper; true_there = is_left.meets }))
-      by v entry c out (Some r) found stand passed (inl is_left) visits (inr (over_is, inl same)) = subst (CoversOutcome stands e entry v out) (sym over_is) (ended visits)
+      by v entry c out (Some r) found stand passed (inl is_left) visits (inr (doubt, (right, (cause, (is_cause, shows))))) = subst (CoversOutcome stands e entry v out) (sym is_cause) tt
+      by v entry c out (Some r) found stand passed (inl is_left) visits (inl (over_is, same)) = subst (CoversOutcome stands e entry v out) (sym over_is) (ended visits)
         where
           as_before : IsAsBefore p memory m entry xs r found.state c
-          as_before = same p memory m entry v xs r found.state c is_left.memory is_left.facts (unlisted_stand xs (running_store x.path.stack) bs v c.machine.current.store unlisted (running_stands v x.path.stack c.machine.current c.machine.callers stand.path.frames)) passed
+          as_before = same v p memory m entry xs r found.state c is_left (unlisted_stand xs (running_store x.path.stack) bs v c.machine.current.store unlisted (running_stands v x.path.stack c.machine.current c.machine.callers stand.path.frames)) passed
 
           ended : Visits p memory m entry (Some r) (Some found) xs ps items c out → CoversOutcome stands e entry v out done_over
           ended (inl (before, is_over)) = is_over

@@ -11,7 +11,7 @@ ghost use Rattle.sym_states.specs.View.{state_view};
 use crate::passing::with_passed;
 use checked_paths::{Checking, Passed, copy_facts};
 use checked_rows::path_with;
-use gil_syntax::Texts;
+use gil_syntax::{Params, Texts};
 use sequence::Sequence;
 use std::alloc::{AllocError, Global};
 use std::mem;
@@ -46,19 +46,19 @@ pub(crate) fn index_of(frames: &Frames) -> usize
     }
 }
 
-/// The path with a new variable for each listed name, where other names have these terms.
+/// The path with a new variable for each listed name, of the sorts that are declared for it, where other names have these terms.
 fn open_path<M: SymMemory>(
     alloc: Global,
     path: Path<M>,
     unlisted: SymStore,
+    scope: &Params,
     listed: &Texts,
 ) -> Result<Option<Path<M>>, AllocError>
-    ensures { IfOk result (λ o. OpensPath listed.now (store_view unlisted) (path_view path) (option_map path_view o)) }
+    ensures { IfOk result (λ o. OpensPath scope.now listed.now (store_view unlisted) (path_view path) (option_map path_view o)) }
 {
     let mut path = path;
     let vars = mem::replace(&mut path.vars, Sequence::new(alloc));
-    let any = Sequence::new(alloc);
-    match with_variables(alloc, vars, unlisted, &any, listed)? {
+    match with_variables(alloc, vars, unlisted, scope, listed)? {
         Some(named) => {
             let Named { vars, store } = named;
             path.vars = vars;
@@ -101,15 +101,16 @@ pub(crate) fn in_loop<M: SymMemory>(
     checking: &Checking<M>,
     unlisted: &SymStore,
     listed: &Texts,
+    scope: &Params,
     state: SymState<M>,
 ) -> Result<Option<Checking<M>>, AllocError>
-    ensures { IfOk result (λ o. IsInLoopIfAny M.stands M.terms listed.now (store_view unlisted.now) (checking_view checking.now)
+    ensures { IfOk result (λ o. IsInLoopIfAny M.stands M.terms scope.now listed.now (store_view unlisted.now) (checking_view checking.now)
         (state_view state) (option_map checking_view o)) }
 {
     let one = passed_now(alloc, checking, unlisted, &state)?;
     let passed = with_passed(alloc, &checking.passed, one)?;
     let (path, preds) = path_with(alloc, &checking.path, state)?;
-    match open_path(alloc, path, unlisted.copy(alloc)?, listed)? {
+    match open_path(alloc, path, unlisted.copy(alloc)?, scope, listed)? {
         Some(path) => Ok(Some(Checking {
             path,
             preds,

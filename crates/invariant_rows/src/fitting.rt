@@ -1,6 +1,7 @@
 //! Whether names that have terms surely have values of the sorts that are declared for them.
-ghost use Rattle.std.specs.Prelude.{IfNone, IfOk};
-ghost use Rattle.invariant_rows.specs.Fitting.{AllFit, NeverMet, SurelyFits};
+ghost use Rattle.std.specs.Prelude.{IfNone, IfOk, IfSome};
+ghost use Rattle.checked_rows.specs.View.{doubt_view};
+ghost use Rattle.invariant_rows.specs.Fitting.{AllFit, DoubtsOne, DoubtsSorts, NeverMet, SurelyFits};
 ghost use Rattle.pure_terms.specs.Meaning.{IsOver};
 ghost use Rattle.pure_terms.specs.Pure.{term_of};
 ghost use Rattle.pure_terms.specs.View.{atoms_view};
@@ -19,7 +20,7 @@ use sym_evaluation::SymStore;
 use sym_matching::fits_sorts;
 
 /// Why the conditions and those of some alternative aren't surely never met together, if they aren't.
-fn doubt_of_any<D: Decider>(
+pub(crate) fn doubt_of_any<D: Decider>(
     alloc: Global,
     vars: &VarTable,
     conds: &Atoms,
@@ -28,7 +29,8 @@ fn doubt_of_any<D: Decider>(
 ) -> Result<Option<Doubt>, AllocError>
     requires conds { Each (λ a. IsOver vars.now (term_of a)) (atoms_view conds.now) }
     requires alternatives { Each (Each (λ a. IsOver vars.now (term_of a))) (alternatives_view alternatives.now) }
-    ensures { IfOk result (λ o. IfNone o (NeverMet vars.now (atoms_view conds.now) (alternatives_view alternatives.now))) }
+    ensures none { IfOk result (λ o. IfNone o (NeverMet vars.now (atoms_view conds.now) (alternatives_view alternatives.now))) }
+    ensures doubt { IfOk result (λ o. IfSome o (λ d. DoubtsOne vars.now (atoms_view conds.now) (alternatives_view alternatives.now) (doubt_view d))) }
 {
     for more in alternatives.as_slice() {
         let doubt = doubt_there(alloc, vars, conds, more, decider)?;
@@ -51,7 +53,8 @@ fn doubt_of_name<D: Decider>(
 ) -> Result<Option<Doubt>, AllocError>
     requires conds { Each (λ a. IsOver vars.now (term_of a)) (atoms_view conds.now) }
     requires names { IsStoreOver vars.now (store_view names.now) }
-    ensures { IfOk result (λ o. IfNone o (SurelyFits scope.now vars.now (atoms_view conds.now) (store_view names.now) name.now)) }
+    ensures none { IfOk result (λ o. IfNone o (SurelyFits scope.now vars.now (atoms_view conds.now) (store_view names.now) name.now)) }
+    ensures doubt { IfOk result (λ o. IfSome o (λ d. DoubtsSorts scope.now vars.now (atoms_view conds.now) (store_view names.now) (doubt_view d))) }
 {
     match names.get(name) {
         Some(term) => {
@@ -73,7 +76,8 @@ pub(crate) fn doubt_of_sorts<D: Decider>(
 ) -> Result<Option<Doubt>, AllocError>
     requires conds { Each (λ a. IsOver vars.now (term_of a)) (atoms_view conds.now) }
     requires names { IsStoreOver vars.now (store_view names.now) }
-    ensures { IfOk result (λ o. IfNone o (AllFit scope.now vars.now (atoms_view conds.now) (store_view names.now) scope.now)) }
+    ensures none { IfOk result (λ o. IfNone o (AllFit scope.now vars.now (atoms_view conds.now) (store_view names.now) scope.now)) }
+    ensures doubt { IfOk result (λ o. IfSome o (λ d. DoubtsSorts scope.now vars.now (atoms_view conds.now) (store_view names.now) (doubt_view d))) }
 {
     for param in scope.as_slice() {
         let name = &param.name;

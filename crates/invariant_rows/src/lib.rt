@@ -2,6 +2,7 @@
 #![tactic(auto)]
 
 mod adding;
+mod again;
 mod entering;
 mod fitting;
 mod listed;

@@ -2,10 +2,10 @@
 ghost use Rattle.std.specs.Prelude.{◌≡◌, ◌+◌, ◌++◌, ◌<◌, ◌^◌, ◌∷◌, [], map, true, IfOk};
 ghost use Rattle.std.specs.Option.{option_map};
 ghost use Rattle.checked_paths.specs.Meaning.{IsCheckedOver};
-ghost use Rattle.checked_paths.specs.View.{checking_view, entry_view, next_view, nexts_view, passed_view};
+ghost use Rattle.checked_paths.specs.View.{checking_view, entry_view, nexts_view, passed_view};
 ghost use Rattle.checked_rows.specs.Matching.{IsOfPath};
 ghost use Rattle.checked_rows.specs.Names.{logicals_there};
-ghost use Rattle.checked_rows.specs.Rows.{AreRowOf};
+ghost use Rattle.checked_rows.specs.Rows.{AreRowOf, IsExactRowOf};
 ghost use Rattle.footprint.specs.Consuming.{CasesMayMatch, MayMatch};
 ghost use Rattle.footprint.specs.View.{match_view, matches_view};
 ghost use Rattle.gil_program.specs.Program.{prog_view};
@@ -15,7 +15,7 @@ ghost use Rattle.invariant_rows.specs.Entering.{AreEntered, running_next};
 ghost use Rattle.invariant_rows.specs.Fitting.{SortsFit};
 ghost use Rattle.invariant_rows.specs.Listed.{AreUnlisted, have_terms as all_have_terms};
 ghost use Rattle.invariant_rows.specs.Passing.{former_at, of_running};
-ghost use Rattle.invariant_rows.specs.Visiting.{AreVisits, IsVisitedAgain};
+ghost use Rattle.invariant_rows.specs.Visiting.{AreExactVisits, AreVisits, IsKnown, IsLeft};
 ghost use Rattle.sym_engine.specs.Lawful.{MayAdvance};
 ghost use Rattle.sym_evaluation.specs.View.{store_view};
 ghost use Rattle.sym_model.specs.Lists.{Each};
@@ -24,22 +24,20 @@ ghost use Rattle.sym_paths.specs.View.{frames_view};
 ghost use Rattle.sym_states.specs.View.{state_view};
 
 use crate::adding::add_there;
+use crate::again::again;
 use crate::entering::{in_loop, index_of};
 use crate::fitting::doubt_of_sorts;
 use crate::listed::{have_terms, unlisted_of};
 use crate::passing::former_of;
-use checked_paths::{Checking, Entered, FaultKind, Next, Nexts, Passed};
-use checked_rows::{Doubt, copy_params, doubted, doubted_next, logicals_in, match_there, names_in};
+use checked_paths::{Checking, Entered, FaultKind, Nexts, Passed};
+use checked_rows::{Doubt, copy_params, doubted, logicals_in, match_there, names_in, nothing};
 use footprint::{Match, Matches, Matching};
 use gil_program::Prog;
 use gil_syntax::{Assertion, Params, Spec, Texts};
 use gil_values::Place;
 use pure_terms::Decider;
-use remainders::is_as_before;
 use sequence::Sequence;
 use std::alloc::{AllocError, Global};
-use sym_asking::{Satisfiability, ask};
-use sym_conditions::copy_conditions;
 use sym_evaluation::SymStore;
 use sym_model::ListedMemory;
 use sym_paths::{Frames, running};
@@ -58,38 +56,6 @@ fn scope_there(
     let known = logicals_in(frames, logicals, &none);
     let scope = copy_params(alloc, Sequence::new(alloc), known)?;
     copy_params(alloc, scope, declared)
-}
-
-/// What is answered where the invariant is reached again, and leaves this state: nothing is left to be looked at, where that surely is as
-/// it was before.
-fn again<M: ListedMemory, D: Decider>(
-    alloc: Global,
-    checking: &Checking<M>,
-    here: &Place,
-    unlisted: &SymStore,
-    former: &Passed<M>,
-    state: SymState<M>,
-    decider: &mut D,
-) -> Result<Next<M>, AllocError>
-    requires of_path { IsOfPath M.terms (checking_view checking.now) (state_view state) }
-    ensures { IfOk result (λ n. IsVisitedAgain M.stands (store_view unlisted.now) (passed_view former.now) (state_view state) (next_view n)) }
-{
-    if is_as_before(alloc, &state.memory, &state.preds, unlisted, former)? {
-        return Ok(Next::Over);
-    }
-    match ask(alloc, decider, &state.vars, state.conds.atoms())? {
-        Satisfiability::Satisfiable(valuation) => {
-            let conds = copy_conditions(alloc, state.conds.atoms())?;
-            let doubt = Doubt::Under(conds, valuation);
-            doubted_next(alloc, FaultKind::Invariant, here, &checking.path, doubt)
-        }
-        Satisfiability::Unsatisfiable => Ok(Next::Over),
-        Satisfiability::Undecided(reason) => {
-            let conds = copy_conditions(alloc, state.conds.atoms())?;
-            let doubt = Doubt::Undecided(conds, reason);
-            doubted_next(alloc, FaultKind::Invariant, here, &checking.path, doubt)
-        }
-    }
 }
 
 /// What is answered where the invariant is reached for the first time, and leaves this state.
@@ -113,9 +79,9 @@ fn first<M: ListedMemory, D: Decider>(
     requires unlisted { AreUnlisted listed.now (running_store (frames_view checking.now.path.stack)) (store_view unlisted.now) }
     requires may { MayMatch M.Local.memory (assertion_view items.now) }
     ensures { IfOk result (λ ns. AreEntered M.Local.memory M.stands M.terms M.kept (entry_view spec.now entered.now) listed.now scope.now
-        (assertion_view items.now) (store_view unlisted.now) (checking_view checking.now) (state_view state) (nexts_view ns)) }
+        (assertion_view items.now) (store_view unlisted.now) here.now (checking_view checking.now) (state_view state) (nexts_view ns)) }
 {
-    match in_loop(alloc, checking, unlisted, listed, state)? {
+    match in_loop(alloc, checking, unlisted, listed, scope, state)? {
         Some(inside) => add_there(alloc, spec, entered, &inside, here, scope, items, decider),
         None => Ok(Sequence::new(alloc)),
     }
@@ -141,19 +107,27 @@ fn visit<M: ListedMemory, D: Decider>(
     requires over { IsCheckedOver M.terms (entry_view spec.now entered.now) (checking_view checking.now) }
     requires steps { checking.now.path.steps + 1 < 2 ^ 32 }
     requires next { MayAdvance (frames_view checking.now.path.stack) }
-    requires of_path { IsOfPath M.terms (checking_view checking.now) (state_view state) }
+    requires left { IsLeft (prog_view prog.now) M.Local.memory M.Local.actions M.stands M.terms (entry_view spec.now entered.now)
+        (checking_view checking.now) listed.now declared.now (assertion_view items.now) (option_map (λ q. passed_view q.now) former) (state_view state) }
+    requires known { IsKnown (prog_view prog.now) M.Local.memory M.Local.actions M.stands M.terms (entry_view spec.now entered.now)
+        (checking_view checking.now) listed.now declared.now (assertion_view items.now) (option_map (λ q. passed_view q.now) former) }
     requires unlisted { AreUnlisted listed.now (running_store (frames_view checking.now.path.stack)) (store_view unlisted.now) }
     requires scope { scope.now ≡ logicals_there (frames_view checking.now.path.stack) (spec_view spec.now).logicals ++ declared.now }
+    requires fits { SortsFit scope.now (entry_view spec.now entered.now) (checking_view checking.now) }
+    requires terms { all_have_terms listed.now (running_store (frames_view checking.now.path.stack)) ≡ true }
     requires may { MayMatch M.Local.memory (assertion_view items.now) }
-    ensures { IfOk result (λ ns. AreVisits (prog_view prog.now) M.Local.memory M.Local.actions M.stands M.terms (entry_view spec.now entered.now)
+    ensures cover { IfOk result (λ ns. AreVisits (prog_view prog.now) M.Local.memory M.Local.actions M.stands M.terms (entry_view spec.now entered.now)
         (checking_view checking.now) listed.now declared.now (assertion_view items.now) (option_map (λ q. passed_view q.now) former.entry)
         (state_view state ∷ []) (nexts_view ns)) }
+    ensures exact { IfOk result (λ ns. AreExactVisits (prog_view prog.now) M.Local.memory M.Local.actions M.stands M.terms (entry_view spec.now entered.now)
+        (checking_view checking.now) listed.now declared.now (assertion_view items.now) (option_map (λ q. passed_view q.now) former.entry) here.now
+        (nexts_view ns)) }
 {
     let _prog = prog;
     match former {
         Some(former) => {
             let mut nexts = Sequence::new(alloc);
-            nexts.push(again(alloc, checking, here, unlisted, former, state, decider)?)?;
+            nexts.push(again(alloc, checking, here, unlisted, former, &state, decider)?)?;
             Ok(nexts)
         }
         None => first(
@@ -201,13 +175,21 @@ fn visit_each<M: ListedMemory, D: Decider>(
     requires over { IsCheckedOver M.terms (entry_view spec.now entered.now) (checking_view checking.now) }
     requires steps { checking.now.path.steps + 1 < 2 ^ 32 }
     requires next { MayAdvance (frames_view checking.now.path.stack) }
-    requires of_path { Each (λ k. IsOfPath M.terms (checking_view checking.now) k.state) (matches_view matches) }
+    requires left { Each (λ k. IsLeft (prog_view prog.now) M.Local.memory M.Local.actions M.stands M.terms (entry_view spec.now entered.now)
+        (checking_view checking.now) listed.now declared.now (assertion_view items.now) (option_map (λ q. passed_view q.now) former) k.state) (matches_view matches) }
+    requires known { IsKnown (prog_view prog.now) M.Local.memory M.Local.actions M.stands M.terms (entry_view spec.now entered.now)
+        (checking_view checking.now) listed.now declared.now (assertion_view items.now) (option_map (λ q. passed_view q.now) former) }
     requires unlisted { AreUnlisted listed.now (running_store (frames_view checking.now.path.stack)) (store_view unlisted.now) }
     requires scope { scope.now ≡ logicals_there (frames_view checking.now.path.stack) (spec_view spec.now).logicals ++ declared.now }
+    requires fits { SortsFit scope.now (entry_view spec.now entered.now) (checking_view checking.now) }
+    requires terms { all_have_terms listed.now (running_store (frames_view checking.now.path.stack)) ≡ true }
     requires may { MayMatch M.Local.memory (assertion_view items.now) }
-    ensures { IfOk result (λ ns. AreVisits (prog_view prog.now) M.Local.memory M.Local.actions M.stands M.terms (entry_view spec.now entered.now)
+    ensures cover { IfOk result (λ ns. AreVisits (prog_view prog.now) M.Local.memory M.Local.actions M.stands M.terms (entry_view spec.now entered.now)
         (checking_view checking.now) listed.now declared.now (assertion_view items.now) (option_map (λ q. passed_view q.now) former.entry)
         (map (λ k. k.state) (matches_view matches)) (nexts_view ns)) }
+    ensures exact { IfOk result (λ ns. AreExactVisits (prog_view prog.now) M.Local.memory M.Local.actions M.stands M.terms (entry_view spec.now entered.now)
+        (checking_view checking.now) listed.now declared.now (assertion_view items.now) (option_map (λ q. passed_view q.now) former.entry) here.now
+        (nexts_view ns)) }
 {
     let mut nexts = Sequence::new(alloc);
     for found in matches.into_vec() {
@@ -245,8 +227,11 @@ fn matched_row<M: ListedMemory, D: Decider>(
     requires fits { SortsFit scope.now (entry_view spec.now entered.now) (checking_view checking.now) }
     requires may { MayMatch M.Local.memory (assertion_view items.now) }
     requires cases { CasesMayMatch M.Local.memory (prog_view prog.now).preds }
-    ensures { IfOk result (λ ns. AreRowOf (prog_view prog.now) M.Local.memory M.Local.actions M.stands M.terms
+    ensures next { IfOk result (λ ns. AreRowOf (prog_view prog.now) M.Local.memory M.Local.actions M.stands M.terms
         (entry_view spec.now entered.now) (checking_view checking.now) (loop_invariant listed.now declared.now (assertion_view items.now)) []
+        (nexts_view ns)) }
+    ensures exact { IfOk result (λ ns. IsExactRowOf (prog_view prog.now) M.Local.memory M.Local.actions M.stands M.terms
+        (entry_view spec.now entered.now) (checking_view checking.now) (loop_invariant listed.now declared.now (assertion_view items.now)) here.now
         (nexts_view ns)) }
 {
     match match_there(
@@ -295,8 +280,11 @@ fn listed_row<M: ListedMemory, D: Decider>(
     requires unlisted { AreUnlisted listed.now (running_store (frames_view checking.now.path.stack)) (store_view unlisted.now) }
     requires may { MayMatch M.Local.memory (assertion_view items.now) }
     requires cases { CasesMayMatch M.Local.memory (prog_view prog.now).preds }
-    ensures { IfOk result (λ ns. AreRowOf (prog_view prog.now) M.Local.memory M.Local.actions M.stands M.terms
+    ensures next { IfOk result (λ ns. AreRowOf (prog_view prog.now) M.Local.memory M.Local.actions M.stands M.terms
         (entry_view spec.now entered.now) (checking_view checking.now) (loop_invariant listed.now declared.now (assertion_view items.now)) []
+        (nexts_view ns)) }
+    ensures exact { IfOk result (λ ns. IsExactRowOf (prog_view prog.now) M.Local.memory M.Local.actions M.stands M.terms
+        (entry_view spec.now entered.now) (checking_view checking.now) (loop_invariant listed.now declared.now (assertion_view items.now)) here.now
         (nexts_view ns)) }
 {
     let scope = scope_there(alloc, &checking.path.stack, &spec.logicals, declared)?;
@@ -330,19 +318,25 @@ pub fn invariant_row<M: ListedMemory, D: Decider>(
     requires next { MayAdvance (frames_view checking.path.stack) }
     requires may { MayMatch M.Local.memory (assertion_view items.now) }
     requires cases { CasesMayMatch M.Local.memory (prog_view prog.now).preds }
-    ensures { IfOk result (λ ns. AreRowOf (prog_view prog.now) M.Local.memory M.Local.actions M.stands M.terms
+    ensures next { IfOk result (λ ns. AreRowOf (prog_view prog.now) M.Local.memory M.Local.actions M.stands M.terms
         (entry_view spec.now entered.now) (checking_view checking) (loop_invariant listed.now declared.now (assertion_view items.now)) []
         (nexts_view ns)) }
+    ensures exact { IfOk result (λ ns. IsExactRowOf (prog_view prog.now) M.Local.memory M.Local.actions M.stands M.terms
+        (entry_view spec.now entered.now) (checking_view checking) (loop_invariant listed.now declared.now (assertion_view items.now)) here.now
+        (nexts_view ns)) }
 {
-    if let Some(frame) = running(&checking.path.stack) {
-        if have_terms(&frame.store, listed) {
-            let unlisted = unlisted_of(alloc, &frame.store, listed)?;
-            return listed_row(
-                alloc, prog, spec, entered, &checking, here, &unlisted, listed, declared, items,
-                decider,
-            );
+    match running(&checking.path.stack) {
+        Some(frame) => {
+            if have_terms(&frame.store, listed) {
+                let unlisted = unlisted_of(alloc, &frame.store, listed)?;
+                return listed_row(
+                    alloc, prog, spec, entered, &checking, here, &unlisted, listed, declared,
+                    items, decider,
+                );
+            }
+            let doubt = Doubt::Always;
+            doubted(alloc, FaultKind::Invariant, here, &checking.path, doubt)
         }
+        None => nothing(alloc),
     }
-    let doubt = Doubt::Always;
-    doubted(alloc, FaultKind::Invariant, here, &checking.path, doubt)
 }

@@ -11,8 +11,7 @@ use Rattle.sym_unfolding.specs.Further.{IsFurther}
 use Rattle.checked_paths.specs.Meaning.{EachWith}
 use Rattle.checked_paths.specs.View.{checking_view, entry_view, nexts_view}
 use Rattle.checked_rows.proofs.MatchLaws.{names_over, over_there}
-use Rattle.checked_rows.specs.Unfolding.{IsCaseAnswered}
-use Rattle.invariant_rows.specs.Entering.{AreAdded}
+use Rattle.invariant_rows.specs.Entering.{AreAdded, IsAdditionAnswered}
 use Rattle.invariant_rows.proofs.adding.add_there.Goals as goal
 
 pub each_state-requires-clause-over : goal.each_state-requires-clause-over
@@ -41,5 +40,5 @@ returns g c =
     let items = assertion_view c.args.items.now in
     let rs = states_view c.in_ok-states.states in
     let adds = subst (λ more. AddsItems memory stands terms kept c.args.scope.now bs more items s rs) (ap atoms_view c.new-none.ensures) c.in_ok-states.ensures in
-    ok_to c.each_state.result (λ ns. EachWith (IsCaseAnswered stands terms y) rs (nexts_view ns)) (λ ns. AreAdded memory stands terms kept e c.args.scope.now items y (nexts_view ns))
+    ok_to c.each_state.result (λ ns. EachWith (IsAdditionAnswered stands terms c.args.here.now y) rs (nexts_view ns)) (λ ns. AreAdded memory stands terms kept e c.args.scope.now items c.args.here.now y (nexts_view ns))
     (λ ns each. record { state = s; is_state = c.in_ok-state.ensures; store = bs; names = c.in_ok-names.ensures; added = rs; adds = adds; answered = each }) c.each_state.ensures

@@ -7,14 +7,14 @@ use Rattle.sym_states.specs.View.{state_view, states_view}
 use Rattle.checked_paths.proofs.Lists.{with_last}
 use Rattle.checked_paths.specs.Meaning.{EachWith}
 use Rattle.checked_paths.specs.View.{checking_view, next_view, nexts_view}
-use Rattle.checked_rows.specs.Unfolding.{IsCaseAnswered}
+use Rattle.invariant_rows.specs.Entering.{IsAdditionAnswered}
 use Rattle.invariant_rows.proofs.adding.each_state.Goals as goal
 
 pub loop-state-init : goal.loop-state-init
 loop-state-init g c = record {
   counted = search rules;
   rest = search rules;
-  answered = subst (EachWith (IsCaseAnswered g.M.SymMemory.stands g.M.SymMemory.terms (checking_view c.args.checking.now)) []) (sym (ap nexts_view c.new-nexts.ensures)) tt;
+  answered = subst (EachWith (IsAdditionAnswered g.M.SymMemory.stands g.M.SymMemory.terms c.args.here.now (checking_view c.args.checking.now)) []) (sym (ap nexts_view c.new-nexts.ensures)) tt;
 }
 
 pub state_next-requires-clause-over : goal.state_next-requires-clause-over
@@ -24,7 +24,7 @@ state_next-requires-clause-over g c =
 
 pub loop-state-preserved : goal.loop-state-preserved
 loop-state-preserved g c =
-    let Is = IsCaseAnswered g.M.SymMemory.stands g.M.SymMemory.terms (checking_view c.args.checking.now) in
+    let Is = IsAdditionAnswered g.M.SymMemory.stands g.M.SymMemory.terms c.args.here.now (checking_view c.args.checking.now) in
     let n = c.in_ok-state_next.field-0 in
     let longer : length (into_iter_items c.loop-state.state-iterator) ≡ length (into_iter_items c.next.new.self) + 1 = ap length c.in-Some.ensures.steps.0 ∙ omega arith in
     let seen = map-append state_view c.loop-state.yielded (c.in-Some.state ∷ []) in
@@ -40,5 +40,5 @@ loop-state-preserved g c =
 pub returns : goal.returns
 returns g c =
     let none : into_iter_items c.loop-state.state-iterator ≡ [] = nil_from_length (into_iter_items c.loop-state.state-iterator) (sym c.loop-state.invariant.counted ∙ c.in-None.ensures.steps.0) in
-    subst (λ rs. EachWith (IsCaseAnswered g.M.SymMemory.stands g.M.SymMemory.terms (checking_view c.args.checking.now)) (states_view rs) (nexts_view c.loop-state.nexts))
+    subst (λ rs. EachWith (IsAdditionAnswered g.M.SymMemory.stands g.M.SymMemory.terms c.args.here.now (checking_view c.args.checking.now)) (states_view rs) (nexts_view c.loop-state.nexts))
     (sym (c.loop-state.invariant.rest ∙ ap (λ xs. c.loop-state.yielded ++ xs) none ∙ append-nil c.loop-state.yielded)) c.loop-state.invariant.answered

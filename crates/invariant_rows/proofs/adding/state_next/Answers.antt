@@ -1,22 +1,41 @@
-use Rattle.std.proofs.Common.{◌≡◌, false, inl, inr, refl, sym, ap, subst, ◌∙◌}
+use Rattle.std.proofs.Common.{inl, inr, refl, sym, subst}
+use Rattle.gil_values.specs.View.{values_view}
 use Rattle.pure_terms.specs.Meaning.{AreOver, IsUnsatisfiable}
 use Rattle.pure_terms.specs.View.{atoms_view}
 use Rattle.sym_asking.proofs.Fragments.{each_over_all}
-use Rattle.sym_asking.specs.Asking.{IsRightly}
+use Rattle.sym_asking.specs.Asking.{IsOutside, IsRightly, IsSolution}
 use Rattle.sym_asking.specs.View.{satisfiability_view}
-use Rattle.sym_model.specs.Meaning.{has_open}
-use Rattle.sym_states.proofs.Conditions.{open_seen}
+use Rattle.sym_states.proofs.Values.{ok_to}
 use Rattle.sym_states.specs.View.{state_view}
+use Rattle.checked_paths.specs.View.{checking_view, next_view}
+use Rattle.invariant_rows.specs.Entering.{IsAdditionAnswered}
 use Rattle.invariant_rows.proofs.adding.state_next.Goals as goal
 
 pub ask-requires : goal.ask-requires
 ask-requires g c = subst (AreOver c.args.state.vars) (sym c.atoms.ensures) (each_over_all c.args.state.vars (state_view c.args.state).conds c.requires.over.conds)
 
-pub returns-else-needs_form : goal.returns-else-needs_form
-returns-else-needs_form g c =
+pub returns-in-Satisfiable : goal.returns-in-Satisfiable
+returns-in-Satisfiable g c =
     let s = state_view c.args.state in
-    let no_form : has_open s.conds ≡ false =
-    ap has_open (sym c.atoms-in-Unsatisfiable.ensures) ∙ (open_seen c.atoms-in-Unsatisfiable.result.now ∙ (sym c.needs_form.ensures ∙ c.if-needs_form.false)) in
+    let v = values_view c.in-Satisfiable.field-0 in
+    let told = subst (λ r. IsRightly c.args.state.vars (atoms_view c.atoms.result.now) (satisfiability_view r)) c.in-Satisfiable.is c.in_ok-ask.ensures in
+    let met : IsSolution s.vars s.conds v = subst (λ cs. IsSolution s.vars cs v) c.atoms.ensures told in
+    ok_to c.go_on_in.result _ (λ n. IsAdditionAnswered g.M.SymMemory.stands g.M.SymMemory.terms c.args.here.now (checking_view c.args.checking.now) s (next_view n))
+    (λ n goes. inl (met.no_form, ((v, met.meets), goes))) c.go_on_in.ensures
+
+pub returns-in-Unsatisfiable : goal.returns-in-Unsatisfiable
+returns-in-Unsatisfiable g c =
+    let s = state_view c.args.state in
     let told = subst (λ r. IsRightly c.args.state.vars (atoms_view c.atoms.result.now) (satisfiability_view r)) c.in-Unsatisfiable.is c.in_ok-ask.ensures in
     let unsat : IsUnsatisfiable s.vars s.conds = subst (IsUnsatisfiable c.args.state.vars) c.atoms.ensures told in
-    inr (no_form, inl (refl, unsat))
+    inr (inl (refl, unsat))
+
+pub returns-in-Undecided : goal.returns-in-Undecided
+returns-in-Undecided g c =
+    let here = c.args.here.now in
+    let x = checking_view c.args.checking.now in
+    let s = state_view c.args.state in
+    let told = subst (λ r. IsRightly c.args.state.vars (atoms_view c.atoms.result.now) (satisfiability_view r)) c.in-Undecided.is c.in_ok-ask.ensures in
+    let outside : IsOutside s.conds c.in-Undecided.reason = subst (λ cs. IsOutside cs c.in-Undecided.reason) c.atoms.ensures told in
+    ok_to c.undecided_in.result _ (λ n. IsAdditionAnswered g.M.SymMemory.stands g.M.SymMemory.terms here x s (next_view n))
+    (λ n shown. inr (inr (c.in-Undecided.reason, (outside, shown)))) c.undecided_in.ensures

@@ -18,9 +18,9 @@ returns-in-Some g c =
     let bs = store_view c.args.unlisted.now in
     let x = checking_view c.args.checking.now in
     let s = state_view c.args.state in
-    let of_copy = subst (λ cs. OpensPath xs cs (path_view c.in_ok-path.path) (option_map path_view c.in_ok-path-2.field-0)) c.in_ok-copy.ensures c.in_ok-path-2.ensures in
-    let of_path = subst (λ q. OpensPath xs bs q (option_map path_view c.in_ok-path-2.field-0)) c.in_ok-path.ensures.path of_copy in
-    let opens = subst (λ o. OpensPath xs bs (with_state x.path s) (option_map path_view o)) c.in-Some.is of_path in
+    let of_copy = subst (λ cs. OpensPath c.args.scope.now xs cs (path_view c.in_ok-path.path) (option_map path_view c.in_ok-path-2.field-0)) c.in_ok-copy.ensures c.in_ok-path-2.ensures in
+    let of_path = subst (λ q. OpensPath c.args.scope.now xs bs q (option_map path_view c.in_ok-path-2.field-0)) c.in_ok-path.ensures.path of_copy in
+    let opens = subst (λ o. OpensPath c.args.scope.now xs bs (with_state x.path s) (option_map path_view o)) c.in-Some.is of_path in
     record {
       named = opens.0;
       naming = opens.1.0;
@@ -37,6 +37,6 @@ returns-in-None g c =
     let bs = store_view c.args.unlisted.now in
     let x = checking_view c.args.checking.now in
     let s = state_view c.args.state in
-    let of_copy = subst (λ cs. OpensPath xs cs (path_view c.in_ok-path.path) (option_map path_view c.in_ok-path-2.field-0)) c.in_ok-copy.ensures c.in_ok-path-2.ensures in
-    let of_path = subst (λ q. OpensPath xs bs q (option_map path_view c.in_ok-path-2.field-0)) c.in_ok-path.ensures.path of_copy in
-    subst (λ o. OpensPath xs bs (with_state x.path s) (option_map path_view o)) c.in-None.is of_path
+    let of_copy = subst (λ cs. OpensPath c.args.scope.now xs cs (path_view c.in_ok-path.path) (option_map path_view c.in_ok-path-2.field-0)) c.in_ok-copy.ensures c.in_ok-path-2.ensures in
+    let of_path = subst (λ q. OpensPath c.args.scope.now xs bs q (option_map path_view c.in_ok-path-2.field-0)) c.in_ok-path.ensures.path of_copy in
+    subst (λ o. OpensPath c.args.scope.now xs bs (with_state x.path s) (option_map path_view o)) c.in-None.is of_path

@@ -1,4 +1,4 @@
-use Rattle.std.proofs.Common.{◌≡◌, Some, IfNone, sym, ap, ◌∙◌}
+use Rattle.std.proofs.Common.{◌≡◌, Some, IfNone, IfSome, sym, ap, ◌∙◌}
 use Rattle.std.specs.Option.{option_map}
 use Rattle.pure_terms.specs.View.{atoms_view, term_view}
 use Rattle.sym_conditions.specs.Alternatives.{alternatives_view}
@@ -6,8 +6,9 @@ use Rattle.sym_evaluation.specs.Pure.{term_at}
 use Rattle.sym_evaluation.specs.View.{store_view}
 use Rattle.sym_matching.specs.View.{test_view}
 use Rattle.sym_states.proofs.Values.{ok_to}
-use Rattle.invariant_rows.specs.Fitting.{NeverMet, SurelyFits}
-use Rattle.invariant_rows.proofs.FitLaws.{conditions_over, if_none_to, test_fits}
+use Rattle.checked_rows.specs.View.{doubt_view}
+use Rattle.invariant_rows.specs.Fitting.{NeverMet, SurelyFits, DoubtsOne, DoubtsSorts}
+use Rattle.invariant_rows.proofs.FitLaws.{conditions_over, if_none_to, if_some_to, test_fits, test_doubts}
 use Rattle.invariant_rows.proofs.fitting.doubt_of_name.Goals as goal
 
 pub doubt_of_any-requires-clause-alternatives : goal.doubt_of_any-requires-clause-alternatives
@@ -15,10 +16,21 @@ doubt_of_any-requires-clause-alternatives g c =
     let there : term_at (store_view c.args.names.now) c.args.name.now ≡ Some (term_view c.in-Some.term.now) = sym c.get.ensures ∙ ap (option_map (λ t. term_view t.now)) c.in-Some.is in
     conditions_over c.args.vars.now (alternatives_view c.in_ok-test-in-Some.test.otherwise) (c.in_ok-test-in-Some.ensures.names c.args.vars.now (c.requires.names c.args.name.now (term_view c.in-Some.term.now) there)).otherwise
 
-pub returns-in_ok-test-in-Some : goal.returns-in_ok-test-in-Some
-returns-in_ok-test-in-Some g c =
+pub returns-in_ok-test-in-Some-clause-none : goal.returns-in_ok-test-in-Some-clause-none
+returns-in_ok-test-in-Some-clause-none g c =
     let there : term_at (store_view c.args.names.now) c.args.name.now ≡ Some (term_view c.in-Some.term.now) = sym c.get.ensures ∙ ap (option_map (λ t. term_view t.now)) c.in-Some.is in
     ok_to c.doubt_of_any.result (λ o. IfNone o (NeverMet c.args.vars.now (atoms_view c.args.conds.now) (alternatives_view c.in_ok-test-in-Some.test.otherwise)))
     (λ o. IfNone o (SurelyFits c.args.scope.now c.args.vars.now (atoms_view c.args.conds.now) (store_view c.args.names.now) c.args.name.now))
     (λ o never. if_none_to o never (test_fits c.args.scope.now c.args.vars.now (atoms_view c.args.conds.now) (store_view c.args.names.now) c.args.name.now (term_view c.in-Some.term.now) (test_view c.in_ok-test-in-Some.test) c.requires.names there c.in_ok-test-in-Some.ensures.says))
-    c.doubt_of_any.ensures
+    c.doubt_of_any.ensures.none
+
+pub returns-in_ok-test-in-Some-clause-doubt : goal.returns-in_ok-test-in-Some-clause-doubt
+returns-in_ok-test-in-Some-clause-doubt g c =
+    let vars = c.args.vars.now in
+    let conds = atoms_view c.args.conds.now in
+    let bs = store_view c.args.names.now in
+    let test = test_view c.in_ok-test-in-Some.test in
+    let there : term_at bs c.args.name.now ≡ Some (term_view c.in-Some.term.now) = sym c.get.ensures ∙ ap (option_map (λ t. term_view t.now)) c.in-Some.is in
+    ok_to c.doubt_of_any.result (λ o. IfSome o (λ d. DoubtsOne vars conds test.otherwise (doubt_view d))) (λ o. IfSome o (λ d. DoubtsSorts c.args.scope.now vars conds bs (doubt_view d)))
+    (λ o one. if_some_to o one (λ d is. test_doubts c.args.scope.now vars conds bs c.args.name.now (term_view c.in-Some.term.now) test c.requires.names there c.in_ok-test-in-Some.ensures.says (doubt_view d) is))
+    c.doubt_of_any.ensures.doubt

@@ -17,8 +17,8 @@ add_there-requires-clause-over g c =
     let bs = store_view c.args.unlisted.now in
     let x = checking_view c.args.checking.now in
     let s = state_view c.args.state in
-    loop_over stands terms (entry_view c.args.spec.now c.args.entered.now) xs bs x s (checking_view c.in-Some.inside) c.requires.over c.requires.of_path c.requires.unlisted
-    (subst (λ o. IsInLoopIfAny stands terms xs bs x s (option_map checking_view o)) c.in-Some.is c.in_ok-inside.ensures)
+    loop_over stands terms (entry_view c.args.spec.now c.args.entered.now) c.args.scope.now xs bs x s (checking_view c.in-Some.inside) c.requires.over c.requires.of_path c.requires.unlisted
+    (subst (λ o. IsInLoopIfAny stands terms c.args.scope.now xs bs x s (option_map checking_view o)) c.in-Some.is c.in_ok-inside.ensures)
 
 pub returns-in-Some : goal.returns-in-Some
 returns-in-Some g c =
@@ -33,5 +33,5 @@ returns-in-Some g c =
     let s = state_view c.args.state in
     let y = checking_view c.in-Some.inside in
     let items = assertion_view c.args.items.now in
-    ok_to c.add_there.result (λ ns. AreAdded memory stands terms kept e c.args.scope.now items y (nexts_view ns)) (λ ns. AreEntered memory stands terms kept e xs c.args.scope.now items bs x s (nexts_view ns))
-    (λ ns added. inr (y, (subst (λ o. IsInLoopIfAny stands terms xs bs x s (option_map checking_view o)) c.in-Some.is c.in_ok-inside.ensures, added))) c.add_there.ensures
+    ok_to c.add_there.result (λ ns. AreAdded memory stands terms kept e c.args.scope.now items c.args.here.now y (nexts_view ns)) (λ ns. AreEntered memory stands terms kept e xs c.args.scope.now items bs c.args.here.now x s (nexts_view ns))
+    (λ ns added. inr (y, (subst (λ o. IsInLoopIfAny stands terms c.args.scope.now xs bs x s (option_map checking_view o)) c.in-Some.is c.in_ok-inside.ensures, added))) c.add_there.ensures

@@ -9,10 +9,17 @@ use Rattle.checked_paths.specs.View.{checking_view, entry_view, next_view, nexts
 use Rattle.invariant_rows.specs.Entering.{AreEntered}
 use Rattle.invariant_rows.specs.Visiting.{AreVisits}
 use Rattle.invariant_rows.proofs.VisitLaws.{assertion_made, enters, comes_again}
+use Rattle.invariant_rows.proofs.FirstLaws.{enters_exact}
+use Rattle.invariant_rows.proofs.AgainLaws.{again_exact}
+use Rattle.checked_paths.specs.Exactness.{AreExact}
+use Rattle.sym_evaluation.specs.Meaning.{IsStoreOver}
+use Rattle.checked_paths.specs.Meaning.{IsPassedOver}
+use Rattle.invariant_rows.specs.Visiting.{IsLeft, IsKnown, AreExactVisits, IsFormerOver}
+use Rattle.invariant_rows.proofs.LoopLaws.{unlisted_over}
 use Rattle.invariant_rows.proofs.visiting.visit.Goals as goal
 
-pub returns-in-None : goal.returns-in-None
-returns-in-None g c =
+pub returns-in-None-clause-cover : goal.returns-in-None-clause-cover
+returns-in-None-clause-cover g c =
     let p = prog_view c.args.prog.now in
     let memory = g.M.Local.LocalMemory.memory in
     let m = g.M.Local.LocalMemory.actions in
@@ -26,15 +33,16 @@ returns-in-None g c =
     let items = assertion_view c.args.items.now in
     let bs = store_view c.args.unlisted.now in
     let s = state_view c.args.state in
-    ok_to c.first.result (λ ns. AreEntered memory stands terms kept e xs c.args.scope.now items bs x s (nexts_view ns)) (λ ns. AreVisits p memory m stands terms e x xs ps items (option_map (λ q. passed_view q.now) c.args.former) (s ∷ []) (nexts_view ns))
+    let here = c.args.here.now in
+    ok_to c.first.result (λ ns. AreEntered memory stands terms kept e xs c.args.scope.now items bs here x s (nexts_view ns)) (λ ns. AreVisits p memory m stands terms e x xs ps items (option_map (λ q. passed_view q.now) c.args.former) (s ∷ []) (nexts_view ns))
     (λ ns entered.
     subst (λ o. AreVisits p memory m stands terms e x xs ps items (option_map (λ q. passed_view q.now) o) (s ∷ []) (nexts_view ns)) (sym c.in-None.is)
-    (λ n may at this. enters p memory m stands terms g.met.M.SymMemory.meaning kept e x xs ps items bs c.requires.unlisted may c.requires.may (assertion_made p x.path.stack n xs ps items c.args.prog.now.well_made at this) s c.requires.of_path n c.args.prog.now.valid at this (nexts_view ns)
-    (subst (λ qs. AreEntered memory stands terms kept e xs qs items bs x s (nexts_view ns)) c.requires.scope entered)))
+    (λ n may at this. enters p memory m stands terms g.met.M.SymMemory.meaning kept e x xs ps items bs c.requires.unlisted here may c.requires.may (assertion_made p x.path.stack n xs ps items c.args.prog.now.well_made at this) s c.requires.left.of_path n c.args.prog.now.valid at this (nexts_view ns)
+    (subst (λ qs. AreEntered memory stands terms kept e xs qs items bs here x s (nexts_view ns)) c.requires.scope entered)))
     c.first.ensures
 
-pub returns-in_ok-push-in-Some : goal.returns-in_ok-push-in-Some
-returns-in_ok-push-in-Some g c =
+pub returns-in-None-clause-exact : goal.returns-in-None-clause-exact
+returns-in-None-clause-exact g c =
     let p = prog_view c.args.prog.now in
     let memory = g.M.Local.LocalMemory.memory in
     let m = g.M.Local.LocalMemory.actions in
@@ -48,8 +56,81 @@ returns-in_ok-push-in-Some g c =
     let items = assertion_view c.args.items.now in
     let bs = store_view c.args.unlisted.now in
     let s = state_view c.args.state in
+    let here = c.args.here.now in
+    let former = option_map (λ q. passed_view q.now) c.args.former in
+    let (names, (are_names, fits)) = c.requires.fits in
+    ok_to c.first.result (λ ns. AreEntered memory stands terms kept e xs c.args.scope.now items bs here x s (nexts_view ns)) (λ ns. AreExactVisits p memory m stands terms e x xs ps items former here (nexts_view ns))
+    (λ ns entered n may at this place.
+    enters_exact p memory m stands terms g.met.M.SymMemory.meaning kept e x xs ps items bs c.requires.unlisted names are_names c.args.scope.now c.requires.scope fits n may at this here place s
+    (subst (λ o. IsLeft p memory m stands terms e x xs ps items (option_map (λ q. passed_view q.now) o) s) c.in-None.is c.requires.left)
+    (subst (λ o. IsKnown p memory m stands terms e x xs ps items (option_map (λ q. passed_view q.now) o)) c.in-None.is c.requires.known) (nexts_view ns) entered)
+    c.first.ensures
+
+pub returns-in_ok-push-in-Some-clause-cover : goal.returns-in_ok-push-in-Some-clause-cover
+returns-in_ok-push-in-Some-clause-cover g c =
+    let p = prog_view c.args.prog.now in
+    let memory = g.M.Local.LocalMemory.memory in
+    let m = g.M.Local.LocalMemory.actions in
+    let stands = g.M.SymMemory.stands in
+    let terms = g.M.SymMemory.terms in
+    let kept = g.M.SymMemory.kept in
+    let e = entry_view c.args.spec.now c.args.entered.now in
+    let x = checking_view c.args.checking.now in
+    let xs = c.args.listed.now in
+    let ps = c.args.declared.now in
+    let items = assertion_view c.args.items.now in
+    let bs = store_view c.args.unlisted.now in
+    let s = state_view c.args.state in
+    let here = c.args.here.now in
     let k = next_view c.in_ok-again-in-Some.field-0 in
     let is : nexts_view c.push.new.self ≡ k ∷ [] = ap nexts_view (c.in_ok-push-in-Some.ensures.ok ∙ ap (λ ns. ns ++ c.in_ok-again-in-Some.field-0 ∷ []) c.new-nexts.ensures) in
     subst (λ o. AreVisits p memory m stands terms e x xs ps items (option_map (λ q. passed_view q.now) o) (s ∷ []) (nexts_view c.push.new.self)) (sym c.in-Some.is)
     (subst (AreVisits p memory m stands terms e x xs ps items (Some (passed_view c.in-Some.former.now)) (s ∷ [])) (sym is)
-    (λ n may at this. comes_again p memory m stands terms g.met.M.SymMemory.meaning kept e x xs ps items bs c.requires.unlisted (passed_view c.in-Some.former.now) s k c.in_ok-again-in-Some.ensures))
+    (λ n may at this. comes_again p memory m stands terms g.met.M.SymMemory.meaning kept e x xs ps items bs c.requires.unlisted here (passed_view c.in-Some.former.now) s k c.in_ok-again-in-Some.ensures))
+
+pub returns-in_ok-push-in-Some-clause-exact : goal.returns-in_ok-push-in-Some-clause-exact
+returns-in_ok-push-in-Some-clause-exact g c =
+    let p = prog_view c.args.prog.now in
+    let memory = g.M.Local.LocalMemory.memory in
+    let m = g.M.Local.LocalMemory.actions in
+    let stands = g.M.SymMemory.stands in
+    let terms = g.M.SymMemory.terms in
+    let kept = g.M.SymMemory.kept in
+    let e = entry_view c.args.spec.now c.args.entered.now in
+    let x = checking_view c.args.checking.now in
+    let xs = c.args.listed.now in
+    let ps = c.args.declared.now in
+    let items = assertion_view c.args.items.now in
+    let bs = store_view c.args.unlisted.now in
+    let s = state_view c.args.state in
+    let here = c.args.here.now in
+    let q = passed_view c.in-Some.former.now in
+    let (names, (are_names, fits)) = c.requires.fits in
+    let k = next_view c.in_ok-again-in-Some.field-0 in
+    let is : nexts_view c.push.new.self ≡ k ∷ [] = ap nexts_view (c.in_ok-push-in-Some.ensures.ok ∙ ap (λ ns. ns ++ c.in_ok-again-in-Some.field-0 ∷ []) c.new-nexts.ensures) in
+    λ n may at this place.
+    subst (AreExact p memory m stands e x) (sym is) (
+      again_exact p memory m stands terms g.met.M.SymMemory.meaning kept e x xs ps items bs c.requires.unlisted names are_names c.args.scope.now c.requires.scope fits n may at this here place q s
+          (subst (λ o. IsLeft p memory m stands terms e x xs ps items (option_map (λ r. passed_view r.now) o) s) c.in-Some.is c.requires.left)
+          (subst (λ o. IsKnown p memory m stands terms e x xs ps items (option_map (λ r. passed_view r.now) o)) c.in-Some.is c.requires.known) k c.in_ok-again-in-Some.ensures,
+      tt,
+    )
+
+pub again-requires-clause-unlisted : goal.again-requires-clause-unlisted
+again-requires-clause-unlisted g c =
+    let x = checking_view c.args.checking.now in
+    subst (λ vs. IsStoreOver vs (store_view c.args.unlisted.now)) (sym c.requires.left.of_path.vars)
+    (unlisted_over g.M.SymMemory.terms (entry_view c.args.spec.now c.args.entered.now) c.args.listed.now (store_view c.args.unlisted.now) x c.requires.over c.requires.unlisted)
+
+pub again-requires-clause-former : goal.again-requires-clause-former
+again-requires-clause-former g c =
+    let x = checking_view c.args.checking.now in
+    let terms = g.M.SymMemory.terms in
+    subst (λ vs. IsPassedOver terms vs (passed_view c.in-Some.former.now)) (sym c.requires.left.of_path.vars)
+    (subst (λ o. IsFormerOver terms x.path.vars (option_map (λ r. passed_view r.now) o)) c.in-Some.is c.requires.known.over)
+
+pub again-requires-clause-over : goal.again-requires-clause-over
+again-requires-clause-over g c = c.requires.left.of_path.over
+
+pub first-requires-clause-of_path : goal.first-requires-clause-of_path
+first-requires-clause-of_path g c = c.requires.left.of_path

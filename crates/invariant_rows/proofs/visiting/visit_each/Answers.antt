@@ -8,8 +8,10 @@ use Rattle.footprint.specs.View.{match_view, matches_view}
 use Rattle.sym_engine.proofs.Settled.{rest_more, over_next}
 use Rattle.sym_states.specs.View.{state_view}
 use Rattle.checked_paths.specs.View.{checking_view, entry_view, nexts_view, passed_view}
-use Rattle.checked_rows.specs.Matching.{IsOfPath}
-use Rattle.invariant_rows.specs.Visiting.{AreVisits}
+use Rattle.checked_paths.specs.Exactness.{AreExact, IsExactNext}
+use Rattle.sym_model.proofs.ListLaws.{each_append}
+use Rattle.sym_model.specs.Lists.{Each}
+use Rattle.invariant_rows.specs.Visiting.{AreVisits, IsLeft}
 use Rattle.invariant_rows.proofs.VisitLaws.{no_visits, more_visits}
 use Rattle.invariant_rows.proofs.visiting.visit_each.Goals as goal
 
@@ -21,13 +23,17 @@ loop-found-init g c = record {
       (assertion_view c.args.items.now) (option_map (λ q. passed_view q.now) c.args.former) []) (sym (ap nexts_view c.new-nexts.ensures))
       (no_visits (prog_view c.args.prog.now) g.M.Local.LocalMemory.memory g.M.Local.LocalMemory.actions g.M.SymMemory.stands g.M.SymMemory.terms (entry_view c.args.spec.now c.args.entered.now) (checking_view c.args.checking.now) c.args.listed.now c.args.declared.now
       (assertion_view c.args.items.now) (option_map (λ q. passed_view q.now) c.args.former));
+  exact = λ n may at this place.
+      subst (AreExact (prog_view c.args.prog.now) g.M.Local.LocalMemory.memory g.M.Local.LocalMemory.actions g.M.SymMemory.stands (entry_view c.args.spec.now c.args.entered.now) (checking_view c.args.checking.now)) (sym (ap nexts_view c.new-nexts.ensures)) tt;
 }
 
-pub visit-requires-clause-of_path : goal.visit-requires-clause-of_path
-visit-requires-clause-of_path g c =
-    subst (IsOfPath g.M.SymMemory.terms (checking_view c.args.checking.now)) (sym c.state_in-state.ensures)
-    (over_next (λ k. IsOfPath g.M.SymMemory.terms (checking_view c.args.checking.now) k.state) match_view c.args.matches c.loop-found.yielded (into_iter_items c.loop-found.found-iterator) (into_iter_items c.next.new.self)
-    c.in-Some.found c.loop-found.invariant.rest c.in-Some.ensures.steps.0 c.requires.of_path)
+pub visit-requires-clause-left : goal.visit-requires-clause-left
+visit-requires-clause-left g c =
+    let Left = IsLeft (prog_view c.args.prog.now) g.M.Local.LocalMemory.memory g.M.Local.LocalMemory.actions g.M.SymMemory.stands g.M.SymMemory.terms (entry_view c.args.spec.now c.args.entered.now) (checking_view c.args.checking.now) c.args.listed.now c.args.declared.now
+    (assertion_view c.args.items.now) (option_map (λ q. passed_view q.now) c.args.former) in
+    subst Left (sym c.state_in-state.ensures)
+    (over_next (λ k. Left k.state) match_view c.args.matches c.loop-found.yielded (into_iter_items c.loop-found.found-iterator) (into_iter_items c.next.new.self)
+    c.in-Some.found c.loop-found.invariant.rest c.in-Some.ensures.steps.0 c.requires.left)
 
 pub loop-found-preserved : goal.loop-found-preserved
 loop-found-preserved g c =
@@ -44,11 +50,14 @@ loop-found-preserved g c =
       visits = subst (λ ls. Visits ls (nexts_view c.in_ok-nexts.nexts)) (sym seen)
           (subst (Visits (map (λ k. k.state) (matches_view c.loop-found.yielded) ++ state_view c.state_in-state.result ∷ [])) (sym c.in_ok-nexts.ensures)
           (more_visits (prog_view c.args.prog.now) g.M.Local.LocalMemory.memory g.M.Local.LocalMemory.actions g.M.SymMemory.stands g.M.SymMemory.terms (entry_view c.args.spec.now c.args.entered.now) (checking_view c.args.checking.now) c.args.listed.now c.args.declared.now
-          (assertion_view c.args.items.now) former (map (λ k. k.state) (matches_view c.loop-found.yielded)) (state_view c.state_in-state.result ∷ []) (nexts_view c.loop-found.nexts) (nexts_view c.in_ok-more.more) c.loop-found.invariant.visits c.in_ok-more.ensures));
+          (assertion_view c.args.items.now) former (map (λ k. k.state) (matches_view c.loop-found.yielded)) (state_view c.state_in-state.result ∷ []) (nexts_view c.loop-found.nexts) (nexts_view c.in_ok-more.more) c.loop-found.invariant.visits c.in_ok-more.ensures.cover));
+      exact = λ n may at this place.
+          let Next = IsExactNext (prog_view c.args.prog.now) g.M.Local.LocalMemory.memory g.M.Local.LocalMemory.actions g.M.SymMemory.stands (entry_view c.args.spec.now c.args.entered.now) (checking_view c.args.checking.now) in
+          subst (Each Next) (sym c.in_ok-nexts.ensures) (each_append Next (nexts_view c.loop-found.nexts) (nexts_view c.in_ok-more.more) (c.loop-found.invariant.exact n may at this place) (c.in_ok-more.ensures.exact n may at this place));
     }
 
-pub returns : goal.returns
-returns g c =
+pub returns-clause-cover : goal.returns-clause-cover
+returns-clause-cover g c =
     let none : into_iter_items c.loop-found.found-iterator ≡ [] = nil_from_length (into_iter_items c.loop-found.found-iterator) (sym c.loop-found.invariant.counted ∙ c.in-None.ensures.steps.0) in
     subst (λ ks. AreVisits (prog_view c.args.prog.now) g.M.Local.LocalMemory.memory g.M.Local.LocalMemory.actions g.M.SymMemory.stands g.M.SymMemory.terms (entry_view c.args.spec.now c.args.entered.now) (checking_view c.args.checking.now) c.args.listed.now c.args.declared.now
     (assertion_view c.args.items.now) (option_map (λ q. passed_view q.now) c.args.former) (map (λ k. k.state) (matches_view ks)) (nexts_view c.loop-found.nexts))

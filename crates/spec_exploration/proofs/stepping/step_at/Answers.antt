@@ -80,7 +80,7 @@ returns-in-Fold g c =
 
 pub returns-in-Unfold : goal.returns-in-Unfold
 returns-in-Unfold g c =
-    IfOk-weaker c.unfold_row.result _ _ (λ ns row. row (numbered_command_view c.args.numbered.now) c.requires.may c.requires.at (ap command_view c.in-Unfold.is)) c.unfold_row.ensures
+    IfOk-weaker c.unfold_row.result _ _ (λ ns row. row (numbered_command_view c.args.numbered.now) c.requires.may c.requires.at (ap command_view c.in-Unfold.is)) c.unfold_row.ensures.next
 
 pub returns-then-is_leaving : goal.returns-then-is_leaving
 returns-then-is_leaving g c =
@@ -100,7 +100,7 @@ invariant_row-requires-clause-cases g c =
 
 pub returns-in-LoopInvariant : goal.returns-in-LoopInvariant
 returns-in-LoopInvariant g c =
-    IfOk-weaker c.invariant_row.result _ _ (λ ns row. row (numbered_command_view c.args.numbered.now) c.requires.may c.requires.at (ap command_view c.in-LoopInvariant.is)) c.invariant_row.ensures
+    IfOk-weaker c.invariant_row.result _ _ (λ ns row. row (numbered_command_view c.args.numbered.now) c.requires.may c.requires.at (ap command_view c.in-LoopInvariant.is)) c.invariant_row.ensures.next
 
 pub unreachable-requires : goal.unreachable-requires
 unreachable-requires g c =

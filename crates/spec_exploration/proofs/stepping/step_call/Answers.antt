@@ -8,4 +8,4 @@ call_row-requires-clause-at g c = (numbered_command_view c.args.numbered.now, (c
 
 pub returns : goal.returns
 returns g c =
-    IfOk-weaker c.call_row.result _ _ (λ s row. row (numbered_command_view c.args.numbered.now).command c.requires.call (numbered_command_view c.args.numbered.now) c.requires.may c.requires.at refl) c.call_row.ensures
+    IfOk-weaker c.call_row.result _ _ (λ s row. row (numbered_command_view c.args.numbered.now).command c.requires.call (numbered_command_view c.args.numbered.now) c.requires.may c.requires.at refl) c.call_row.ensures.next
