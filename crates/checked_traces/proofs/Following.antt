@@ -32,7 +32,7 @@ use Rattle.checked_traces.specs.Trails.{RunsInto, IsTrail, IsTrailStep, IsFollow
 
 -- ---- values of new variables
 
-as_many : (n : ℕ) (sorts : List Sort) (ws : List PureValue) → AreNewValues n sorts ws → length ws ≡ length sorts
+pub as_many : (n : ℕ) (sorts : List Sort) (ws : List PureValue) → AreNewValues n sorts ws → length ws ≡ length sorts
 as_many n [] [] are = refl
 as_many n (sort ∷ sorts) (w ∷ ws) are = ap suc (as_many (counter_after sort n) sorts ws are.1)
 as_many n [] (w ∷ ws) are = absurd are
@@ -42,14 +42,14 @@ not_nil : (x : Sort) (xs : List Sort) → x ∷ xs ≡ [] → ⊥
 not_nil x xs is = let none : suc (length xs) ≡ 0 = ap length is in omega (arith, none)
 
 -- those of the first new variables, and those of the others
-record InTwo (n : ℕ) (xs ys : List Sort) (ws : List PureValue) : Type 0 where
+pub record InTwo (n : ℕ) (xs ys : List Sort) (ws : List PureValue) : Type 0 where
   pub first : List PureValue
   pub second : List PureValue
   pub both : ws ≡ first ++ second
   pub first_new : AreNewValues n xs first
   pub second_new : AreNewValues (counter_past xs n) ys second
 
-in_two : (n : ℕ) (xs ys : List Sort) (ws : List PureValue) → AreNewValues n (xs ++ ys) ws → InTwo n xs ys ws
+pub in_two : (n : ℕ) (xs ys : List Sort) (ws : List PureValue) → AreNewValues n (xs ++ ys) ws → InTwo n xs ys ws
 in_two n [] ys ws are = record { first = []; second = ws; both = refl; first_new = tt; second_new = are }
 in_two n (x ∷ xs) ys (w ∷ ws) are =
     let later = in_two (counter_after x n) xs ys ws are.1 in
@@ -57,7 +57,7 @@ in_two n (x ∷ xs) ys (w ∷ ws) are =
 in_two n (x ∷ xs) ys [] are = absurd are
 
 -- A valuation that goes on to a later table, in two parts: one that goes on to a table between, and one that goes on from there.
-record Parts (counter : ℕ) (vars between later : List Sort) (v w : List PureValue) : Type 0 where
+pub record Parts (counter : ℕ) (vars between later : List Sort) (v w : List PureValue) : Type 0 where
   pub part : List PureValue
   pub first : IsContinued counter vars between v part
   pub one_each : length part ≡ length between
@@ -67,7 +67,7 @@ record Parts (counter : ℕ) (vars between later : List Sort) (v w : List PureVa
   pub values : List PureValue
   pub both : w ≡ part ++ values
 
-parts_of : (counter : ℕ) (vars between later : List Sort) (v w : List PureValue) → length v ≡ length vars → HaveMore vars between → HaveMore between later → IsContinued counter vars later v w
+pub parts_of : (counter : ℕ) (vars between later : List Sort) (v w : List PureValue) → length v ≡ length vars → HaveMore vars between → HaveMore between later → IsContinued counter vars later v w
     → Parts counter vars between later v w
 parts_of counter vars between later v w same (xs, is_between) (ys, is_later) continued =
     let sorts : continued.new_vars ≡ xs ++ ys = append_cancel_left vars continued.new_vars (xs ++ ys) (sym continued.table ∙ is_later ∙ ap (λ us. us ++ ys) is_between ∙ append_assoc vars xs ys) in
@@ -88,25 +88,29 @@ parts_of counter vars between later v w same (xs, is_between) (ys, is_later) con
     }
 
 -- what meets the later conditions meets the earlier ones
-meets_before : (between later : List Sort) (part w : List PureValue) (more : List Sort) (values : List PureValue) (conds all : List PureAtom) → later ≡ between ++ more → w ≡ part ++ values → length part ≡ length between
+pub meets_before : (between later : List Sort) (part w : List PureValue) (more : List Sort) (values : List PureValue) (conds all : List PureAtom) → later ≡ between ++ more → w ≡ part ++ values → length part ≡ length between
     → HaveMore conds all → Each (λ a. IsOver between (term_of a)) conds → Satisfies later w all → Satisfies between part conds
 meets_before between later part w more values conds all table both one_each (others, is) over meets =
     meets_part between more part values conds others one_each over
     (subst (Satisfies (between ++ more) (part ++ values)) is (subst (λ u. Satisfies (between ++ more) u all) both (subst (λ xs. Satisfies xs w all) table meets)))
 
-more_again : {A : Type 0} (xs ys zs : List A) → HaveMore xs ys → HaveMore ys zs → HaveMore xs zs
+pub more_again : {A : Type 0} (xs ys zs : List A) → HaveMore xs ys → HaveMore ys zs → HaveMore xs zs
 more_again xs ys zs (us, first) (vs, second) = (us ++ vs, second ∙ ap (λ k. k ++ vs) first ∙ append_assoc xs us vs)
 
 -- a state stands where the path does
-place_there : (p : PureParts) (v : List PureValue) (fs : List PureFrame) (s : State) (place : Place) → AreFrames v fs (frames_of s) → IsPlaceOf p fs place
+pub place_there : (p : PureParts) (v : List PureValue) (fs : List PureFrame) (s : State) (place : Place) → AreFrames v fs (frames_of s) → IsPlaceOf p fs place
     → (n : PureNumberedCommand) × ((command_at p s.current ≡ Some n) × (place ≡ record { proc = s.current.procedure; at = n.at }))
 place_there p v [] s place are is = absurd is
 place_there p v (f ∷ fs) s place are (n, (at, is)) = (n, (sym (stands_at p v (f ∷ fs) s are) ∙ at, is ∙ ap (λ q. record { proc = q; at = n.at }) are.0.procedure))
 
 module _ {S : Type 0} (memory : MemoryName) (m : Actions) (stands : S → List PureValue → Heap → Type 0) (terms : S → StateTerms) (meaning : IsMeaning memory stands terms) (p : PureParts) (e : PureEntry) where
-  trail_vars : (start : PureChecking S) (n : ℕ) (x : PureChecking S) → IsTrail p memory m stands terms e start n x → HaveMore start.path.vars x.path.vars
+  pub trail_vars : (start : PureChecking S) (n : ℕ) (x : PureChecking S) → IsTrail p memory m stands terms e start n x → HaveMore start.path.vars x.path.vars
   trail_vars start zero x trail = ([], ap (λ (y : PureChecking S). y.path.vars) trail ∙ sym (append-nil start.path.vars))
   trail_vars start (suc n) x (before, (trail, step)) = more_again start.path.vars before.path.vars x.path.vars (trail_vars start n before trail) step.followed.table
+
+  pub trail_conds : (start : PureChecking S) (n : ℕ) (x : PureChecking S) → IsTrail p memory m stands terms e start n x → HaveMore start.path.conds x.path.conds
+  trail_conds start zero x trail = ([], ap (λ (y : PureChecking S). y.path.conds) trail ∙ sym (append-nil start.path.conds))
+  trail_conds start (suc n) x (before, (trail, step)) = more_again start.path.conds before.path.conds x.path.conds (trail_conds start n before trail) step.followed.longer
 
   module _ (entry : Entry) (start : PureChecking S) (v0 : List PureValue) (c0 : Checked) (standing : StandsForChecked stands e start v0 entry c0) where
     -- the run, and its counter, which counts the new fresh variables

@@ -1,0 +1,5 @@
+pub mod Canonical
+pub mod Prefixes
+pub mod Reached
+pub mod Starts
+pub mod Shown

@@ -1,0 +1,4 @@
+pub mod Causes
+pub mod Reaching
+pub mod Showing
+pub mod View
