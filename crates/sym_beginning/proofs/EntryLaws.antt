@@ -88,6 +88,33 @@ among_logical (y ∷ ys) x = by (has_hash y) refl (bytes_eq x y) refl (among_log
         later ∙ refuses (has_hash x) (is_among ys x) (bytes_eq x y || is_among ys x) (ap has_hash (names_same x y same) ∙ none)
     by false none false other later = later ∙ ap (λ b. has_hash x && (b || is_among ys x)) (sym other)
 
+-- ---- names in the order of declaration
+
+among_append : (xs ys : List (List ℕ)) (x : List ℕ) → is_among (xs ++ ys) x ≡ (is_among xs x || is_among ys x)
+among_append [] ys x = refl
+among_append (z ∷ xs) ys x = ap (λ b. bytes_eq x z || b) (among_append xs ys x) ∙ by (bytes_eq x z)
+  where
+    by : (b : Bool) → (b || (is_among xs x || is_among ys x)) ≡ ((b || is_among xs x) || is_among ys x)
+    by true = refl
+    by false = refl
+
+-- what stands among names that pass a test passes it
+among_passes : (f : List ℕ → Bool) (xs : List (List ℕ)) (x : List ℕ) → is_among (filter f xs) x ≡ true → f x ≡ true
+among_passes f [] x is = absurd (true≢false (sym is))
+among_passes f (z ∷ xs) x is = by (f z) refl is (λ later. among_passes f xs x later)
+  where
+    by : (b : Bool) → f z ≡ b → is_among (cond b (z ∷ filter f xs) (filter f xs)) x ≡ true → (is_among (filter f xs) x ≡ true → f x ≡ true) → f x ≡ true
+    by true passes is later = ⊎_elim (λ same. ap f (names_same x z same) ∙ passes) later (one_of_two (bytes_eq x z) (is_among (filter f xs) x) is)
+    by false fails is later = later is
+
+-- the names that are declared, and all of them behind those, are the same names
+pub ordered_among : (ds xs : List (List ℕ)) (x : List ℕ) → is_among (filter (is_among xs) ds ++ xs) x ≡ is_among xs x
+ordered_among ds xs x = among_append (filter (is_among xs) ds) xs x ∙ by (is_among (filter (is_among xs) ds) x) refl
+  where
+    by : (b : Bool) → is_among (filter (is_among xs) ds) x ≡ b → (b || is_among xs x) ≡ is_among xs x
+    by true is = sym (among_passes (is_among xs) ds x is)
+    by false is = refl
+
 -- ---- parameters and their terms
 
 pub names_length : (ps : List Param) → length (param_names ps) ≡ length ps

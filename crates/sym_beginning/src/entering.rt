@@ -1,5 +1,5 @@
 //! The terms of the values with which a specification is entered.
-ghost use Rattle.std.specs.Prelude.{◌≡◌, ℕ, List, [], IfOk, IsTrue, IsSome, false};
+ghost use Rattle.std.specs.Prelude.{◌≡◌, ℕ, List, [], ◌++◌, IfOk, IsTrue, IsSome, false};
 ghost use Rattle.std.specs.List.{filter};
 ghost use Rattle.std.specs.Option.{option_map};
 ghost use Rattle.gil_syntax.specs.Valid.{param_names, is_among, has_twice};
@@ -64,6 +64,42 @@ fn logical_names(alloc: Global, names: &Texts) -> Result<Texts, AllocError>
     Ok(logical)
 }
 
+/// Whether a name is one of a list.
+fn is_among(names: &Texts, name: &Text) -> bool
+    ensures { result ≡ is_among names.now name.now }
+{
+    for other in names.as_slice() {
+        if *name == *other {
+            return true;
+        }
+    }
+    false
+}
+
+/// The names of a list that are declared, in the order of declaration.
+fn declared_among(alloc: Global, declared: &Params, names: &Texts) -> Result<Texts, AllocError>
+    ensures { IfOk result (λ found. found ≡ filter (is_among names.now) (param_names declared.now)) }
+{
+    let mut found = Sequence::new(alloc);
+    for param in declared.as_slice() {
+        if is_among(names, &param.name) {
+            found.push(param.name.copy(alloc)?)?;
+        }
+    }
+    Ok(found)
+}
+
+/// The names with others behind them.
+fn with_names(names: Texts, more: Texts) -> Result<Texts, AllocError>
+    ensures { IfOk result (λ all. all ≡ names ++ more) }
+{
+    let mut all = names;
+    for name in more.into_vec() {
+        all.push(name)?;
+    }
+    Ok(all)
+}
+
 /// The terms of names.
 fn terms_at(alloc: Global, store: &SymStore, names: &Texts) -> Result<Terms, AllocError>
     requires { (x : List ℕ) → IsTrue (is_among names.now x) → IsSome (term_at (store_view store.now) x) }
@@ -79,7 +115,8 @@ fn terms_at(alloc: Global, store: &SymStore, names: &Texts) -> Result<Terms, All
     Ok(terms)
 }
 
-/// The terms of the values with which a specification is entered, unless it can't be entered at all.
+/// The terms of the values with which a specification is entered, unless it can't be entered at all. The variables are numbered in this order:
+/// the parameters, and then the variables that the precondition names, as they are declared.
 pub(crate) fn entry_terms(alloc: Global, spec: &Spec) -> Result<Option<EntryTerms>, AllocError>
     requires once { has_twice (param_names (spec_view spec.now).params) ≡ false }
     requires names { IsTrue (are_program_names (spec_view spec.now).params) }
@@ -100,12 +137,14 @@ pub(crate) fn entry_terms(alloc: Global, spec: &Spec) -> Result<Option<EntryTerm
     let args = terms_at(alloc, &params.store, &names)?;
     let standing = names_in(alloc, &spec.pre)?;
     let logical = logical_names(alloc, &standing)?;
+    let declared = declared_among(alloc, &spec.logicals, &logical)?;
+    let ordered = with_names(declared, logical)?;
     let named = with_variables(
         alloc,
         params.vars,
         SymStore::new(alloc),
         &spec.logicals,
-        &logical,
+        &ordered,
     )?;
     let variables = match named {
         Some(variables) => variables,
