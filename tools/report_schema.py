@@ -106,6 +106,8 @@ def near_misses(text):
             without = {k: v for k, v in answer.items() if k != key}
             yield f"an answer without {key}", compact({**report, "answers": [*others[0], without, *others[1]]})
         yield "a key more", compact({**report, "answers": [*others[0], {**answer, "more": 1}, *others[1]]})
+        if answer["kind"] == "spec":
+            yield "another mark", compact({**report, "answers": [*others[0], {**answer, "cut": not answer["cut"]}, *others[1]]})
         for key, value in answer.items():
             if isinstance(value, list) and value:
                 yield f"{key} as a text", compact({**report, "answers": [*others[0], {**answer, key: str(value)}, *others[1]]})

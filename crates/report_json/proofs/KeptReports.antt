@@ -247,7 +247,7 @@ answer_kept (verified name) n is = ((refl, (refl, tt)), (refl, refl, (refl, name
 answer_kept (vacuous name proof) n is =
     ((refl, (refl, (refl, tt))), (refl, refl, (refl, name_ascii name is.0, (refl, proof_ascii proof is.1, tt))))
 answer_kept (unproved name cause) n is = unproved_kept name cause n (name_ascii name is.0) is.1
-answer_kept (found spec is_cut) n is = ((refl, (refl, (refl, tt))), (refl, tt, (refl, refl, (refl, specification_ascii spec is, tt))))
+answer_kept (found spec is_cut) n is = ((refl, (refl, (refl, tt))), (refl, tt, (refl, refl, (refl, specification_ascii spec is.0, tt))))
 answer_kept (sat bindings) n is = ((refl, (refl, tt)), (refl, refl, (refl, bindings_kept bindings n is, tt)))
 answer_kept (unsat proof) n is = ((refl, (refl, tt)), (refl, refl, (refl, proof_ascii proof is, tt)))
 answer_kept (unknown place) n is = ((refl, (refl, tt)), (refl, refl, (refl, is, tt)))

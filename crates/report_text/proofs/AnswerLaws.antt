@@ -1,6 +1,6 @@
 -- Lines of answers that were printed are read again.
-use Rattle.std.proofs.Common.{◌≡◌, ℕ, ◌<◌, ◌^◌, Bool, true, false, eqb, List, [], ◌∷◌, ◌++◌, Some, refl, sym, ap, ◌∙◌, arith, append_assoc, inl, inr}
-use Rattle.std.specs.Prelude.{codes}
+use Rattle.std.proofs.Common.{◌≡◌, ℕ, ◌<◌, ◌^◌, Bool, true, false, eqb, List, [], ◌∷◌, ◌++◌, Some, refl, sym, ap, subst, ◌∙◌, arith, append_assoc, inl, inr}
+use Rattle.std.specs.Prelude.{codes, if◌then◌else◌}
 use Rattle.std.specs.List.{AllByRecursion}
 use Rattle.std.specs.Char.{is_ascii_digit}
 use Rattle.std.proofs.lemmas.Bool.{true≢false, cases_Bool}
@@ -12,7 +12,7 @@ use Rattle.gil_values.specs.declared.kinds.Kind.TheVariants as kinds
 use Rattle.gil_values.specs.Pure.{PureValue, integer, boolean, text, symbol, kind, procedure, list}
 use Rattle.gil_values.specs.declared.places.Place.{Place}
 use Rattle.value_text.specs.Laws.{EndsWord}
-use Rattle.value_text.specs.Reading.{behind, past_name}
+use Rattle.value_text.specs.Reading.{Reading, ◌>>=◌, behind, past_name}
 use Rattle.value_text.specs.Writable.{IsWritableValue}
 use Rattle.value_text.proofs.NumberLaws.{first_not, integer_first_not, natural_again, numeral_begins}
 use Rattle.value_text.proofs.ValueLaws.{values_again, bracketed_again}
@@ -38,7 +38,7 @@ use Rattle.gil_report.specs.Printed.{printed_specification, bracketed, printed_b
 use Rattle.gil_report.specs.Pure.{PureBinding, PureCause, PureNamedProof, PureQuestion, PureAnswer, returned, failed, vanished, cut, no_input, bad_input, number, clean, bug, undecided}
 use Rattle.gil_report.specs.Pure.{verified, vacuous, unproved, found, sat, unsat, unknown, bytes as length_of}
 use Rattle.report_text.specs.Writable.{IsWritableAnswer}
-use Rattle.report_text.specs.Reading.{returned_at, failed_at, no_input_at, bad_input_at, number_at, bug_at, sat_at, unsat_at, marked_at, found_at, undecided_at, outside_at, unknown_at, length_at, body_at, vacuous_at, unproved_at, status_at, specification_at, tells, is_of_specification, answer_at}
+use Rattle.report_text.specs.Reading.{returned_at, failed_at, no_input_at, bad_input_at, number_at, bug_at, sat_at, unsat_at, is_open, marked_at, found_at, undecided_at, outside_at, unknown_at, length_at, body_at, vacuous_at, unproved_at, status_at, specification_at, tells, is_of_specification, answer_at}
 
 -- ---- groups
 
@@ -104,15 +104,19 @@ unfolding behind
 mark_ends true rest = record { no_post = refl; no_error = refl }
 mark_ends false rest = record { no_post = refl; no_error = refl }
 
-mark_again : (s : PureSpec) (b : Bool) (rest : List ℕ) → marked_at s (cut_mark b ++ (10 ∷ rest)) ≡ Some (found s b, 10 ∷ rest)
-unfolding behind
-mark_again s true rest = refl
-mark_again s false rest = refl
+-- what is read behind a specification, by whether it is open
+marked_by : PureSpec → List ℕ → Bool → Reading PureAnswer
+marked_by s bytes is_open = if is_open then (behind (codes " cut") bytes >>= λ rest. Some (found s true, rest)) else Some (found s false, bytes)
 
-found_again : (s : PureSpec) (b : Bool) (rest : List ℕ) → IsWritableSpec s
+mark_again : (s : PureSpec) (b : Bool) (rest : List ℕ) → is_open s ≡ b → marked_at s (cut_mark b ++ (10 ∷ rest)) ≡ Some (found s b, 10 ∷ rest)
+unfolding marked_by behind
+mark_again s true rest is = subst (λ c. marked_by s (codes " cut" ++ (10 ∷ rest)) c ≡ Some (found s true, 10 ∷ rest)) (sym is) refl
+mark_again s false rest is = subst (λ c. marked_by s (10 ∷ rest) c ≡ Some (found s false, 10 ∷ rest)) (sym is) refl
+
+found_again : (s : PureSpec) (b : Bool) (rest : List ℕ) → IsWritableAnswer (found s b)
     → found_at (specification_rest s ++ (cut_mark b ++ (10 ∷ rest))) ≡ Some (found s b, 10 ∷ rest)
 unfolding found_at
-found_again s b rest is = rw (specification_again s (cut_mark b ++ (10 ∷ rest)) is (mark_ends b rest), mark_again s b rest) refl
+found_again s b rest is = rw (specification_again s (cut_mark b ++ (10 ∷ rest)) is.0 (mark_ends b rest)) (mark_again s b rest is.1)
 
 undecided_again : (o : PureQuestion) (rest : List ℕ) → IsWritableQuestion o → undecided_at (printed_question o ++ (10 ∷ rest)) ≡ Some (undecided o, 10 ∷ rest)
 unfolding undecided_at
@@ -422,7 +426,7 @@ answer_again (unproved x k) rest is =
 answer_again (found s b) rest is =
     let grouped = append_assoc (printed_specification s) (cut_mark b) (10 ∷ rest) in
     line_again (found s b) (printed_specification s ++ cut_mark b) rest
-    (ap is_of_specification grouped ∙ other_line (codes "spec") (32 ∷ (specification_rest s ++ (cut_mark b ++ (10 ∷ rest)))) (refl, refl) refl (tells_no_found s (cut_mark b ++ (10 ∷ rest)) is))
+    (ap is_of_specification grouped ∙ other_line (codes "spec") (32 ∷ (specification_rest s ++ (cut_mark b ++ (10 ∷ rest)))) (refl, refl) refl (tells_no_found s (cut_mark b ++ (10 ∷ rest)) is.0))
     (ap body_at grouped ∙ found_body (specification_rest s ++ (cut_mark b ++ (10 ∷ rest))) ∙ found_again s b rest is)
 answer_again (sat bs) rest is =
     line_again (sat bs) (codes "sat " ++ bracketed printed_binding bs) rest

@@ -19,7 +19,7 @@ use Rattle.report_parts.proofs.PartSays.{place_says, bindings_say, question_says
 use Rattle.gil_report.specs.declared.heads.Head.{Head}
 use Rattle.gil_report.specs.Pure.{PureAnswer, returned, vanished, cut, no_input, bad_input, number, clean, undecided, verified, vacuous, unproved, found, sat, unsat, unknown, bytes as length_of, PureReport}
 use Rattle.report_text.specs.Writable.{IsWritableHead, IsWritableAnswer, IsWritable}
-use Rattle.report_text.specs.Reading.{language_at, mode_at, check_at, sweep_at, entry_at, asked_at, head_at, returned_at, failed_at, no_input_at, bad_input_at, number_at, bug_at, sat_at, unsat_at, marked_at, found_at, undecided_at, outside_at, unknown_at, length_at, solved_at, rarer_at, body_at, vacuous_at, unproved_at, status_at, specification_at, is_of_specification, any_at, answer_at, is_at_end, lines_at, answers_at, report_at}
+use Rattle.report_text.specs.Reading.{language_at, mode_at, check_at, sweep_at, entry_at, asked_at, head_at, returned_at, failed_at, no_input_at, bad_input_at, number_at, bug_at, sat_at, unsat_at, is_open, marked_at, found_at, undecided_at, outside_at, unknown_at, length_at, solved_at, rarer_at, body_at, vacuous_at, unproved_at, status_at, specification_at, is_of_specification, any_at, answer_at, is_at_end, lines_at, answers_at, report_at}
 
 -- ---- heads
 
@@ -142,9 +142,9 @@ unsat_says bytes y e = made_says (any_proof_at bytes) unsat (λ z f. only_writab
 
 marked_says : (s : PureSpec) (bytes : List ℕ) → IsWritableSpec s → OnlyWritable (marked_at s bytes)
 marked_says s bytes written y e =
-    elim (behind_or_says {X = PureAnswer} (behind (codes " cut") bytes) (λ rest. Some (found s true, rest)) (Some (found s false, bytes)) y e) [
-      | inl (rest, is) ↦ alone_says (found s true) rest written y is
-      | inr is ↦ alone_says (found s false) bytes written y is
+    elim (branch {A = PureAnswer × List ℕ} (is_open s) (behind (codes " cut") bytes >>= λ rest. Some (found s true, rest)) (Some (found s false, bytes)) y e) [
+      | inl (test, is) ↦ let a = step (behind (codes " cut") bytes) _ y is in alone_says (found s true) a.first (written, test) y a.then_read
+      | inr (test, is) ↦ alone_says (found s false) bytes (written, test) y is
     ]
 
 found_says : (bytes : List ℕ) → OnlyWritable (found_at bytes)

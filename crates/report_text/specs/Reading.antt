@@ -1,5 +1,5 @@
 -- Reading the lines of reports, as functions: what the readers answer.
-use Rattle.std.specs.Prelude.{ℕ, Bool, true, false, ◌||◌, if◌then◌else◌, List, [], ◌∷◌, length, Option, Some, is_some, codes}
+use Rattle.std.specs.Prelude.{ℕ, Bool, true, false, ◌&&◌, ◌||◌, if◌then◌else◌, List, [], ◌∷◌, length, Option, Some, is_some, codes}
 use Rattle.gil_lexer.specs.Bytes.{begins, is_name_start}
 use Rattle.gil_syntax.specs.Pure.{PureSpec}
 use Rattle.gillian_words.specs.declared.tasks.Language.{Language}
@@ -110,8 +110,17 @@ outside_at bytes = natural_at 64 bytes >>= λ n. Some (unknown n.0, n.1)
 abbrev pub unknown_at : List ℕ → Reading PureAnswer
 unknown_at bytes = if begins is_name_start bytes then undecided_at bytes else outside_at bytes
 
+abbrev pub has_none : {X : Type 0} → List X → Bool
+has_none [] = true
+has_none (x ∷ xs) = false
+
+-- whether a specification doesn't say how its runs end
+abbrev pub is_open : PureSpec → Bool
+is_open s = has_none s.posts && has_none s.errors
+
+-- such a specification, and no other, is marked as cut
 abbrev pub marked_at : PureSpec → List ℕ → Reading PureAnswer
-marked_at s bytes = behind_or (behind (codes " cut") bytes) (λ rest. Some (found s true, rest)) (Some (found s false, bytes))
+marked_at s bytes = if is_open s then (behind (codes " cut") bytes >>= λ rest. Some (found s true, rest)) else Some (found s false, bytes)
 
 unfoldable pub found_at : List ℕ → Reading PureAnswer
 found_at bytes = specifications.specification_at bytes >>= λ s. marked_at s.0 s.1

@@ -1,12 +1,12 @@
 //! The lines of answers.
-ghost use Rattle.std.specs.Prelude.{◌≡◌, Some};
-ghost use Rattle.gil_syntax.specs.View.{spec_view};
+ghost use Rattle.std.specs.Prelude.{◌≡◌, map};
+ghost use Rattle.gil_syntax.specs.View.{assertion_view, spec_view};
 ghost use Rattle.value_text.specs.Reading.{Gives};
 ghost use Rattle.gil_report.specs.View.{answer_view};
 ghost use Rattle.report_text.specs.Reading as spec;
 
 use gil_report::Answer;
-use gil_syntax::Spec;
+use gil_syntax::{Assertions, Spec};
 use proof_text::proof_at;
 use report_parts::{bindings_at, place_at, question_at};
 use specification_text::specification_at;
@@ -172,28 +172,42 @@ fn found_at(alloc: Global, bytes: &[u8]) -> Result<(Answer, &[u8]), ReadFault>
     ensures { Gives (λ x. (answer_view x.0, x.1.now)) result (spec.found_at bytes.now) }
 {
     let (found, rest) = specification_at(alloc, bytes)?;
-    Ok(marked_at(found, rest))
+    marked_at(found, rest)
 }
 
-/// A specification that was found, cut or not, and what follows.
-fn marked_at(found: Spec, bytes: &[u8]) -> (Answer, &[u8])
-    ensures { spec.marked_at (spec_view found) bytes.now ≡ Some (answer_view result.0, result.1.now) }
+/// A specification that was found, whose mark is at the front, and what follows.
+fn marked_at(found: Spec, bytes: &[u8]) -> Result<(Answer, &[u8]), ReadFault>
+    ensures { Gives (λ x. (answer_view x.0, x.1.now)) result (spec.marked_at (spec_view found) bytes.now) }
 {
-    match behind(" cut", bytes) {
-        Some(rest) => (
-            Answer::Found {
-                spec: found,
-                cut: true,
-            },
-            rest,
-        ),
-        None => (
-            Answer::Found {
-                spec: found,
-                cut: false,
-            },
-            bytes,
-        ),
+    if is_open(&found) {
+        let rest = expect(" cut", bytes)?;
+        let cut = Answer::Found {
+            spec: found,
+            cut: true,
+        };
+        return Ok((cut, rest));
+    }
+    let whole = Answer::Found {
+        spec: found,
+        cut: false,
+    };
+    Ok((whole, bytes))
+}
+
+/// Whether a specification doesn't say how its runs end. Such ones are cut, and no others.
+fn is_open(found: &Spec) -> bool
+    ensures { result ≡ spec.is_open (spec_view found.now) }
+{
+    has_none(&found.posts) && has_none(&found.errors)
+}
+
+/// Whether there are no postconditions.
+fn has_none(posts: &Assertions) -> bool
+    ensures { result ≡ spec.has_none (map assertion_view posts.now) }
+{
+    match posts.as_slice() {
+        [_, ..] => false,
+        [] => true,
     }
 }
 

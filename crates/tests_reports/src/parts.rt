@@ -5,6 +5,7 @@ use pure_terms::Choices;
 use sequence::Sequence;
 use std::alloc::Global;
 use std::test::Fail;
+use value_text::ReadFault;
 
 pub fn text_of(alloc: Global, characters: &str) -> Result<Text, Fail> {
     match Text::from_str(alloc, characters)? {
@@ -47,7 +48,21 @@ pub fn is_written(
     let mut answers: Answers = Sequence::new(alloc);
     answers.push(answer)?;
     let report = Report { head, answers };
-    let as_text = text(alloc, &report)?;
-    let as_json = json(alloc, &report)?;
+    has_forms(alloc, &report, lines, object)
+}
+
+/// Whether a report has these lines and this JSON.
+pub fn has_forms(alloc: Global, report: &Report, lines: &str, object: &str) -> Result<bool, Fail> {
+    let as_text = text(alloc, report)?;
+    let as_json = json(alloc, report)?;
     Ok(as_text.as_slice() == lines.as_bytes() && as_json.as_slice() == object.as_bytes())
+}
+
+/// A report, if one was read.
+pub fn read(found: Result<Report, ReadFault>) -> Result<Option<Report>, Fail> {
+    match found {
+        Ok(report) => Ok(Some(report)),
+        Err(ReadFault::Form) => Ok(None),
+        Err(ReadFault::Memory) => Err(Fail::from("out of memory")),
+    }
 }

@@ -1,19 +1,18 @@
 //! Reports that are read back from their lines, and lines that are nearly those of a report.
+use crate::parts::read;
 use gil_report::text;
 use report_text::read_report;
 use std::alloc::Global;
 use std::test::Fail;
-use value_text::ReadFault;
 
 /// Whether the lines are read, as a report that has these lines.
 fn is_read(alloc: Global, lines: &str) -> Result<bool, Fail> {
-    match read_report(alloc, lines.as_bytes()) {
-        Ok(report) => {
+    match read(read_report(alloc, lines.as_bytes()))? {
+        Some(report) => {
             let again = text(alloc, &report)?;
             Ok(again.as_slice() == lines.as_bytes())
         }
-        Err(ReadFault::Form) => Ok(false),
-        Err(ReadFault::Memory) => Err(Fail::from("out of memory")),
+        None => Ok(false),
     }
 }
 
@@ -172,6 +171,42 @@ fn found(rt: HostRuntime) -> Result<(), Fail> {
 }
 
 #[test]
+fn found_without_postcondition(rt: HostRuntime) -> Result<(), Fail> {
+    let alloc = rt.alloc();
+    assert!(rt;
+        is_read(
+            alloc,
+            "gillian infer while entry f bound 9\nspec f() [] { emp } cut\n"
+        )?
+    );
+    assert!(rt;
+        !is_read(
+            alloc,
+            "gillian infer while entry f bound 9\nspec f() [] { emp }\n"
+        )?
+    );
+    assert!(rt;
+        !is_read(
+            alloc,
+            "gillian infer while entry f bound 9\nspec f() [] { emp } { emp } cut\n"
+        )?
+    );
+    assert!(rt;
+        !is_read(
+            alloc,
+            "gillian infer while entry f bound 9\nspec f() [] { emp } throw { emp } cut\n"
+        )?
+    );
+    assert!(rt;
+        is_read(
+            alloc,
+            "gillian infer while entry f bound 9\nspec f() [] { emp } throw { emp }\n"
+        )?
+    );
+    Ok(())
+}
+
+#[test]
 fn near_parts(rt: HostRuntime) -> Result<(), Fail> {
     let alloc = rt.alloc();
     assert!(rt; !is_read(alloc, "gillian solve atoms\nsat [x = 7,y = 8]\n")?);
@@ -180,8 +215,18 @@ fn near_parts(rt: HostRuntime) -> Result<(), Fail> {
     assert!(rt; !is_read(alloc, "gillian solve atoms\nunsat sum [0:1.5]\n")?);
     assert!(rt; !is_read(alloc, "gillian solve atoms\nunsat parts 3 \n")?);
     assert!(rt; !is_read(alloc, "gillian solve atoms\nspec f() [] { emp }  cut\n")?);
-    assert!(rt; !is_read(alloc, "gillian solve atoms\nspec f() [] { nth(x, y) }\n")?);
-    assert!(rt; !is_read(alloc, "gillian solve atoms\nspec f(x: any) [] { emp }\n")?);
+    assert!(rt;
+        !is_read(
+            alloc,
+            "gillian solve atoms\nspec f() [] { nth(x, y) } cut\n"
+        )?
+    );
+    assert!(rt;
+        !is_read(
+            alloc,
+            "gillian solve atoms\nspec f(x: any) [] { emp } cut\n"
+        )?
+    );
     assert!(rt; !is_read(alloc, "gillian solve atoms\nunsat split x (false 4)\n")?);
     assert!(rt; !is_read(alloc, "gillian check while bound 20\nswap Verified\n")?);
     assert!(rt;
