@@ -1,4 +1,5 @@
 pub mod Beginnings
+pub mod Conditions
 pub mod Fixing
 pub mod Opening
 pub mod View

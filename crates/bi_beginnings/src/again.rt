@@ -9,6 +9,7 @@ ghost use Rattle.sym_model.specs.Lists.{Each};
 ghost use Rattle.sym_model.specs.Terms.{AreEachOver};
 ghost use Rattle.sym_model.specs.View.{fix_view};
 ghost use Rattle.bi_beginnings.specs.Beginnings.{IsBeginning};
+ghost use Rattle.bi_beginnings.specs.Conditions.{same_atom, stands_among as is_among_conditions};
 ghost use Rattle.bi_beginnings.specs.Fixing.{IsFixOver, HasCoreNumbers};
 ghost use Rattle.bi_beginnings.specs.View.{beginning_view, beginnings_view, again_view};
 
@@ -34,7 +35,9 @@ pub enum Again {
 
 // ---- what is carried
 
-fn are_same(first: &Atom, second: &Atom) -> bool {
+fn are_same(first: &Atom, second: &Atom) -> bool
+    ensures { result ≡ same_atom (atom_view first.now) (atom_view second.now) }
+{
     match (first, second) {
         (Atom::Holds(left), Atom::Holds(right)) => *left == *right,
         (Atom::Not(left), Atom::Not(right)) => *left == *right,
@@ -43,9 +46,12 @@ fn are_same(first: &Atom, second: &Atom) -> bool {
     }
 }
 
-fn stands_among(atoms: &Atoms, atom: &Atom) -> bool {
+/// Whether a condition is one of these.
+pub fn stands_among(atoms: &Atoms, atom: &Atom) -> bool
+    ensures { result ≡ is_among_conditions (atoms_view atoms.now) (atom_view atom.now) }
+{
     for other in atoms.as_slice() {
-        if are_same(other, atom) {
+        if are_same(atom, other) {
             return true;
         }
     }

@@ -6,6 +6,6 @@ mod again;
 mod beginnings;
 mod opening;
 
-pub use again::{Again, begin_again};
+pub use again::{Again, begin_again, stands_among};
 pub use beginnings::{Beginning, Beginnings};
 pub use opening::{Opened, begin};

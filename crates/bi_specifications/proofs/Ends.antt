@@ -47,6 +47,7 @@ use Rattle.bi_beginnings.specs.Beginnings.{IsOpening}
 use Rattle.bi_specifications.specs.Shape.{late_conds, is_early, early_names, all_names, result_atom, post_of, spec_of, MayBeTold}
 use Rattle.bi_specifications.specs.Specified.{PureEntry, IsEntryOf}
 use Rattle.bi_specifications.proofs.Naming.{numbered_length, numbered_at, at_left, at_right, at_either, symbols_at, symbol_there, no_symbol}
+use Rattle.bi_specifications.proofs.Once.{each_kept, kept_true}
 use Rattle.bi_specifications.proofs.RunsAlong.{symbols_from, RunsAlong}
 use Rattle.bi_specifications.proofs.Unions.{one_heap, union_uses}
 use Rattle.bi_specifications.proofs.Words.{early_length, names_split, whole_length, early_number, later_are, is_not, each_among, each_filtered}
@@ -262,7 +263,9 @@ module _ {S : Type 0} (p : PureParts) (memory : MemoryName) (m : Actions) (stand
         (λ u among. each_to (IsOver path.vars) (IsOver vars_end) (u.ins ++ u.outs) more (each_among (IsOver path.vars) (u.ins ++ u.outs) (all_of (terms path.memory)) path_over.memory among)) listed.among)
 
     late_over : Each (λ a. IsOver path.vars (term_of a)) (late_conds e.count path.conds)
-    late_over = each_filtered (λ a. not (is_early e.count a)) (λ a. IsOver path.vars (term_of a)) (λ a. IsOver path.vars (term_of a)) path.conds path_over.conds (λ a is over. over)
+    late_over =
+        each_kept (λ a. IsOver path.vars (term_of a)) (filter (λ a. not (is_early e.count a)) path.conds)
+        (each_filtered (λ a. not (is_early e.count a)) (λ a. IsOver path.vars (term_of a)) (λ a. IsOver path.vars (term_of a)) path.conds path_over.conds (λ a is over. over))
 
     result_at : slice_get vars_end (length path.vars) ≡ Some Sort.Any
     result_at = ap (slice_get vars_end) (omega arith) ∙ at_right path.vars (Sort.Any ∷ []) zero
@@ -292,7 +295,8 @@ module _ {S : Type 0} (p : PureParts) (memory : MemoryName) (m : Actions) (stand
         ∙ ap (λ o. is_that_boolean true (option_and_then (λ b. result_ok (binary Equal result b)) o)) (term_read result)
 
     late_truth : (result : PureValue) → all_true (whole ++ result ∷ []) (late_conds e.count path.conds) ≡ true
-    late_truth result = all_true-more path.vars whole (result ∷ []) whole_count (late_conds e.count path.conds) late_over ∙ all_filtered whole (λ a. not (is_early e.count a)) path.conds along.meets
+    late_truth result = all_true-more path.vars whole (result ∷ []) whole_count (late_conds e.count path.conds) late_over
+        ∙ kept_true whole (filter (λ a. not (is_early e.count a)) path.conds) (all_filtered whole (λ a. not (is_early e.count a)) path.conds along.meets)
 
     -- what the run leaves meets it
     pub post_met : (preds : List PurePredDef) → Meets (HoldsSomewhere preds) (exact w) (post_of q e path us t) left

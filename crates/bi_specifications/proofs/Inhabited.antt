@@ -1,6 +1,6 @@
 -- Some heap meets the precondition: that of the path's beginning, under a valuation that meets all conditions of the path.
 use Rattle.std.proofs.Common.{◌≡◌, ⊎_elim, inl, inr, ℕ, zero, suc, ◌+◌, ◌-◌, ◌<◌, ◌≤◌, List, [], ◌∷◌, ◌++◌, length, take, drop, slice_get, Bool, true, false, ◌&&◌, Some, IsTrue, refl, sym, ap, subst, ◌∙◌, true≢false, arith}
-use Rattle.std.specs.List.{list_all}
+use Rattle.std.specs.List.{filter, list_all}
 use Rattle.std.proofs.lemmas.Bool.{and_parts}
 use Rattle.std.proofs.lemmas.List.{length-take-le, take-append-drop}
 use Rattle.std.proofs.lemmas.List.Elements.{Contains-append_left, Contains-append_right, Contains-append_cases}
@@ -46,6 +46,7 @@ use Rattle.bi_specifications.specs.Shape.{name_sort, any_params, numbered_params
 use Rattle.bi_specifications.specs.Specified.{PureEntry, IsEntryOf}
 use Rattle.bi_specifications.proofs.Ends.{all_filtered}
 use Rattle.bi_specifications.proofs.Naming.{same_number, numbered_length, numbered_at, any_names, any_fits, numbered_fits, at_left, at_right}
+use Rattle.bi_specifications.proofs.Once.{kept_true}
 use Rattle.bi_specifications.proofs.Words.{early_length, early_uses_over, early_atoms_over, out_stands}
 
 -- ---- sorts
@@ -269,7 +270,7 @@ module _ {S : Type 0} (p : PureParts) (memory : MemoryName) (m : Actions) (stand
       let uses = early_uses_over memory stands terms kept q e start path told opening entry split path_over programs in
       let atoms = early_atoms_over memory stands terms kept q e start path told opening entry split path_over programs in
       ((named_forms_are_right start.vars (early_names q e path) early (entry_store (spec_of q e path posts errors) args variables_met) named).meets p.preds e.uses (early_conds e.count path.conds) own uses atoms).1
-      (entry.listed.lists early own own_is, sym (all_true-more start.vars early rest early_table (early_conds e.count path.conds) atoms) ∙ all_filtered (early ++ rest) (is_early e.count) path.conds all_conds)
+      (entry.listed.lists early own own_is, sym (all_true-more start.vars early rest early_table (early_conds e.count path.conds) atoms) ∙ kept_true (early ++ rest) (filter (is_early e.count) path.conds) (all_filtered (early ++ rest) (is_early e.count) path.conds all_conds))
 
   pub is_met : IsMet p memory m (spec_of q e path posts errors)
   is_met = record {

@@ -4,6 +4,7 @@ pub mod Entering
 pub mod Grown
 pub mod Inhabited
 pub mod Naming
+pub mod Once
 pub mod PostStores
 pub mod RunsAlong
 pub mod Telling

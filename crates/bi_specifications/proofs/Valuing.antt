@@ -1,6 +1,6 @@
 -- Valuations of a path's table: values of what was there at the beginning, and behind them new symbols.
 use Rattle.std.proofs.Common.{◌≡◌, ⊎_elim, ℕ, zero, suc, ◌+◌, List, [], ◌∷◌, ◌++◌, length, Bool, true, false, not, cond, ltb, Option, Some, slice_get, refl, sym, ap, subst, ◌∙◌, append_assoc, append-nil, true≢false, arith}
-use Rattle.std.specs.List.{list_all, Contains}
+use Rattle.std.specs.List.{filter, list_all, Contains}
 use Rattle.std.proofs.lemmas.Bool.{and_parts, and_from, lt-ltb}
 use Rattle.std.proofs.lemmas.List.Elements.{Contains-append_left, Contains-append_right, Contains-append_cases, Contains-push}
 use Rattle.std.proofs.lemmas.Option.{slice_get_within}
@@ -21,6 +21,7 @@ use Rattle.sym_paths.specs.Steps.{AreNext}
 use Rattle.sym_paths.proofs.Valuations.{next_fresh}
 use Rattle.bi_beginnings.specs.Beginnings.{variables_from}
 use Rattle.bi_specifications.specs.Shape.{is_early, early_conds, late_conds}
+use Rattle.bi_specifications.proofs.Once.{true_there, each_there}
 use Rattle.bi_specifications.proofs.RunsAlong.{symbols_from}
 use Rattle.bi_specifications.proofs.Words.{early_over}
 
@@ -75,28 +76,34 @@ variables_below vars (x ∷ xs) over =
 pub over_is_early : (vars : List Sort) (a : PureAtom) → IsOver vars (term_of a) → is_early (length vars) a ≡ true
 over_is_early vars a over = variables_below vars (variables (term_of a)) over
 
--- where those on what was there are true, so are the first ones, if all of these are on it
-pub first_true : (count : ℕ) (v : List PureValue) (conds more : List PureAtom) → Each (λ a. is_early count a ≡ true) conds → all_true v (early_conds count (conds ++ more)) ≡ true → all_true v conds ≡ true
-first_true count v [] more early all = refl
-first_true count v (a ∷ conds) more early all =
-    let (here, later) = and_parts (truth v a) (all_true v (early_conds count (conds ++ more))) (ap (λ b. all_true v (cond b (a ∷ early_conds count (conds ++ more)) (early_conds count (conds ++ more)))) (sym early.0) ∙ all) in
-    and_from (truth v a) (all_true v conds) here (first_true count v conds more early.1 later)
+first_kept_true : (count : ℕ) (v : List PureValue) (conds more : List PureAtom) → Each (λ a. is_early count a ≡ true) conds
+    → all_true v (filter (is_early count) (conds ++ more)) ≡ true → all_true v conds ≡ true
+first_kept_true count v [] more early all = refl
+first_kept_true count v (a ∷ conds) more early all =
+    let kept = filter (is_early count) (conds ++ more) in
+    let (here, later) = and_parts (truth v a) (all_true v kept) (ap (λ b. all_true v (cond b (a ∷ kept) kept)) (sym early.0) ∙ all) in
+    and_from (truth v a) (all_true v conds) here (first_kept_true count v conds more early.1 later)
 
--- All conditions are true, where those on what was there are, and the others have one truth and are true under some valuation.
-pub all_conds_true : FreshAtomsAreConstant → (vars new : List Sort) (v more w : List PureValue) → list_all is_any_or_list vars ≡ true → list_all (same_sort Sort.Fresh) new ≡ true → length v ≡ length vars
+-- where those on what was there are true, so are the first ones, if all of these are on it
+pub first_true : (count : ℕ) (v : List PureValue) (conds more : List PureAtom) → Each (λ a. is_early count a ≡ true) conds
+    → all_true v (early_conds count (conds ++ more)) ≡ true → all_true v conds ≡ true
+first_true count v conds more early all = first_kept_true count v conds more early (true_there v (filter (is_early count) (conds ++ more)) all)
+
+all_kept_true : FreshAtomsAreConstant → (vars new : List Sort) (v more w : List PureValue) → list_all is_any_or_list vars ≡ true → list_all (same_sort Sort.Fresh) new ≡ true → length v ≡ length vars
     → IsProper (vars ++ new) (v ++ more) → IsProper (vars ++ new) w → (conds : List PureAtom) → Each (λ a. IsOver (vars ++ new) (term_of a)) conds
-    → all_true v (early_conds (length vars) conds) ≡ true → all_true w conds ≡ true → Each (λ a. (has_fragment_form a ≡ true) × (names_sort Sort.Fresh (term_of a) ≡ true)) (late_conds (length vars) conds)
+    → all_true v (filter (is_early (length vars)) conds) ≡ true → all_true w conds ≡ true
+    → Each (λ a. (has_fragment_form a ≡ true) × (names_sort Sort.Fresh (term_of a) ≡ true)) (filter (λ a. not (is_early (length vars) a)) conds)
     → all_true (v ++ more) conds ≡ true
-all_conds_true constant vars new v more w given fresh one_each proper other [] over early all late = refl
-all_conds_true constant vars new v more w given fresh one_each proper other (a ∷ conds) over early all late =
+all_kept_true constant vars new v more w given fresh one_each proper other [] over early all late = refl
+all_kept_true constant vars new v more w given fresh one_each proper other (a ∷ conds) over early all late =
     let (here, rest) = and_parts (truth w a) (all_true w conds) all in
-    by (is_early (length vars) a) refl here (all_conds_true constant vars new v more w given fresh one_each proper other conds over.1) early late rest
+    by (is_early (length vars) a) refl here (all_kept_true constant vars new v more w given fresh one_each proper other conds over.1) early late rest
   where
     Early : List PureAtom
-    Early = early_conds (length vars) conds
+    Early = filter (is_early (length vars)) conds
 
     Late : List PureAtom
-    Late = late_conds (length vars) conds
+    Late = filter (λ a. not (is_early (length vars) a)) conds
 
     Formed : PureAtom → Type 0
     Formed a = (has_fragment_form a ≡ true) × (names_sort Sort.Fresh (term_of a) ≡ true)
@@ -108,6 +115,15 @@ all_conds_true constant vars new v more w given fresh one_each proper other (a �
         and_from (truth (v ++ more) a) (all_true (v ++ more) conds) (stay_when_tables_grow.truths a vars v more (early_over vars new (term_of a) over.0 is) one_each ∙ first) (rest others all late)
     by false is here rest early late all =
         and_from (truth (v ++ more) a) (all_true (v ++ more) conds) (constant vars new a (v ++ more) w given fresh over.0 late.0.0 late.0.1 proper other ∙ here) (rest early all late.1)
+
+-- All conditions are true, where those on what was there are, and the others have one truth and are true under some valuation.
+pub all_conds_true : FreshAtomsAreConstant → (vars new : List Sort) (v more w : List PureValue) → list_all is_any_or_list vars ≡ true
+    → list_all (same_sort Sort.Fresh) new ≡ true → length v ≡ length vars → IsProper (vars ++ new) (v ++ more) → IsProper (vars ++ new) w
+    → (conds : List PureAtom) → Each (λ a. IsOver (vars ++ new) (term_of a)) conds → all_true v (early_conds (length vars) conds) ≡ true → all_true w conds ≡ true
+    → Each (λ a. (has_fragment_form a ≡ true) × (names_sort Sort.Fresh (term_of a) ≡ true)) (late_conds (length vars) conds) → all_true (v ++ more) conds ≡ true
+all_conds_true constant vars new v more w given fresh one_each proper other conds over early all late =
+    all_kept_true constant vars new v more w given fresh one_each proper other conds over (true_there v (filter (is_early (length vars)) conds) early) all
+    (each_there (λ a. (has_fragment_form a ≡ true) × (names_sort Sort.Fresh (term_of a) ≡ true)) (filter (λ a. not (is_early (length vars) a)) conds) late)
 
 -- ---- arguments
 

@@ -34,6 +34,7 @@ use Rattle.bi_beginnings.specs.Beginnings.{IsOpening}
 use Rattle.bi_specifications.specs.Shape.{early_conds, is_early, early_names, all_names, pre_of, spec_of, numbered_params, is_named_early, MayBeTold}
 use Rattle.bi_specifications.specs.Specified.{PureEntry, IsEntryOf}
 use Rattle.bi_specifications.proofs.Naming.{same_number, numbered_length, numbered_at, numbered_split, numbered_names, at_left, at_right, at_either, filter_append, none_left, all_left}
+use Rattle.bi_specifications.proofs.Once.{each_kept}
 
 -- ---- lists
 
@@ -128,9 +129,10 @@ module _ {S : Type 0} (memory : MemoryName) (stands : S → List PureValue → H
 
   pub early_atoms_over : AreAtomsOver start.vars (early_conds e.count path.conds)
   early_atoms_over =
-      each_filtered (is_early e.count) (λ a. IsOver path.vars (term_of a)) (λ a. IsOver start.vars (term_of a)) path.conds path_over.conds
+      each_kept (λ a. IsOver start.vars (term_of a)) (filter (is_early e.count) path.conds)
+      (each_filtered (is_early e.count) (λ a. IsOver path.vars (term_of a)) (λ a. IsOver start.vars (term_of a)) path.conds path_over.conds
       (λ a below over. early_over start.vars (drop e.count path.vars) (term_of a) (subst (λ vars. IsOver vars (term_of a)) split over)
-      (ap (λ n. names_only_below n (term_of a)) (sym entry.count) ∙ below))
+      (ap (λ n. names_only_below n (term_of a)) (sym entry.count) ∙ below)))
 
   -- ---- which names stand in the precondition
 

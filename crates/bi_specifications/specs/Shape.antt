@@ -1,5 +1,5 @@
 -- The specification of an ended path: the text that is told.
-use Rattle.std.specs.Prelude.{◌≡◌, ℕ, suc, ◌-◌, ◌≤◌, ◌<◌, List, [], ◌∷◌, ◌++◌, map, length, drop, Bool, false, not, ◌||◌, IsTrue}
+use Rattle.std.specs.Prelude.{◌≡◌, ℕ, suc, ◌-◌, ◌≤◌, ◌<◌, List, [], ◌∷◌, ◌++◌, map, length, drop, Bool, false, not, cond, ◌||◌, IsTrue}
 use Rattle.std.specs.List.{filter, list_all, list_any}
 use Rattle.gil_values.specs.declared.operators.BinOp.TheVariants.{Equal}
 use Rattle.gil_syntax.specs.declared.assertions.Param.{Param}
@@ -16,6 +16,7 @@ use Rattle.pure_terms.specs.Pure.{PureTerm, variable, binary_of, PureAtom, posit
 use Rattle.sym_model.specs.Lists.{Each}
 use Rattle.sym_model.specs.Pure.{PureUse}
 use Rattle.sym_paths.specs.Pure.{PurePath}
+use Rattle.bi_beginnings.specs.Conditions.{stands_among}
 use Rattle.bi_specifications.specs.Specified.{PureEntry}
 
 -- ---- parameters and logical variables
@@ -40,15 +41,28 @@ numbered_params n (sort ∷ sorts) = record { name = numbered n; sort = name_sor
 
 -- ---- conditions
 
+-- a condition behind these, unless it is one of them
+abbrev pub with_condition : List PureAtom → PureAtom → List PureAtom
+with_condition kept a = cond (stands_among kept a) kept (kept ++ a ∷ [])
+
+-- these conditions, and behind them those of the second list that are none of those before
+abbrev pub with_conditions : List PureAtom → List PureAtom → List PureAtom
+with_conditions kept [] = kept
+with_conditions kept (a ∷ conds) = with_conditions (with_condition kept a) conds
+
+-- each condition where it stands first
+abbrev pub each_once : List PureAtom → List PureAtom
+each_once conds = with_conditions [] conds
+
 -- the condition names only variables that were there at the beginning
 abbrev pub is_early : ℕ → PureAtom → Bool
 is_early count a = names_only_below count (term_of a)
 
 abbrev pub early_conds : ℕ → List PureAtom → List PureAtom
-early_conds count conds = filter (is_early count) conds
+early_conds count conds = each_once (filter (is_early count) conds)
 
 abbrev pub late_conds : ℕ → List PureAtom → List PureAtom
-late_conds count conds = filter (λ a. not (is_early count a)) conds
+late_conds count conds = each_once (filter (λ a. not (is_early count a)) conds)
 
 -- the result, which has this number, is the value of the term
 abbrev pub result_atom : ℕ → PureTerm → PureAtom

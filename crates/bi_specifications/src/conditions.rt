@@ -10,12 +10,13 @@ ghost use Rattle.sym_model.specs.Lists.{Each};
 ghost use Rattle.sym_model.specs.View.{use_view, uses_view};
 ghost use Rattle.bi_specifications.specs.Shape.{early_conds, late_conds};
 
+use bi_beginnings::stands_among;
 use pure_terms::{Atom, Atoms, Sort, Term, Terms};
 use sequence::Sequence;
 use std::alloc::{AllocError, Global};
 use sym_model::{CoreUse, CoreUses};
 
-/// The conditions that name only variables of the beginning, of which there were so many.
+/// The conditions that name only variables of the beginning, of which there were so many, each once.
 pub(crate) fn early_conditions(
     alloc: Global,
     conds: &Atoms,
@@ -25,14 +26,14 @@ pub(crate) fn early_conditions(
 {
     let mut early = Sequence::new(alloc);
     for condition in conds.as_slice() {
-        if condition.term().names_only_below(count as u64) {
+        if condition.term().names_only_below(count as u64) && !stands_among(&early, condition) {
             early.push(condition.copy(alloc)?)?;
         }
     }
     Ok(early)
 }
 
-/// The other conditions.
+/// The other conditions, each once.
 pub(crate) fn late_conditions(
     alloc: Global,
     conds: &Atoms,
@@ -42,7 +43,7 @@ pub(crate) fn late_conditions(
 {
     let mut late = Sequence::new(alloc);
     for condition in conds.as_slice() {
-        if !condition.term().names_only_below(count as u64) {
+        if !condition.term().names_only_below(count as u64) && !stands_among(&late, condition) {
             late.push(condition.copy(alloc)?)?;
         }
     }
