@@ -24,11 +24,29 @@ def guards(count):
     return f"proc main() {{ {draws}{jumps}return 0; }}"
 
 
+def stored(size, count):
+    """A block of this size, so many cells of which are stored into by a loop, which is freed then."""
+    return (
+        f"proc main() {{ x := do alloc({size}); i := 0; ifgoto ({count} <= i) 6; y := do store([nth(x, 0), i], i); "
+        "i := (i + 1); ifgoto true 2; y := do free(x); return i; }"
+    )
+
+
 def cells(count):
     """A block of so many cells, each stored into by a loop, which is freed then."""
+    return stored(count, count)
+
+
+def stores(count):
+    """A block of 10,000 cells, so many of which are stored into by a loop, which is freed then."""
+    return stored(10_000, count)
+
+
+def choices(count):
+    """A cell at a drawn offset of a block of so many cells is loaded: a path for each cell."""
     return (
-        f"proc main() {{ x := do alloc({count}); i := 0; ifgoto ({count} <= i) 6; y := do store([nth(x, 0), i], i); "
-        "i := (i + 1); ifgoto true 2; y := do free(x); return i; }"
+        f"proc main() {{ x := do alloc({count}); i := isym int; ifgoto (i < 0) 5; ifgoto ({count} <= i) 5; "
+        "y := do load([nth(x, 0), i]); return 0; }"
     )
 
 
@@ -73,6 +91,8 @@ WORKLOADS = [
 GROWING = [
     ("a block of cells, freed", 5_000, 100, "gil-block", block),
     ("cells stored by a loop, freed", 500, 10_000, "gil-block", cells),
+    ("stores into 10,000 cells, freed", 1_200, 10_000, "gil-block", stores),
+    ("a load at a drawn offset", 200, 100, "gil-block", choices),
     ("records made by a loop", 500, 10_000, "gil-record", records),
 ]
 

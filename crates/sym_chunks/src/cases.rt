@@ -214,18 +214,24 @@ pub fn has_sure_case(cases: &Cases) -> bool
     false
 }
 
-/// The branches, and those of the case where the alternatives hold.
+/// The branches, and those of the case where the alternatives hold. The last one has the chunks and the result of the case
+/// themselves.
 fn with_case_branches(
     alloc: Global,
     branches: Branches<SymFrag>,
     when: &Alternatives,
-    case: &Case,
+    case: Case,
 ) -> Result<Branches<SymFrag>, AllocError>
     ensures { IfOk result (λ bs. chunk_branches_view bs ≡ chunk_branches_view branches ++ case_branches (alternatives_view when.now)
-        (case_view case.now)) }
+        (case_view case)) }
 {
-    let when = both(alloc, when, &case.when)?;
-    with_branches(alloc, branches, when, &case.after, &case.result)
+    let Case {
+        when: comes,
+        after,
+        result: outcome,
+    } = case;
+    let both = both(alloc, when, &comes)?;
+    with_last_branches(alloc, branches, both, after, outcome)
 }
 
 /// The branches, and those of each case where the alternatives hold.
@@ -233,13 +239,13 @@ fn with_each(
     alloc: Global,
     branches: Branches<SymFrag>,
     when: &Alternatives,
-    cases: &Cases,
+    cases: Cases,
 ) -> Result<Branches<SymFrag>, AllocError>
     ensures { IfOk result (λ bs. chunk_branches_view bs ≡ chunk_branches_view branches ++ flat_map (case_branches
-        (alternatives_view when.now)) (cases_view cases.now)) }
+        (alternatives_view when.now)) (cases_view cases)) }
 {
     let mut branches = branches;
-    for case in cases.as_slice() {
+    for case in cases.into_vec() {
         branches = with_case_branches(alloc, branches, when, case)?;
     }
     Ok(branches)
@@ -250,12 +256,12 @@ fn choose_among(
     alloc: Global,
     branches: Branches<SymFrag>,
     when: Alternatives,
-    cases: &Cases,
+    cases: Cases,
 ) -> Result<Branches<SymFrag>, AllocError>
     ensures { IfOk result (λ bs. chunk_branches_view bs ≡ chunk_branches_view branches ++ choose_of (alternatives_view when)
-        (cases_view cases.now)) }
+        (cases_view cases)) }
 {
-    match sure(cases) {
+    match sure(&cases) {
         Some(case) => with_branches(alloc, branches, when, &case.after, &case.result),
         None => with_each(alloc, branches, &when, cases),
     }
@@ -296,7 +302,7 @@ pub fn choose(
 {
     let mut cases = cases;
     if cases.len() > 1 {
-        return choose_among(alloc, branches, when, &cases);
+        return choose_among(alloc, branches, when, cases);
     }
     match cases.pop() {
         Some(case) => choose_only(alloc, branches, when, case),

@@ -1,5 +1,5 @@
-use Rattle.std.proofs.Common.{◌≡◌, ◌++◌, take, map}
-use Rattle.sym_chunks.specs.View.{case_view, chunk_branches_view}
+use Rattle.std.proofs.Common.{◌≡◌, ◌++◌}
+use Rattle.sym_chunks.specs.View.{cases_view, chunk_branches_view}
 use Rattle.sym_conditions.specs.Alternatives.{alternatives_view}
 use Rattle.std.specs.List.{flat_map}
 use Rattle.sym_chunks.specs.Cases.{case_branches}
@@ -7,4 +7,4 @@ use Rattle.sym_chunks.proofs.cases.with_each.Given as goal
 
 abbrev pub invariant-loop-case : goal.invariant-loop-case
 invariant-loop-case l =
-    chunk_branches_view l.branches ≡ chunk_branches_view l.fn.branches ++ flat_map (case_branches (alternatives_view l.when)) (map case_view (take l.case-index l.case-items))
+    chunk_branches_view l.branches ≡ chunk_branches_view l.fn.branches ++ flat_map (case_branches (alternatives_view l.when)) (cases_view l.yielded)
