@@ -6,7 +6,8 @@
 A check of a crate locks the crates below it in its copy of the repository, and nearly all crates stand on a few. So each worker has
 a copy of its own of the sources, in ~/.cache/gillian (or $XDG_CACHE_HOME/gillian); a library that one copy proved is taken over by the
 others. What was proved stays there when this is interrupted, and the next call goes on from it. How far it is, is told on standard
-error: on a terminal in one line that is written over, and else in a line for each crate.
+error: on a terminal in one line that is written over, and else in a line for each crate. From nothing it takes about an hour and a half on four
+slow threads; docs/GATE.md has the figures.
 """
 import argparse
 import os
