@@ -1,6 +1,5 @@
 use Rattle.std.proofs.Common.{◌≡◌, ◌++◌, ◌∷◌, [], Some, slice_get, sym, ap, ap₂, ◌∙◌, arith, rules}
 use Rattle.pure_terms.specs.View.{term_view}
-use Rattle.solver_print.specs.Terms.{expr_of}
 use Rattle.solver_proof.specs.declared.proofs.Proof.{the_lemmas}
 use Rattle.solver_proof.specs.Pure.{cases_of, values_at, parts_at, differ_at, from_list}
 use Rattle.solver_proof.specs.View.{proof_view, proofs_view}
@@ -10,7 +9,7 @@ use Rattle.gil_report.specs.declared.proofs.NamedProof
 use Rattle.gil_report.specs.declared.proofs.NamedProof.{the_lemmas as named_lemmas}
 use Rattle.gil_report.specs.Pure as named
 use Rattle.gil_report.specs.View.{named_proof_view, named_proofs_view}
-use Rattle.report_names.specs.Named.{proof_of}
+use Rattle.report_names.specs.Named.{expression_of, proof_of}
 use Rattle.report_names.proofs.Listed.{proofs-from_list, named_more}
 use Rattle.report_names.proofs.proofs.+name.Goals as goal
 
@@ -24,7 +23,7 @@ named_proof-returns-in_ok-proofs-in-Cases t c =
     let seen : proof_view c.args.proof.now ≡ cases_of term (from_list proofs) = ap proof_view c.in-Cases.is ∙ search (rules, the_lemmas) in
     let shown : named_proof_view (NamedProof.Cases e ps) ≡ named.cases_of (expr_view e) (named.from_list (named_proofs_view ps)) = search (rules, named_lemmas) in
     shown ∙ ap₂ (λ x xs. named.cases_of x (named.from_list xs)) c.in_ok-expression-in-Cases.ensures c.in_ok-proofs-in-Cases.ensures
-    ∙ sym (ap (proof_of names) seen ∙ ap (named.cases_of (expr_of names term)) (proofs-from_list names proofs))
+    ∙ sym (ap (proof_of names) seen ∙ ap (named.cases_of (expression_of names term)) (proofs-from_list names proofs))
 
 pub named_proof-returns-in_ok-proofs-in-Values : goal.named_proof-returns-in_ok-proofs-in-Values
 named_proof-returns-in_ok-proofs-in-Values t c =
