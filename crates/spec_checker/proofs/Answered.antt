@@ -7,14 +7,14 @@ use Rattle.gil_syntax.specs.WellMade.{is_well_made}
 use Rattle.mem_model.specs.declared.keys.MemoryName.{MemoryName}
 use Rattle.mem_model.specs.Actions.{Actions, IsMemory}
 use Rattle.assert_logic.specs.Modes.{HasModes}
-use Rattle.checked_paths.specs.declared.nexts.Cause.{Cause}
 use Rattle.spec_answers.specs.declared.answers.Examined.{Examined}
 use Rattle.spec_answers.specs.declared.answers.Finding.{Finding}
 use Rattle.spec_answers.specs.declared.answers.SpecAnswer.{SpecAnswer}
 use Rattle.spec_answers.specs.declared.answers.Verdict.{Verdict}
 use Rattle.spec_answers.specs.Holding.{Fits, AreFindings, AreTrue, AnswersAreRight}
-use Rattle.spec_checker.specs.Answers.{Shows, AnswerEach}
-use Rattle.spec_checker.specs.Examining.{ShowsProof, IsExamined, AreExamined}
+use Rattle.spec_causes.specs.declared.meeting.Met.{Met}
+use Rattle.spec_checker.specs.Answers.{Shows, AnswerEach, IsCauseIfUnproved, AreCauses}
+use Rattle.spec_checker.specs.Examining.{ShowsProof, IsCauseIfCaused, IsExamined, AreExamined}
 use Rattle.spec_checker.proofs.Found.{found_at}
 
 at_place : {A B : Type 0} (xs : List A) (ys : List B) (k : ℕ) (y : B) → length xs ≡ length ys → slice_get ys k ≡ Some y → (x : A) × (slice_get xs k ≡ Some x)
@@ -24,26 +24,35 @@ at_place (x ∷ xs) [] k y many is = cc
 at_place (x ∷ xs) (y ∷ ys) zero z many is = (x, refl)
 at_place (x ∷ xs) (y ∷ ys) (suc k) z many is = at_place xs ys k z (omega arith) is
 
-same_names : (xs : List (Examined Cause)) (ss : List PureSpec) → length xs ≡ length ss
-    → ((k : ℕ) (s : PureSpec) (x : Examined Cause) → slice_get ss k ≡ Some s → slice_get xs k ≡ Some x → x.name ≡ s.name)
-    → map (λ (x : Examined Cause). x.name) xs ≡ map (λ (s : PureSpec). s.name) ss
+same_names : (xs : List (Examined Met)) (ss : List PureSpec) → length xs ≡ length ss
+    → ((k : ℕ) (s : PureSpec) (x : Examined Met) → slice_get ss k ≡ Some s → slice_get xs k ≡ Some x → x.name ≡ s.name)
+    → map (λ (x : Examined Met). x.name) xs ≡ map (λ (s : PureSpec). s.name) ss
 same_names [] [] many each = refl
 same_names [] (s ∷ ss) many each = absurd (omega arith)
 same_names (x ∷ xs) [] many each = absurd (omega arith)
 same_names (x ∷ xs) (s ∷ ss) many each =
-    ap (λ n. n ∷ map (λ (y : Examined Cause). y.name) xs) (each 0 s x refl refl)
+    ap (λ n. n ∷ map (λ (y : Examined Met). y.name) xs) (each 0 s x refl refl)
     ∙ ap (λ ns. s.name ∷ ns) (same_names xs ss (omega arith) (λ k t y at_t at_y. each (suc k) t y at_t at_y))
 
-shows_by : (answers : List (SpecAnswer Cause)) (s : PureSpec) (f : Finding Cause) (v : Verdict Cause) → Fits answers f v → ShowsProof s f → Shows answers s v
+shows_by : (answers : List (SpecAnswer Met)) (s : PureSpec) (f : Finding Met) (v : Verdict Met) → Fits answers f v → ShowsProof s f → Shows answers s v
 shows_by answers s (Finding.Clean xs) Verdict.Verified fits shows = tt
 shows_by answers s (Finding.Clean xs) (Verdict.Vacuous proof) fits shows = absurd fits
 shows_by answers s (Finding.Clean xs) (Verdict.Unproved c) fits shows = absurd fits
 shows_by answers s (Finding.Clean xs) (Verdict.DependsOn g) fits shows = fits.1
-shows_by answers s (Finding.Vacuous proof) v fits shows = subst (λ (w : Verdict Cause). Shows answers s w) (sym fits) shows
-shows_by answers s (Finding.Caused c) v fits shows = subst (λ (w : Verdict Cause). Shows answers s w) (sym fits) tt
+shows_by answers s (Finding.Vacuous proof) v fits shows = subst (λ (w : Verdict Met). Shows answers s w) (sym fits) shows
+shows_by answers s (Finding.Caused c) v fits shows = subst (λ (w : Verdict Met). Shows answers s w) (sym fits) tt
 
-module _ (p : PureParts) (memory : MemoryName) (m : Actions) (xs : List (Examined Cause)) (examined : AreExamined p memory m p.specs xs)
-    (answers : List (SpecAnswer Cause)) (right : AnswersAreRight xs answers) where
+cause_by : (p : PureParts) (memory : MemoryName) (m : Actions) (most : ℕ) (answers : List (SpecAnswer Met)) (s : PureSpec) (f : Finding Met) (v : Verdict Met) → Fits answers f v
+    → IsCauseIfCaused p memory m most s f → IsCauseIfUnproved p memory m most s v
+cause_by p memory m most answers s (Finding.Clean xs) Verdict.Verified fits right = tt
+cause_by p memory m most answers s (Finding.Clean xs) (Verdict.Vacuous proof) fits right = tt
+cause_by p memory m most answers s (Finding.Clean xs) (Verdict.Unproved c) fits right = absurd fits
+cause_by p memory m most answers s (Finding.Clean xs) (Verdict.DependsOn g) fits right = tt
+cause_by p memory m most answers s (Finding.Vacuous proof) v fits right = subst (λ (w : Verdict Met). IsCauseIfUnproved p memory m most s w) (sym fits) tt
+cause_by p memory m most answers s (Finding.Caused c) v fits right = subst (λ (w : Verdict Met). IsCauseIfUnproved p memory m most s w) (sym fits) right
+
+module _ (p : PureParts) (memory : MemoryName) (m : Actions) (most : ℕ) (xs : List (Examined Met)) (examined : AreExamined p memory m most p.specs xs)
+    (answers : List (SpecAnswer Met)) (right : AnswersAreRight xs answers) where
   pub answered_each : AnswerEach p.specs answers
   answered_each = record {
     as_many = right.as_many ∙ examined.as_many;
@@ -52,6 +61,15 @@ module _ (p : PureParts) (memory : MemoryName) (m : Actions) (xs : List (Examine
         let is = examined.each_examined k s x at_s at_x in
         let answer = right.each_answers k x a at_x at_a in
         record { same_name = answer.same_name ∙ is.same_name; shows = shows_by answers s x.finding a.verdict answer.fits is.found.shows };
+  }
+
+  pub answered_causes : AreCauses p memory m most answers
+  answered_causes = record {
+    each_right = λ k s a at_s at_a.
+        let (x, at_x) = at_place xs p.specs k s examined.as_many at_s in
+        let is = examined.each_examined k s x at_s at_x in
+        let answer = right.each_answers k x a at_x at_a in
+        cause_by p memory m most answers s x.finding a.verdict answer.fits is.found.cause;
   }
 
   module _ (valid : IsValid p) where

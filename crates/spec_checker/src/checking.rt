@@ -3,30 +3,31 @@ ghost use Rattle.std.specs.Prelude.{◌≤◌, IfOk};
 ghost use Rattle.assert_logic.specs.Modes.{HasModes};
 ghost use Rattle.gil_program.specs.Program.{prog_view};
 ghost use Rattle.spec_answers.specs.Holding.{AreTrue};
-ghost use Rattle.spec_checker.specs.Answers.{AnswerEach};
+ghost use Rattle.spec_checker.specs.Answers.{AnswerEach, AreCauses};
 
 use crate::examining::examine_all;
-use checked_paths::Cause;
 use gil_program::Prog;
 use rewrite_book::RuleBook;
 use solver_proof::Refuter;
 use spec_answers::{SpecAnswers, answer_specifications};
+use spec_causes::Met;
 use std::alloc::{AllocError, Global};
 use sym_model::ListedMemory;
 
 /// One answer for each specification of a program, in order. Each that is answered verified or vacuous holds, and uses only such
-/// ones.
+/// ones; and the cause of each that is unproved is right.
 pub fn check<M: ListedMemory, D: Refuter>(
     alloc: Global,
     prog: &Prog,
     rules: &RuleBook,
     bound: u32,
     decider: &mut D,
-) -> Result<SpecAnswers<Cause>, AllocError>
+) -> Result<SpecAnswers<Met>, AllocError>
     requires bounded { bound ≤ 10000 }
     requires modes { HasModes (prog_view prog.now) M.Local.memory }
     ensures answers { IfOk result (AnswerEach (prog_view prog.now).specs) }
     ensures hold { IfOk result (AreTrue (prog_view prog.now) M.Local.memory M.Local.actions) }
+    ensures causes { IfOk result (AreCauses (prog_view prog.now) M.Local.memory M.Local.actions bound) }
 {
     let examined = examine_all::<M, D>(alloc, prog, rules, bound, decider)?;
     answer_specifications(alloc, examined)

@@ -6,20 +6,20 @@ ghost use Rattle.gil_syntax.specs.Programs.{find_spec};
 ghost use Rattle.gil_syntax.specs.View.{spec_view};
 ghost use Rattle.spec_checker.specs.Examining.{AreExamined, IsExamined, IsFindingOf, IsFound};
 
-use checked_paths::Cause;
 use gil_program::Prog;
 use gil_syntax::Spec;
 use rewrite_book::RuleBook;
 use sequence::Sequence;
 use solver_proof::Refuter;
 use spec_answers::{Examinations, Examined, Finding};
+use spec_causes::Met;
 use spec_exploration::{Explored, explore_specification};
 use spec_vacuity::{vacuous, vacuous_specifications_have_no_run};
 use std::alloc::{AllocError, Global};
 use sym_model::ListedMemory;
 
 /// What the exploration of a specification shows.
-fn finding_of(explored: Explored) -> Finding<Cause>
+fn finding_of(explored: Explored) -> Finding<Met>
     ensures { IsFindingOf explored result }
 {
     let Explored { cause, uses } = explored;
@@ -37,11 +37,11 @@ fn find<M: ListedMemory, D: Refuter>(
     spec: &Spec,
     bound: u32,
     decider: &mut D,
-) -> Result<Finding<Cause>, AllocError>
+) -> Result<Finding<Met>, AllocError>
     requires bounded { bound ≤ 10000 }
     requires found { find_spec (prog_view prog.now).specs (spec_view spec.now).name ≡ Some (spec_view spec.now) }
     requires modes { HasModes (prog_view prog.now) M.Local.memory }
-    ensures { IfOk result (IsFound (prog_view prog.now) M.Local.memory M.Local.actions (spec_view spec.now)) }
+    ensures { IfOk result (IsFound (prog_view prog.now) M.Local.memory M.Local.actions bound (spec_view spec.now)) }
 {
     vacuous_specifications_have_no_run();
     match vacuous(alloc, spec, decider)? {
@@ -60,11 +60,11 @@ fn examine<M: ListedMemory, D: Refuter>(
     spec: &Spec,
     bound: u32,
     decider: &mut D,
-) -> Result<Examined<Cause>, AllocError>
+) -> Result<Examined<Met>, AllocError>
     requires bounded { bound ≤ 10000 }
     requires found { find_spec (prog_view prog.now).specs (spec_view spec.now).name ≡ Some (spec_view spec.now) }
     requires modes { HasModes (prog_view prog.now) M.Local.memory }
-    ensures { IfOk result (IsExamined (prog_view prog.now) M.Local.memory M.Local.actions (spec_view spec.now)) }
+    ensures { IfOk result (IsExamined (prog_view prog.now) M.Local.memory M.Local.actions bound (spec_view spec.now)) }
 {
     let name = spec.name.copy(alloc)?;
     let finding = find::<M, D>(alloc, prog, rules, spec, bound, decider)?;
@@ -78,10 +78,10 @@ pub(crate) fn examine_all<M: ListedMemory, D: Refuter>(
     rules: &RuleBook,
     bound: u32,
     decider: &mut D,
-) -> Result<Examinations<Cause>, AllocError>
+) -> Result<Examinations<Met>, AllocError>
     requires bounded { bound ≤ 10000 }
     requires modes { HasModes (prog_view prog.now) M.Local.memory }
-    ensures { IfOk result (AreExamined (prog_view prog.now) M.Local.memory M.Local.actions (prog_view prog.now).specs) }
+    ensures { IfOk result (AreExamined (prog_view prog.now) M.Local.memory M.Local.actions bound (prog_view prog.now).specs) }
 {
     let mut examined = Sequence::new(alloc);
     let specs = prog.specs().as_slice();

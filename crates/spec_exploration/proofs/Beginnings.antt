@@ -1,10 +1,11 @@
--- The checked paths of the starts cover those of the checked runs, and may go on.
-use Rattle.std.proofs.Common.{◌≡◌, ◌⊎◌, inl, inr, List, [], ◌∷◌, length, Bool, true, false, IsSome, IsTrue, refl, sym, ap, subst, ◌∙◌, true≢false}
+-- The checked paths of the starts cover those of the checked runs, and may go on; and runs reach them.
+use Rattle.std.proofs.Common.{◌≡◌, ◌⊎◌, inl, inr, ℕ, ℤ, List, [], ◌∷◌, length, false, Some, IsSome, IsTrue, refl, sym, ap, subst, ◌∙◌, true≢false, arith}
 use Rattle.std.specs.FinMap.{empty}
+use Rattle.gil_values.specs.declared.places.Place.{Place}
 use Rattle.gil_values.specs.Pure.{PureValue}
 use Rattle.gil_syntax.specs.Evaluation.{Store}
 use Rattle.gil_syntax.specs.Programs.{find_proc}
-use Rattle.gil_syntax.specs.Pure.{PureSpec, PureParts}
+use Rattle.gil_syntax.specs.Pure.{PureProc, PureSpec, PureParts}
 use Rattle.gil_syntax.specs.Valid.{IsValid, param_names}
 use Rattle.gil_machine.specs.Step.{command_of}
 use Rattle.gil_machine.proofs.Placed.{found_name, starts_placed}
@@ -12,43 +13,51 @@ use Rattle.mem_model.specs.declared.keys.MemoryName.{MemoryName}
 use Rattle.mem_model.specs.Actions.{Actions}
 use Rattle.mem_model.specs.Heaps.{Heap}
 use Rattle.checked_runs.specs.Checked.{Checked, goes_on_to, IsStart}
+use Rattle.pure_terms.specs.declared.deciders.Reason.{Reason}
+use Rattle.pure_terms.specs.Meaning.{IsProper, all_true}
+use Rattle.sym_asking.proofs.Fragments.{each_over_all}
 use Rattle.sym_beginning.specs.Beginning as beginning
-use Rattle.sym_beginning.specs.Beginning.{PureStart, PureBeginnings, IsEntryUnder, IsBegunFrom, IsBeginning, AreBeginnings}
+use Rattle.sym_beginning.specs.Beginning.{PureStart, PureBeginnings, IsEntryUnder, IsBegunFrom, IsBeginning, AreBeginnings, AreStarts}
 use Rattle.checked_runs.proofs.Readable.{names_length}
 use Rattle.sym_engine.specs.Placed.{AreAtCommands}
+use Rattle.sym_model.specs.Laws.{IsMeaning}
 use Rattle.sym_model.specs.Lists.{Each}
 use Rattle.sym_model.specs.Meaning.{has_open}
 use Rattle.sym_model.specs.Terms.{StateTerms, AreEachOver}
-use Rattle.sym_model.proofs.ListLaws.{not_none}
+use Rattle.sym_model.proofs.ListLaws.{each_to, not_none}
 use Rattle.sym_evaluation.specs.Meaning.{IsStoreOver}
 use Rattle.sym_paths.specs.Meaning.{Stands}
+use Rattle.sym_paths.proofs.Beginning.{beginnings_stand}
 use Rattle.sym_states.specs.Meaning.{AreFacts}
 use Rattle.checked_paths.specs.Accounting.{entry_of, CoversStarts}
+use Rattle.checked_paths.specs.Causes.{PureShown, PureCause, failure, fault, bound, undecided, cause_view}
 use Rattle.checked_paths.specs.Covering.{CoversOutcome}
-use Rattle.checked_paths.specs.Meaning.{ArePassedBy, AreFactsOver, MayGoOn}
-use Rattle.checked_paths.specs.declared.nexts.Cause.{Cause}
-use Rattle.checked_paths.specs.Pure.{PureEntry, PureChecking, PureNext, further, over, caused}
-use Rattle.checked_paths.proofs.Lists.{one_across, each_across}
-use Rattle.spec_exploration.specs.Beginning.{IsStartIf, IsStartOf, AreStartsOf}
-use Rattle.spec_exploration.specs.Exploring.{StartPlaced}
+use Rattle.checked_paths.specs.Meaning.{ArePassedBy, AreFactsOver, EachWith, MayGoOn}
+use Rattle.checked_paths.specs.Pure.{PureEntry, PureNext, further, over, caused}
+use Rattle.checked_paths.proofs.Lists.{one_across, each_across, each_with_if}
+use Rattle.spec_causes.specs.Reaching.{IsFoundCause, IsRealStart, MayBeMet, checked_start}
+use Rattle.spec_causes.proofs.Reached.{start_reached}
+use Rattle.spec_causes.proofs.Starts.{start_real}
+use Rattle.spec_exploration.specs.Beginning.{IsFirstPlace, IsStartOver, IsLeftOut, IsUnknownStart, IsStartOf, AreStartsOf}
+use Rattle.spec_exploration.specs.Exploring.{StartPlaced, IsReachedWithin, IsReachedNext}
 
-abbrev pub checked_start : {S : Type 0} → PureStart S → PureChecking S
-checked_start s = record { path = s.path; facts = s.facts; passed = [] ∷ [] }
+-- a procedure has a first command
+pub first_there : (p : PureParts) (spec : PureSpec) (q : PureProc) → IsValid p → find_proc p.procs spec.name ≡ Some q → IsSome (command_of (find_proc p.procs spec.name) 0)
+first_there p spec q valid found = (starts_placed p spec.name q [] empty 0 valid found).current
 
-module _ {S : Type 0} (p : PureParts) (memory : MemoryName) (m : Actions) (stands : S → List PureValue → Heap → Type 0) (spec : PureSpec) (b : PureBeginnings S) where
+module _ {S : Type 0} (p : PureParts) (memory : MemoryName) (m : Actions) (stands : S → List PureValue → Heap → Type 0) (spec : PureSpec) (b : PureBeginnings S) (here : Place) where
   abbrev Of : PureEntry
   Of = record { spec = spec; args = b.args; variables = b.variables }
 
   module _ (args : List PureValue) (variables : Store) (c : Checked) (begins : IsStart p memory m (entry_of Of args variables) c) (v : List PureValue) (under : IsEntryUnder b v args variables) where
-    covers_start : (s : PureStart S) (n : PureNext S) (o : Bool) → has_open s.path.conds ≡ o → IsStartIf o s n → IsBegunFrom b p memory m stands spec v c s → CoversOutcome stands Of (entry_of Of args variables) [] (goes_on_to c) n
-    covers_start s (caused cause) o is start begun = tt
-    covers_start s over true is start begun = absurd start
-    covers_start s (further y) true is start begun = absurd start
-    covers_start s n false is start begun = by begun.stands_for
+    covers_start : (s : PureStart S) (n : PureNext S) → s.path.vars ≡ b.vars → IsStartOf here s n → IsBegunFrom b p memory m stands spec v c s → CoversOutcome stands Of (entry_of Of args variables) [] (goes_on_to c) n
+    covers_start s (caused cause) vars start begun = tt
+    covers_start s over vars none begun = absurd (none v (record { proper = subst (λ xs. IsProper xs v) (sym vars) under.proper; true_there = begun.meets }))
+    covers_start s (further y) vars start begun = by begun.stands_for
       where
-        by : IsTrue (has_open s.path.conds) ⊎ (Stands stands s.path v c.machine × AreFacts v s.facts c.facts) → CoversOutcome stands Of (entry_of Of args variables) [] (goes_on_to c) n
-        by (inl needed) = absurd (true≢false (sym needed ∙ is))
-        by (inr (stood, facts)) = subst (CoversOutcome stands Of (entry_of Of args variables) [] (goes_on_to c)) (sym start) (
+        by : IsTrue (has_open s.path.conds) ⊎ (Stands stands s.path v c.machine × AreFacts v s.facts c.facts) → CoversOutcome stands Of (entry_of Of args variables) [] (goes_on_to c) (further y)
+        by (inl needed) = absurd (true≢false (sym needed ∙ start.no_form))
+        by (inr (stood, facts)) = subst (λ z. CoversOutcome stands Of (entry_of Of args variables) [] (goes_on_to c) (further z)) (sym start.is) (
           c,
           (
             v,
@@ -65,17 +74,27 @@ module _ {S : Type 0} (p : PureParts) (memory : MemoryName) (m : Actions) (stand
           ),
         )
 
-  pub starts_cover : (ns : List (PureNext S)) → AreStartsOf b.starts ns → beginning.CoversStarts b p memory m stands spec → CoversStarts p memory m stands Of ns
-  starts_cover ns are cover args variables c begins =
+  -- the table of a start is that of the beginnings
+  abbrev OverTable : PureStart S → PureNext S → Type 0
+  OverTable s n = (s.path.vars ≡ b.vars) × IsStartOf here s n
+
+  starts_cover_over : (ns : List (PureNext S)) → EachWith OverTable b.starts ns → beginning.CoversStarts b p memory m stands spec → CoversStarts p memory m stands Of ns
+  starts_cover_over ns are cover args variables c begins =
       let (v, (under, one)) = cover args variables c begins in
-      one_across IsStartOf (IsBegunFrom b p memory m stands spec v c) (CoversOutcome stands Of (entry_of Of args variables) [] (goes_on_to c)) b.starts ns are
-      (λ s n start begun. covers_start args variables c begins v under s n (has_open s.path.conds) refl start begun) one
+      one_across OverTable (IsBegunFrom b p memory m stands spec v c) (CoversOutcome stands Of (entry_of Of args variables) [] (goes_on_to c)) b.starts ns are
+      (λ s n start begun. covers_start args variables c begins v under s n start.0 start.1 begun) one
 
   module _ (terms : S → StateTerms) (kept : S → Type 0) (valid : IsValid p) (are : AreBeginnings b p terms kept spec) (same_params : are.proc.params ≡ param_names spec.params) where
     at_command : IsSome (command_of (find_proc p.procs are.proc.name) 0)
     at_command =
-        let named : are.proc.name ≡ spec.name = found_name p.procs spec.name are.proc are.found in
-        subst (λ f. IsSome (command_of (find_proc p.procs f) 0)) (sym named) (starts_placed p spec.name are.proc [] empty 0 valid are.found).current
+        let named : are.proc.name ≡ spec.name = found_name p.procs spec.name are.proc are.found in subst (λ f. IsSome (command_of (find_proc p.procs f) 0)) (sym named) (first_there p spec are.proc valid are.found)
+
+    pub starts_over : Each IsStartOver b.starts
+    starts_over = each_to (IsBeginning b are.proc terms kept) IsStartOver b.starts (λ s is. each_over_all s.path.vars s.path.conds is.path_over.conds) are.each
+
+    pub starts_cover : (ns : List (PureNext S)) → AreStartsOf here b.starts ns → beginning.CoversStarts b p memory m stands spec → CoversStarts p memory m stands Of ns
+    starts_cover ns starts cover =
+        starts_cover_over ns (each_with_if (IsBeginning b are.proc terms kept) (IsStartOf here) OverTable b.starts ns (λ s n is start. (ap (λ q. q.vars) is.begins.is, start)) are.each starts) cover
 
     start_may : (s : PureStart S) → IsBeginning b are.proc terms kept s → MayGoOn p terms Of (checked_start s) × (s.path.steps ≡ 0)
     start_may s is =
@@ -98,19 +117,70 @@ module _ {S : Type 0} (p : PureParts) (memory : MemoryName) (m : Actions) (stand
           ap (λ q. q.steps) same,
         )
 
-    placed_start : (s : PureStart S) (n : PureNext S) (o : Bool) → IsStartIf o s n → IsBeginning b are.proc terms kept s → StartPlaced p terms Of n
-    placed_start s (caused cause) o start is = tt
-    placed_start s over o start is = tt
-    placed_start s (further y) true start is = absurd start
-    placed_start s (further y) false start is = subst (StartPlaced p terms Of) (sym start) (start_may s is)
+    placed_start : (s : PureStart S) (n : PureNext S) → IsStartOf here s n → IsBeginning b are.proc terms kept s → StartPlaced p terms Of n
+    placed_start s (caused cause) start is = tt
+    placed_start s over start is = tt
+    placed_start s (further y) start is = subst (λ z. StartPlaced p terms Of (further z)) (sym start.is) (start_may s is)
 
-    pub starts_may : (ns : List (PureNext S)) → AreStartsOf b.starts ns → Each (StartPlaced p terms Of) ns
-    starts_may ns starts =
-        each_across IsStartOf (IsBeginning b are.proc terms kept) (StartPlaced p terms Of) b.starts ns starts
-        (λ s n start is. placed_start s n (has_open s.path.conds) start is) are.each
+    pub starts_may : (ns : List (PureNext S)) → AreStartsOf here b.starts ns → Each (StartPlaced p terms Of) ns
+    starts_may ns starts = each_across (IsStartOf here) (IsBeginning b are.proc terms kept) (StartPlaced p terms Of) b.starts ns starts (λ s n start is. placed_start s n start is) are.each
 
-pub start_caused : {S : Type 0} (s : PureStart S) (cause : Cause) → has_open s.path.conds ≡ true → IsStartOf s (caused cause)
-start_caused s cause needed = subst (λ o. IsStartIf o s (caused cause)) (sym needed) tt
+    -- ---- what is reached
 
-pub start_further : {S : Type 0} (s : PureStart S) (y : PureChecking S) → has_open s.path.conds ≡ false → y ≡ checked_start s → IsStartOf s (further y)
-start_further s y known is = subst (λ o. IsStartIf o s (further y)) (sym known) (ap further is)
+    module _ (plain : S → ℤ → ℤ → Type 0) (meaning : IsMeaning memory stands terms) (most : ℕ) (first : IsFirstPlace p spec here) where
+      -- wherever the conditions of the start are true, and none of them needs a literal form, a run begins there
+      abbrev IsExact : PureStart S → Type 0
+      IsExact s = (v : List PureValue) → IsProper b.vars v → IsTrue (all_true v s.path.conds) → has_open s.path.conds ≡ false → beginning.IsRealStart b memory stands spec v s
+
+      abbrev Reached : PureNext S → Type 0
+      Reached = IsReachedNext p memory m stands terms Of most
+
+      taken_reached : (s : PureStart S) → IsExact s → IsBeginning b are.proc terms kept s → has_open s.path.conds ≡ false → MayBeMet s.path.vars s.path.conds
+          → IsReachedWithin p memory m stands terms Of most (checked_start s)
+      taken_reached s exact is no_form may_be =
+          let none : s.path.steps ≡ 0 = (start_may s is).1 in
+          record {
+            reached = start_reached memory m stands terms meaning p Of (checked_start s)
+                (start_real memory m stands terms kept plain meaning (beginnings_stand stands terms plain) p spec b are.proc are.found s is (start_may s is).0 exact no_form) may_be;
+            within = omega (arith, none);
+          }
+
+      left_out_found : (s : PureStart S) (reason : Reason) (shown : PureShown) → IsBeginning b are.proc terms kept s → IsLeftOut here s reason shown → IsFoundCause p memory m Of most (undecided reason shown)
+      left_out_found s reason shown is left =
+          let (command, (there, place)) = first in
+          subst (λ t. IsFoundCause p memory m Of most (undecided reason t)) (sym left.is) (record {
+            runs = record {
+              outside = left.outside.outside;
+              first = left.outside.first;
+              steps = 0;
+              within = omega arith;
+              runs = inl (record { command = command; first_there = there; place = place; choices = ap (λ q. q.choices) is.begins.is; needed = left.needed });
+            };
+            may_be_met = tt;
+            known = λ u none. not_none none;
+          })
+
+      unknown_found : (s : PureStart S) (cause : PureCause) → IsBeginning b are.proc terms kept s → IsUnknownStart here s cause → IsFoundCause p memory m Of most cause
+      unknown_found s (undecided reason shown) is left = left_out_found s reason shown is left
+      unknown_found s (failure t shown) is left = absurd left
+      unknown_found s (fault kind shown) is left = absurd left
+      unknown_found s (bound shown) is left = absurd left
+
+      reached_start : (s : PureStart S) (n : PureNext S) → IsExact s → IsStartOf here s n → IsBeginning b are.proc terms kept s → Reached n
+      reached_start s (caused cause) exact start is = unknown_found s (cause_view cause) is start
+      reached_start s over exact start is = tt
+      reached_start s (further y) exact start is = subst (λ z. Reached (further z)) (sym start.is) (taken_reached s exact is start.no_form start.may_be_met)
+
+      abbrev ExactStart : PureStart S → PureNext S → Type 0
+      ExactStart s n = IsExact s × IsStartOf here s n
+
+      pub starts_reached : (ns : List (PureNext S)) → AreStarts b memory stands spec → AreStartsOf here b.starts ns → Each Reached ns
+      starts_reached ns exact starts =
+          each_across ExactStart (IsBeginning b are.proc terms kept) Reached b.starts ns
+          (each_with_if IsExact (IsStartOf here) ExactStart b.starts ns (λ s n is start. (is, start)) exact starts)
+          (λ s n start is. reached_start s n start.0 start.1 is) are.each
+
+-- ---- what is answered of one
+
+pub start_taken : {S : Type 0} (here : Place) (s : PureStart S) (n : PureNext S) → has_open s.path.conds ≡ false → MayBeMet s.path.vars s.path.conds → n ≡ further (checked_start s) → IsStartOf here s n
+start_taken here s n no_form may_be is = subst (IsStartOf here s) (sym is) (record { is = refl; no_form = no_form; may_be_met = may_be })

@@ -1,3 +1,6 @@
 pub mod Beginnings
+pub mod Meeting
+pub mod Placing
+pub mod Reaching
 pub mod Steps
 pub mod Taking

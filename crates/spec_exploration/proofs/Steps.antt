@@ -1,5 +1,5 @@
 -- What a step needs of the program, and the kinds of commands.
-use Rattle.std.proofs.Common.{◌≡◌, inl, inr, ℕ, List, [], ◌∷◌, ◌++◌, Bool, true, false, ◌&&◌, Option, Some, None, IsTrue, refl, sym, ap, subst, ◌∙◌, true≢false}
+use Rattle.std.proofs.Common.{◌≡◌, ℕ, List, [], ◌∷◌, ◌++◌, Bool, true, false, ◌&&◌, Option, Some, None, IsTrue, refl, sym, ap, subst, ◌∙◌, true≢false}
 use Rattle.std.specs.List.{list_all}
 use Rattle.std.proofs.lemmas.List.Folds.{list_all-append}
 use Rattle.gil_syntax.specs.declared.assertions.Item.{Item}
@@ -8,21 +8,18 @@ use Rattle.gil_syntax.specs.declared.assertions.PredUse.{PredUse}
 use Rattle.gil_syntax.specs.declared.commands.Command.{Command}
 use Rattle.gil_syntax.specs.View.{command_view}
 use Rattle.gil_syntax.specs.Programs.{find_proc, find_spec}
-use Rattle.gil_syntax.specs.Pure.{PureNumberedCommand, PureExpr, PureProc, PureSpec, PureParts}
+use Rattle.gil_syntax.specs.Pure.{PureCommand, return, throw, PureNumberedCommand, PureExpr, PureProc, PureSpec, PureParts}
 use Rattle.gil_syntax.specs.Subexpressions.{literals_of}
 use Rattle.gil_syntax.specs.Valid.{param_names}
 use Rattle.gil_syntax.specs.WellMade.{is_spellable}
 use Rattle.gil_machine.specs.Step.{command_of}
 use Rattle.mem_model.specs.declared.keys.MemoryName.{MemoryName}
-use Rattle.mem_model.specs.Actions.{Actions}
-use Rattle.mem_model.specs.Heaps.{Heap}
 use Rattle.addable_programs.specs.Addable.{IsAddable, IsAddableCommand}
-use Rattle.sym_model.specs.Terms.{StateTerms}
 use Rattle.sym_model.proofs.ListLaws.{not_none, same_some}
 use Rattle.sym_paths.specs.Meaning.{command_of_frames}
 use Rattle.sym_paths.specs.Pure.{PureFrame}
 use Rattle.sym_states.specs.Producing.{are_spelled}
-use Rattle.checked_paths.specs.Following.{is_of_machine}
+use Rattle.checked_paths.specs.Following.{is_of_machine, stays_in_frame}
 use Rattle.checked_rows.specs.Ending.{IsLeaving}
 use Rattle.call_rows.specs.Calling.{IsCall}
 
@@ -73,6 +70,12 @@ of_some_kind (Command.Fold u) call leaving other folds unfolds asserts invariant
 of_some_kind (Command.Unfold u) call leaving other folds unfolds asserts invariant = unfolds u refl
 of_some_kind (Command.AssertThat items) call leaving other folds unfolds asserts invariant = asserts items refl
 of_some_kind (Command.LoopInvariant xs ps items) call leaving other folds unfolds asserts invariant = invariant xs ps items refl
+
+-- a command of the machine that is no return or throw doesn't leave its frame
+pub machine_stays : (c : PureCommand) → IsTrue (is_of_machine c) → ¬ IsLeaving c → IsTrue (stays_in_frame c)
+machine_stays (return e) is other = absurd (other tt)
+machine_stays (throw e) is other = absurd (other tt)
+machine_stays c is other = is
 
 -- the procedure of a specification has its parameters
 pub params_there : (p : PureParts) (memory : MemoryName) → IsAddable p memory → (s : PureSpec) → find_spec p.specs s.name ≡ Some s → (q : PureProc) → find_proc p.procs s.name ≡ Some q

@@ -1,5 +1,5 @@
 -- Explorations that take answers, and what is settled of them.
-use Rattle.std.proofs.Common.{◌≡◌, ℕ, suc, ◌+◌, ◌-◌, ◌<◌, List, [], ◌∷◌, ◌++◌, Bool, true, false, ◌||◌, Option, Some, None, is_some, IsTrue, refl, sym, ap, subst, ◌∙◌, true≢false, arith}
+use Rattle.std.proofs.Common.{◌≡◌, ◌⊎◌, ⊎_elim, inl, inr, ℕ, suc, ◌+◌, ◌-◌, ◌<◌, List, [], ◌∷◌, ◌++◌, Bool, true, false, ◌||◌, Option, Some, None, is_some, IsTrue, refl, sym, ap, subst, ◌∙◌, true≢false, arith}
 use Rattle.std.specs.Option.{IsSome}
 use Rattle.std.specs.Prelude.{IfNone}
 use Rattle.std.specs.Str.{bytes_eq}
@@ -13,9 +13,9 @@ use Rattle.mem_model.specs.Actions.{Actions}
 use Rattle.mem_model.specs.Heaps.{Heap}
 use Rattle.checked_runs.specs.Checked.{HasNoFault, UsesOnly}
 use Rattle.sym_model.specs.Laws.{IsMeaning}
-use Rattle.sym_model.specs.Lists.{Each}
+use Rattle.sym_model.specs.Lists.{Each, OneOf}
 use Rattle.sym_model.specs.Terms.{StateTerms}
-use Rattle.sym_model.proofs.ListLaws.{each_append, each_left, each_right}
+use Rattle.sym_model.proofs.ListLaws.{each_append, each_left, each_right, one_left, one_right, same_some}
 use Rattle.checked_paths.specs.Accounting.{AreChosen, CoversStarts, IsAccounted, OfFurther}
 use Rattle.checked_paths.specs.Covering.{FollowsOn, AreNexts, IsCaused}
 use Rattle.checked_paths.specs.declared.nexts.Cause.{Cause}
@@ -23,9 +23,9 @@ use Rattle.checked_paths.specs.Meaning.{MayGoOn}
 use Rattle.checked_paths.specs.Pure.{PureEntry, PureChecking, PureNext, further, over, caused}
 use Rattle.checked_paths.proofs.Above.{stands_above}
 use Rattle.checked_paths.proofs.Accounting.{accounted_runs}
-use Rattle.spec_exploration.specs.Exploring.{PureExploration, furthers, AreTaken, ArePlaced, StartPlaced, IsSettled, IsSettledBy, SettlesStarts}
+use Rattle.spec_exploration.specs.Exploring.{PureExploration, furthers, IsNamed, AreTaken, ArePlaced, StartPlaced, IsSettled, IsSettledBy, SettlesStarts}
 
-some_is_not_none : (o : Option Cause) → IsSome o → o ≡ None → ⊥
+pub some_is_not_none : {A : Type 0} (o : Option A) → IsSome o → o ≡ None → ⊥
 some_is_not_none o some none = true≢false (sym some ∙ ap is_some none)
 
 -- ---- what is taken
@@ -38,7 +38,12 @@ module _ {S : Type 0} where
   furthers_append (caused cause ∷ ns) more = furthers_append ns more
 
   pub taken_none : (a : PureExploration S) → AreTaken a [] a
-  taken_none a = record { left = sym (append-nil a.left); no_cause = λ none. (none, tt); uses = refl }
+  taken_none a = record { left = sym (append-nil a.left); no_cause = λ none. (none, tt); cause = λ c is. inl is; uses = refl }
+
+  -- a cause is an old one, or among earlier or later answers
+  among_both : (o : Option Cause) (c : Cause) (ns more : List (PureNext S)) → (o ≡ Some c) ⊎ OneOf (λ n. n ≡ caused c) ns → (o ≡ Some c) ⊎ OneOf (λ n. n ≡ caused c) (ns ++ more)
+  among_both o c ns more (inl old) = inl old
+  among_both o c ns more (inr one) = inr (one_left (λ n. n ≡ caused c) ns more one)
 
   pub taken_more : (a b c : PureExploration S) (ns more : List (PureNext S)) → AreTaken a ns b → AreTaken b more c → AreTaken a (ns ++ more) c
   taken_more a b c ns more first second = record {
@@ -47,22 +52,29 @@ module _ {S : Type 0} where
         let last = second.no_cause none in
         let before = first.no_cause last.0 in
         (before.0, each_append (λ n. ¬ IsCaused n) ns more before.1 last.1);
+    cause = λ d is.
+        ⊎_elim (λ (old : b.cause ≡ Some d). among_both a.cause d ns more (first.cause d old)) (λ one. inr (one_right (λ n. n ≡ caused d) ns more one)) (second.cause d is);
     uses = second.uses ∙ first.uses;
   }
 
   further_taken : (a : PureExploration S) (x : PureChecking S) → AreTaken a (further x ∷ []) (record a { left = a.left ++ x ∷ [] })
-  further_taken a x = record { left = refl; no_cause = λ none. (none, ((λ is. is), tt)); uses = refl }
+  further_taken a x = record { left = refl; no_cause = λ none. (none, ((λ is. is), tt)); cause = λ c is. inl is; uses = refl }
 
   pub taken_further : (a b : PureExploration S) (x : PureChecking S) → b ≡ record a { left = a.left ++ x ∷ [] } → AreTaken a (further x ∷ []) b
   taken_further a b x is = subst (AreTaken a (further x ∷ [])) (sym is) (further_taken a x)
 
   pub taken_over : (a : PureExploration S) → AreTaken a (over ∷ []) a
-  taken_over a = record { left = sym (append-nil a.left); no_cause = λ none. (none, ((λ is. is), tt)); uses = refl }
+  taken_over a = record { left = sym (append-nil a.left); no_cause = λ none. (none, ((λ is. is), tt)); cause = λ c is. inl is; uses = refl }
 
-  pub taken_cause : (a b : PureExploration S) (cause : Cause) → b.left ≡ a.left → IsSome b.cause → b.uses ≡ a.uses → AreTaken a (caused cause ∷ []) b
+  named_among : (old : Option Cause) (new : Cause) (o : Option Cause) → IsNamed old new o → (c : Cause) → o ≡ Some c → (old ≡ Some c) ⊎ OneOf (λ (n : PureNext S). n ≡ caused c) (caused new ∷ [])
+  named_among old new o named c is =
+      ⊎_elim (λ (same : o ≡ old). inl (sym same ∙ is)) (λ (later : o ≡ Some new). inr (inl (ap caused (same_some (sym later ∙ is))))) named.which
+
+  pub taken_cause : (a b : PureExploration S) (cause : Cause) → b.left ≡ a.left → IsNamed a.cause cause b.cause → b.uses ≡ a.uses → AreTaken a (caused cause ∷ []) b
   taken_cause a b cause left found uses = record {
     left = left ∙ sym (append-nil a.left);
-    no_cause = λ none. absurd (some_is_not_none b.cause found none);
+    no_cause = λ none. absurd (some_is_not_none b.cause found.some none);
+    cause = named_among a.cause cause b.cause found;
     uses = uses;
   }
 
@@ -91,11 +103,11 @@ of_furthers P (further x ∷ ns) each none = (each.0, of_furthers P ns each.1 no
 of_furthers P (over ∷ ns) each none = (tt, of_furthers P ns each none.1)
 of_furthers P (caused cause ∷ ns) each none = absurd (none.0 tt)
 
-each_zip : {A : Type 0} (P Q R : A → Type 0) (xs : List A) → ((x : A) → P x → Q x → R x) → Each P xs → Each Q xs → Each R xs
+pub each_zip : {A : Type 0} (P Q R : A → Type 0) (xs : List A) → ((x : A) → P x → Q x → R x) → Each P xs → Each Q xs → Each R xs
 each_zip P Q R [] f first second = tt
 each_zip P Q R (x ∷ xs) f first second = (f x first.0 second.0, each_zip P Q R xs f first.1 second.1)
 
-further_each : {S : Type 0} (P : PureChecking S → Type 0) (Q : PureNext S → Type 0) → ((x : PureChecking S) → Q (further x) → P x) → (ns : List (PureNext S)) → Each Q ns → Each P (furthers ns)
+pub further_each : {S : Type 0} (P : PureChecking S → Type 0) (Q : PureNext S → Type 0) → ((x : PureChecking S) → Q (further x) → P x) → (ns : List (PureNext S)) → Each Q ns → Each P (furthers ns)
 further_each P Q f [] each = tt
 further_each P Q f (further x ∷ ns) each = (f x each.0, further_each P Q f ns each.1)
 further_each P Q f (over ∷ ns) each = further_each P Q f ns each.1

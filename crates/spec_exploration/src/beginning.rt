@@ -1,42 +1,59 @@
 //! The starts of a specification as checked paths.
-ghost use Rattle.std.specs.Prelude.{◌≡◌, IfOk};
+ghost use Rattle.std.specs.Prelude.{◌≡◌, IfOk, IsSome};
+ghost use Rattle.std.specs.Option.{option_map};
+ghost use Rattle.checked_paths.specs.Pure.{further};
 ghost use Rattle.checked_paths.specs.View.{next_view, nexts_view};
-ghost use Rattle.spec_exploration.specs.Beginning.{AreStartsOf, IsStartOf};
+ghost use Rattle.gil_machine.specs.Step.{command_of};
+ghost use Rattle.gil_program.specs.Program.{prog_view};
+ghost use Rattle.gil_syntax.specs.Programs.{find_proc};
+ghost use Rattle.gil_syntax.specs.View.{numbered_command_view, spec_view};
+ghost use Rattle.spec_causes.specs.Reaching.{checked_start};
+ghost use Rattle.spec_exploration.specs.Beginning.{AreStartsOf, IsFirstPlace, IsStartOf, IsStartOver};
+ghost use Rattle.sym_asking.specs.Asking.{IsOutside};
 ghost use Rattle.sym_beginning.specs.View.{start_view, starts_view};
+ghost use Rattle.sym_model.specs.Lists.{Each};
+ghost use Rattle.sym_paths.specs.View.{path_view};
 
 use checked_paths::{Cause, Checking, Next, Nexts, Shown};
+use gil_program::Prog;
+use gil_syntax::{NumberedCommand, Spec};
 use gil_values::Place;
-use pure_terms::{Atom, Atoms, Reason};
+use pure_terms::{Decider, Reason};
 use sequence::Sequence;
 use std::alloc::{AllocError, Global};
-use sym_asking::needs_form;
+use sym_asking::{Satisfiability, ask, needs_form};
 use sym_beginning::{Started, Starts};
 use sym_model::ListedMemory;
 
-/// The place of the first condition that a literal form is needed, if there is one.
-fn first_open(conds: &Atoms) -> usize {
-    let items = conds.as_slice();
-    for place in 0..items.len() {
-        if let Atom::Open(_) = items[place] {
-            return place;
-        }
-    }
-    0
+/// The first command of a specification's procedure.
+fn first_command<'p>(prog: &'p Prog, spec: &Spec) -> Option<&'p NumberedCommand>
+    ensures { option_map (λ c. numbered_command_view c.now) result
+        ≡ command_of (find_proc (prog_view prog.now).procs (spec_view spec.now).name) 0 }
+{
+    let proc = prog.proc(&spec.name)?;
+    proc.body.as_slice().get(0)
 }
 
-/// The checked path of a start, where its conditions need no literal form.
-fn start_of<M: ListedMemory>(
-    alloc: Global,
-    here: &Place,
-    started: Started<M>,
-) -> Result<Next<M>, AllocError>
-    ensures { IfOk result (λ n. IsStartOf (start_view started) (next_view n)) }
+/// The place of that command.
+pub(crate) fn first_place(alloc: Global, prog: &Prog, spec: &Spec) -> Result<Place, AllocError>
+    requires { IsSome (command_of (find_proc (prog_view prog.now).procs (spec_view spec.now).name) 0) }
+    ensures { IfOk result (IsFirstPlace (prog_view prog.now) (spec_view spec.now)) }
 {
-    if needs_form(started.path.conds.atoms()) {
-        let shown = Shown::of(alloc, here, &started.path)?;
-        let reason = Reason::Atom(first_open(&shown.conds));
-        return Ok(Next::Caused(Cause::Unknown(reason, shown)));
-    }
+    let numbered = match first_command(prog, spec) {
+        Some(numbered) => numbered,
+        None => unreachable!(),
+    };
+    let proc = spec.name.copy(alloc)?;
+    Ok(Place {
+        proc,
+        at: numbered.at,
+    })
+}
+
+/// The checked path of a start, whose frame passed no invariant.
+fn path_from<M: ListedMemory>(alloc: Global, started: Started<M>) -> Result<Next<M>, AllocError>
+    ensures { IfOk result (λ n. next_view n ≡ further (checked_start (start_view started))) }
+{
     let Started { path, preds } = started;
     let mut passed = Sequence::new(alloc);
     passed.push(Sequence::new(alloc))?;
@@ -47,17 +64,58 @@ fn start_of<M: ListedMemory>(
     }))
 }
 
-/// The checked paths of all starts, in order.
-pub(crate) fn starts_of<M: ListedMemory>(
+/// What is answered of a start whose conditions aren't decided, for this reason: where none of them needs a literal form, its path.
+fn undecided_start<M: ListedMemory>(
     alloc: Global,
+    here: &Place,
+    started: Started<M>,
+    reason: Reason,
+) -> Result<Next<M>, AllocError>
+    requires { IsOutside (path_view started.path).conds reason }
+    ensures { IfOk result (λ n. IsStartOf here.now (start_view started) (next_view n)) }
+{
+    if needs_form(started.path.conds.atoms()) {
+        let shown = Shown::of(alloc, here, &started.path)?;
+        return Ok(Next::Caused(Cause::Unknown(reason, shown)));
+    }
+    path_from(alloc, started)
+}
+
+/// What is answered of a start. Its conditions are decided once: where no valuation meets them, no run begins on it.
+fn start_of<M: ListedMemory, D: Decider>(
+    alloc: Global,
+    decider: &mut D,
+    here: &Place,
+    started: Started<M>,
+) -> Result<Next<M>, AllocError>
+    requires { IsStartOver (start_view started) }
+    ensures { IfOk result (λ n. IsStartOf here.now (start_view started) (next_view n)) }
+{
+    match ask(
+        alloc,
+        decider,
+        &started.path.vars,
+        started.path.conds.atoms(),
+    )? {
+        Satisfiability::Satisfiable(_) => path_from(alloc, started),
+        Satisfiability::Unsatisfiable => Ok(Next::Over),
+        Satisfiability::Undecided(reason) => undecided_start(alloc, here, started, reason),
+    }
+}
+
+/// What is answered of all starts, in order.
+pub(crate) fn starts_of<M: ListedMemory, D: Decider>(
+    alloc: Global,
+    decider: &mut D,
     here: &Place,
     starts: Starts<M>,
 ) -> Result<Nexts<M>, AllocError>
-    ensures { IfOk result (λ ns. AreStartsOf (starts_view starts) (nexts_view ns)) }
+    requires { Each IsStartOver (starts_view starts) }
+    ensures { IfOk result (λ ns. AreStartsOf here.now (starts_view starts) (nexts_view ns)) }
 {
     let mut nexts = Sequence::new(alloc);
     for started in starts.into_vec() {
-        nexts.push(start_of(alloc, here, started)?)?;
+        nexts.push(start_of(alloc, decider, here, started)?)?;
     }
     Ok(nexts)
 }

@@ -1,47 +1,54 @@
 //! Steps of checked paths until each has an end, or as many as the bound were done.
-ghost use Rattle.std.specs.Prelude.{◌≡◌, ◌≤◌, ◌∷◌, ◌++◌, [], Some, IfOk, IfNone};
-ghost use Rattle.std.specs.Option.{IsSome};
+ghost use Rattle.std.specs.Prelude.{◌≡◌, ◌≤◌, ◌∷◌, ◌++◌, [], Some, IfOk, IfNone, IfSome};
 ghost use Rattle.assert_logic.specs.Modes.{HasModes};
 ghost use Rattle.checked_paths.specs.Accounting.{CoversStarts};
+ghost use Rattle.checked_paths.specs.Causes.{cause_view, shown_in};
 ghost use Rattle.checked_paths.specs.Meaning.{MayGoOn};
-ghost use Rattle.checked_paths.specs.Pure.{further, caused};
 ghost use Rattle.checked_paths.specs.View.{checking_view, entry_view, next_view, nexts_view};
 ghost use Rattle.checked_runs.specs.Checked.{HasNoFault, UsesOnly};
 ghost use Rattle.gil_program.specs.Program.{prog_view};
 ghost use Rattle.gil_syntax.specs.Programs.{find_spec};
 ghost use Rattle.gil_syntax.specs.Valid.{is_among};
 ghost use Rattle.gil_syntax.specs.View.{spec_view};
-ghost use Rattle.spec_exploration.specs.Exploring.{AreTaken, IsSettledBy, ArePlaced, StartPlaced, exploration_view};
+ghost use Rattle.spec_causes.specs.Causes.{IsCauseOf, entry_for};
+ghost use Rattle.spec_causes.specs.Reaching.{IsFoundCause, IsKnown};
+ghost use Rattle.spec_exploration.specs.Exploring.{ArePlaced, AreReached, AreTaken, IsCutAt, IsMetOf, IsNamed, IsReachedNext, IsReachedWithin, IsSettledBy, StartPlaced, exploration_view};
 ghost use Rattle.sym_model.specs.Lists.{Each};
 
-use crate::beginning::starts_of;
-use crate::showing::show;
+use crate::beginning::{first_place, starts_of};
+use crate::finding::{command_of, place_of};
 use crate::stepping::check_step;
 use checked_paths::{Cause, Checking, Entered, FaultKind, Next, Nexts, Shown, Stepped};
 use gil_program::Prog;
 use gil_syntax::{Spec, Texts};
-use gil_values::Place;
 use pure_terms::Decider;
 use rewrite_book::RuleBook;
 use sequence::Sequence;
+use spec_causes::{Met, show};
 use std::alloc::{AllocError, Global};
 use sym_beginning::{Beginnings, begin_specification};
 use sym_model::ListedMemory;
-use sym_paths::{Path, running};
 
 /// What an exploration found: the first cause in the order of their kinds, if there is one; and the names of the specifications that
 /// were used.
 #[derive(Debug, Drop)]
 pub struct Explored {
-    pub cause: Option<Cause>,
+    pub cause: Option<Met>,
     pub uses: Texts,
+}
+
+/// The same, where no valuation need be known that leads to the cause.
+#[derive(Debug, Drop)]
+pub(crate) struct Found {
+    cause: Option<Cause>,
+    uses: Texts,
 }
 
 /// Paths that are left to be explored, the next one last, and what was found so far.
 #[derive(Debug, Drop)]
 pub(crate) struct Exploration<M> {
     left: Vec<Checking<M>>,
-    found: Explored,
+    found: Found,
 }
 
 /// The place of a cause among the kinds of causes.
@@ -60,7 +67,7 @@ fn rank(cause: &Cause) -> u8 {
 
 /// The one that is named of two causes: that of the lower rank, and else the first.
 fn named(old: Option<Cause>, new: Cause) -> Option<Cause>
-    ensures { IsSome result }
+    ensures { IsNamed old new result }
 {
     match old {
         Some(cause) => {
@@ -101,14 +108,14 @@ fn with_path<M: ListedMemory>(
 /// The exploration in which a cause was found.
 fn with_cause<M: ListedMemory>(exploration: Exploration<M>, cause: Cause) -> Exploration<M>
     ensures left { (exploration_view result).left ≡ (exploration_view exploration).left }
-    ensures cause { IsSome (exploration_view result).cause }
+    ensures cause { IsNamed (exploration_view exploration).cause cause (exploration_view result).cause }
     ensures uses { (exploration_view result).uses ≡ (exploration_view exploration).uses }
 {
     let Exploration { left, found } = exploration;
-    let Explored { cause: old, uses } = found;
+    let Found { cause: old, uses } = found;
     Exploration {
         left,
-        found: Explored {
+        found: Found {
             cause: named(old, cause),
             uses,
         },
@@ -124,11 +131,11 @@ fn with_uses<M: ListedMemory>(
         ≡ record (exploration_view exploration) { uses = (exploration_view exploration).uses ++ more }) }
 {
     let Exploration { left, found } = exploration;
-    let Explored { cause, uses } = found;
+    let Found { cause, uses } = found;
     let uses = with_names(uses, more)?;
     Ok(Exploration {
         left,
-        found: Explored { cause, uses },
+        found: Found { cause, uses },
     })
 }
 
@@ -160,25 +167,24 @@ fn take<M: ListedMemory>(
     Ok(exploration)
 }
 
-/// The place of the command at which a path stands.
-fn place_of<M: ListedMemory>(
+/// The cause of a path that has done as many steps as the bound.
+fn cut<M: ListedMemory>(
     alloc: Global,
     prog: &Prog,
-    path: &Path<M>,
-) -> Result<Place, AllocError> {
-    let Some(frame) = running(&path.stack) else {
-        return Err(AllocError);
+    spec: &Spec,
+    entered: &Entered,
+    checking: &Checking<M>,
+) -> Result<Cause, AllocError>
+    requires { MayGoOn (prog_view prog.now) M.terms (entry_view spec.now entered.now) (checking_view checking.now) }
+    ensures { IfOk result (λ cause. IsCutAt (prog_view prog.now) (checking_view checking.now).path (cause_view cause)) }
+{
+    let numbered = match command_of(prog, &checking.path.stack) {
+        Some(numbered) => numbered,
+        None => unreachable!(),
     };
-    let Some(proc) = prog.proc(&frame.proc) else {
-        return Err(AllocError);
-    };
-    let Some(numbered) = proc.body.as_slice().get(frame.next) else {
-        return Err(AllocError);
-    };
-    Ok(Place {
-        proc: frame.proc.copy(alloc)?,
-        at: numbered.at,
-    })
+    let place = place_of(alloc, &checking.path.stack, numbered)?;
+    let shown = Shown::of(alloc, &place, &checking.path)?;
+    Ok(Cause::Cut(shown))
 }
 
 /// The exploration after the next step of a path, which is cut where it has done as many as the bound.
@@ -197,16 +203,21 @@ fn advance<M: ListedMemory, D: Decider>(
     requires found { find_spec (prog_view prog.now).specs (spec_view spec.now).name ≡ Some (spec_view spec.now) }
     requires modes { HasModes (prog_view prog.now) M.Local.memory }
     requires may { MayGoOn (prog_view prog.now) M.terms (entry_view spec.now entered.now) (checking_view checking) }
+    requires reached { IsReachedWithin (prog_view prog.now) M.Local.memory M.Local.actions M.stands M.terms
+        (entry_view spec.now entered.now) bound (checking_view checking) }
     requires placed { ArePlaced (prog_view prog.now) M.terms (entry_view spec.now entered.now) (exploration_view exploration) }
+    requires all_reached { AreReached (prog_view prog.now) M.Local.memory M.Local.actions M.stands M.terms
+        (entry_view spec.now entered.now) bound (exploration_view exploration) }
     ensures settled { IfOk result (λ after. IsSettledBy (prog_view prog.now) M.Local.memory M.Local.actions M.stands
         (entry_view spec.now entered.now) bound (record (exploration_view exploration) { left = (exploration_view exploration).left ++ checking_view checking ∷ [] })
         (exploration_view after)) }
     ensures placed { IfOk result (λ after. ArePlaced (prog_view prog.now) M.terms (entry_view spec.now entered.now) (exploration_view after)) }
+    ensures all_reached { IfOk result (λ after. AreReached (prog_view prog.now) M.Local.memory M.Local.actions M.stands M.terms
+        (entry_view spec.now entered.now) bound (exploration_view after)) }
 {
     if checking.path.steps >= bound {
-        let place = place_of(alloc, prog, &checking.path)?;
-        let shown = Shown::of(alloc, &place, &checking.path)?;
-        return take_one(exploration, Next::Caused(Cause::Cut(shown)));
+        let cause = cut(alloc, prog, spec, entered, &checking)?;
+        return take_one(exploration, Next::Caused(cause));
     }
     let stepped = check_step(alloc, prog, rules, spec, entered, checking, decider)?;
     let Stepped { nexts, uses } = stepped;
@@ -214,9 +225,9 @@ fn advance<M: ListedMemory, D: Decider>(
     take(exploration, nexts)
 }
 
-/// Does steps of the paths of a specification until nothing is left of them, from starts that cover those of its checked runs. After
-/// 2^64 - 1 steps it answers want of memory.
-pub fn explore_from<M: ListedMemory, D: Decider>(
+/// Does steps of the paths of a specification until nothing is left of them, from starts that cover those of its checked runs, and that
+/// runs reach. After 2^64 - 1 steps it answers want of memory.
+fn explore_from<M: ListedMemory, D: Decider>(
     alloc: Global,
     prog: &Prog,
     rules: &RuleBook,
@@ -225,19 +236,23 @@ pub fn explore_from<M: ListedMemory, D: Decider>(
     starts: Nexts<M>,
     bound: u32,
     decider: &mut D,
-) -> Result<Explored, AllocError>
+) -> Result<Found, AllocError>
     requires bounded { bound ≤ 10000 }
     requires found { find_spec (prog_view prog.now).specs (spec_view spec.now).name ≡ Some (spec_view spec.now) }
     requires modes { HasModes (prog_view prog.now) M.Local.memory }
     requires cover { CoversStarts (prog_view prog.now) M.Local.memory M.Local.actions M.stands (entry_view spec.now entered.now)
         (nexts_view starts) }
     requires placed { Each (StartPlaced (prog_view prog.now) M.terms (entry_view spec.now entered.now)) (nexts_view starts) }
-    ensures { IfOk result (λ explored. IfNone explored.cause (HasNoFault (prog_view prog.now) M.Local.memory M.Local.actions (spec_view spec.now)
-        × UsesOnly (prog_view prog.now) M.Local.memory M.Local.actions (is_among explored.uses) (spec_view spec.now))) }
+    requires reached { Each (IsReachedNext (prog_view prog.now) M.Local.memory M.Local.actions M.stands M.terms
+        (entry_view spec.now entered.now) bound) (nexts_view starts) }
+    ensures verified { IfOk result (λ found. IfNone found.cause (HasNoFault (prog_view prog.now) M.Local.memory M.Local.actions (spec_view spec.now)
+        × UsesOnly (prog_view prog.now) M.Local.memory M.Local.actions (is_among found.uses) (spec_view spec.now))) }
+    ensures causes { IfOk result (λ found. IfSome found.cause (λ cause. IsFoundCause (prog_view prog.now) M.Local.memory M.Local.actions
+        (entry_view spec.now entered.now) bound (cause_view cause))) }
 {
     let mut exploration = Exploration {
         left: Vec::new(alloc),
-        found: Explored {
+        found: Found {
             cause: None,
             uses: Sequence::new(alloc),
         },
@@ -262,7 +277,28 @@ pub fn explore_from<M: ListedMemory, D: Decider>(
     Err(AllocError)
 }
 
-/// Explores the checked paths of a specification within a bound of steps.
+/// The cause that was found, if there is one, with a valuation that leads to it, beside the terms of the entry.
+fn met<D: Decider>(
+    alloc: Global,
+    decider: &mut D,
+    entered: Entered,
+    cause: Option<Cause>,
+) -> Result<Option<Met>, AllocError>
+    requires { IfSome cause (λ c. IsKnown (shown_in (cause_view c))) }
+    ensures { IfOk result (λ o. IsMetOf cause entered o) }
+{
+    match cause {
+        Some(cause) => {
+            let cause = show(alloc, decider, cause)?;
+            Ok(Some(Met { cause, entered }))
+        }
+        None => Ok(None),
+    }
+}
+
+/// Explores the checked paths of a specification within a bound of steps. Where there is no cause, none of its checked runs has a fault,
+/// and each uses only the named specifications. A cause is right: runs come to it wherever its conditions are met, and a valuation is
+/// shown that meets them unless they aren't in the fragment.
 pub fn explore_specification<M: ListedMemory, D: Decider>(
     alloc: Global,
     prog: &Prog,
@@ -274,8 +310,11 @@ pub fn explore_specification<M: ListedMemory, D: Decider>(
     requires bounded { bound ≤ 10000 }
     requires found { find_spec (prog_view prog.now).specs (spec_view spec.now).name ≡ Some (spec_view spec.now) }
     requires modes { HasModes (prog_view prog.now) M.Local.memory }
-    ensures { IfOk result (λ explored. IfNone explored.cause (HasNoFault (prog_view prog.now) M.Local.memory M.Local.actions (spec_view spec.now)
+    ensures verified { IfOk result (λ explored. IfNone explored.cause (HasNoFault (prog_view prog.now) M.Local.memory M.Local.actions
+        (spec_view spec.now)
         × UsesOnly (prog_view prog.now) M.Local.memory M.Local.actions (is_among explored.uses) (spec_view spec.now))) }
+    ensures causes { IfOk result (λ explored. IfSome explored.cause (λ met. IsCauseOf (prog_view prog.now) M.Local.memory M.Local.actions
+        (spec_view spec.now) bound (entry_for (spec_view spec.now) met.entered) (cause_view met.cause))) }
 {
     let Beginnings {
         vars: _,
@@ -284,14 +323,11 @@ pub fn explore_specification<M: ListedMemory, D: Decider>(
         starts,
     } = begin_specification::<M>(alloc, prog, spec)?;
     let entered = Entered { args, variables };
-    let here = Place {
-        proc: spec.name.copy(alloc)?,
-        at: 0,
-    };
-    let starts = starts_of(alloc, &here, starts)?;
-    let Explored { cause, uses } = explore_from(
+    let here = first_place(alloc, prog, spec)?;
+    let starts = starts_of(alloc, decider, &here, starts)?;
+    let Found { cause, uses } = explore_from(
         alloc, prog, rules, spec, &entered, starts, bound, decider,
     )?;
-    let cause = show(alloc, decider, cause)?;
+    let cause = met(alloc, decider, entered, cause)?;
     Ok(Explored { cause, uses })
 }

@@ -1,10 +1,12 @@
 //! The command at which a path stands, and its place.
-ghost use Rattle.std.specs.Prelude.{◌≡◌, IfSome};
+ghost use Rattle.std.specs.Prelude.{◌≡◌, IfOk, IfSome, Some};
 ghost use Rattle.std.specs.Option.{option_map};
 ghost use Rattle.gil_program.specs.Program.{prog_view};
+ghost use Rattle.gil_syntax.specs.Pure.{PureParts};
 ghost use Rattle.gil_syntax.specs.View.{numbered_command_view};
 ghost use Rattle.sym_engine.specs.Lawful.{MayAdvance};
 ghost use Rattle.sym_paths.specs.Meaning.{command_of_frames};
+ghost use Rattle.sym_paths.specs.Steps.{IsPlaceOf};
 ghost use Rattle.sym_paths.specs.View.{frames_view};
 
 use gil_program::Prog;
@@ -29,12 +31,16 @@ pub(crate) fn place_of(
     alloc: Global,
     frames: &Frames,
     numbered: &NumberedCommand,
-) -> Result<Place, AllocError> {
-    match running(frames) {
-        Some(frame) => Ok(Place {
-            proc: frame.proc.copy(alloc)?,
-            at: numbered.at,
-        }),
-        None => Err(AllocError),
-    }
+) -> Result<Place, AllocError>
+    ensures { IfOk result (λ place. (p : PureParts) → command_of_frames p (frames_view frames.now) ≡ Some (numbered_command_view numbered.now)
+        → IsPlaceOf p (frames_view frames.now) place) }
+{
+    let Some(frame) = running(frames) else {
+        return Err(AllocError);
+    };
+    let proc = frame.proc.copy(alloc)?;
+    Ok(Place {
+        proc,
+        at: numbered.at,
+    })
 }

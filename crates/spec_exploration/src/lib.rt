@@ -4,7 +4,6 @@
 mod beginning;
 mod exploration;
 mod finding;
-mod showing;
 mod stepping;
 
-pub use exploration::{Explored, explore_from, explore_specification};
+pub use exploration::{Explored, explore_specification};

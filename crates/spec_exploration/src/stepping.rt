@@ -3,11 +3,12 @@ ghost use Rattle.std.specs.Prelude.{◌≡◌, ◌<◌, [], Some, IfOk, IsTrue, 
 ghost use Rattle.assert_logic.specs.Modes.{HasModes};
 ghost use Rattle.call_rows.specs.Calling.{IsCall};
 ghost use Rattle.checked_paths.specs.Covering.{AreNexts};
+ghost use Rattle.checked_paths.specs.Exactness.{AreExact};
 ghost use Rattle.checked_paths.specs.Following.{is_of_machine as is_machine_command};
 ghost use Rattle.checked_paths.specs.Meaning.{MayGoOn};
 ghost use Rattle.checked_paths.specs.View.{checking_view, entry_view, nexts_view};
 ghost use Rattle.checked_rows.specs.Ending.{IsLeaving};
-ghost use Rattle.checked_rows.specs.Rows.{AreRowOf};
+ghost use Rattle.checked_rows.specs.Rows.{AreRowOf, IsExactRowOf};
 ghost use Rattle.gil_program.specs.Program.{prog_view};
 ghost use Rattle.gil_syntax.specs.Programs.{find_spec};
 ghost use Rattle.gil_syntax.specs.Pure.{PureCommand};
@@ -90,8 +91,10 @@ fn leave<M: ListedMemory, D: Decider>(
     requires modes { HasModes (prog_view prog.now) M.Local.memory }
     requires may { MayGoOn (prog_view prog.now) M.terms (entry_view spec.now entered.now) (checking_view checking) }
     requires early { checking.path.steps < most_steps }
-    ensures { IfOk result (λ ns. (command : PureCommand) → IsLeaving command → AreRowOf (prog_view prog.now) M.Local.memory M.Local.actions
+    ensures next { IfOk result (λ ns. (command : PureCommand) → IsLeaving command → AreRowOf (prog_view prog.now) M.Local.memory M.Local.actions
         M.stands M.terms (entry_view spec.now entered.now) (checking_view checking) command [] (nexts_view ns)) }
+    ensures exact { IfOk result (λ ns. (command : PureCommand) → IsLeaving command → IsExactRowOf (prog_view prog.now) M.Local.memory
+        M.Local.actions M.stands M.terms (entry_view spec.now entered.now) (checking_view checking) command here.now (nexts_view ns)) }
 {
     let Some(proc) = prog.proc(&spec.name) else {
         unreachable!();
@@ -119,8 +122,10 @@ fn step_at<M: ListedMemory, D: Decider>(
     requires no_call { ¬ IsCall (numbered_command_view numbered.now).command }
     requires at { command_of_path (prog_view prog.now) (path_view checking.path) ≡ Some (numbered_command_view numbered.now) }
     requires next { MayAdvance (frames_view checking.path.stack) }
-    ensures { IfOk result (λ ns. AreNexts (prog_view prog.now) M.Local.memory M.Local.actions M.stands M.terms (entry_view spec.now entered.now)
-        (checking_view checking) [] (nexts_view ns)) }
+    ensures next { IfOk result (λ ns. AreNexts (prog_view prog.now) M.Local.memory M.Local.actions M.stands M.terms
+        (entry_view spec.now entered.now) (checking_view checking) [] (nexts_view ns)) }
+    ensures exact { IfOk result (λ ns. AreExact (prog_view prog.now) M.Local.memory M.Local.actions M.stands
+        (entry_view spec.now entered.now) (checking_view checking) (nexts_view ns)) }
 {
     let here = place_of(alloc, &checking.path.stack, numbered)?;
     if is_leaving(&numbered.command) {
@@ -172,8 +177,10 @@ fn step_call<M: ListedMemory, D: Decider>(
     requires early { checking.path.steps < most_steps }
     requires at { command_of_path (prog_view prog.now) (path_view checking.path) ≡ Some (numbered_command_view numbered.now) }
     requires call { IsCall (numbered_command_view numbered.now).command }
-    ensures { IfOk result (λ s. AreNexts (prog_view prog.now) M.Local.memory M.Local.actions M.stands M.terms (entry_view spec.now entered.now)
-        (checking_view checking) s.uses (nexts_view s.nexts)) }
+    ensures next { IfOk result (λ s. AreNexts (prog_view prog.now) M.Local.memory M.Local.actions M.stands M.terms
+        (entry_view spec.now entered.now) (checking_view checking) s.uses (nexts_view s.nexts)) }
+    ensures exact { IfOk result (λ s. AreExact (prog_view prog.now) M.Local.memory M.Local.actions M.stands
+        (entry_view spec.now entered.now) (checking_view checking) (nexts_view s.nexts)) }
 {
     let here = place_of(alloc, &checking.path.stack, numbered)?;
     call_row(alloc, prog, rules, spec, entered, checking, &here, decider)
@@ -193,8 +200,10 @@ pub(crate) fn check_step<M: ListedMemory, D: Decider>(
     requires modes { HasModes (prog_view prog.now) M.Local.memory }
     requires may { MayGoOn (prog_view prog.now) M.terms (entry_view spec.now entered.now) (checking_view checking) }
     requires early { checking.path.steps < most_steps }
-    ensures { IfOk result (λ s. AreNexts (prog_view prog.now) M.Local.memory M.Local.actions M.stands M.terms (entry_view spec.now entered.now)
-        (checking_view checking) s.uses (nexts_view s.nexts)) }
+    ensures next { IfOk result (λ s. AreNexts (prog_view prog.now) M.Local.memory M.Local.actions M.stands M.terms
+        (entry_view spec.now entered.now) (checking_view checking) s.uses (nexts_view s.nexts)) }
+    ensures exact { IfOk result (λ s. AreExact (prog_view prog.now) M.Local.memory M.Local.actions M.stands
+        (entry_view spec.now entered.now) (checking_view checking) (nexts_view s.nexts)) }
 {
     let numbered = match command_of(prog, &checking.path.stack) {
         Some(numbered) => numbered,

@@ -8,6 +8,7 @@ use path_solver::PathSolver;
 use record_sym::RecordSym;
 use rewrite_book::RuleBook;
 use spec_answers::Verdict;
+use spec_causes::Met;
 use spec_checker::check;
 use std::alloc::Global;
 use std::process::Abort;
@@ -25,16 +26,23 @@ fn fault_word(kind: FaultKind) -> &'static str {
     }
 }
 
+/// The word of a cause.
+fn cause_word(cause: &Cause) -> &'static str {
+    match cause {
+        Cause::Fails(_, _) => "fails",
+        Cause::Fault(kind, _) => fault_word(*kind),
+        Cause::Cut(_) => "cut",
+        Cause::Unknown(_, _) => "unknown",
+    }
+}
+
 /// The word of an answer.
-fn verdict_word(verdict: &Verdict<Cause>) -> &'static str {
+fn verdict_word(verdict: &Verdict<Met>) -> &'static str {
     match verdict {
         Verdict::Verified => "verified",
         Verdict::Vacuous(_) => "vacuous",
         Verdict::DependsOn(_) => "depends",
-        Verdict::Unproved(Cause::Fails(_, _)) => "fails",
-        Verdict::Unproved(Cause::Fault(kind, _)) => fault_word(*kind),
-        Verdict::Unproved(Cause::Cut(_)) => "cut",
-        Verdict::Unproved(Cause::Unknown(_, _)) => "unknown",
+        Verdict::Unproved(met) => cause_word(&met.cause),
     }
 }
 

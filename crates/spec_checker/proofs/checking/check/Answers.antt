@@ -1,6 +1,6 @@
 use Rattle.std.proofs.lemmas.Result.{IfOk-weaker}
 use Rattle.gil_program.specs.Program.{prog_view}
-use Rattle.spec_checker.proofs.Answered.{answered_each, answers_hold}
+use Rattle.spec_checker.proofs.Answered.{answered_each, answered_causes, answers_hold}
 use Rattle.spec_checker.proofs.checking.check.Goals as goal
 
 pub returns : goal.returns
@@ -10,9 +10,10 @@ returns g c =
     let m = g.M.Local.LocalMemory.actions in
     let xs = c.in_ok-examined.examined in
     record {
-      answers = IfOk-weaker c.answer_specifications.result _ _ (λ answers right. answered_each p memory m xs c.in_ok-examined.ensures answers right) c.answer_specifications.ensures;
+      answers = IfOk-weaker c.answer_specifications.result _ _ (λ answers right. answered_each p memory m c.args.bound xs c.in_ok-examined.ensures answers right) c.answer_specifications.ensures;
       hold =
           IfOk-weaker c.answer_specifications.result _ _
-          (λ answers right. answers_hold p memory m xs c.in_ok-examined.ensures answers right c.args.prog.now.valid c.args.prog.now.well_made c.requires.modes g.met.M.Local.LocalMemory.laws)
+          (λ answers right. answers_hold p memory m c.args.bound xs c.in_ok-examined.ensures answers right c.args.prog.now.valid c.args.prog.now.well_made c.requires.modes g.met.M.Local.LocalMemory.laws)
           c.answer_specifications.ensures;
+      causes = IfOk-weaker c.answer_specifications.result _ _ (λ answers right. answered_causes p memory m c.args.bound xs c.in_ok-examined.ensures answers right) c.answer_specifications.ensures;
     }

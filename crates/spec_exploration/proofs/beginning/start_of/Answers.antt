@@ -1,23 +1,31 @@
-use Rattle.std.proofs.Common.{◌≡◌, [], ◌∷◌, ◌++◌, true, false, sym, ap, ◌∙◌}
-use Rattle.sym_asking.proofs.Fragments.{open_seen}
+use Rattle.std.proofs.Common.{inl, subst, sym}
+use Rattle.std.proofs.lemmas.Result.{IfOk-weaker}
+use Rattle.gil_values.specs.View.{values_view}
+use Rattle.pure_terms.specs.Meaning.{AreOver}
+use Rattle.sym_asking.specs.Asking.{IsRightly, IsSolution}
+use Rattle.sym_asking.specs.View.{satisfiability_view}
 use Rattle.sym_beginning.specs.View.{start_view}
-use Rattle.sym_model.specs.Meaning.{has_open}
 use Rattle.sym_paths.specs.View.{path_view}
-use Rattle.sym_states.specs.View.{facts_view}
-use Rattle.checked_paths.specs.View.{passed_by_view}
-use Rattle.spec_exploration.proofs.Beginnings.{start_caused, start_further}
+use Rattle.checked_paths.specs.View.{next_view}
+use Rattle.spec_exploration.proofs.Beginnings.{start_taken}
 use Rattle.spec_exploration.proofs.beginning.start_of.Goals as goal
 
-pub returns-then-needs_form : goal.returns-then-needs_form
-returns-then-needs_form g c =
-    let needed : has_open (path_view c.args.started.path).conds ≡ true =
-    ap has_open (sym c.atoms.ensures) ∙ sym (open_seen c.atoms.result.now) ∙ sym c.needs_form.ensures ∙ c.if-needs_form.true in
-    start_caused (start_view c.args.started) _ needed
+pub ask-requires : goal.ask-requires
+ask-requires g c = subst (AreOver c.args.started.path.vars) (sym c.atoms.ensures) c.requires
 
-pub returns : goal.returns
-returns g c =
-    let known : has_open (path_view c.args.started.path).conds ≡ false =
-    ap has_open (sym c.atoms.ensures) ∙ sym (open_seen c.atoms.result.now) ∙ sym c.needs_form.ensures ∙ c.if-needs_form.false in
-    let one : passed_by_view c.push.new.self ≡ [] ∷ [] =
-    ap passed_by_view c.in_ok-push.ensures.ok ∙ ap (λ qs. passed_by_view (qs ++ c.new.result ∷ [])) c.new-passed.ensures ∙ ap (λ q. passed_by_view (q ∷ [])) c.new.ensures in
-    start_further (start_view c.args.started) _ known (λ i. record { path = path_view c.args.started.path; facts = facts_view c.args.started.preds; passed = one i })
+pub returns-in-Satisfiable : goal.returns-in-Satisfiable
+returns-in-Satisfiable g c =
+    let path = path_view c.args.started.path in
+    let found : IsSolution path.vars path.conds (values_view c.in-Satisfiable.field-0) =
+    subst (λ s. IsRightly path.vars path.conds (satisfiability_view s)) c.in-Satisfiable.is (subst (λ atoms. IsRightly path.vars atoms (satisfiability_view c.in_ok-ask.field-0)) c.atoms.ensures c.in_ok-ask.ensures) in
+    IfOk-weaker c.path_from.result _ _ (λ n is. start_taken c.args.here.now (start_view c.args.started) (next_view n) found.no_form (inl (values_view c.in-Satisfiable.field-0, found.meets)) is) c.path_from.ensures
+
+pub returns-in-Unsatisfiable : goal.returns-in-Unsatisfiable
+returns-in-Unsatisfiable g c =
+    let path = path_view c.args.started.path in
+    subst (λ s. IsRightly path.vars path.conds (satisfiability_view s)) c.in-Unsatisfiable.is (subst (λ atoms. IsRightly path.vars atoms (satisfiability_view c.in_ok-ask.field-0)) c.atoms.ensures c.in_ok-ask.ensures)
+
+pub undecided_start-requires : goal.undecided_start-requires
+undecided_start-requires g c =
+    let path = path_view c.args.started.path in
+    subst (λ s. IsRightly path.vars path.conds (satisfiability_view s)) c.in-Undecided.is (subst (λ atoms. IsRightly path.vars atoms (satisfiability_view c.in_ok-ask.field-0)) c.atoms.ensures c.in_ok-ask.ensures)

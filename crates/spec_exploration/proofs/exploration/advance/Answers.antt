@@ -1,8 +1,9 @@
-use Rattle.std.proofs.Common.{◌<◌, arith, subst}
+use Rattle.std.proofs.Common.{◌<◌, ◌≤◌, arith, subst}
 use Rattle.std.proofs.lemmas.Result.{IfOk-weaker}
 use Rattle.gil_program.specs.Program.{prog_view}
 use Rattle.checked_paths.specs.View.{checking_view, entry_view, nexts_view}
 use Rattle.spec_exploration.specs.Exploring.{AreTaken, exploration_view}
+use Rattle.spec_exploration.proofs.Reaching.{cut_reached, step_reached}
 use Rattle.spec_exploration.proofs.Taking.{cut_settled, cut_placed, step_settled, step_placed}
 use Rattle.spec_exploration.proofs.exploration.advance.Goals as goal
 
@@ -24,6 +25,18 @@ returns-then-checking-bound-clause-placed g c =
     (λ after taken. cut_placed (prog_view c.args.prog.now) L.memory L.actions M.stands M.terms (entry_view c.args.spec.now c.args.entered.now) c.args.bound (exploration_view c.args.exploration) (exploration_view after) _ taken c.requires.placed)
     c.take_one.ensures
 
+pub returns-then-checking-bound-clause-all_reached :
+    goal.returns-then-checking-bound-clause-all_reached
+returns-then-checking-bound-clause-all_reached g c =
+    let M = g.M.SymMemory in
+    let L = g.M.Local.LocalMemory in
+    let x = checking_view c.args.checking in
+    let late : c.args.bound ≤ x.path.steps = omega (arith, c.if-checking-bound.true) in
+    IfOk-weaker c.take_one.result _ _
+    (λ after taken. cut_reached (prog_view c.args.prog.now) L.memory L.actions M.stands M.terms (entry_view c.args.spec.now c.args.entered.now) c.args.bound g.met.M.SymMemory.meaning x c.requires.reached c.requires.may
+    (exploration_view c.args.exploration) (exploration_view after) c.in_ok-cause.cause late c.in_ok-cause.ensures taken c.requires.all_reached)
+    c.take_one.ensures
+
 pub returns-clause-settled : goal.returns-clause-settled
 returns-clause-settled g c =
     let M = g.M.SymMemory in
@@ -32,7 +45,7 @@ returns-clause-settled g c =
     let ns = nexts_view c.in_ok-stepped.stepped.nexts in
     let early : x.path.steps < c.args.bound = omega (arith, c.if-checking-bound.false) in
     IfOk-weaker c.take.result _ _
-    (λ after taken. step_settled (prog_view c.args.prog.now) L.memory L.actions M.stands M.terms (entry_view c.args.spec.now c.args.entered.now) c.args.bound (exploration_view c.args.exploration) (exploration_view after) x c.in_ok-stepped.stepped.uses ns c.in_ok-stepped.ensures
+    (λ after taken. step_settled (prog_view c.args.prog.now) L.memory L.actions M.stands M.terms (entry_view c.args.spec.now c.args.entered.now) c.args.bound (exploration_view c.args.exploration) (exploration_view after) x c.in_ok-stepped.stepped.uses ns c.in_ok-stepped.ensures.next
     (subst (λ a. AreTaken a ns (exploration_view after)) c.in_ok-exploration.ensures taken) early)
     c.take.ensures
 
@@ -43,6 +56,19 @@ returns-clause-placed g c =
     let x = checking_view c.args.checking in
     let ns = nexts_view c.in_ok-stepped.stepped.nexts in
     IfOk-weaker c.take.result _ _
-    (λ after taken. step_placed (prog_view c.args.prog.now) L.memory L.actions M.stands M.terms (entry_view c.args.spec.now c.args.entered.now) c.args.bound (exploration_view c.args.exploration) (exploration_view after) x c.in_ok-stepped.stepped.uses ns c.in_ok-stepped.ensures
+    (λ after taken. step_placed (prog_view c.args.prog.now) L.memory L.actions M.stands M.terms (entry_view c.args.spec.now c.args.entered.now) c.args.bound (exploration_view c.args.exploration) (exploration_view after) x c.in_ok-stepped.stepped.uses ns c.in_ok-stepped.ensures.next
     (subst (λ a. AreTaken a ns (exploration_view after)) c.in_ok-exploration.ensures taken) c.requires.placed)
+    c.take.ensures
+
+pub returns-clause-all_reached : goal.returns-clause-all_reached
+returns-clause-all_reached g c =
+    let M = g.M.SymMemory in
+    let L = g.M.Local.LocalMemory in
+    let x = checking_view c.args.checking in
+    let ns = nexts_view c.in_ok-stepped.stepped.nexts in
+    let early : x.path.steps < c.args.bound = omega (arith, c.if-checking-bound.false) in
+    IfOk-weaker c.take.result _ _
+    (λ after taken. step_reached (prog_view c.args.prog.now) L.memory L.actions M.stands M.terms (entry_view c.args.spec.now c.args.entered.now) c.args.bound g.met.M.SymMemory.meaning x c.requires.reached c.requires.may
+    (exploration_view c.args.exploration) (exploration_view after) c.in_ok-stepped.stepped.uses ns early c.in_ok-stepped.ensures.next c.in_ok-stepped.ensures.exact
+    (subst (λ a. AreTaken a ns (exploration_view after)) c.in_ok-exploration.ensures taken) c.requires.all_reached)
     c.take.ensures

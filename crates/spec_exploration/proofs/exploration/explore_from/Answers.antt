@@ -4,6 +4,7 @@ use Rattle.gil_program.specs.Program.{prog_view}
 use Rattle.checked_paths.specs.Meaning.{MayGoOn}
 use Rattle.checked_paths.specs.View.{checking_view, entry_view, nexts_view}
 use Rattle.spec_exploration.specs.Exploring.{AreTaken, exploration_view}
+use Rattle.spec_exploration.proofs.Reaching.{starts_reached, all_but_last}
 use Rattle.spec_exploration.proofs.Taking.{starts_settle, starts_placed, settle_later, settled_runs, last_apart, if_none}
 use Rattle.spec_exploration.proofs.exploration.explore_from.Goals as goal
 
@@ -20,10 +21,12 @@ loop-turn-init g c =
     record {
       settles = starts_settle (prog_view c.args.prog.now) L.memory L.actions M.stands M.terms e c.args.bound starts first taken c.requires.placed;
       placed = starts_placed (prog_view c.args.prog.now) L.memory L.actions M.stands M.terms e c.args.bound starts first taken c.requires.placed;
+      reached = starts_reached (prog_view c.args.prog.now) L.memory L.actions M.stands M.terms e c.args.bound first starts c.requires.reached taken;
     }
 
-pub returns-in_default : goal.returns-in_default
-returns-in_default g c =
+pub returns-in_default-clause-verified :
+    goal.returns-in_default-clause-verified
+returns-in_default-clause-verified g c =
     let M = g.M.SymMemory in
     let L = g.M.Local.LocalMemory in
     let e = entry_view c.args.spec.now c.args.entered.now in
@@ -31,6 +34,26 @@ returns-in_default g c =
     if_none c.loop-turn.exploration.found.cause _
     (λ no_cause. settled_runs (prog_view c.args.prog.now) L.memory L.actions M.stands M.terms e c.args.bound (nexts_view c.args.starts) g.met.M.SymMemory.meaning c.requires.cover
     (exploration_view c.loop-turn.exploration) (ap (map checking_view) none) no_cause c.loop-turn.invariant.settles)
+
+pub returns-in_default-clause-causes : goal.returns-in_default-clause-causes
+returns-in_default-clause-causes g c = c.loop-turn.invariant.reached.cause
+
+pub advance-requires-clause-reached : goal.advance-requires-clause-reached
+advance-requires-clause-reached g c =
+    let M = g.M.SymMemory in
+    let L = g.M.Local.LocalMemory in
+    let is = ap (map checking_view) c.in-Some.ensures.items ∙ map-append checking_view c.pop.new.self.items (c.in-Some.checking ∷ []) in
+    (all_but_last (prog_view c.args.prog.now) L.memory L.actions M.stands M.terms (entry_view c.args.spec.now c.args.entered.now) c.args.bound (exploration_view c.loop-turn.exploration) (map checking_view c.pop.new.self.items)
+    (checking_view c.in-Some.checking) is c.loop-turn.invariant.reached).1
+
+pub advance-requires-clause-all_reached :
+    goal.advance-requires-clause-all_reached
+advance-requires-clause-all_reached g c =
+    let M = g.M.SymMemory in
+    let L = g.M.Local.LocalMemory in
+    let is = ap (map checking_view) c.in-Some.ensures.items ∙ map-append checking_view c.pop.new.self.items (c.in-Some.checking ∷ []) in
+    (all_but_last (prog_view c.args.prog.now) L.memory L.actions M.stands M.terms (entry_view c.args.spec.now c.args.entered.now) c.args.bound (exploration_view c.loop-turn.exploration) (map checking_view c.pop.new.self.items)
+    (checking_view c.in-Some.checking) is c.loop-turn.invariant.reached).0
 
 pub advance-requires-clause-may : goal.advance-requires-clause-may
 advance-requires-clause-may g c =
@@ -57,4 +80,5 @@ loop-turn-preserved g c =
       settles = settle_later (prog_view c.args.prog.now) L.memory L.actions M.stands M.terms e c.args.bound (nexts_view c.args.starts) old before (exploration_view c.in_ok-exploration-2.exploration)
           (ap (λ xs. record old { left = xs }) is) c.in_ok-exploration-2.ensures.settled c.loop-turn.invariant.settles;
       placed = c.in_ok-exploration-2.ensures.placed;
+      reached = c.in_ok-exploration-2.ensures.all_reached;
     }

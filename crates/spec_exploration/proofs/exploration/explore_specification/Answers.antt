@@ -1,18 +1,40 @@
 use Rattle.gil_program.specs.Program.{prog_view}
 use Rattle.gil_syntax.specs.View.{spec_view}
 use Rattle.sym_beginning.specs.View.{beginnings_view}
-use Rattle.checked_paths.specs.View.{nexts_view}
 use Rattle.addable_programs.proofs.AddableLaws.{programs_are_addable}
-use Rattle.spec_exploration.proofs.Beginnings.{starts_cover, starts_may}
+use Rattle.checked_paths.specs.declared.checking.Entered.{Entered}
+use Rattle.checked_paths.specs.View.{nexts_view}
+use Rattle.spec_causes.specs.Causes.{entry_for}
+use Rattle.spec_exploration.proofs.Beginnings.{first_there, starts_over, starts_cover, starts_may, starts_reached}
+use Rattle.spec_exploration.proofs.Meeting.{found_known, met_none, met_right}
 use Rattle.spec_exploration.proofs.Steps.{params_there}
 use Rattle.spec_exploration.proofs.exploration.explore_specification.Goals as goal
+
+pub first_place-requires : goal.first_place-requires
+first_place-requires g c =
+    let begin = c.in_ok-args.ensures.begin in
+    first_there (prog_view c.args.prog.now) (spec_view c.args.spec.now) begin.proc c.args.prog.now.valid begin.found
+
+pub starts_of-requires : goal.starts_of-requires
+starts_of-requires g c =
+    let M = g.M.SymMemory in
+    let L = g.M.Local.LocalMemory in
+    let p = prog_view c.args.prog.now in
+    let s = spec_view c.args.spec.now in
+    let begin = c.in_ok-args.ensures.begin in
+    let same = params_there p L.memory (programs_are_addable p L.memory c.args.prog.now.well_made c.args.prog.now.valid c.requires.modes) s c.requires.found begin.proc begin.found in
+    starts_over p L.memory L.actions M.stands s (beginnings_view c.in_ok-args.field-0) c.in_ok-here.here M.terms M.kept c.args.prog.now.valid begin same
 
 pub explore_from-requires-clause-cover :
     goal.explore_from-requires-clause-cover
 explore_from-requires-clause-cover g c =
     let M = g.M.SymMemory in
     let L = g.M.Local.LocalMemory in
-    starts_cover (prog_view c.args.prog.now) L.memory L.actions M.stands (spec_view c.args.spec.now) (beginnings_view c.in_ok-args.field-0) (nexts_view c.in_ok-starts.starts) c.in_ok-starts.ensures c.in_ok-args.ensures.cover
+    let p = prog_view c.args.prog.now in
+    let s = spec_view c.args.spec.now in
+    let begin = c.in_ok-args.ensures.begin in
+    let same = params_there p L.memory (programs_are_addable p L.memory c.args.prog.now.well_made c.args.prog.now.valid c.requires.modes) s c.requires.found begin.proc begin.found in
+    starts_cover p L.memory L.actions M.stands s (beginnings_view c.in_ok-args.field-0) c.in_ok-here.here M.terms M.kept c.args.prog.now.valid begin same (nexts_view c.in_ok-starts.starts) c.in_ok-starts.ensures c.in_ok-args.ensures.cover
 
 pub explore_from-requires-clause-placed :
     goal.explore_from-requires-clause-placed
@@ -23,4 +45,33 @@ explore_from-requires-clause-placed g c =
     let s = spec_view c.args.spec.now in
     let begin = c.in_ok-args.ensures.begin in
     let same = params_there p L.memory (programs_are_addable p L.memory c.args.prog.now.well_made c.args.prog.now.valid c.requires.modes) s c.requires.found begin.proc begin.found in
-    starts_may p L.memory L.actions M.stands s (beginnings_view c.in_ok-args.field-0) M.terms M.kept c.args.prog.now.valid begin same (nexts_view c.in_ok-starts.starts) c.in_ok-starts.ensures
+    starts_may p L.memory L.actions M.stands s (beginnings_view c.in_ok-args.field-0) c.in_ok-here.here M.terms M.kept c.args.prog.now.valid begin same (nexts_view c.in_ok-starts.starts) c.in_ok-starts.ensures
+
+pub explore_from-requires-clause-reached :
+    goal.explore_from-requires-clause-reached
+explore_from-requires-clause-reached g c =
+    let M = g.M.SymMemory in
+    let L = g.M.Local.LocalMemory in
+    let p = prog_view c.args.prog.now in
+    let s = spec_view c.args.spec.now in
+    let begin = c.in_ok-args.ensures.begin in
+    let same = params_there p L.memory (programs_are_addable p L.memory c.args.prog.now.well_made c.args.prog.now.valid c.requires.modes) s c.requires.found begin.proc begin.found in
+    starts_reached p L.memory L.actions M.stands s (beginnings_view c.in_ok-args.field-0) c.in_ok-here.here M.terms M.kept c.args.prog.now.valid begin same M.plain g.met.M.SymMemory.meaning c.args.bound c.in_ok-here.ensures (nexts_view c.in_ok-starts.starts)
+    c.in_ok-args.ensures.exact c.in_ok-starts.ensures
+
+pub met-requires : goal.met-requires
+met-requires g c =
+    let L = g.M.Local.LocalMemory in
+    let entered : Entered = record { args = c.in_ok-args.field-0.args; variables = c.in_ok-args.field-0.variables } in
+    found_known (prog_view c.args.prog.now) L.memory L.actions c.args.bound (entry_for (spec_view c.args.spec.now) entered) c.in_ok-cause.field-0.cause c.in_ok-cause.ensures.causes
+
+pub returns : goal.returns
+returns g c =
+    let L = g.M.Local.LocalMemory in
+    let p = prog_view c.args.prog.now in
+    let s = spec_view c.args.spec.now in
+    let entered : Entered = record { args = c.in_ok-args.field-0.args; variables = c.in_ok-args.field-0.variables } in
+    record {
+      verified = met_none c.in_ok-cause.field-0.cause entered c.in_ok-cause-2.cause _ c.in_ok-cause-2.ensures c.in_ok-cause.ensures.verified;
+      causes = met_right p L.memory L.actions c.args.bound s entered c.in_ok-cause.field-0.cause c.in_ok-cause-2.cause c.in_ok-cause-2.ensures c.in_ok-cause.ensures.causes;
+    }

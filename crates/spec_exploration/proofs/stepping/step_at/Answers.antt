@@ -6,15 +6,25 @@ use Rattle.addable_programs.specs.Addable.{IsAddableCommand}
 use Rattle.addable_programs.proofs.AddableLaws.{programs_are_addable}
 use Rattle.sym_paths.specs.View.{frames_view}
 use Rattle.checked_paths.specs.View.{entry_view}
-use Rattle.spec_exploration.proofs.Steps.{addable_there, ins_spelled, outs_spelled, of_some_kind}
+use Rattle.spec_exploration.proofs.Steps.{addable_there, ins_spelled, outs_spelled, of_some_kind, machine_stays}
 use Rattle.spec_exploration.proofs.stepping.step_at.Goals as goal
 
 pub step_machine-requires-clause-machine :
     goal.step_machine-requires-clause-machine
 step_machine-requires-clause-machine g c = (numbered_command_view c.args.numbered.now, (c.requires.at, sym c.is_of_machine.ensures ∙ c.if-is_of_machine.true))
 
-pub returns-then-is_of_machine : goal.returns-then-is_of_machine
-returns-then-is_of_machine g c = IfOk-weaker c.step_machine.result _ _ (λ ns nexts. nexts (entry_view c.args.spec.now c.args.entered.now) c.requires.may) c.step_machine.ensures.next
+pub returns-then-is_of_machine-clause-next :
+    goal.returns-then-is_of_machine-clause-next
+returns-then-is_of_machine-clause-next g c = IfOk-weaker c.step_machine.result _ _ (λ ns nexts. nexts (entry_view c.args.spec.now c.args.entered.now) c.requires.may) c.step_machine.ensures.next
+
+pub returns-then-is_of_machine-clause-exact :
+    goal.returns-then-is_of_machine-clause-exact
+returns-then-is_of_machine-clause-exact g c =
+    let n = numbered_command_view c.args.numbered.now in
+    let stays = machine_stays n.command (sym c.is_of_machine.ensures ∙ c.if-is_of_machine.true) (c.is_leaving.ensures.other c.if-is_leaving.false) in
+    IfOk-weaker c.step_machine.result _ _
+    (λ ns exact. exact (entry_view c.args.spec.now c.args.entered.now) c.requires.may (n, (c.requires.at, stays)) (c.in_ok-here.ensures (prog_view c.args.prog.now) c.requires.at))
+    c.step_machine.ensures.exact
 
 pub assert_row-requires-clause-may : goal.assert_row-requires-clause-may
 assert_row-requires-clause-may g c =
@@ -28,9 +38,14 @@ assert_row-requires-clause-cases g c =
     let p = prog_view c.args.prog.now in
     (programs_are_addable p g.M.Local.LocalMemory.memory c.args.prog.now.well_made c.args.prog.now.valid c.requires.modes).preds
 
-pub returns-in-AssertThat : goal.returns-in-AssertThat
-returns-in-AssertThat g c =
+pub returns-in-AssertThat-clause-next : goal.returns-in-AssertThat-clause-next
+returns-in-AssertThat-clause-next g c =
     IfOk-weaker c.assert_row.result _ _ (λ ns row. row (numbered_command_view c.args.numbered.now) c.requires.may c.requires.at (ap command_view c.in-AssertThat.is)) c.assert_row.ensures.next
+
+pub returns-in-AssertThat-clause-exact : goal.returns-in-AssertThat-clause-exact
+returns-in-AssertThat-clause-exact g c =
+    IfOk-weaker c.assert_row.result _ _
+    (λ ns row. row (numbered_command_view c.args.numbered.now) c.requires.may c.requires.at (ap command_view c.in-AssertThat.is) (c.in_ok-here.ensures (prog_view c.args.prog.now) c.requires.at)) c.assert_row.ensures.exact
 
 pub fold_row-requires-clause-ins : goal.fold_row-requires-clause-ins
 fold_row-requires-clause-ins g c =
@@ -74,17 +89,33 @@ unfold_row-requires-clause-cases g c =
     let p = prog_view c.args.prog.now in
     (programs_are_addable p g.M.Local.LocalMemory.memory c.args.prog.now.well_made c.args.prog.now.valid c.requires.modes).preds
 
-pub returns-in-Fold : goal.returns-in-Fold
-returns-in-Fold g c =
+pub returns-in-Fold-clause-next : goal.returns-in-Fold-clause-next
+returns-in-Fold-clause-next g c =
     IfOk-weaker c.fold_row.result _ _ (λ ns row. row (numbered_command_view c.args.numbered.now) c.requires.may c.requires.at (ap command_view c.in-Fold.is)) c.fold_row.ensures.next
 
-pub returns-in-Unfold : goal.returns-in-Unfold
-returns-in-Unfold g c =
+pub returns-in-Fold-clause-exact : goal.returns-in-Fold-clause-exact
+returns-in-Fold-clause-exact g c =
+    IfOk-weaker c.fold_row.result _ _
+    (λ ns row. row (numbered_command_view c.args.numbered.now) c.requires.may c.requires.at (ap command_view c.in-Fold.is) (c.in_ok-here.ensures (prog_view c.args.prog.now) c.requires.at)) c.fold_row.ensures.exact
+
+pub returns-in-Unfold-clause-next : goal.returns-in-Unfold-clause-next
+returns-in-Unfold-clause-next g c =
     IfOk-weaker c.unfold_row.result _ _ (λ ns row. row (numbered_command_view c.args.numbered.now) c.requires.may c.requires.at (ap command_view c.in-Unfold.is)) c.unfold_row.ensures.next
 
-pub returns-then-is_leaving : goal.returns-then-is_leaving
-returns-then-is_leaving g c =
-    IfOk-weaker c.leave.result _ _ (λ ns row. row (numbered_command_view c.args.numbered.now).command (c.is_leaving.ensures.is c.if-is_leaving.true) (numbered_command_view c.args.numbered.now) c.requires.may c.requires.at refl) c.leave.ensures
+pub returns-in-Unfold-clause-exact : goal.returns-in-Unfold-clause-exact
+returns-in-Unfold-clause-exact g c =
+    IfOk-weaker c.unfold_row.result _ _
+    (λ ns row. row (numbered_command_view c.args.numbered.now) c.requires.may c.requires.at (ap command_view c.in-Unfold.is) (c.in_ok-here.ensures (prog_view c.args.prog.now) c.requires.at)) c.unfold_row.ensures.exact
+
+pub returns-then-is_leaving-clause-next : goal.returns-then-is_leaving-clause-next
+returns-then-is_leaving-clause-next g c =
+    IfOk-weaker c.leave.result _ _ (λ ns row. row (numbered_command_view c.args.numbered.now).command (c.is_leaving.ensures.is c.if-is_leaving.true) (numbered_command_view c.args.numbered.now) c.requires.may c.requires.at refl) c.leave.ensures.next
+
+pub returns-then-is_leaving-clause-exact :
+    goal.returns-then-is_leaving-clause-exact
+returns-then-is_leaving-clause-exact g c =
+    IfOk-weaker c.leave.result _ _
+    (λ ns row. row (numbered_command_view c.args.numbered.now).command (c.is_leaving.ensures.is c.if-is_leaving.true) (numbered_command_view c.args.numbered.now) c.requires.may c.requires.at refl (c.in_ok-here.ensures (prog_view c.args.prog.now) c.requires.at)) c.leave.ensures.exact
 
 pub invariant_row-requires-clause-may : goal.invariant_row-requires-clause-may
 invariant_row-requires-clause-may g c =
@@ -98,9 +129,14 @@ invariant_row-requires-clause-cases g c =
     let p = prog_view c.args.prog.now in
     (programs_are_addable p g.M.Local.LocalMemory.memory c.args.prog.now.well_made c.args.prog.now.valid c.requires.modes).preds
 
-pub returns-in-LoopInvariant : goal.returns-in-LoopInvariant
-returns-in-LoopInvariant g c =
+pub returns-in-LoopInvariant-clause-next : goal.returns-in-LoopInvariant-clause-next
+returns-in-LoopInvariant-clause-next g c =
     IfOk-weaker c.invariant_row.result _ _ (λ ns row. row (numbered_command_view c.args.numbered.now) c.requires.may c.requires.at (ap command_view c.in-LoopInvariant.is)) c.invariant_row.ensures.next
+
+pub returns-in-LoopInvariant-clause-exact : goal.returns-in-LoopInvariant-clause-exact
+returns-in-LoopInvariant-clause-exact g c =
+    IfOk-weaker c.invariant_row.result _ _
+    (λ ns row. row (numbered_command_view c.args.numbered.now) c.requires.may c.requires.at (ap command_view c.in-LoopInvariant.is) (c.in_ok-here.ensures (prog_view c.args.prog.now) c.requires.at)) c.invariant_row.ensures.exact
 
 pub unreachable-requires : goal.unreachable-requires
 unreachable-requires g c =
