@@ -9,16 +9,22 @@ use Rattle.mem_model.specs.Actions.{Actions}
 use Rattle.assert_logic.specs.declared.checking.ModeItem.{ModeItem}
 use Rattle.assert_logic.specs.declared.checking.ModeKind.{ModeKind}
 use Rattle.assert_logic.specs.Modes.{HasModes, IsNamedModeFault}
-use Rattle.checked_paths.specs.declared.nexts.Cause.{Cause}
+use Rattle.checked_paths.specs.Causes.{PureCause as PureMet, cause_view}
+use Rattle.checked_paths.specs.Pure.{PureEntry}
 use Rattle.checked_runs.specs.Specifications.{SpecHolds}
 use Rattle.solver_proof.specs.View.{proof_view}
 use Rattle.spec_answers.specs.declared.answers.SpecAnswer.{SpecAnswer}
 use Rattle.spec_answers.specs.declared.answers.Verdict.{Verdict}
+use Rattle.spec_answers.specs.Holding as holding
 use Rattle.spec_answers.specs.Holding.{AreTrue, is_verified, is_verified_name}
-use Rattle.spec_checker.specs.Answers.{AnswerEach, Shows}
+use Rattle.spec_causes.specs.declared.meeting.Met.{Met}
+use Rattle.spec_causes.specs.Causes.{entry_for}
+use Rattle.spec_checker.specs.Answers.{AnswerEach, AreCauses, IsCauseIfUnproved, Shows}
 use Rattle.spec_checker.proofs.Found.{found_at}
-use Rattle.gil_report.specs.Pure.{PureAnswer}
-use Rattle.gillian_core.specs.Checked.{AreRightAnswers, IsRightAnswer, IsReportOf, ReportsEach}
+use Rattle.gil_report.specs.Pure.{PureAnswer, PureCause, fails, lacks, undecided_cause, depends}
+use Rattle.report_causes.specs.Telling.{TellsCause}
+use Rattle.report_causes.proofs.Right.{can_be_told, told_right, no_dependence_told}
+use Rattle.gillian_core.specs.Checked.{AreRightAnswers, CanEachBeTold, CanVerdictBeTold, IsLed, IsOwn, IsRightAnswer, IsReportOf, LeadsToCause, has_cause, depends_on, ReportsEach}
 
 some_not_none : {A : Type 0} {x : A} → Some x ≡ None → ⊥
 some_not_none is = cc
@@ -45,17 +51,17 @@ last_or_before [] x (suc k) y at = cc
 last_or_before (z ∷ zs) x zero y at = inl at
 last_or_before (z ∷ zs) x (suc k) y at = ⊎_elim (λ before. inl before) (λ (last, same). inr (ap suc last, same)) (last_or_before zs x k y at)
 
-module _ (ss : List PureSpec) (answers : List (SpecAnswer Cause)) where
+module _ (ss : List PureSpec) (answers : List (SpecAnswer Met)) where
   -- the answers before a place are reported
   pub record ReportsUntil (place : ℕ) (reported : List PureAnswer) : Type 0 where
     pub as_many : length reported ≡ place
-    pub each_reported : (k : ℕ) (s : PureSpec) (x : SpecAnswer Cause) (a : PureAnswer) → slice_get ss k ≡ Some s → slice_get answers k ≡ Some x
+    pub each_reported : (k : ℕ) (s : PureSpec) (x : SpecAnswer Met) (a : PureAnswer) → slice_get ss k ≡ Some s → slice_get answers k ≡ Some x
         → slice_get reported k ≡ Some a → IsReportOf s x.name x.verdict a
 
   pub reports_none : ReportsUntil 0 []
   reports_none = record { as_many = refl; each_reported = λ k s x a at_s at_x at_a. cc }
 
-  pub reports_more : (place : ℕ) (before after : List PureAnswer) (a : PureAnswer) (s : PureSpec) (x : SpecAnswer Cause) → ReportsUntil place before
+  pub reports_more : (place : ℕ) (before after : List PureAnswer) (a : PureAnswer) (s : PureSpec) (x : SpecAnswer Met) → ReportsUntil place before
       → slice_get ss place ≡ Some s → slice_get answers place ≡ Some x → IsReportOf s x.name x.verdict a → after ≡ before ++ a ∷ [] → ReportsUntil (place + 1) after
   reports_more place before after a s x until at_s at_x is grown =
       let many : length before ≡ place = until.as_many in
@@ -69,7 +75,7 @@ module _ (ss : List PureSpec) (answers : List (SpecAnswer Cause)) where
             let same_spec : s ≡ t = same_some (sym at_s ∙ ap (slice_get ss) (sym here) ∙ at_t) in
             let same_answer : x ≡ y = same_some (sym at_x ∙ ap (slice_get answers) (sym here) ∙ at_y) in
             subst (λ (r : PureSpec). IsReportOf r y.name y.verdict b) same_spec
-            (subst (λ (z : SpecAnswer Cause). IsReportOf s z.name z.verdict b) same_answer
+            (subst (λ (z : SpecAnswer Met). IsReportOf s z.name z.verdict b) same_answer
             (subst (λ (c : PureAnswer). IsReportOf s x.name x.verdict c) same is)))
             (last_or_before before a k b (ap (λ (cs : List PureAnswer). slice_get cs k) (sym grown) ∙ at_b));
       }
@@ -100,33 +106,108 @@ both_true true c b_is c_is = c_is
 both_true false c b_is c_is = cc
 
 -- an answer that is verified makes its name verified
-verified_name : (answers : List (SpecAnswer Cause)) (k : ℕ) (x : SpecAnswer Cause) (name : List ℕ) → slice_get answers k ≡ Some x → x.name ≡ name
+verified_name : (answers : List (SpecAnswer Met)) (k : ℕ) (x : SpecAnswer Met) (name : List ℕ) → slice_get answers k ≡ Some x → x.name ≡ name
     → is_verified x.verdict ≡ true → is_verified_name answers name ≡ true
 verified_name answers k x name at named is =
-    any_at (λ (a : SpecAnswer Cause). bytes_eq a.name name && is_verified a.verdict) answers k x at
+    any_at (λ (a : SpecAnswer Met). bytes_eq a.name name && is_verified a.verdict) answers k x at
     (both_true (bytes_eq x.name name) (is_verified x.verdict) ((bytes_eq-Decides x.name name).1 named) is)
 
-module _ (memory : MemoryName) (m : Actions) (p : PureParts) (valid : IsValid p) (answers : List (SpecAnswer Cause)) (answered : AnswerEach p.specs answers)
-    (true_ones : AreTrue p memory m answers) where
-  holds_at : (k : ℕ) (s : PureSpec) (x : SpecAnswer Cause) → slice_get p.specs k ≡ Some s → slice_get answers k ≡ Some x → is_verified x.verdict ≡ true
+-- ---- why specifications aren't verified
+
+-- a cause that is told is no dependence
+own_told : (s : PureSpec) (e : PureEntry) (met : PureMet) (cause : PureCause) → TellsCause s e met cause → IsOwn cause
+own_told s e met (fails v w) tells = tt
+own_told s e met (lacks l w) tells = tt
+own_told s e met (undecided_cause q) tells = tt
+own_told s e met (depends g) tells = absurd (no_dependence_told s e met g tells)
+
+led_told : (answers : List PureAnswer) (cause : PureCause) → IsOwn cause → IsLed answers cause
+led_told answers (fails v w) own = tt
+led_told answers (lacks l w) own = tt
+led_told answers (undecided_cause q) own = tt
+led_told answers (depends g) own = absurd own
+
+-- where causes are of checked runs, each can be told
+told_verdict : (p : PureParts) (memory : MemoryName) (m : Actions) (bound : ℕ) (s : PureSpec) (v : Verdict Met)
+    → IsCauseIfUnproved p memory m bound s v → CanVerdictBeTold v
+told_verdict p memory m bound s Verdict.Verified is = tt
+told_verdict p memory m bound s (Verdict.Vacuous proof) is = tt
+told_verdict p memory m bound s (Verdict.Unproved met) is =
+    can_be_told p memory m s bound (entry_for s met.entered) (cause_view met.cause) is
+told_verdict p memory m bound s (Verdict.DependsOn g) is = tt
+
+pub all_told : (p : PureParts) (memory : MemoryName) (m : Actions) (bound : ℕ) (answers : List (SpecAnswer Met)) → AreCauses p memory m bound answers
+    → CanEachBeTold p.specs answers
+all_told p memory m bound answers causes k s x at_s at_x = told_verdict p memory m bound s x.verdict (causes.each_right k s x at_s at_x)
+
+module _ (ss : List PureSpec) (answers : List (SpecAnswer Met)) (many : length answers ≡ length ss) (reported : List PureAnswer)
+    (reports : ReportsEach ss answers reported) where
+  -- what is reported at the place of an answer
+  pub record ReportsAt (x : SpecAnswer Met) (k : ℕ) : Type 0 where
+    pub spec : PureSpec
+    pub answer : PureAnswer
+    pub there : slice_get reported k ≡ Some answer
+    pub is_report : IsReportOf spec x.name x.verdict answer
+
+  report_at : (k : ℕ) (x : SpecAnswer Met) → slice_get answers k ≡ Some x → ReportsAt x k
+  report_at k x at_x =
+      let (s, at_s) = at_place ss answers k x (sym many) at_x in
+      let (a, at_a) = at_place reported answers k x (reports.as_many ∙ sym many) at_x in
+      record { spec = s; answer = a; there = at_a; is_report = reports.each_reported k s x a at_s at_x at_a }
+
+  caused_there : (k : ℕ) (s : PureSpec) (name : List ℕ) (a : PureAnswer) (met : Met) → slice_get reported k ≡ Some a
+      → IsReportOf s name (Verdict.Unproved met) a → LeadsToCause reported name
+  caused_there k s name a met there (cause, (is, tells)) =
+      has_cause k cause (there ∙ ap Some is) (own_told s (entry_for s met.entered) (cause_view met.cause) cause tells)
+
+  depends_there : (k : ℕ) (s : PureSpec) (name h : List ℕ) (a : PureAnswer) → slice_get reported k ≡ Some a
+      → IsReportOf s name (Verdict.DependsOn h) a → LeadsToCause reported h → LeadsToCause reported name
+  depends_there k s name h a there is leads = depends_on k h (there ∙ ap Some is) leads
+
+  pub led_reported : (g : List ℕ) → holding.LeadsToCause answers g → LeadsToCause reported g
+  led_reported g (holding.has_cause k x met at_x named is) =
+      let r = report_at k x at_x in
+      subst (λ (n : List ℕ). LeadsToCause reported n) named
+      (caused_there k r.spec x.name r.answer met r.there (subst (λ (v : Verdict Met). IsReportOf r.spec x.name v r.answer) is r.is_report))
+  led_reported g (holding.depends k x h at_x named is leads) =
+      let r = report_at k x at_x in
+      subst (λ (n : List ℕ). LeadsToCause reported n) named
+      (depends_there k r.spec x.name h r.answer r.there (subst (λ (v : Verdict Met). IsReportOf r.spec x.name v r.answer) is r.is_report)
+      (led_reported h leads))
+
+-- ---- what is reported is right
+
+module _ (memory : MemoryName) (m : Actions) (bound : ℕ) (p : PureParts) (valid : IsValid p) (answers : List (SpecAnswer Met))
+    (answered : AnswerEach p.specs answers) (true_ones : AreTrue p memory m answers) (causes : AreCauses p memory m bound answers) where
+  holds_at : (k : ℕ) (s : PureSpec) (x : SpecAnswer Met) → slice_get p.specs k ≡ Some s → slice_get answers k ≡ Some x → is_verified x.verdict ≡ true
       → SpecHolds p memory m s
   holds_at k s x at_s at_x is =
       true_ones.holds s (found_at p valid k s at_s)
       (verified_name answers k x s.name at_x (answered.each_answered k s x at_s at_x).same_name is)
 
-  right_by : (s : PureSpec) (name : List ℕ) (v : Verdict Cause) (a : PureAnswer) → name ≡ s.name
-      → (is_verified v ≡ true → SpecHolds p memory m s) → Shows answers s v → IsReportOf s name v a → IsRightAnswer p s memory m a
-  right_by s name Verdict.Verified a same holds shows is = subst (λ (b : PureAnswer). IsRightAnswer p s memory m b) (sym is) (same, holds refl)
-  right_by s name (Verdict.Vacuous proof) a same holds shows is =
-      subst (λ (b : PureAnswer). IsRightAnswer p s memory m b) (sym is) (same, holds refl, (proof_view proof, refl, shows))
-  right_by s name (Verdict.Unproved c) a same holds shows is = subst (λ (b : PureAnswer). IsRightAnswer p s memory m b) (sym is.1) same
-  right_by s name (Verdict.DependsOn g) a same holds shows is = subst (λ (b : PureAnswer). IsRightAnswer p s memory m b) (sym is) same
+  module _ (reported : List PureAnswer) (reports : ReportsEach p.specs answers reported) where
+    abbrev IsRight : PureSpec → PureAnswer → Type 0
+    IsRight s a = IsRightAnswer memory m bound p reported s a
 
-  pub right_answers : (reported : List PureAnswer) → ReportsEach p.specs answers reported → AreRightAnswers memory m p reported
-  right_answers reported reports = record {
-    as_many = reports.as_many;
-    each_right = λ k s a at_s at_a.
-        let (x, at_x) = at_place answers p.specs k s answered.as_many at_s in
-        let answer = answered.each_answered k s x at_s at_x in
-        right_by s x.name x.verdict a answer.same_name (λ is. holds_at k s x at_s at_x is) answer.shows (reports.each_reported k s x a at_s at_x at_a);
-  }
+    right_by : (s : PureSpec) (name : List ℕ) (v : Verdict Met) (a : PureAnswer) → name ≡ s.name
+        → (is_verified v ≡ true → SpecHolds p memory m s) → Shows answers s v → IsCauseIfUnproved p memory m bound s v → IsReportOf s name v a → IsRight s a
+    right_by s name Verdict.Verified a same holds shows cause is = subst (λ (b : PureAnswer). IsRight s b) (sym is) (same, holds refl)
+    right_by s name (Verdict.Vacuous proof) a same holds shows cause is =
+        subst (λ (b : PureAnswer). IsRight s b) (sym is) (same, holds refl, (proof_view proof, refl, shows))
+    right_by s name (Verdict.Unproved met) a same holds shows cause (told, (is, tells)) =
+        let e = entry_for s met.entered in
+        let c = cause_view met.cause in
+        subst (λ (b : PureAnswer). IsRight s b) (sym is)
+        (same, told_right p memory m s bound e c told cause tells, led_told reported told (own_told s e c told tells))
+    right_by s name (Verdict.DependsOn g) a same holds shows cause is =
+        subst (λ (b : PureAnswer). IsRight s b) (sym is) (same, tt, led_reported p.specs answers answered.as_many reported reports g shows)
+
+    pub right_answers : AreRightAnswers memory m bound p reported
+    right_answers = record {
+      as_many = reports.as_many;
+      each_right = λ k s a at_s at_a.
+          let (x, at_x) = at_place answers p.specs k s answered.as_many at_s in
+          let answer = answered.each_answered k s x at_s at_x in
+          right_by s x.name x.verdict a answer.same_name (λ is. holds_at k s x at_s at_x is) answer.shows (causes.each_right k s x at_s at_x)
+          (reports.each_reported k s x a at_s at_x at_a);
+    }

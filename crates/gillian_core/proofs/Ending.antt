@@ -46,13 +46,13 @@ module _ (c : Call) (q : PureRequest) (asked : AskFor c.words q) (read : IsRead 
   may_write_response status text (inl (r, refusal, is, says)) =
       let refuses : Refuses c text = record { refusal = r; written = says; right = (bytes, whole, (q, asked, refusal)) } in
       rw is (read, refuses)
-  may_write_response status text (inr (output, right, is, says)) =
+  may_write_response status text (inr (output, right, writable, is, says)) =
       let reports : Reports c (output_status output) text = record {
         request = q;
         output = output;
         written = says;
         ends = refl;
-        right = (bytes, whole, (asked, right));
+        right = (bytes, whole, (asked, right, writable));
       } in
       subst (λ s. MayWrite c s text) (sym is) (may_report c output text read reports)
 
@@ -78,7 +78,7 @@ answer_not_too_large q bytes k result (inl w) e = let h = w.0 in cc
 answer_not_too_large q bytes k result (inr (status, text, response, inr w)) e = let h = w.0 in cc
 answer_not_too_large q bytes k result (inr (status, text, inl response, inl w)) e = let h = w.0 in let g = response.2 in cc
 answer_not_too_large q bytes k result (inr (status, text, inr response, inl w)) e =
-    no_output_too_large response.0 (sym response.2 ∙ sym w.0 ∙ e)
+    no_output_too_large response.0 (sym response.3 ∙ sym w.0 ∙ e)
 
 -- what is said of some bytes is said of those that the source tells
 pub of_left : (c : Call) (P : List ℕ → Type 0) → OfBytes c P → IfSome c.left P

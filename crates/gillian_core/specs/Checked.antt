@@ -1,54 +1,84 @@
 -- What the answers to a program's specifications say.
-use Rattle.std.specs.Prelude.{◌≡◌, ℕ, List, map, length, ◌++◌, Some, slice_get}
-use Rattle.std.specs.List.{filter}
+use Rattle.std.specs.Prelude.{◌≡◌, ℕ, List, length, Some, slice_get, ⊤}
 use Rattle.gil_syntax.specs.Pure.{PureSpec, PureParts}
-use Rattle.gil_syntax.specs.Valid.{param_names}
 use Rattle.mem_model.specs.declared.keys.MemoryName.{MemoryName}
 use Rattle.mem_model.specs.Actions.{Actions}
-use Rattle.checked_paths.specs.declared.nexts.Cause.{Cause}
+use Rattle.checked_paths.specs.Causes.{cause_view}
 use Rattle.checked_runs.specs.Specifications.{SpecHolds}
 use Rattle.solver_proof.specs.Closing.{Closes}
 use Rattle.solver_proof.specs.Pure.{PureProof}
 use Rattle.solver_proof.specs.View.{proof_view}
 use Rattle.spec_answers.specs.declared.answers.SpecAnswer.{SpecAnswer}
 use Rattle.spec_answers.specs.declared.answers.Verdict.{Verdict}
-use Rattle.spec_vacuity.specs.Translation.{precondition_table, precondition_atoms, is_own_variable}
+use Rattle.spec_causes.specs.declared.meeting.Met.{Met}
+use Rattle.spec_causes.specs.Causes.{entry_for}
+use Rattle.spec_vacuity.specs.Translation.{precondition_table, precondition_atoms}
 use Rattle.gil_report.specs.Pure.{PureAnswer, PureCause, verified, vacuous, unproved, depends}
+use Rattle.report_causes.specs.Causes.{IsRightCause}
+use Rattle.report_causes.specs.Names.{variable_names}
+use Rattle.report_causes.specs.Telling.{CanBeTold, TellsCause}
 use Rattle.report_names.specs.Named.{proof_of}
 
--- the names of the variables of a precondition: those of the parameters, and then of the declared variables that it names
-abbrev pub variable_names : PureSpec → List (List ℕ)
-variable_names s = param_names s.params ++ map (λ q. q.name) (filter (is_own_variable s) s.logicals)
+-- ---- what depends on others
+
+-- the cause isn't that of a specification that is used
+abbrev pub IsOwn : PureCause → Type 0
+IsOwn (depends g) = ⊥
+IsOwn _ = ⊤
+
+-- from this name on, what one depends on leads to one with a cause of its own
+pub data LeadsToCause (answers : List PureAnswer) : List ℕ → Type 0 where
+  has_cause : {g : List ℕ} (k : ℕ) (cause : PureCause) → slice_get answers k ≡ Some (unproved g cause) → IsOwn cause → LeadsToCause answers g
+  depends_on : {g : List ℕ} (k : ℕ) (h : List ℕ) → slice_get answers k ≡ Some (unproved g (depends h)) → LeadsToCause answers h
+      → LeadsToCause answers g
+
+-- what is depended on leads to a cause
+abbrev pub IsLed : List PureAnswer → PureCause → Type 0
+IsLed answers (depends g) = LeadsToCause answers g
+IsLed answers _ = ⊤
 
 -- ---- what is right
 
-module _ (p : PureParts) (s : PureSpec) where
+module _ (memory : MemoryName) (m : Actions) (bound : ℕ) (p : PureParts) (answers : List PureAnswer) where
   -- `verified` is right where the specification holds; `vacuous` where it holds and the proof closes the atoms of its precondition, with the
-  -- names of its variables. Of why one is unproved nothing is said.
-  abbrev pub IsRightAnswer : MemoryName → Actions → PureAnswer → Type 0
-  IsRightAnswer memory m (verified name) = (name ≡ s.name) × SpecHolds p memory m s
-  IsRightAnswer memory m (vacuous name proof) =
+  -- names of its variables; `unproved` where a checked run that begins with the values that are shown comes to the cause within the bound,
+  -- or the conditions that are shown aren't decided, or the specification that it depends on leads to one with a cause of its own.
+  abbrev pub IsRightAnswer : PureSpec → PureAnswer → Type 0
+  IsRightAnswer s (verified name) = (name ≡ s.name) × SpecHolds p memory m s
+  IsRightAnswer s (vacuous name proof) =
       (name ≡ s.name) × SpecHolds p memory m s
       × ((q : PureProof) × (proof ≡ proof_of (variable_names s) q) × Closes (precondition_table s) (precondition_atoms s) q)
-  IsRightAnswer memory m (unproved name cause) = name ≡ s.name
-  IsRightAnswer memory m _ = ⊥
+  IsRightAnswer s (unproved name cause) = (name ≡ s.name) × IsRightCause p memory m s bound cause × IsLed answers cause
+  IsRightAnswer s _ = ⊥
 
 -- one right answer for each specification of the program, in order
-pub record AreRightAnswers (memory : MemoryName) (m : Actions) (p : PureParts) (answers : List PureAnswer) : Type 0 where
+pub record AreRightAnswers (memory : MemoryName) (m : Actions) (bound : ℕ) (p : PureParts) (answers : List PureAnswer) : Type 0 where
   pub as_many : length answers ≡ length p.specs
-  pub each_right : (k : ℕ) (s : PureSpec) (a : PureAnswer) → slice_get p.specs k ≡ Some s → slice_get answers k ≡ Some a → IsRightAnswer p s memory m a
+  pub each_right : (k : ℕ) (s : PureSpec) (a : PureAnswer) → slice_get p.specs k ≡ Some s → slice_get answers k ≡ Some a
+      → IsRightAnswer memory m bound p answers s a
 
 -- ---- what is reported
 
 -- the answer to a specification of this name that is reported where this is its verdict
-abbrev pub IsReportOf : PureSpec → List ℕ → Verdict Cause → PureAnswer → Type 0
+abbrev pub IsReportOf : PureSpec → List ℕ → Verdict Met → PureAnswer → Type 0
 IsReportOf s name Verdict.Verified a = a ≡ verified name
 IsReportOf s name (Verdict.Vacuous proof) a = a ≡ vacuous name (proof_of (variable_names s) (proof_view proof))
-IsReportOf s name (Verdict.Unproved c) a = (cause : PureCause) × (a ≡ unproved name cause)
+IsReportOf s name (Verdict.Unproved met) a =
+    (cause : PureCause) × ((a ≡ unproved name cause) × TellsCause s (entry_for s met.entered) (cause_view met.cause) cause)
 IsReportOf s name (Verdict.DependsOn g) a = a ≡ unproved name (depends g)
 
 -- place by place
-pub record ReportsEach (ss : List PureSpec) (answers : List (SpecAnswer Cause)) (reported : List PureAnswer) : Type 0 where
+pub record ReportsEach (ss : List PureSpec) (answers : List (SpecAnswer Met)) (reported : List PureAnswer) : Type 0 where
   pub as_many : length reported ≡ length ss
-  pub each_reported : (k : ℕ) (s : PureSpec) (x : SpecAnswer Cause) (a : PureAnswer) → slice_get ss k ≡ Some s → slice_get answers k ≡ Some x
+  pub each_reported : (k : ℕ) (s : PureSpec) (x : SpecAnswer Met) (a : PureAnswer) → slice_get ss k ≡ Some s → slice_get answers k ≡ Some x
       → slice_get reported k ≡ Some a → IsReportOf s x.name x.verdict a
+
+-- a cause can be told
+abbrev pub CanVerdictBeTold : Verdict Met → Type 0
+CanVerdictBeTold (Verdict.Unproved met) = CanBeTold (cause_view met.cause)
+CanVerdictBeTold _ = ⊤
+
+-- place by place
+abbrev pub CanEachBeTold : List PureSpec → List (SpecAnswer Met) → Type 0
+CanEachBeTold ss answers =
+    (k : ℕ) (s : PureSpec) (x : SpecAnswer Met) → slice_get ss k ≡ Some s → slice_get answers k ≡ Some x → CanVerdictBeTold x.verdict

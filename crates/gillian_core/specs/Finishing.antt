@@ -12,7 +12,7 @@ use Rattle.gillian_core.specs.declared.status.Status.{Status}
 use Rattle.gillian_core.specs.declared.status.Status.TheVariants.{Text, WriteFault, Memory}
 use Rattle.gillian_core.specs.Accepted.{HasProgram, HasProgramThat, HasReadable}
 use Rattle.gillian_core.specs.Definitions.{Definition}
-use Rattle.gillian_core.specs.Outputs.{PureOutput, output_status, output_text}
+use Rattle.gillian_core.specs.Outputs.{PureOutput, IsWritableOutput, output_status, output_text}
 use Rattle.gillian_core.specs.Refusals.{IsFaultOfEntry, IsFaultOfModes, IsRefusal, refusal_line}
 use Rattle.gillian_core.specs.Right.{IsRightOutput}
 
@@ -59,11 +59,11 @@ IsNoReadable d bytes r = IsCause (HasReadable d bytes) (IsFaultOfModes d bytes) 
 abbrev pub IsNoOutput : PureTask → List ℕ → Refused → Type 0
 IsNoOutput t bytes r = r.kind ≢ kinds.Memory → IsRefusal t bytes r
 
--- the text and the status of a right output, in the form that is asked for, or of the refusal of the text
+-- the text and the status of a right output that is writable, in the form that is asked for, or of the refusal of the text
 abbrev pub IsResponse : PureRequest → List ℕ → Status → List ℕ → Type 0
 IsResponse q bytes status text =
     ((r : Refused) × IsRefusal q.task bytes r × (status ≡ Text) × (text ≡ refusal_line r))
-    ⊎ ((o : PureOutput) × IsRightOutput q.task bytes o × (status ≡ output_status o) × (text ≡ output_text q.json o))
+    ⊎ ((o : PureOutput) × IsRightOutput q.task bytes o × IsWritableOutput o × (status ≡ output_status o) × (text ≡ output_text q.json o))
 
 -- The response is finished, or memory ran out before anything was written.
 abbrev pub Answers : PureRequest → List ℕ → Told → Status → Type 0

@@ -9,7 +9,7 @@ use Rattle.gillian_words.specs.Asked.{AskFor}
 use Rattle.gillian_words.specs.Tasks.{PureRequest}
 use Rattle.gillian_core.specs.declared.status.Status.{Status}
 use Rattle.gillian_core.specs.declared.status.Status.TheVariants.{Good, Found, Words, Text, ReadFault, WriteFault, Memory, TooLarge}
-use Rattle.gillian_core.specs.Outputs.{PureOutput, output_status, output_text}
+use Rattle.gillian_core.specs.Outputs.{PureOutput, IsWritableOutput, output_status, output_text}
 use Rattle.gillian_core.specs.Refusals.{IsRefusal, refusal_line}
 use Rattle.gil_report.specs.Lines.{line}
 use Rattle.gillian_core.specs.Right.{IsRightOutput}
@@ -74,9 +74,9 @@ OfBytes c P = (bytes : List ℕ) × IfSome c.left (λ left. bytes ≡ left) × P
 
 -- ---- outputs
 
--- The output is right for the bytes, and is what the words ask for, which is this.
+-- The output is right for the bytes, and is what the words ask for, which is this. A report is writable.
 abbrev pub IsRight : List (List ℕ) → List ℕ → PureRequest → PureOutput → Type 0
-IsRight words bytes q output = AskFor words q × IsRightOutput q.task bytes output
+IsRight words bytes q output = AskFor words q × IsRightOutput q.task bytes output × IsWritableOutput output
 
 -- The text isn't accepted where what the words ask for is asked, and is refused so.
 abbrev pub IsRefused : List (List ℕ) → List ℕ → Refused → Type 0

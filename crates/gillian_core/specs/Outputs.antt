@@ -1,5 +1,5 @@
 -- What is written of an accepted text.
-use Rattle.std.specs.Prelude.{ℕ, List, Bool, true, false, not, if◌then◌else◌}
+use Rattle.std.specs.Prelude.{ℕ, List, Bool, true, false, not, if◌then◌else◌, ⊤}
 use Rattle.std.specs.List.{list_all}
 use Rattle.gil_syntax.specs.Pure.{PureParts}
 use Rattle.syntax_print.specs.Programs.{printed_program}
@@ -7,6 +7,7 @@ use Rattle.gil_report.specs.Json.{report_json}
 use Rattle.gil_report.specs.Lines.{report_text}
 use Rattle.gil_report.specs.Pure.{PureAnswer, returned, failed, vanished, cut, no_input, bad_input, number, clean, bug, undecided}
 use Rattle.gil_report.specs.Pure.{verified, vacuous, unproved, found, sat, unsat, unknown, bytes, PureReport}
+use Rattle.report_text.specs.Writable.{IsWritable}
 use Rattle.gillian_core.specs.declared.status.Status.{Status}
 use Rattle.gillian_core.specs.declared.status.Status.TheVariants.{Good, Found}
 
@@ -14,6 +15,11 @@ use Rattle.gillian_core.specs.declared.status.Status.TheVariants.{Good, Found}
 pub data PureOutput : Type 0 where
   a_report : PureReport → PureOutput
   a_program : PureParts → PureOutput
+
+-- a report is one that some text has, so that both its forms are read back as it is
+abbrev pub IsWritableOutput : PureOutput → Type 0
+IsWritableOutput (a_report r) = IsWritable r
+IsWritableOutput (a_program p) = ⊤
 
 -- a report is written as JSON or as text, as is asked for; a program has one form
 abbrev pub report_written : Bool → PureReport → List ℕ

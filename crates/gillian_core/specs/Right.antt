@@ -19,6 +19,7 @@ use Rattle.gillian_words.specs.Tasks.{PureTask, run, test, check, infer, compile
 use Rattle.gil_report.specs.declared.heads.EntryMode.TheVariants.{Run, Test, Infer}
 use Rattle.gil_report.specs.declared.heads.Head.{Head}
 use Rattle.gil_report.specs.Pure.{PureAnswer, failed, clean, bug, undecided, sat, unsat, unknown, PureReport}
+use Rattle.report_causes.specs.Names.{place_of}
 use Rattle.report_names.specs.Named.{proof_of}
 use Rattle.gillian_core.specs.Accepted.{HasProc}
 use Rattle.gillian_core.specs.Answers.{question_of}
@@ -73,14 +74,14 @@ pub record IsRightTest (d : Definition) (entry : List ℕ) (bound : ℕ) (bytes 
 
 -- ---- check
 
--- The bytes are a text with a program whose assertions can be read from left to right, and there is one right answer for each of its
--- specifications, in order. A text that is compiled has the program's ends.
-pub record IsRightCheck (d : Definition) (bytes : List ℕ) (answers : List PureAnswer) : Type 0 where
+-- The bytes are a text with a program whose assertions can be read from left to right, and there is one answer for each of its
+-- specifications, in order, which is right within the bound. A text that is compiled has the program's ends.
+pub record IsRightCheck (d : Definition) (bound : ℕ) (bytes : List ℕ) (answers : List PureAnswer) : Type 0 where
   pub program : PureParts
   pub text : d.IsText bytes program
   pub keeps : d.KeepsEnds bytes program
   pub readable : HasModes program d.memory.name
-  pub right : AreRightAnswers d.memory.name d.memory.actions program answers
+  pub right : AreRightAnswers d.memory.name d.memory.actions bound program answers
 
 -- ---- infer
 
@@ -94,11 +95,6 @@ pub record IsRightInference (d : Definition) (entry : List ℕ) (bound : ℕ) (b
   pub right : AreRightFounds program d.memory.name d.memory.actions entry bound answers
 
 -- ---- solve
-
--- the place of the atom that a reason names
-abbrev pub place_of : Reason → ℕ
-place_of (Reason.Atom i) = i
-place_of (Reason.Number i) = i
 
 -- `sat` is right where the variables have proper values that make every atom true; `unsat` where no proper values do, and
 -- it names a proof that closes the list; `unknown` where the list isn't in the fragment, and the atom is one that keeps it out.
@@ -136,7 +132,7 @@ IsRightOutput (test language entry bound) bytes (a_report r) =
     Says r (Head.Entry Test language entry bound) (IsRightTest (definition_of language) entry bound bytes)
 IsRightOutput (test language entry bound) bytes (a_program p) = ⊥
 IsRightOutput (check language bound) bytes (a_report r) =
-    (r.head ≡ Head.Check language bound) × IsRightCheck (definition_of language) bytes r.answers
+    (r.head ≡ Head.Check language bound) × IsRightCheck (definition_of language) bound bytes r.answers
 IsRightOutput (check language bound) bytes (a_program p) = ⊥
 IsRightOutput (infer language entry bound) bytes (a_report r) =
     (r.head ≡ Head.Entry Infer language entry bound) × IsRightInference (definition_of language) entry bound bytes r.answers

@@ -4,20 +4,19 @@ ghost use Rattle.assert_logic.specs.Modes.{HasModes};
 ghost use Rattle.gil_program.specs.Program.{prog_view};
 ghost use Rattle.gil_report.specs.View.{answer_view};
 ghost use Rattle.gil_syntax.specs.View.{spec_view};
-ghost use Rattle.gillian_core.specs.Checked.{AreRightAnswers, IsReportOf, ReportsEach};
+ghost use Rattle.gillian_core.specs.Checked.{AreRightAnswers, CanEachBeTold, CanVerdictBeTold, IsReportOf, ReportsEach};
 
-use crate::causes::cause_of;
-use crate::variables::variable_names;
-use checked_paths::Cause as Met;
 use gil_program::Prog;
 use gil_report::{Answer, Answers, Cause};
 use gil_syntax::{Spec, Specs};
 use gil_values::Text;
 use gillian_words::Bound;
 use path_solver::PathSolver;
+use report_causes::{cause_of, variable_names};
 use report_names::named_proof;
 use rewrite_book::RuleBook;
 use spec_answers::{SpecAnswer, SpecAnswers, Verdict};
+use spec_causes::Met;
 use spec_checker::check;
 use std::alloc::{AllocError, Global};
 use sym_model::ListedMemory;
@@ -30,7 +29,7 @@ pub fn checked<M: ListedMemory>(
     rules: &RuleBook,
 ) -> Result<Answers, AllocError>
     requires { HasModes (prog_view prog.now) M.Local.memory }
-    ensures { IfOk result (λ answers. AreRightAnswers M.Local.memory M.Local.actions (prog_view prog.now) (map answer_view answers)) }
+    ensures { IfOk result (λ answers. AreRightAnswers M.Local.memory M.Local.actions bound.steps (prog_view prog.now) (map answer_view answers)) }
 {
     let mut decider = PathSolver::new(alloc);
     let answers = check::<M, PathSolver>(alloc, prog, rules, bound.steps, &mut decider)?;
@@ -44,7 +43,8 @@ fn report_all(
     specs: &Specs,
     answers: &SpecAnswers<Met>,
 ) -> Result<Answers, AllocError>
-    requires { length answers.now ≡ length specs.now }
+    requires as_many { length answers.now ≡ length specs.now }
+    requires told { CanEachBeTold (map spec_view specs.now) answers.now }
     ensures { IfOk result (λ reported. ReportsEach (map spec_view specs.now) answers.now (map answer_view reported)) }
 {
     let mut reported = Answers::new(alloc);
@@ -59,6 +59,7 @@ fn report_all(
 
 /// The answer to a specification that is reported.
 fn report(alloc: Global, spec: &Spec, answered: &SpecAnswer<Met>) -> Result<Answer, AllocError>
+    requires { CanVerdictBeTold answered.now.verdict }
     ensures { IfOk result (λ answer. IsReportOf (spec_view spec.now) answered.now.name answered.now.verdict (answer_view answer)) }
 {
     let name = answered.name.copy(alloc)?;
@@ -72,6 +73,7 @@ fn report_named(
     name: Text,
     verdict: &Verdict<Met>,
 ) -> Result<Answer, AllocError>
+    requires { CanVerdictBeTold verdict.now }
     ensures { IfOk result (λ answer. IsReportOf (spec_view spec.now) name verdict.now (answer_view answer)) }
 {
     match verdict {

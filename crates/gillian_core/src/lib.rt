@@ -1,7 +1,6 @@
 //! The top call: from words and source bytes to a status and the bytes of a report.
 #![tactic(auto)]
 
-mod causes;
 mod checking;
 mod clike_language;
 mod entries;
@@ -20,7 +19,6 @@ mod solving;
 mod status;
 mod testing;
 mod top;
-mod variables;
 mod while_language;
 mod working;
 

@@ -3,8 +3,9 @@ ghost use Rattle.std.specs.Prelude.{◌≡◌, ◌≢◌, map, IfOk, OnOk};
 ghost use Rattle.gil_text.specs.declared.refused.RefusedKind.TheVariants.{Memory};
 ghost use Rattle.gil_report.specs.View.{answer_view, report_view};
 ghost use Rattle.gillian_core.specs.Answers.{output_view};
-ghost use Rattle.gillian_core.specs.Outputs.{answers_status, is_good, output_status, output_text, report_written};
+ghost use Rattle.gillian_core.specs.Outputs.{IsWritableOutput, answers_status, is_good, output_status, output_text, report_written};
 ghost use Rattle.gillian_core.specs.Refusals.{refusal_line};
+ghost use Rattle.report_text.specs.Writable.{IsWritable};
 
 use crate::outputs::Output;
 use crate::refusals::refusal_text;
@@ -13,6 +14,7 @@ use gil_print::print_prog;
 use gil_report::{Answer, Report, json, text};
 use gil_text::Refused;
 use std::alloc::{AllocError, Global};
+use writable_reports::is_writable;
 
 /// What a call writes once the source is read, and how it then ends.
 #[derive(Debug, Drop)]
@@ -21,7 +23,7 @@ pub struct Response {
     pub text: Vec<u8>,
 }
 
-/// The response of an output, a report as JSON or as text.
+/// The response of an output, a report as JSON or as text. A report that no text has is not written: it is answered as want of memory.
 pub fn output_response(
     alloc: Global,
     output: &Output,
@@ -29,6 +31,7 @@ pub fn output_response(
 ) -> Result<Response, AllocError>
     ensures status { IfOk result (λ response. response.status ≡ output_status (output_view output.now)) }
     ensures text { IfOk result (λ response. response.text.items ≡ output_text as_json (output_view output.now)) }
+    ensures writable { OnOk result (IsWritableOutput (output_view output.now)) }
 {
     match output {
         Output::Report(report) => report_response(alloc, report, as_json),
@@ -43,7 +46,11 @@ pub fn output_response(
 fn report_response(alloc: Global, report: &Report, as_json: bool) -> Result<Response, AllocError>
     ensures status { IfOk result (λ response. response.status ≡ answers_status (report_view report.now).answers) }
     ensures text { IfOk result (λ response. response.text.items ≡ report_written as_json (report_view report.now)) }
+    ensures writable { OnOk result (IsWritable (report_view report.now)) }
 {
+    if !is_writable(report) {
+        return Err(AllocError);
+    }
     Ok(Response {
         status: status_of(report.answers.as_slice()),
         text: written(alloc, report, as_json)?,

@@ -7,7 +7,7 @@ ghost use Rattle.atom_text.specs.Accepted.{text_view};
 ghost use Rattle.gillian_words.specs.Tasks.{solve};
 ghost use Rattle.gil_report.specs.View.{answer_view};
 ghost use Rattle.gillian_core.specs.Finishing.{IsNoOutput};
-ghost use Rattle.gillian_core.specs.Right.{IsRightSolution, IsSolved, place_of};
+ghost use Rattle.gillian_core.specs.Right.{IsRightSolution, IsSolved};
 
 use crate::refusals::or_memory;
 use atom_text::{AtomText, read_atoms};
@@ -15,7 +15,7 @@ use gil_report::{Answer, Binding, Bindings};
 use gil_text::Refused;
 use gil_values::Values;
 use path_solver::{Solution, solve};
-use pure_terms::Reason;
+use report_causes::place_of;
 use report_names::named_proof;
 use rewrite_book::RuleBook;
 use sequence::Sequence;
@@ -44,16 +44,6 @@ fn solution_of(alloc: Global, rules: &RuleBook, text: AtomText) -> Result<Answer
         Solution::Sat(values) => Ok(Answer::Sat(bindings_of(alloc, &names, &values)?)),
         Solution::Unsat(proof) => Ok(Answer::Unsat(named_proof(alloc, &names, &proof)?)),
         Solution::Unknown(reason) => Ok(Answer::Unknown(place_of(reason))),
-    }
-}
-
-/// The place of the atom that a reason names.
-pub(crate) fn place_of(reason: Reason) -> usize
-    ensures { result ≡ place_of reason }
-{
-    match reason {
-        Reason::Atom(place) => place,
-        Reason::Number(place) => place,
     }
 }
 

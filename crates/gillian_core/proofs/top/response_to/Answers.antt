@@ -6,7 +6,7 @@ use Rattle.gillian_core.proofs.top.response_to.Goals as goal
 pub returns-in-Ok : goal.returns-in-Ok
 returns-in-Ok g c =
     response_of_output (request_view c.args.request) c.args.bytes.now (output_view c.in-Ok.output) c.output_response.result c.in-Ok.ensures.output
-    c.output_response.ensures.status c.output_response.ensures.text
+    c.output_response.ensures.writable c.output_response.ensures.status c.output_response.ensures.text
 
 pub returns-in-Err : goal.returns-in-Err
 returns-in-Err g c =
