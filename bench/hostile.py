@@ -9,10 +9,10 @@ Outside the gate. The texts are made from the cases in crates/tests_rows/data, w
 1 GiB and ten seconds of a processor. It looks for: an end by a signal, or for want of time in a mode in which a run takes as many steps
 as it is allowed at most (paths and splits have no limit, so that in the others such runs are only counted), an exit code that the table of
 README doesn't have, output that fits no exit code, output beside an exit code that has none, more than one line on standard error, a report
-that isn't read back by the reader, which is the program `tests_read_back`, reports in JSON that are none by docs/report.schema.json, a
-reader that ends otherwise than with 0 or 1 on reports that were changed in the same ways, and a refused allocation that is answered
-otherwise than by 6 with nothing written or by what the same run answers without a refusal. It stops at the first fault, or at number N,
-and writes the words and the text of each to a file.
+in lines or in JSON that isn't read back by the reader, which is the program `tests_read_back`, reports in JSON that are none by
+docs/report.schema.json, a reader that ends otherwise than with 0 or 1 on reports that were changed in the same ways, and a refused
+allocation that is answered otherwise than by 6 with nothing written or by what the same run answers without a refusal. It stops at the
+first fault, or at number N, and writes the words and the text of each to a file.
 """
 
 import argparse
@@ -141,7 +141,8 @@ SCHEMA = schema()
 
 
 def is_report(output):
-    return HEAD.match(output) is not None
+    """Whether this is a report, as lines or in JSON."""
+    return HEAD.match(output) is not None or JSON.fullmatch(output) is not None
 
 
 def read_back(reader, reports):
@@ -249,7 +250,13 @@ def made(every, texts, seed, index):
     words, text = mine.choice(every)
     # A text of another case, at times.
     text = text if mine.randrange(4) else mine.choice(texts)
-    return hostile_words(mine, words), hostile(mine, text, texts)
+    return in_some_form(seed, index, hostile_words(mine, words)), hostile(mine, text, texts)
+
+
+def in_some_form(seed, index, words):
+    """Returns the words, and at times with the one that asks for JSON. It has draws of its own, so that the texts stay the same."""
+    form = random.Random(f"{seed} {index} form")
+    return words if b"--json" in words or form.randrange(3) else [*words, b"--json"]
 
 
 class Handful:
