@@ -3,6 +3,7 @@
 
 mod actions;
 mod laws;
+mod listed;
 mod memory;
 mod rows;
 mod table;

@@ -1,5 +1,5 @@
 //! The actions of records one by one, each by its row of the table.
-ghost use Rattle.std.specs.Prelude.{◌≡◌, IsTrue, Some};
+ghost use Rattle.std.specs.Prelude.{◌≡◌, IsTrue, Some, IfOk};
 ghost use Rattle.gil_values.specs.Pure.{list, from_list};
 ghost use Rattle.gil_values.specs.View.{value_view, values_view};
 ghost use Rattle.mem_model.specs.declared.keys.MemoryName.TheVariants.{Record};
@@ -11,27 +11,30 @@ ghost use Rattle.mem_model.specs.Stored.{stored_heap_view};
 ghost use Rattle.mem_model.specs.Tables.{Does, DoesWith};
 ghost use Rattle.record_heap.specs.Table.{name_list_in, new, lookup, mutate, dispose, no_property};
 
+use crate::listed::distinct_texts;
 use gil_values::{Kind, Text, Value, Values};
 use mem_model::arguments::{
     location_argument, one_argument, property_and_value_arguments, property_arguments,
 };
-use mem_model::names::{distinct_texts, is_listed, keys_of_list, keys_of_names};
+use mem_model::names::{is_listed, keys_of_list, keys_of_names};
 use mem_model::{Failure, Key, Outcome, StoredHeap, Sub};
 use std::alloc::{AllocError, Global};
 
 /// The names of a new record, which are the only argument.
-fn name_list_argument(args: &Values) -> Result<&Values, Failure>
-    ensures { Reads (λ names. list (from_list (values_view names.now))) result (name_list_in (values_view args.now)) }
+fn name_list_argument(alloc: Global, args: &Values) -> Result<Result<&Values, Failure>, AllocError>
+    ensures { IfOk result (λ read. Reads (λ names. list (from_list (values_view names.now))) read (name_list_in (values_view args.now))) }
 {
-    match one_argument(args)? {
-        Value::List(names) => {
-            if distinct_texts(names.as_slice()) {
-                Ok(names)
-            } else {
-                Err(Failure::Kind)
-            }
-        }
-        _ => Err(Failure::Kind),
+    let argument = match one_argument(args) {
+        Ok(argument) => argument,
+        Err(failure) => return Ok(Err(failure)),
+    };
+    let Value::List(names) = argument else {
+        return Ok(Err(Failure::Kind));
+    };
+    if distinct_texts(alloc, names.as_slice())? {
+        Ok(Ok(names))
+    } else {
+        Ok(Err(Failure::Kind))
     }
 }
 
@@ -46,7 +49,7 @@ pub fn act_new(
     ensures { DoesWith result (stored_heap_view heap.old) (stored_heap_view heap.new)
         (name_list_in (values_view args.now)) (new fresh) }
 {
-    match name_list_argument(args) {
+    match name_list_argument(alloc, args)? {
         Ok(names) => make(heap, alloc, fresh, names),
         Err(failure) => failure.outcome(alloc),
     }

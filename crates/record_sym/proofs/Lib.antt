@@ -3,6 +3,7 @@ pub mod FormLaws
 pub mod HeapLaws
 pub mod Instance
 pub mod Law
+pub mod LiteralLaws
 pub mod Listing
 pub mod Loops
 pub mod Missing

@@ -1,5 +1,6 @@
 pub mod Forms
 pub mod Laws
+pub mod LiteralNames
 pub mod Places
 pub mod Plain
 pub mod RecordMeaning

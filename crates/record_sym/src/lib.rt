@@ -2,6 +2,7 @@
 #![tactic(auto)]
 
 mod disposing;
+mod distinct;
 mod laws;
 mod listed;
 mod making;

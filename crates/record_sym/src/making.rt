@@ -13,6 +13,7 @@ ghost use Rattle.sym_conditions.specs.Alternatives.{alternatives_view, any, alwa
 ghost use Rattle.sym_model.specs.Pure.{done};
 ghost use Rattle.sym_model.specs.View.{chunk_view, frag_view};
 
+use crate::distinct::are_distinct_literals;
 use gil_values::Kind;
 use mem_model::Failure;
 use pure_terms::{Literal, Term, Terms, Var};
@@ -37,12 +38,26 @@ fn faulty_before(alloc: Global, term: &Term, later: &[Term]) -> Result<Alternati
 fn faulty(alloc: Global, names: &[Term]) -> Result<Alternatives, AllocError>
     ensures { IfOk result (λ x. alternatives_view x ≡ faulty_of (map term_view names.now)) }
 {
+    if are_distinct_literals(alloc, names)? {
+        return Ok(never(alloc));
+    }
     let mut alternatives = never(alloc);
     for (index, name) in names.iter().enumerate() {
         let faults = faulty_before(alloc, name, &names[index + 1..])?;
         alternatives = extend(alloc, alternatives, &faults)?;
     }
     Ok(alternatives)
+}
+
+/// Each name is a text, and no two are equal.
+fn distinct(alloc: Global, names: &[Term]) -> Result<Alternatives, AllocError>
+    ensures { IfOk result (λ x. alternatives_view x ≡ distinct_from no_condition (map term_view names.now)) }
+{
+    let first = always(alloc)?;
+    if are_distinct_literals(alloc, names)? {
+        return Ok(first);
+    }
+    distinct_names(alloc, first, names)
 }
 
 /// The chunk of a new record's name, which holds Null.
@@ -100,8 +115,7 @@ fn with_made(
         (terms_view names.now)) (created_of location (list_of (from_list (terms_view names.now))) (terms_view names.now)
         (frag_view chunks.now)) (done (variable location))) }
 {
-    let first = always(alloc)?;
-    let when = distinct_names(alloc, first, names.as_slice())?;
+    let when = distinct(alloc, names.as_slice())?;
     let made = with_record(alloc, location, names, chunks)?;
     let outcome = SymResult::Done(Term::Var(location));
     with_last_branches(alloc, branches, when, made, outcome)
