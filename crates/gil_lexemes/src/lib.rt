@@ -6,5 +6,5 @@ mod standing;
 mod stops;
 
 pub use cursor::Cursor;
-pub use standing::{Lexeme, lexemes};
+pub use standing::Lexeme;
 pub use stops::Stop;

@@ -1,12 +1,10 @@
 //! Lexemes, and those that the tokens of a text stand for.
-ghost use Rattle.std.specs.Prelude.{◌≡◌, ℕ, ℤ, List, ◌∷◌, slice_range, All, IfOk};
+ghost use Rattle.std.specs.Prelude.{◌≡◌, ℕ, List, ◌∷◌, IfOk};
 ghost use Rattle.gil_values.specs.Characters.{IsText};
 ghost use Rattle.gil_lexer.specs.Bytes.{at_sign};
-ghost use Rattle.gil_lexer.specs.Spelling.{IsMarkedName, IsNumber, Spells, SpellsNumber, SpellsText};
-ghost use Rattle.gil_lexer.specs.Texts.{IsSlice};
-ghost use Rattle.gil_lexemes.specs.Lexemes.{StandsFor, StandForAll};
+ghost use Rattle.gil_lexer.specs.Spelling.{IsMarkedName, IsNumber, SpellsNumber, SpellsText};
 
-use gil_lexer::{Form, Sign, Token, Tokens, Word, number_of, text_of};
+use gil_lexer::{Sign, Word, number_of, text_of};
 use gil_values::Text;
 use std::alloc::{AllocError, Global};
 use std::str;
@@ -26,42 +24,6 @@ pub enum Lexeme {
     /// The characters of a text literal.
     Literal(Text),
     Sign(Sign),
-}
-
-/// The lexemes of a text with these tokens, in their order.
-pub fn lexemes(alloc: Global, bytes: &[u8], tokens: &Tokens) -> Result<Vec<Lexeme>, AllocError>
-    requires { All (IsSlice bytes.now) tokens.now }
-    ensures { IfOk result (λ lexemes. StandForAll bytes.now tokens.now lexemes.items) }
-{
-    let mut lexemes = Vec::with_capacity(alloc, tokens.len())?;
-    for token in tokens.as_slice() {
-        lexemes.push(lexeme_of(alloc, bytes, *token)?)?;
-    }
-    Ok(lexemes)
-}
-
-/// What one token of the text stands for.
-fn lexeme_of(alloc: Global, bytes: &[u8], token: Token) -> Result<Lexeme, AllocError>
-    requires { IsSlice bytes.now token }
-    ensures { IfOk result (λ lexeme. StandsFor token.form (slice_range bytes.now token.from token.to) lexeme) }
-{
-    spelled(alloc, token.form, token.text(bytes))
-}
-
-/// What a token of this form stands for, which is spelled so.
-fn spelled(alloc: Global, form: Form, spelling: &[u8]) -> Result<Lexeme, AllocError>
-    requires { Spells form spelling.now }
-    ensures { IfOk result (λ lexeme. StandsFor form spelling.now lexeme) }
-{
-    match form {
-        Form::Name => Ok(Lexeme::Name(text_from_bytes(alloc, spelling)?)),
-        Form::Word(word) => Ok(Lexeme::Word(word)),
-        Form::Logical => Ok(Lexeme::Logical(text_from_bytes(alloc, spelling)?)),
-        Form::Procedure => Ok(Lexeme::Procedure(procedure_name(alloc, spelling)?)),
-        Form::Number => Ok(Lexeme::Number(number_from(spelling))),
-        Form::Text => Ok(Lexeme::Literal(literal_text(alloc, spelling)?)),
-        Form::Sign(sign) => Ok(Lexeme::Sign(sign)),
-    }
 }
 
 /// The number that a number's digits spell.

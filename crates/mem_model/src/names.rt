@@ -4,24 +4,12 @@ ghost use Rattle.std.specs.List.{list_any};
 ghost use Rattle.gil_values.specs.Pure.{text};
 ghost use Rattle.gil_values.specs.Equality.{same_value};
 ghost use Rattle.gil_values.specs.View.{value_view, values_view};
-ghost use Rattle.mem_model.specs.Names.{is_text, are_distinct_texts, lists_name};
+ghost use Rattle.mem_model.specs.Names.{lists_name};
 ghost use Rattle.mem_model.specs.Tables.{texts_of, names_of, name_keys};
 
 use crate::keys::Key;
 use gil_values::{Text, Value, Values};
 use std::alloc::{AllocError, Global};
-
-/// Whether the values are texts, no two of which are the same.
-pub fn distinct_texts(values: &[Value]) -> bool
-    ensures { result ≡ are_distinct_texts (map value_view values.now) }
-{
-    for (index, value) in values.iter().enumerate() {
-        if !is_text_value(value) || is_one_of(value, &values[index + 1..]) {
-            return false;
-        }
-    }
-    true
-}
 
 /// Whether the name is one of the values.
 pub fn lists(values: &[Value], name: &Text) -> bool
@@ -68,15 +56,6 @@ pub fn keys_of_list(alloc: Global, location: u64, names: &Value) -> Result<Vec<K
     }
 }
 
-fn is_text_value(value: &Value) -> bool
-    ensures { result ≡ is_text (value_view value.now) }
-{
-    match value {
-        Value::Str(_) => true,
-        _ => false,
-    }
-}
-
 /// Whether the value is the name.
 pub fn is_name(value: &Value, name: &Text) -> bool
     ensures { result ≡ same_value (text name.now) (value_view value.now) }
@@ -85,15 +64,4 @@ pub fn is_name(value: &Value, name: &Text) -> bool
         Value::Str(text) => *name == *text,
         _ => false,
     }
-}
-
-fn is_one_of(value: &Value, values: &[Value]) -> bool
-    ensures { result ≡ list_any (same_value (value_view value.now)) (map value_view values.now) }
-{
-    for other in values {
-        if *value == *other {
-            return true;
-        }
-    }
-    false
 }
