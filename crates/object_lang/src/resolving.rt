@@ -1,6 +1,6 @@
 //! Programs in which names of functions are procedures.
 ghost use Rattle.std.specs.Prelude.{◌≡◌, map, IfOk};
-ghost use Rattle.source_language.specs.View.{logic_view, invariants_view};
+ghost use Rattle.source_language.specs.View.{logic_view, invariant_view, invariants_view};
 ghost use Rattle.object_lang.specs.Resolved as resolved;
 ghost use Rattle.object_lang.specs.Resolved.{names_function};
 ghost use Rattle.object_lang.specs.View.{block_view, expression_view, function_view, simple_view, source_parts_view, statement_view};
@@ -144,6 +144,17 @@ fn resolved_simple(
     }
 }
 
+/// The same invariant.
+fn same_invariant(alloc: Global, invariant: &Invariant) -> Result<Invariant, AllocError>
+    ensures { IfOk result (λ i. invariant_view i ≡ invariant_view invariant.now) }
+{
+    Ok(Invariant {
+        names: copy_texts(alloc, &invariant.names)?,
+        logicals: copy_params(alloc, &invariant.logicals)?,
+        assertion: copy_assertion(alloc, &invariant.assertion)?,
+    })
+}
+
 /// The same logic command.
 fn copy_logic(alloc: Global, logic: &Logic) -> Result<Logic, AllocError>
     ensures { IfOk result (λ l. logic_view l ≡ logic_view logic.now) }
@@ -152,6 +163,7 @@ fn copy_logic(alloc: Global, logic: &Logic) -> Result<Logic, AllocError>
         Logic::Fold(used) => Ok(Logic::Fold(copy_use(alloc, used)?)),
         Logic::Unfold(used) => Ok(Logic::Unfold(copy_use(alloc, used)?)),
         Logic::Assert(assertion) => Ok(Logic::Assert(copy_assertion(alloc, assertion)?)),
+        Logic::Invariant(invariant) => Ok(Logic::Invariant(same_invariant(alloc, invariant)?)),
     }
 }
 
@@ -164,16 +176,7 @@ fn copy_invariant(
 {
     match invariant {
         None => Ok(None),
-        Some(invariant) => {
-            let names = copy_texts(alloc, &invariant.names)?;
-            let logicals = copy_params(alloc, &invariant.logicals)?;
-            let assertion = copy_assertion(alloc, &invariant.assertion)?;
-            Ok(Some(Invariant {
-                names,
-                logicals,
-                assertion,
-            }))
-        }
+        Some(invariant) => Ok(Some(same_invariant(alloc, invariant)?)),
     }
 }
 

@@ -16,7 +16,7 @@ use Rattle.source_language.specs.Compiled.{if_code, while_code, assert_code, ass
 use Rattle.source_language.specs.Completions.{Situation, Completion, normal, returns, throws, over, unfinished, then_do, end_of, fails, with_value, choose, Test, turns, value_test}
 use Rattle.source_language.specs.Names.{is_source_expr, IsExtendedBy}
 use Rattle.source_language.specs.Procedures.{placed}
-use Rattle.source_language.specs.Pure.{PureLogic, fold_use, unfold_use, assert_that, PureInvariant}
+use Rattle.source_language.specs.Pure.{PureLogic, fold_use, unfold_use, assert_that, invariant_by_itself, PureInvariant}
 use Rattle.source_language.proofs.Following.{state_at, Here, Catcher, Leads, leads, leads_on, stays, Runs, fewer, runs_after, runs_then, at_place, steps, one_step, matched, choice_runs}
 use Rattle.source_language.proofs.Stores.{same_value}
 use Rattle.source_language.proofs.Stretches.{HasAt, has_back}
@@ -193,4 +193,6 @@ module _ (p : PureParts) (m : Actions) (inputs : List PureValue) (f : List ℕ) 
     logic_runs pc at (unfold_use u) store s ext has = matched p m inputs f q found callers catcher least (pc + 1) _ _ (normal s)
         (steps p m inputs f q found callers catcher pc _ store s has.0) (store, ext, refl)
     logic_runs pc at (assert_that items) store s ext has = matched p m inputs f q found callers catcher least (pc + 1) _ _ (normal s)
+        (steps p m inputs f q found callers catcher pc _ store s has.0) (store, ext, refl)
+    logic_runs pc at (invariant_by_itself i) store s ext has = matched p m inputs f q found callers catcher least (pc + 1) _ _ (normal s)
         (steps p m inputs f q found callers catcher pc _ store s has.0) (store, ext, refl)

@@ -10,7 +10,7 @@ use Rattle.gil_syntax.specs.Valid.{a_proc, is_bad_jump, has_bad_label, last_ends
 use Rattle.source_language.specs.Code.{jump, truth}
 use Rattle.source_language.specs.Compiled.{if_code, while_code, assert_code, assume_code, invariant_code, logic_command}
 use Rattle.source_language.specs.Procedures.{placed, null, nulls, body_of, procedure_of}
-use Rattle.source_language.specs.Pure.{PureLogic, fold_use, unfold_use, assert_that, PureInvariant}
+use Rattle.source_language.specs.Pure.{PureLogic, fold_use, unfold_use, assert_that, invariant_by_itself, PureInvariant}
 use Rattle.source_language.proofs.NumberedNames.{nulls_length}
 
 -- ---- labels
@@ -43,6 +43,7 @@ pub fits_logic : (n at : ℕ) (c : PureLogic) → Fits n (placed at (logic_comma
 fits_logic n at (fold_use u) = refl
 fits_logic n at (unfold_use u) = refl
 fits_logic n at (assert_that items) = refl
+fits_logic n at (invariant_by_itself i) = refl
 
 pub fits_assert : (n pc at : ℕ) (e : PureExpr) → pc + 2 ≤ n → Fits n (assert_code pc at e)
 fits_assert n pc at e le = fits_jump n at (pc + 2) e (placed at (fail (literal (text (codes "assert")))) ∷ []) le refl

@@ -39,3 +39,4 @@ abbrev pub logic_command : PureLogic → PureCommand
 logic_command (trees.fold_use u) = fold_use u
 logic_command (trees.unfold_use u) = unfold_use u
 logic_command (trees.assert_that items) = assert_that items
+logic_command (trees.invariant_by_itself i) = loop_invariant i.names i.logicals i.items

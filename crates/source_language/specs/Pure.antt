@@ -4,17 +4,18 @@ use Rattle.std.specs.Str.{bytes_eq}
 use Rattle.gil_syntax.specs.declared.assertions.Param.{Param}
 use Rattle.gil_syntax.specs.Pure.{PureItem, PurePredUse, PureSpec, PurePredDef}
 
+-- an invariant, of a loop or by itself: the variables that may change, the logical variables, and the assertion
+pub record PureInvariant : Type 0 where
+  pub names : List (List ℕ)
+  pub logicals : List Param
+  pub items : List PureItem
+
 -- what only the proof of a specification looks at
 pub data PureLogic : Type 0 where
   fold_use : PurePredUse → PureLogic
   unfold_use : PurePredUse → PureLogic
   assert_that : List PureItem → PureLogic
-
--- the invariant of a loop: the variables that may change, the logical variables, and the assertion
-pub record PureInvariant : Type 0 where
-  pub names : List (List ℕ)
-  pub logicals : List Param
-  pub items : List PureItem
+  invariant_by_itself : PureInvariant → PureLogic
 
 -- a function, with the byte at which it begins
 pub record PureFunction (B : Type 0) : Type 0 where

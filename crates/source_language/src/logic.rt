@@ -23,6 +23,16 @@ pub fn logic_code(alloc: Global, at: u32, logic: &Logic) -> Result<Body, AllocEr
             let assertion = copy_assertion(alloc, assertion)?;
             one(alloc, at, Command::AssertThat(assertion))
         }
+        Logic::Invariant(invariant) => {
+            let names = copy_texts(alloc, &invariant.names)?;
+            let logicals = copy_params(alloc, &invariant.logicals)?;
+            let assertion = copy_assertion(alloc, &invariant.assertion)?;
+            one(
+                alloc,
+                at,
+                Command::LoopInvariant(names, logicals, assertion),
+            )
+        }
     }
 }
 

@@ -9,9 +9,10 @@ pub enum Logic {
     Fold(PredUse),
     Unfold(PredUse),
     Assert(Assertion),
+    Invariant(Invariant),
 }
 
-/// The invariant of a loop: the variables that may change, the logical variables, and the assertion. Contracts see it as its pure
+/// An invariant, of a loop or by itself: the variables that may change, the logical variables, and the assertion. Contracts see it as its pure
 /// data, by `invariant_view`.
 #[derive(Debug, Drop)]
 pub struct Invariant {

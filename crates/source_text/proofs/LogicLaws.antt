@@ -17,7 +17,7 @@ use Rattle.gil_grammar.proofs.CommandReads.{command_again}
 use Rattle.gil_grammar.proofs.ListLaws.{Takes, Reads, ReadsList, found_is, cond_cases}
 use Rattle.gil_grammar.proofs.NestingLaws.{Nested, nested_tail}
 use Rattle.source_language.specs.Compiled.{logic_command}
-use Rattle.source_language.specs.Pure.{PureLogic, fold_use, unfold_use, assert_that, PureInvariant}
+use Rattle.source_language.specs.Pure.{PureLogic, fold_use, unfold_use, assert_that, invariant_by_itself, PureInvariant}
 use Rattle.source_text.specs.Logic.{SpellsLogic, SpellsInvariant, logic_of, logic_at, invariant_of, one_invariant_at, invariant_at}
 
 -- ---- what is read is spelled
@@ -30,6 +30,7 @@ logic_is : (c : gil.PureCommand) (l : PureLogic) → logic_of c ≡ Some l → c
 logic_is (gil.fold_use u) l e = ap logic_command (found_is _ l e)
 logic_is (gil.unfold_use u) l e = ap logic_command (found_is _ l e)
 logic_is (gil.assert_that items) l e = ap logic_command (found_is _ l e)
+logic_is (gil.loop_invariant xs ps items) l e = ap logic_command (found_is _ l e)
 logic_is _ l e = absurd cc
 
 one_invariant_takes : (ls : List Lexeme) (found : Option PureInvariant × List Lexeme) → one_invariant_at (lexemes.Word words.Invariant ∷ ls) ≡ Some found
@@ -70,6 +71,7 @@ abbrev pub logic_word : PureLogic → Word
 logic_word (fold_use u) = words.Fold
 logic_word (unfold_use u) = words.Unfold
 logic_word (assert_that items) = words.Assert
+logic_word (invariant_by_itself i) = words.Invariant
 
 pub logic_again : (c : PureLogic) (ls rest : List Lexeme) → Nested ls → SpellsLogic c ls rest → Reads Nested (logic_at (logic_word c)) c ls rest
 unfolding logic_at command_at same_sign
@@ -86,6 +88,11 @@ logic_again (assert_that items) ls rest p (block, is, (inner, braced, h)) =
     let whole = is ∙ ap (λ (l : List Lexeme). lexemes.Word words.Assert ∷ l) braced in
     let read_is = subst (λ (l : List Lexeme). command_at l ≡ Some (gil.assert_that items, semicolon ∷ rest)) whole read.is in
     record { is = rw (whole, read_is) refl; under = nested_tail _ rest read.under; shorter = omega (arith, read.shorter) }
+logic_again (invariant_by_itself i) ls rest p (names, variables, block, is, a, b, d) =
+    let c = gil.loop_invariant i.names i.logicals i.items in
+    let read = command_again c ls _ p (names, variables, block, is, a, b, d) tt in
+    let read_is = subst (λ (l : List Lexeme). command_at l ≡ Some (c, semicolon ∷ rest)) is read.is in
+    record { is = rw (is, read_is) refl; under = nested_tail _ rest read.under; shorter = omega (arith, read.shorter) }
 
 -- before an opening brace
 pub invariant_again : (i : Option PureInvariant) (ls rest : List Lexeme) → Nested ls → SpellsInvariant i ls rest → is_sign signs.LeftBrace (first_form rest) ≡ true

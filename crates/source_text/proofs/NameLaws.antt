@@ -12,7 +12,7 @@ use Rattle.gil_grammar.specs.Lists.{SpellsMore}
 use Rattle.gil_grammar.specs.Vocabulary.{closing_parenthesis, comma, semicolon}
 use Rattle.gil_grammar.proofs.RestLaws.{IsRest, annotation_leaves}
 use Rattle.source_language.specs.Names.{is_source_name, has_source_invariant}
-use Rattle.source_language.specs.Pure.{PureLogic, fold_use, unfold_use, assert_that, PureInvariant}
+use Rattle.source_language.specs.Pure.{PureLogic, fold_use, unfold_use, assert_that, invariant_by_itself, PureInvariant}
 use Rattle.source_text.specs.Logic.{SpellsLogic, SpellsInvariant}
 use Rattle.source_text.specs.Texts.{SourceItem, a_function, a_spec, a_pred, SpellsSourceItem, PlacedItem, SpellsItems, as_function, source_of}
 use Rattle.source_text.specs.Vocabulary.{is_source_lexeme, are_source_lexemes}
@@ -65,6 +65,7 @@ pub logic_kept : (c : PureLogic) (ls rest : List Lexeme) → SpellsLogic c ls re
 logic_kept (fold_use u) ls rest h k = command_kept (gil.fold_use u) ls (semicolon ∷ rest) (refl, h) k
 logic_kept (unfold_use u) ls rest h k = command_kept (gil.unfold_use u) ls (semicolon ∷ rest) (refl, h) k
 logic_kept (assert_that items) ls rest h k = command_kept (gil.assert_that items) ls (semicolon ∷ rest) (refl, h) k
+logic_kept (invariant_by_itself i) ls rest h k = command_kept (gil.loop_invariant i.names i.logicals i.items) ls (semicolon ∷ rest) (refl, h) k
 
 pub invariant_named : (i : Option PureInvariant) (ls rest : List Lexeme) → SpellsInvariant i ls rest → Kept ls → IsTrue (has_source_invariant i) × Kept rest
 invariant_named None ls rest is k = (refl, subst Kept is k)

@@ -10,9 +10,9 @@ use Rattle.gil_grammar.specs.Commands.{SpellsCommand}
 use Rattle.gil_grammar.specs.Vocabulary.{semicolon}
 use Rattle.gil_grammar.specs.Reading.Commands.{logic_by}
 use Rattle.source_language.specs.Compiled.{logic_command}
-use Rattle.source_language.specs.Pure.{PureLogic, fold_use, unfold_use, assert_that, PureInvariant}
+use Rattle.source_language.specs.Pure.{PureLogic, fold_use, unfold_use, assert_that, invariant_by_itself, PureInvariant}
 
--- fold use;   unfold use;   assert { assertion };
+-- fold use;   unfold use;   assert { assertion };   invariant (x, ..) [#n, ..] { assertion };
 abbrev pub SpellsLogic : PureLogic → List Lexeme → List Lexeme → Type 0
 SpellsLogic c from rest = SpellsCommand (logic_command c) from (semicolon ∷ rest)
 
@@ -28,6 +28,7 @@ abbrev pub logic_of : gil.PureCommand → Option PureLogic
 logic_of (gil.fold_use u) = Some (fold_use u)
 logic_of (gil.unfold_use u) = Some (unfold_use u)
 logic_of (gil.assert_that items) = Some (assert_that items)
+logic_of (gil.loop_invariant xs ps items) = Some (invariant_by_itself (record { names = xs; logicals = ps; items = items }))
 logic_of _ = None
 
 -- from the word on

@@ -26,6 +26,11 @@ pub fn logic_at<'a>(
         Command::Fold(pred_use) => Logic::Fold(pred_use),
         Command::Unfold(pred_use) => Logic::Unfold(pred_use),
         Command::AssertThat(assertion) => Logic::Assert(assertion),
+        Command::LoopInvariant(names, logicals, assertion) => Logic::Invariant(Invariant {
+            names,
+            logicals,
+            assertion,
+        }),
         _ => return Err(Stop::Syntax(left)),
     };
     let cursor = cursor.sign(Sign::Semicolon)?;

@@ -13,7 +13,7 @@ use Rattle.gil_grammar.specs.Lists.{SpellsEach}
 use Rattle.gil_grammar.specs.Vocabulary.{opening_parenthesis, closing_parenthesis, closing_brace, semicolon}
 use Rattle.gil_grammar.proofs.ListLaws.{Again, Reads, ReadsList, NeverBegins, Takes, each_again}
 use Rattle.gil_grammar.proofs.NestingLaws.{Nested, nested_tail}
-use Rattle.source_language.specs.Pure.{PureLogic, fold_use, unfold_use, assert_that, PureInvariant}
+use Rattle.source_language.specs.Pure.{PureLogic, fold_use, unfold_use, assert_that, invariant_by_itself, PureInvariant}
 use Rattle.source_text.specs.Logic as logics
 use Rattle.source_text.proofs.LogicLaws as laws
 use Rattle.source_text.proofs.LogicLaws.{invariant_again}
@@ -90,6 +90,7 @@ module _ {E S : Type 0} (g : Spellings E S) (r : Readers E S) (pieces : PiecesRe
       of_other_word words.Return ls apart = absurd (cc)
       of_other_word words.Fold ls apart = absurd (cc)
       of_other_word words.Unfold ls apart = absurd (cc)
+      of_other_word words.Invariant ls apart = absurd (cc)
       of_other_word words.Try ls apart = absurd (cc)
       of_other_word _ ls apart = refl
 
@@ -137,6 +138,10 @@ module _ {E S : Type 0} (g : Spellings E S) (r : Readers E S) (pieces : PiecesRe
           let whole = is ∙ ap (λ (l : List Lexeme). lexemes.Word words.Assert ∷ l) braced in
           let read_is = subst (λ (l : List Lexeme). logics.logic_at words.Assert l ≡ Some (assert_that items, rest)) whole read.is in
           record { is = rw (whole, read_is) refl; under = read.under; shorter = read.shorter }
+      logic_again (invariant_by_itself i) ls rest p (names, variables, block, is, a, b, d) =
+          let read = laws.logic_again (invariant_by_itself i) ls rest p (names, variables, block, is, a, b, d) in
+          let read_is = subst (λ (l : List Lexeme). logics.logic_at words.Invariant l ≡ Some (invariant_by_itself i, rest)) is read.is in
+          record { is = rw (is, read_is) refl; under = read.under; shorter = read.shorter }
 
       -- ---- statements with blocks
 
@@ -224,6 +229,7 @@ module _ {E S : Type 0} (g : Spellings E S) (r : Readers E S) (pieces : PiecesRe
     statement_never (logic (fold_use u)) ls rest h = rw (h.1) refl
     statement_never (logic (unfold_use u)) ls rest h = rw (h.1) refl
     statement_never (logic (assert_that items)) ls rest h = rw (h.1) refl
+    statement_never (logic (invariant_by_itself i)) ls rest h = rw (h.3) refl
     statement_never (try_catch body x handler) ls rest h = rw (h.3) refl
 
     placed_never : NeverBegins (SpellsPlaced g place) signs.RightBrace

@@ -191,6 +191,7 @@ module _ {E S : Type 0} (g : Spellings E S) (r : Readers E S) (same_try : g.has_
       of_word_takes words.Return ls found e = return_takes ls found e
       of_word_takes words.Fold ls found e = logic_takes_all words.Fold ls found e
       of_word_takes words.Unfold ls found e = logic_takes_all words.Unfold ls found e
+      of_word_takes words.Invariant ls found e = logic_takes_all words.Invariant ls found e
       of_word_takes words.Try ls found e = tried_takes ls found e
       of_word_takes word ls found e = plain_takes (lexemes.Word word ∷ ls) found e
 

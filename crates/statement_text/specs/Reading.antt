@@ -27,6 +27,7 @@ is_shared_word words.While = true
 is_shared_word words.Return = true
 is_shared_word words.Fold = true
 is_shared_word words.Unfold = true
+is_shared_word words.Invariant = true
 is_shared_word words.Try = true
 is_shared_word _ = false
 
@@ -128,6 +129,7 @@ module _ {E S : Type 0} (r : Readers E S) where
     of_word_at words.Return ls = return_at (behind ls)
     of_word_at words.Fold ls = logic_at words.Fold ls
     of_word_at words.Unfold ls = logic_at words.Unfold ls
+    of_word_at words.Invariant ls = logic_at words.Invariant ls
     of_word_at words.Try ls = tried_at ls
     of_word_at _ ls = plain_at ls
 

@@ -137,6 +137,7 @@ fn of_word_at<'a, L: StatementReader>(
         Word::Return => return_at::<L>(alloc, cursor.behind()),
         Word::Fold => logic_at::<L>(alloc, Word::Fold, cursor),
         Word::Unfold => logic_at::<L>(alloc, Word::Unfold, cursor),
+        Word::Invariant => logic_at::<L>(alloc, Word::Invariant, cursor),
         Word::Try => tried_at::<L>(alloc, tokens, inner, cursor),
         _ => plain_at::<L>(alloc, cursor),
     }

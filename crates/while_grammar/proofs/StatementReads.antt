@@ -20,7 +20,7 @@ use Rattle.gil_grammar.proofs.VocabularyLaws.{input_again}
 use Rattle.gil_grammar.proofs.NestingLaws.{Nested, nested_tail, expression_again}
 use Rattle.gil_grammar.proofs.AssertionReads.{parenthesis_closes, expressions_again}
 use Rattle.gil_grammar.proofs.CommandReads.{names_again}
-use Rattle.source_language.specs.Pure.{PureLogic, fold_use, unfold_use, assert_that, PureInvariant}
+use Rattle.source_language.specs.Pure.{PureLogic, fold_use, unfold_use, assert_that, invariant_by_itself, PureInvariant}
 use Rattle.source_text.specs.Logic as logics
 use Rattle.source_text.specs.Vocabulary.{equals}
 use Rattle.source_text.proofs.LogicLaws as laws
@@ -241,6 +241,10 @@ module _ (place : ℕ → ℕ) where
         let whole = is ∙ ap (λ (l : List Lexeme). lexemes.Word words.Assert ∷ l) braced in
         let read_is = subst (λ (l : List Lexeme). logics.logic_at words.Assert l ≡ Some (assert_that items, rest)) whole read.is in
         record { is = rw (whole, read_is) refl; under = read.under; shorter = read.shorter }
+    logic_again (invariant_by_itself i) ls rest p (names, variables, block, is, a, b, d) =
+        let read = laws.logic_again (invariant_by_itself i) ls rest p (names, variables, block, is, a, b, d) in
+        let read_is = subst (λ (l : List Lexeme). logics.logic_at words.Invariant l ≡ Some (invariant_by_itself i, rest)) is read.is in
+        record { is = rw (is, read_is) refl; under = read.under; shorter = read.shorter }
 
     -- ---- statements with blocks
 
@@ -324,6 +328,7 @@ module _ (place : ℕ → ℕ) where
   statement_never (logic (fold_use u)) ls rest h = rw (h.1) refl
   statement_never (logic (unfold_use u)) ls rest h = rw (h.1) refl
   statement_never (logic (assert_that items)) ls rest h = rw (h.1) refl
+  statement_never (logic (invariant_by_itself i)) ls rest h = rw (h.3) refl
 
   placed_never : NeverBegins (SpellsPlaced place) signs.RightBrace
   placed_never q ls rest (at, h) = statement_never q.statement ls rest h

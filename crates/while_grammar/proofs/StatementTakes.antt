@@ -297,6 +297,7 @@ module _ (place : ℕ → ℕ) where
     of_word_takes words.Fail ls found e = fail_takes ls found e
     of_word_takes words.Fold ls found e = logic_takes_all words.Fold ls found e
     of_word_takes words.Unfold ls found e = logic_takes_all words.Unfold ls found e
+    of_word_takes words.Invariant ls found e = logic_takes_all words.Invariant ls found e
     of_word_takes _ ls found e = absurd cc
 
     statement_takes : Takes Spells (statement_at blocks)

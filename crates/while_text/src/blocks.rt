@@ -121,6 +121,7 @@ fn of_word_at<'a>(
         Word::Fail => fail_at(alloc, cursor.behind()),
         Word::Fold => logic_at(alloc, Word::Fold, cursor),
         Word::Unfold => logic_at(alloc, Word::Unfold, cursor),
+        Word::Invariant => logic_at(alloc, Word::Invariant, cursor),
         _ => Err(Stop::Syntax(cursor.left())),
     }
 }

@@ -187,6 +187,7 @@ module _ (blocks : List Lexeme → Reading PureBlock) where
   of_word_at words.Fail ls = fail_at (behind ls)
   of_word_at words.Fold ls = logic_at words.Fold ls
   of_word_at words.Unfold ls = logic_at words.Unfold ls
+  of_word_at words.Invariant ls = logic_at words.Invariant ls
   of_word_at _ ls = None
 
   abbrev pub statement_by : Option Form → List Lexeme → Reading PureStatement
