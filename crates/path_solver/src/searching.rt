@@ -2,10 +2,11 @@
 ghost use Rattle.std.specs.Prelude.{◌≡◌, [], ◌∷◌, ◌++◌, IfOk, OnOk};
 ghost use Rattle.pure_terms.specs.Pure.{PureAtom, positive, negative};
 ghost use Rattle.pure_terms.specs.View.{term_view, atom_view, atoms_view};
+ghost use Rattle.solver_guess.specs.Guesses.{IsGuess};
 ghost use Rattle.solver_proof.specs.Closing.{Closes};
 ghost use Rattle.solver_proof.specs.View.{proof_view};
 ghost use Rattle.solver_rules.specs.Rules.{IsUndecided};
-ghost use Rattle.solver_rules.specs.Steps.{IsPlainAtom, ArePlain, IsSplit};
+ghost use Rattle.solver_rules.specs.Steps.{IsPlainAtom, ArePlain, IsSplit, IsStep};
 ghost use Rattle.path_solver.specs.Falling.{Falls};
 ghost use Rattle.path_solver.specs.Searching.{IsFound, IsBranch, EachFalls, AreEach, AreBranches};
 
@@ -13,6 +14,7 @@ use crate::branches::{Branches, differences_at, joined, kinds_of, values_at};
 use crate::lists::cut_last;
 use crate::taking::{Kept, moved_proof};
 use pure_terms::{Atom, Atoms, Term, Valuation, VarTable};
+use solver_finite::search_values;
 use solver_guess::{Guess, guess_at};
 use solver_next::next_step;
 use solver_proof::{Proof, Proofs, accepts};
@@ -50,6 +52,75 @@ pub(crate) enum Each {
     Under(Proofs),
 }
 
+/// So many steps a search over the variables with few values makes before the first step on a list, and before each later one.
+const FIRST_STEPS: usize = 20_000;
+
+const LATER_STEPS: usize = 500;
+
+/// A list with more atoms is searched so before the next step is asked for, which takes long there. The proofs of shorter ones are
+/// shorter where a step closes them.
+const LONG_LIST: usize = 64;
+
+/// A list that began with so many atoms is split by steps alone, which are few there.
+const SHORT_LIST: usize = 24;
+
+/// Whether a list is short but for the atoms of the splits so far.
+fn began_short(list: &Atoms, levels: usize) -> bool {
+    let splits = DEEPEST_SEARCH.saturating_sub(levels);
+    list.len() <= SHORT_LIST.saturating_add(splits)
+}
+
+/// How many steps a short search makes.
+fn first_steps(levels: usize) -> usize {
+    if levels == DEEPEST_SEARCH {
+        FIRST_STEPS
+    } else {
+        LATER_STEPS
+    }
+}
+
+/// What is guessed of a list, or else found of a long one by a short search over the variables with few values.
+#[inline(never)]
+fn known_at_once(
+    alloc: Global,
+    vars: &VarTable,
+    list: &Atoms,
+    levels: usize,
+) -> Result<Guess, AllocError>
+    ensures { IfOk result (IsGuess vars.now (atoms_view list.now)) }
+{
+    match guess_at(alloc, vars, list)? {
+        Guess::Nothing if LONG_LIST < list.len() => {
+            search_values(alloc, vars, list, first_steps(levels))
+        }
+        guess => Ok(guess),
+    }
+}
+
+/// What a search over the variables with few values finds of a list that isn't decided without splits: before the first split it goes
+/// on as long as it takes.
+#[inline(never)]
+fn known_before_splits(
+    alloc: Global,
+    vars: &VarTable,
+    list: &Atoms,
+    levels: usize,
+    step: &Step,
+) -> Result<Guess, AllocError>
+    ensures { IfOk result (IsGuess vars.now (atoms_view list.now)) }
+{
+    if began_short(list, levels) || matches!(step, Step::Model(_) | Step::Closed(_)) {
+        return Ok(Guess::Nothing);
+    }
+    if levels == DEEPEST_SEARCH {
+        return search_values(alloc, vars, list, usize::MAX);
+    }
+    if LONG_LIST < list.len() {
+        return Ok(Guess::Nothing);
+    }
+    search_values(alloc, vars, list, LATER_STEPS)
+}
+
 /// Searches a list, by at most so many splits under one another. It is made longer and cut back; where memory wants it may stay longer.
 /// The search ends, since each atom that is added leaves less to say.
 #[cycle(search)]
@@ -63,7 +134,7 @@ pub(crate) fn search(
     ensures same { OnOk result (list.new ≡ list.old) }
     ensures found { IfOk result (IsFound vars.now (atoms_view list.old)) }
 {
-    match guess_at(alloc, vars, list)? {
+    match known_at_once(alloc, vars, list, levels)? {
         Guess::Model(valuation) => Ok(Found::Model(valuation)),
         Guess::Closed(proof) => Ok(Found::Closed(proof)),
         Guess::Nothing => search_by_steps(alloc, vars, list, levels),
@@ -82,7 +153,29 @@ fn search_by_steps(
     ensures same { OnOk result (list.new ≡ list.old) }
     ensures found { IfOk result (IsFound vars.now (atoms_view list.old)) }
 {
-    match next_step(alloc, vars, list)? {
+    let step = next_step(alloc, vars, list)?;
+    match known_before_splits(alloc, vars, list, levels, &step)? {
+        Guess::Model(valuation) => Ok(Found::Model(valuation)),
+        Guess::Closed(proof) => Ok(Found::Closed(proof)),
+        Guess::Nothing => search_step(alloc, vars, list, levels, step),
+    }
+}
+
+/// Goes on with a list by the next step.
+#[cycle(search)]
+fn search_step(
+    alloc: Global,
+    vars: &VarTable,
+    list: &mut Atoms,
+    levels: usize,
+    step: Step,
+) -> Result<Found, AllocError>
+    requires plain { ArePlain vars.now (atoms_view list.old) }
+    requires step { IsStep vars.now (atoms_view list.old) step }
+    ensures same { OnOk result (list.new ≡ list.old) }
+    ensures found { IfOk result (IsFound vars.now (atoms_view list.old)) }
+{
+    match step {
         Step::Model(valuation) => Ok(Found::Model(valuation)),
         Step::Closed(proof) => Ok(Found::Closed(proof)),
         Step::Split(term) => search_split(alloc, vars, list, levels, term),

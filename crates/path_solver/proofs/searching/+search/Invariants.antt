@@ -7,25 +7,28 @@ use Rattle.path_solver.specs.Falling.{left_to_say}
 use Rattle.path_solver.proofs.searching.+search.Given as goal
 
 abbrev pub decreases-search : goal.decreases-search
-decreases-search l = 6 * left_to_say l.vars.now (atoms_view l.list.now) + 5
+decreases-search l = 7 * left_to_say l.vars.now (atoms_view l.list.now) + 6
 
 abbrev pub decreases-search_by_steps : goal.decreases-search_by_steps
-decreases-search_by_steps l = 6 * left_to_say l.vars.now (atoms_view l.list.now) + 4
+decreases-search_by_steps l = 7 * left_to_say l.vars.now (atoms_view l.list.now) + 5
+
+abbrev pub decreases-search_step : goal.decreases-search_step
+decreases-search_step l = 7 * left_to_say l.vars.now (atoms_view l.list.now) + 4
 
 abbrev pub decreases-search_split : goal.decreases-search_split
-decreases-search_split l = 6 * left_to_say l.vars.now (atoms_view l.list.now) + 3
+decreases-search_split l = 7 * left_to_say l.vars.now (atoms_view l.list.now) + 3
 
 abbrev pub decreases-search_branches : goal.decreases-search_branches
-decreases-search_branches l = 6 * left_to_say l.vars.now (atoms_view l.list.now) + 3
+decreases-search_branches l = 7 * left_to_say l.vars.now (atoms_view l.list.now) + 3
 
 abbrev pub decreases-search_second : goal.decreases-search_second
-decreases-search_second l = 6 * left_to_say l.vars.now (atoms_view l.list.now) + 2
+decreases-search_second l = 7 * left_to_say l.vars.now (atoms_view l.list.now) + 2
 
 abbrev pub decreases-search_each : goal.decreases-search_each
-decreases-search_each l = 6 * left_to_say l.vars.now (atoms_view l.list.now) + 2
+decreases-search_each l = 7 * left_to_say l.vars.now (atoms_view l.list.now) + 2
 
 abbrev pub decreases-search_with : goal.decreases-search_with
-decreases-search_with l = 6 * left_to_say l.vars.now (atoms_view l.list.now ++ atom_view l.atom ∷ []) + 6
+decreases-search_with l = 7 * left_to_say l.vars.now (atoms_view l.list.now ++ atom_view l.atom ∷ []) + 7
 
 abbrev pub invariant-search_each-loop-atom : goal.invariant-search_each-loop-atom
 invariant-search_each-loop-atom l = record {
