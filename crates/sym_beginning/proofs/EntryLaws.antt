@@ -50,7 +50,7 @@ nothing_stands v x = tt
 extends_nothing : (t : Store) → Extends [] t
 extends_nothing t x v at = not_none at
 
-is_true_or : (b : Bool) → (b ≡ true) ⊎ (b ≡ false)
+pub is_true_or : (b : Bool) → (b ≡ true) ⊎ (b ≡ false)
 is_true_or true = inl refl
 is_true_or false = inr refl
 

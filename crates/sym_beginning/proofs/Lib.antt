@@ -1,2 +1,4 @@
 pub mod EntryLaws
+pub mod Plainness
+pub mod Origins
 pub mod StartLaws

@@ -55,7 +55,7 @@ one_with_pair R P Q (x ∷ xs) [] pairs one f = absurd pairs
 one_with_pair R P Q (x ∷ xs) (y ∷ ys) pairs (inl here) f = inl (f x y pairs.0 here)
 one_with_pair R P Q (x ∷ xs) (y ∷ ys) pairs (inr later) f = inr (one_with_pair R P Q xs ys pairs.1 later f)
 
-each_with_pair : {A B : Type 0} (R : A → B → Type 0) (P : A → Type 0) (Q : B → Type 0) (xs : List A) (ys : List B) → EachWith R xs ys → Each P xs → ((x : A) (y : B) → R x y → P x → Q y) → Each Q ys
+pub each_with_pair : {A B : Type 0} (R : A → B → Type 0) (P : A → Type 0) (Q : B → Type 0) (xs : List A) (ys : List B) → EachWith R xs ys → Each P xs → ((x : A) (y : B) → R x y → P x → Q y) → Each Q ys
 each_with_pair R P Q [] [] pairs all f = tt
 each_with_pair R P Q [] (y ∷ ys) pairs all f = absurd pairs
 each_with_pair R P Q (x ∷ xs) [] pairs all f = absurd pairs
@@ -71,7 +71,7 @@ each_under : {V A : Type 0} (Q : V → A → Type 0) (xs : List A) → ((v : V) 
 each_under Q [] all = tt
 each_under Q (x ∷ xs) all = ((λ v. (all v).0), each_under Q xs (λ v. (all v).1))
 
-each_both : {A : Type 0} (P Q R : A → Type 0) (xs : List A) → ((x : A) → P x → Q x → R x) → Each P xs → Each Q xs → Each R xs
+pub each_both : {A : Type 0} (P Q R : A → Type 0) (xs : List A) → ((x : A) → P x → Q x → R x) → Each P xs → Each Q xs → Each R xs
 each_both P Q R [] f first second = tt
 each_both P Q R (x ∷ xs) f first second = (f x first.0 second.0, each_both P Q R xs f first.1 second.1)
 

@@ -9,6 +9,8 @@ ghost use Rattle.sym_model.specs.Lists.{Each};
 ghost use Rattle.sym_states.specs.Producing.{MayAdd};
 ghost use Rattle.sym_states.specs.View.{state_view, states_view};
 ghost use Rattle.sym_beginning.specs.Beginning.{CoversStarts, AreStarts, AreBeginnings};
+ghost use Rattle.sym_beginning.specs.Plainly.{BeginsPlainly, ArePlainBeginnings, BeginsPlainlyWith};
+ghost use Rattle.sym_beginning.specs.Origins.{AreOfPrecondition};
 ghost use Rattle.sym_beginning.specs.Starting.{IsFirstState, StartsFrom, BeginsEach, BeginsWith, no_beginnings};
 ghost use Rattle.sym_beginning.specs.View.{entry_view, start_view, starts_view, beginnings_view};
 
@@ -120,8 +122,10 @@ fn begin_with<M: ListedMemory>(
 ) -> Result<Beginnings<M>, AllocError>
     requires arguments { length (terms_view entry.args) ≡ length (proc_view proc.now).params }
     requires addable { Each (MayAdd M.Local.memory) (spec_view spec.now).pre }
-    ensures { IfOk result (λ b. BeginsWith M.Local.memory M.stands M.terms M.kept (proc_view proc.now) (spec_view spec.now).pre (entry_view entry)
-        (beginnings_view b)) }
+    ensures begins { IfOk result (λ b. BeginsWith M.Local.memory M.stands M.terms M.kept (proc_view proc.now) (spec_view spec.now).pre
+        (entry_view entry) (beginnings_view b)) }
+    ensures plain { M.keeps_plain → IfOk result (λ b. BeginsPlainlyWith M.Local.memory M.stands M.terms M.kept (proc_view proc.now)
+        (spec_view spec.now).pre (entry_view entry) (beginnings_view b)) }
 {
     let EntryTerms {
         vars,
@@ -165,6 +169,9 @@ pub fn begin_specification<M: ListedMemory>(
         (spec_view spec.now)) }
     ensures exact { IfOk result (λ b. AreStarts (beginnings_view b) M.Local.memory M.stands (spec_view spec.now)) }
     ensures begin { IfOk result (λ b. AreBeginnings (beginnings_view b) (prog_view prog.now) M.terms M.kept (spec_view spec.now)) }
+    ensures plain { M.keeps_plain → BeginsPlainly (spec_view spec.now)
+        → IfOk result (λ b. ArePlainBeginnings M.plain (spec_view spec.now) (beginnings_view b)) }
+    ensures origin { IfOk result (λ b. AreOfPrecondition (beginnings_view b) (spec_view spec.now)) }
 {
     let proc = match prog.proc(&spec.name) {
         Some(proc) => proc,

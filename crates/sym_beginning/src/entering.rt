@@ -1,5 +1,5 @@
 //! The terms of the values with which a specification is entered.
-ghost use Rattle.std.specs.Prelude.{◌≡◌, ℕ, List, [], ◌++◌, IfOk, IsTrue, IsSome, false};
+ghost use Rattle.std.specs.Prelude.{◌≡◌, ℕ, List, [], ◌++◌, IfOk, IfSome, IsTrue, IsSome, false};
 ghost use Rattle.std.specs.List.{filter};
 ghost use Rattle.std.specs.Option.{option_map};
 ghost use Rattle.gil_syntax.specs.Valid.{param_names, is_among, has_twice};
@@ -10,6 +10,7 @@ ghost use Rattle.pure_terms.specs.View.{terms_view};
 ghost use Rattle.sym_evaluation.specs.Pure.{term_at};
 ghost use Rattle.sym_evaluation.specs.View.{store_view};
 ghost use Rattle.sym_beginning.specs.Entering.{AreTermsAt, EntersIfAny};
+ghost use Rattle.sym_beginning.specs.Plainly.{HasPlainSorts, IsPlainEntry};
 ghost use Rattle.sym_beginning.specs.View.{entry_view};
 
 use gil_syntax::{Params, Spec, Texts};
@@ -120,7 +121,8 @@ fn terms_at(alloc: Global, store: &SymStore, names: &Texts) -> Result<Terms, All
 pub(crate) fn entry_terms(alloc: Global, spec: &Spec) -> Result<Option<EntryTerms>, AllocError>
     requires once { has_twice (param_names (spec_view spec.now).params) ≡ false }
     requires names { IsTrue (are_program_names (spec_view spec.now).params) }
-    ensures { IfOk result (λ o. EntersIfAny (spec_view spec.now) (option_map entry_view o)) }
+    ensures enters { IfOk result (λ o. EntersIfAny (spec_view spec.now) (option_map entry_view o)) }
+    ensures plain { HasPlainSorts (spec_view spec.now) → IfOk result (λ o. IfSome o (λ e. IsPlainEntry (entry_view e))) }
 {
     let names = names_of(alloc, &spec.params)?;
     let named = with_variables(

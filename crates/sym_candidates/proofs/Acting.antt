@@ -14,7 +14,6 @@ use Rattle.gil_machine.specs.State.{State, Step}
 use Rattle.gil_machine.specs.State as machine
 use Rattle.gil_machine.specs.Step.{do_command, after_action, action_result, counted, do_action}
 use Rattle.mem_model.specs.declared.keys.MemoryName.{MemoryName}
-use Rattle.mem_model.specs.declared.keys.Key.{Key}
 use Rattle.mem_model.specs.Actions.{Actions, ActionResult}
 use Rattle.mem_model.specs.Heaps.{Heap}
 use Rattle.mem_model.specs.Pure.{PureOutcome}
@@ -166,12 +165,11 @@ module _ {S : Type 0} (memory : MemoryName) (stands : S → List PureValue → H
   Makes = MakesNext stands terms p m path c over at HaveValues AreEachOver (evaluate_all es) go_on chooses Own OfMemory cases evaluation does choice (taken takes)
 
   -- what is missed where the arguments have these values
-  missed_there : (v : List PureValue) (s : State) (args : List PureValue) (q : Key) → Stands stands path v s → evaluate_all es s.current.store ≡ Ok args → (action_result takes m action args s).outcome ≡ outcome.miss q → miss_at p m s ≡ Some q
-  missed_there v s args q is ok misses =
+  missed_there : (v : List PureValue) (s : State) (args : List PureValue) → Stands stands path v s → evaluate_all es s.current.store ≡ Ok args → miss_at p m s ≡ missed_key (action_result takes m action args s).outcome
+  missed_there v s args is ok =
       ap (λ (o : Option PureNumberedCommand). option_and_then (λ (r : ActionResult). missed_key r.outcome) (option_and_then (λ (d : PureNumberedCommand). result_of p m d.command s) o)) (standing stands terms p m path c over at v s is)
       ∙ ap (λ k. option_and_then (λ (r : ActionResult). missed_key r.outcome) (result_of p m k s)) command
       ∙ ap (λ o. option_and_then (λ (r : ActionResult). missed_key r.outcome) (of_values (λ us. Some (action_result takes m action us s)) o)) ok
-      ∙ ap missed_key misses
 
   -- with the new variable, if any, the path stands for the state in which the symbol is counted
   grown : (b : Bool) (inputs v ws : List PureValue) (s : State) → Stands stands path v s → AreNext inputs s.counter s.draws (taken b) ws → IsProper (path.vars ++ taken b) (v ++ ws) → Stands stands (with_more path (taken b)) (v ++ ws) (counted b s)
@@ -256,7 +254,7 @@ module _ {S : Type 0} (memory : MemoryName) (stands : S → List PureValue → H
       -- a candidate for the branch: what its path stands for is what the action's result leads to
       module _ (k : ℕ) (small : k < 3) (fs : List PureFrame) (how : Option PureEnd) (stores : Each (λ f. OfEachName (IsOver vars') f.store) fs) (end_over : Each (IsOver vars') (end_terms how)) (known : ¬ IsUnknown how) (origin : Follows p m terms path (branched path x (place_at path.stack c) takes g b k fs how).path)
           (leads : (w : List PureValue) (s s1 : State) (r : ActionResult) → Stands stands (with_more path (taken takes)) w s1 → IsBranchFor stands w r b → IsTrue (all_true w (path.conds ++ (g.conds ++ b.conds)))
-          → there s ≡ place_at path.stack c → ((q : Key) → r.outcome ≡ outcome.miss q → miss_at p m s ≡ Some q)
+          → there s ≡ place_at path.stack c → miss_at p m s ≡ missed_key r.outcome
           → (outcome_choice r.outcome ≡ k) × StandsForStep p m stands (branched path x (place_at path.stack c) takes g b k fs how).path w s how (after_action r.outcome x (there s) (record s1 { heap = r.heap }))) where
         abbrev d : Candidate S
         d = branched path x (place_at path.stack c) takes g b k fs how
@@ -268,7 +266,7 @@ module _ {S : Type 0} (memory : MemoryName) (stands : S → List PureValue → H
             let branch : IsBranchFor stands (v ++ ws) r b =
             subst (λ (q : ActionResult). IsBranchFor stands (v ++ ws) q b) (same_result takes inputs v ws s args is.proper.one_each in_turn)
             (lawful.exact (v ++ ws) args s.heap (serves inputs v ws s args is in_turn proper val) (second_true (v ++ ws) g.conds b.conds (second_true (v ++ ws) path.conds (g.conds ++ b.conds) met)) closed) in
-            let (which, step) = leads (v ++ ws) s (counted takes s) r (grown takes inputs v ws s is in_turn proper) branch met (same_place stands terms p m path c over at v path.stack s is.frames) (λ q misses. missed_there v s args q is ok misses) in
+            let (which, step) = leads (v ++ ws) s (counted takes s) r (grown takes inputs v ws s is in_turn proper) branch met (same_place stands terms p m path c over at v path.stack s is.frames) (missed_there v s args is ok) in
             (ap (λ n. path.choices ++ n ∷ []) (sym which), step)
 
         may_choose : MayChoose c.command (Some k)
@@ -363,39 +361,39 @@ module _ {S : Type 0} (memory : MemoryName) (stands : S → List PureValue → H
             (inr (g.result, (from, (subst (λ r. Each Answered (result_terms r)) is_failed lawful.made.1).0)))
 
         failed_leads : (w : List PureValue) (s s1 : State) (r : ActionResult) (o : PureOutcome) → Stands stands (with_more path (taken takes)) w s1 → stands b.state w r.heap → IsOutcome w (failed t) o → IsTrue (all_true w (path.conds ++ (g.conds ++ b.conds)))
-            → there s ≡ place_at path.stack c
+            → there s ≡ place_at path.stack c → miss_at p m s ≡ missed_key o
             → (outcome_choice o ≡ 1) × StandsForStep p m stands (branched path x (place_at path.stack c) takes g b 1 path.stack (Some (path_end.failed t (place_at path.stack c)))).path w s (Some (path_end.failed t (place_at path.stack c))) (after_action o x (there s) (record s1 { heap = r.heap }))
-        failed_leads w s s1 r (outcome.failed u) is heap val met place = (
+        failed_leads w s s1 r (outcome.failed u) is heap val met place misses = (
           refl,
           record {
             proper = is.proper;
             meets = met;
-            ending = (u, (val, ap (machine.failed u) place));
+            ending = (u, (val, misses, ap (machine.failed u) place));
             memory = heap;
             symbols_below = is.symbols_below;
             draws = is.draws;
           },
         )
-        failed_leads w s s1 r (outcome.done u) is heap val met place = absurd val
-        failed_leads w s s1 r (outcome.miss q) is heap val met place = absurd val
+        failed_leads w s s1 r (outcome.done u) is heap val met place misses = absurd val
+        failed_leads w s s1 r (outcome.miss q) is heap val met place misses = absurd val
 
         failed_makes : Makes g b.conds (branched path x (place_at path.stack c) takes g b 1 path.stack (Some (path_end.failed t (place_at path.stack c))))
         failed_makes =
             branched_makes 1 (omega arith) path.stack (Some (path_end.failed t (place_at path.stack c))) more_over.stores (subst (λ r. Each (IsOver vars') (result_terms r)) is_failed lawful.names.1.1) (λ unknown. unknown) failed_follows
-            (λ w s s1 r is branch met place misses. failed_leads w s s1 r r.outcome is branch.state (subst (λ k. IsOutcome w k r.outcome) is_failed branch.result) met place)
+            (λ w s s1 r is branch met place misses. failed_leads w s s1 r r.outcome is branch.state (subst (λ k. IsOutcome w k r.outcome) is_failed branch.result) met place misses)
 
       -- ---- missed
 
       module _ (key : PureKey) (is_missed : b.result ≡ missed key) where
         missed_leads : (w : List PureValue) (s s1 : State) (r : ActionResult) (o : PureOutcome) → Stands stands (with_more path (taken takes)) w s1 → stands b.state w r.heap → IsOutcome w (missed key) o → IsTrue (all_true w (path.conds ++ (g.conds ++ b.conds)))
-            → there s ≡ place_at path.stack c → ((q : Key) → o ≡ outcome.miss q → miss_at p m s ≡ Some q)
+            → there s ≡ place_at path.stack c → miss_at p m s ≡ missed_key o
             → (outcome_choice o ≡ 2) × StandsForStep p m stands (branched path x (place_at path.stack c) takes g b 2 path.stack (Some (path_end.missed key (place_at path.stack c)))).path w s (Some (path_end.missed key (place_at path.stack c))) (after_action o x (there s) (record s1 { heap = r.heap }))
         missed_leads w s s1 r (outcome.miss q) is heap val met place misses = (
           refl,
           record {
             proper = is.proper;
             meets = met;
-            ending = (q, (val, misses q refl, ap (machine.failed (text (codes "missing"))) place));
+            ending = (q, (val, misses, ap (machine.failed (text (codes "missing"))) place));
             memory = heap;
             symbols_below = is.symbols_below;
             draws = is.draws;

@@ -10,7 +10,7 @@ use Rattle.gil_values.specs.Pure.{PureValue, text}
 use Rattle.gil_values.proofs.OperatorSymbols.{none_contained}
 use Rattle.gil_syntax.specs.Evaluation.{Store}
 use Rattle.gil_syntax.specs.Pure.{PureParts, PureCommand, PureNumberedCommand}
-use Rattle.gil_machine.specs.Choices.{choice_at, choice_of, with_choice}
+use Rattle.gil_machine.specs.Choices.{choice_at, choice_of, miss_at, with_choice}
 use Rattle.gil_machine.specs.State.{State, Step}
 use Rattle.gil_machine.specs.State as machine
 use Rattle.gil_machine.specs.Step.{command_at, do_command, step, fails_with}
@@ -39,6 +39,7 @@ use Rattle.sym_paths.proofs.Assuming.{assumes_rightly}
 use Rattle.sym_evaluation.proofs.AskedAtoms.{NeedsNone}
 use Rattle.sym_paths.proofs.Closed.{closed_each, closed_both}
 use Rattle.sym_paths.proofs.Growing.{all_true-more, later_among}
+use Rattle.sym_paths.proofs.Missing.{misses_nothing}
 use Rattle.sym_paths.proofs.Moving.{nothing_more, none_next, running_stands, running_each}
 use Rattle.sym_paths.proofs.Origins.{follows_failing}
 use Rattle.sym_paths.proofs.Recording.{ended_records}
@@ -175,6 +176,10 @@ module _ {S : Type 0} (stands : S → List PureValue → Heap → Type 0) (terms
     chosen : (v : List PureValue) (s : State) → Stands stands path v s → choice_at p m s ≡ of_outcome (chooses s) (outcome s.current.store)
     chosen v s is = choice-is p m [] s c c.command (standing v s is) refl ∙ choice s
 
+    -- where no choice is made, nothing is missed
+    nothing_missed : (v : List PureValue) (s : State) → Stands stands path v s → of_outcome (chooses s) (outcome s.current.store) ≡ None → miss_at p m s ≡ None
+    nothing_missed v s is none = misses_nothing p m s (chosen v s is ∙ none)
+
     abbrev pub May : PureAtom → Type 0
     May = MayAssume own (running_store path.stack) c.command
 
@@ -300,7 +305,7 @@ module _ {S : Type 0} (stands : S → List PureValue → Heap → Type 0) (terms
             subst (StandsForStep p m stands fp v s fp.ending) (sym (stepped inputs v s is ∙ ap (λ o. with_outcome o (at_command s) s (go_on (at_command s) s)) fails)) (record {
               proper = is.proper;
               meets = met;
-              ending = (text (fault_text fc.fault), (refl, ap (machine.failed (text (fault_text fc.fault))) (same_place v path.stack s is.frames)));
+              ending = (text (fault_text fc.fault), (refl, nothing_missed v s is (ap (of_outcome (chooses s)) fails), ap (machine.failed (text (fault_text fc.fault))) (same_place v path.stack s is.frames)));
               memory = is.memory;
               symbols_below = is.symbols_below;
               draws = is.draws;
@@ -506,14 +511,14 @@ module _ {S : Type 0} (stands : S → List PureValue → Heap → Type 0) (terms
       abbrev wp : PurePath S
       wp = (failing_with path here why g more).path
 
-      fails_there : (inputs v : List PureValue) (s : State) (a : A) → Stands stands path v s → Is v g.result a → IsTrue (all_true v (path.conds ++ (g.conds ++ more))) → IsChosen path wp (chooses s a) × StandsForStep p m stands wp v s wp.ending (go_on (at_command s) s a)
-      fails_there inputs v s a is val met =
+      fails_there : (inputs v : List PureValue) (s : State) (a : A) → Stands stands path v s → outcome s.current.store ≡ Ok a → Is v g.result a → IsTrue (all_true v (path.conds ++ (g.conds ++ more))) → IsChosen path wp (chooses s a) × StandsForStep p m stands wp v s wp.ending (go_on (at_command s) s a)
+      fails_there inputs v s a is ok val met =
           let (leads, nothing) = fails v s a is val (second_true v g.conds more (second_true v path.conds (g.conds ++ more) met)) in (
             subst (IsChosen path wp) (sym nothing) (same_and_none path.choices path.choices refl),
             subst (StandsForStep p m stands wp v s wp.ending) (sym leads) (record {
               proper = is.proper;
               meets = met;
-              ending = (text why, (refl, ap (machine.failed (text why)) (same_place v path.stack s is.frames)));
+              ending = (text why, (refl, nothing_missed v s is (ap (of_outcome (chooses s)) ok ∙ nothing), ap (machine.failed (text why)) (same_place v path.stack s is.frames)));
               memory = is.memory;
               symbols_below = is.symbols_below;
               draws = is.draws;
@@ -557,6 +562,6 @@ module _ {S : Type 0} (stands : S → List PureValue → Heap → Type 0) (terms
         own_more = own_more;
         assumes = assumes_rightly p own by_memory path c at (failing_with path here why g more) (g.conds ++ more) refl (each_append May g.conds more (good_may g is_good) may_more) tt (inr (inl (refl, λ going. not_none (sym going))));
         origin = λ no_form. follows_failing p m terms path wp c at c.command refl (literal (Literal.Str why)) here refl (inl (why, refl));
-        exact = λ inputs v s a is ok val met closed. fails_there inputs v s a is val met;
+        exact = λ inputs v s a is ok val met closed. fails_there inputs v s a is ok val met;
         along = λ inputs v ws s is given which goes. second_true (v ++ ws) path.given (g.conds ++ more) given;
       }

@@ -1,5 +1,5 @@
 -- Names among others, and tests of names.
-use Rattle.std.proofs.Common.{◌≡◌, ◌⊎◌, inl, inr, ℕ, List, [], ◌∷◌, ◌++◌, Bool, true, false, ◌||◌, refl, sym, ap, ◌∙◌, true≢false}
+use Rattle.std.proofs.Common.{◌≡◌, ◌⊎◌, inl, inr, ℕ, suc, ◌+◌, ◌≤◌, List, [], ◌∷◌, ◌++◌, length, Bool, true, false, if◌then◌else◌, ◌||◌, refl, sym, ap, subst, ◌∙◌, true≢false, arith}
 use Rattle.std.specs.Str.{bytes_eq}
 use Rattle.std.proofs.lemmas.Slice.Eq.{bytes_eq-Decides}
 use Rattle.gil_syntax.specs.Valid.{is_among}
@@ -66,3 +66,37 @@ only_other x y is = turned y x (none_of_two (bytes_eq y x) false is).0
 
 pub is_only : (x : List ℕ) → is_among (x ∷ []) x ≡ true
 is_only x = ap (λ b. b || false) (same_name x)
+
+-- ---- names without one of them
+
+abbrev pub without : List ℕ → List (List ℕ) → List (List ℕ)
+without x [] = []
+without x (z ∷ zs) = if bytes_eq x z then without x zs else z ∷ without x zs
+
+no_longer : (x : List ℕ) (zs : List (List ℕ)) → length (without x zs) ≤ length zs
+no_longer x [] = omega arith
+no_longer x (z ∷ zs) = by (bytes_eq x z) (no_longer x zs)
+  where
+    by : (b : Bool) → length (without x zs) ≤ length zs → length (if b then without x zs else z ∷ without x zs) ≤ suc (length zs)
+    by true less = omega (arith, less)
+    by false less = omega (arith, less)
+
+pub one_less : (x : List ℕ) (zs : List (List ℕ)) → is_among zs x ≡ true → length (without x zs) + 1 ≤ length zs
+one_less x [] among = absurd (true≢false (sym among))
+one_less x (z ∷ zs) among = by (bytes_eq x z) among (no_longer x zs) (one_less x zs)
+  where
+    by : (b : Bool) → (b || is_among zs x) ≡ true → length (without x zs) ≤ length zs → (is_among zs x ≡ true → length (without x zs) + 1 ≤ length zs)
+        → length (if b then without x zs else z ∷ without x zs) + 1 ≤ suc (length zs)
+    by true is less later = omega (arith, less)
+    by false is less later = let rest = later is in omega (arith, rest)
+
+pub others_among : (x y : List ℕ) (zs : List (List ℕ)) → bytes_eq x y ≡ false → is_among zs y ≡ true → is_among (without x zs) y ≡ true
+others_among x y [] other among = absurd (true≢false (sym among))
+others_among x y (z ∷ zs) other among = by (bytes_eq x z) refl (one_of_two (bytes_eq y z) (is_among zs y) among) (others_among x y zs other)
+  where
+    by : (b : Bool) → bytes_eq x z ≡ b → (bytes_eq y z ≡ true) ⊎ (is_among zs y ≡ true) → (is_among zs y ≡ true → is_among (without x zs) y ≡ true)
+        → is_among (if b then without x zs else z ∷ without x zs) y ≡ true
+    by true same (inl here) later = absurd (true≢false (sym same ∙ subst (λ w. bytes_eq x w ≡ false) (names_same y z here) other))
+    by true same (inr there) later = later there
+    by false differ (inl here) later = or_left (bytes_eq y z) (is_among (without x zs) y) here
+    by false differ (inr there) later = or_right (bytes_eq y z) (is_among (without x zs) y) (later there)

@@ -1,5 +1,5 @@
 -- Names get new variables one after another.
-use Rattle.std.proofs.Common.{◌≡◌, ◌⊎◌, ⊎_elim, inl, inr, ℕ, zero, suc, ◌<◌, List, [], ◌∷◌, ◌++◌, length, slice_get, Bool, true, false, if◌then◌else◌, ◌||◌, Option, Some, None, is_some, IsSome, IsTrue, refl, sym, ap, subst, ◌∙◌, append_assoc, true≢false, arith}
+use Rattle.std.proofs.Common.{◌≡◌, ◌⊎◌, ⊎_elim, inl, inr, ℕ, zero, suc, ◌+◌, ◌<◌, ◌≤◌, List, [], ◌∷◌, ◌++◌, length, slice_get, Bool, true, false, if◌then◌else◌, ◌||◌, Option, Some, None, is_some, IsSome, IsTrue, refl, sym, ap, subst, ◌∙◌, append_assoc, length-append, true≢false, arith}
 use Rattle.std.specs.Str.{bytes_eq}
 use Rattle.std.proofs.lemmas.List.{append-nil}
 use Rattle.std.proofs.lemmas.List.Elements.{Contains-push_cases}
@@ -22,9 +22,9 @@ use Rattle.sym_model.specs.Lists.{OneOf}
 use Rattle.sym_model.proofs.ListLaws.{same_some, not_none, each_append, each_to, one_left, one_right}
 use Rattle.sym_paths.proofs.Binding.{agree_bound, each_bound}
 use Rattle.sym_paths.proofs.Valuations.{later_variables_are_proper}
-use Rattle.sym_naming.specs.Naming.{PureNamed, HaveSorts, AddsVariable, MayName, IsNamedAs, AddsNames, IsNaming, NamesAll}
+use Rattle.sym_naming.specs.Naming.{PureNamed, HaveSorts, AddsVariable, MayName, IsNamedAs, AddsNames, IsVariableFor, IsNaming, NamesAll}
 use Rattle.sym_naming.specs.Sorts.{IsSortOf}
-use Rattle.sym_naming.proofs.Names.{one_of_two, none_of_two, names_same, same_name, among_left, among_right, among_parts, only_name, only_other, is_only}
+use Rattle.sym_naming.proofs.Names.{one_of_two, none_of_two, names_same, same_name, among_left, among_right, among_parts, only_name, only_other, is_only, without, one_less, others_among}
 
 -- ---- valuations and stores
 
@@ -77,6 +77,11 @@ same_longer vars v more one_each None (Some w) over same = absurd same
 pub store_longer : (vars : List Sort) (v more : List PureValue) → length v ≡ length vars → (bs : PureStore) (s : Store) → IsStoreOver vars bs → StandsFor v bs s → StandsFor (v ++ more) bs s
 store_longer vars v more one_each bs s over stands x = same_longer vars v more one_each (term_at bs x) (value_of s x) (over x) (stands x)
 
+-- a name stands in no empty list
+one_there : (x : List ℕ) (ys : List (List ℕ)) → IsTrue (is_among ys x) → 1 ≤ length ys
+one_there x [] among = absurd (true≢false (sym among))
+one_there x (y ∷ ys) among = omega arith
+
 -- ---- no name, and one that has a term
 
 module _ (ps : List Param) where
@@ -88,6 +93,8 @@ module _ (ps : List Param) where
     known_stay = λ x t at. at;
     others_stay = λ x other. refl;
     over = λ over. over;
+    few = λ ys known. omega arith;
+    variables = λ x t at. inl at;
     cover = λ v s t may. record {
       values = [];
       proper = subst (IsProper vars) (sym (append-nil v)) may.proper;
@@ -202,9 +209,20 @@ module _ (ps : List Param) where
         known_stay = stays;
         others_stay = λ y other. old_there y (only_other x y other);
         over = over_new;
+        few = λ ys known. ⊎_elim (λ some. absurd (true≢false (sym some ∙ ap is_some lacks))) (one_there x ys) (known x (is_only x));
+        variables = λ y t at. by_variable y t at (bytes_eq x y) refl;
         cover = covered;
         exact = realized;
       }
+        where
+          by_variable : (y : List ℕ) (t : PureTerm) → term_at named.store y ≡ Some t → (b : Bool) → bytes_eq x y ≡ b → (term_at bs y ≡ Some t) ⊎ IsVariableFor ps y t
+          by_variable y t at true same = inr (record {
+            number = length vars;
+            sort = sort;
+            is = sym (same_some (sym (new_there y same) ∙ at));
+            values = λ w. law.0 w ∙ ap (λ z. fits_sorts ps z w) (names_same x y same);
+          })
+          by_variable y t at false other = inl (sym (old_there y other) ∙ at)
 
   -- ---- one name more
 
@@ -238,6 +256,9 @@ module _ (ps : List Param) where
 
     none_more : NamesAll ps (x ∷ []) a.vars a.store None → NamesAll ps all vars bs None
     none_more none v s t may = let n = so_far.cover v s t (before v s t may) in none (v ++ n.values) n.store t (after v s t may n)
+
+    abbrev Known : List (List ℕ) → Type 0
+    Known ys = (y : List ℕ) → IsTrue (is_among all y) → IsSome (term_at bs y) ⊎ IsTrue (is_among ys y)
 
     module _ (b : PureNamed) (next : IsNaming ps (x ∷ []) a.vars a.store b) where
       covered_both : (v : List PureValue) (s t : Store) → MayName ps all vars bs v s t → IsNamedAs ps all vars bs v s t b
@@ -289,10 +310,43 @@ module _ (ps : List Param) where
         known_stay = λ y t at. next.known_stay y t (so_far.known_stay y t at);
         others_stay = λ y other. let (first, second) = none_of_two (is_among xs y) (is_among (x ∷ []) y) (sym (among_parts xs (x ∷ []) y) ∙ other) in next.others_stay y second ∙ so_far.others_stay y first;
         over = λ over. next.over (so_far.over over);
+        few = λ ys known. by_term ys known (term_at a.store x) refl;
+        variables = λ y t at. ⊎_elim (λ old. so_far.variables y t old) (λ new. inr new) (next.variables y t at);
         cover = covered_both;
         exact = realized_both;
       }
         where
+          sums : {m n k l s : ℕ} → m ≤ k → n ≤ l → s ≡ m + n → s ≤ k + l
+          sums first second is = omega (arith, first, second, is)
+
+          with_none : {k s : ℕ} → s ≤ k + 0 → s ≤ k
+          with_none is = omega (arith, is)
+
+          with_one : (j : ℕ) {k s : ℕ} → s ≤ j + 1 → j + 1 ≤ k → s ≤ k
+          with_one j first second = omega (arith, first, second)
+
+          not_here : term_at a.store x ≡ None → ¬ IsSome (term_at a.store x)
+          not_here lacks some = true≢false (sym some ∙ ap is_some lacks)
+
+          is_other : term_at a.store x ≡ None → (y : List ℕ) → IsTrue (is_among xs y) → (b : Bool) → bytes_eq x y ≡ b → bytes_eq x y ≡ false
+          is_other lacks y among true same = absurd (not_here lacks (so_far.all_named x (subst (λ z. IsTrue (is_among xs z)) (sym (names_same x y same)) among)))
+          is_other lacks y among false other = other
+
+          listed : (ys : List (List ℕ)) → Known ys → term_at a.store x ≡ None → IsTrue (is_among ys x)
+          listed ys known lacks =
+              ⊎_elim (λ some. let (t, at) = some_is (term_at bs x) some in absurd (not_here lacks (is_there (term_at a.store x) t (so_far.known_stay x t at)))) (λ there. there)
+              (known x (among_right xs (x ∷ []) x (is_only x)))
+
+          by_term : (ys : List (List ℕ)) → Known ys → (o : Option PureTerm) → term_at a.store x ≡ o → length (so_far.more ++ next.more) ≤ length ys
+          by_term ys known (Some t) at =
+              with_none (sums (so_far.few ys (λ y among. known y (among_left xs (x ∷ []) y among)))
+              (next.few [] (λ y among. inl (subst (λ z. IsSome (term_at a.store z)) (sym (only_name x y among)) (is_there (term_at a.store x) t at))))
+              (length-append so_far.more next.more))
+          by_term ys known None lacks =
+              with_one (length (without x ys)) (sums (so_far.few (without x ys) (λ y among. ⊎_elim (λ some. inl some) (λ there. inr (others_among x y ys (is_other lacks y among (bytes_eq x y) refl) there)) (known y (among_left xs (x ∷ []) y among))))
+              (next.few (x ∷ []) (λ y among. inr among))
+              (length-append so_far.more next.more)) (one_less x ys (listed ys known lacks))
+
           by_named : (y : List ℕ) → (is_among xs y || is_among (x ∷ []) y) ≡ true → IsSome (term_at b.store y)
           by_named y among =
               ⊎_elim

@@ -1,5 +1,5 @@
 -- New variables for names that have no term: whatever values of their sorts the names have, they are values of the variables.
-use Rattle.std.specs.Prelude.{◌≡◌, ◌⊎◌, ℕ, List, [], ◌∷◌, ◌++◌, length, slice_get, false, if◌then◌else◌, Option, Some, None, IsSome, IsTrue}
+use Rattle.std.specs.Prelude.{◌≡◌, ◌⊎◌, ℕ, ◌≤◌, List, [], ◌∷◌, ◌++◌, length, slice_get, false, if◌then◌else◌, Option, Some, None, IsSome, IsTrue}
 use Rattle.std.specs.Str.{bytes_eq}
 use Rattle.gil_values.specs.Pure.{PureValue}
 use Rattle.gil_syntax.specs.declared.assertions.Param.{Param}
@@ -30,6 +30,13 @@ pub record AddsVariable (x : List ℕ) (sort : Sort) (before after : PureNamed) 
   pub store : (y : List ℕ) → term_at after.store y
       ≡ (if bytes_eq x y then Some (variable (record { number = length before.vars; sort = sort })) else term_at before.store y)
 
+-- the term is a variable, of a sort that has exactly the values which the declarations leave to the name
+pub record IsVariableFor (ps : List Param) (x : List ℕ) (t : PureTerm) : Type 0 where
+  pub number : ℕ
+  pub sort : Sort
+  pub is : t ≡ variable (record { number = number; sort = sort })
+  pub values : (w : PureValue) → has_sort sort w ≡ fits_sorts ps x w
+
 module _ (ps : List Param) (xs : List (List ℕ)) (vars : List Sort) (bs : PureStore) where
   -- Under the valuation the store of terms stands for a store. Another one keeps its values, has the sorts that are declared, and gives
   -- each of the names a value.
@@ -57,7 +64,8 @@ module _ (ps : List Param) (xs : List (List ℕ)) (vars : List Sort) (bs : PureS
     pub added : (x : List ℕ) (w : PureValue) → value_of t x ≡ Some w
         → (value_of s x ≡ Some w) ⊎ (IsTrue (is_among xs x) × IsTrue (fits_sorts ps x w))
 
-  -- The table is larger, and the store gives each of the names a term.
+  -- The table is larger, by at most one variable for each name without a term, and the store gives each of the names a term: the one that
+  -- it had, or a variable.
   --   cover: values that the names may have are those that they have under a valuation;
   --   exact: under a valuation they have values of their sorts.
   pub record IsNaming (named : PureNamed) : Type 0 where
@@ -67,6 +75,9 @@ module _ (ps : List Param) (xs : List (List ℕ)) (vars : List Sort) (bs : PureS
     pub known_stay : (x : List ℕ) (t : PureTerm) → term_at bs x ≡ Some t → term_at named.store x ≡ Some t
     pub others_stay : (x : List ℕ) → is_among xs x ≡ false → term_at named.store x ≡ term_at bs x
     pub over : IsStoreOver vars bs → IsStoreOver named.vars named.store
+    pub few : (ys : List (List ℕ)) → ((x : List ℕ) → IsTrue (is_among xs x) → IsSome (term_at bs x) ⊎ IsTrue (is_among ys x))
+        → length more ≤ length ys
+    pub variables : (x : List ℕ) (t : PureTerm) → term_at named.store x ≡ Some t → (term_at bs x ≡ Some t) ⊎ IsVariableFor ps x t
     pub cover : (v : List PureValue) (s t : Store) → MayName v s t → IsNamedAs v s t named
     pub exact : (v : List PureValue) (s : Store) → HaveSorts named.vars v → StandsFor v bs s
         → (t : Store) × (AddsNames s t × StandsFor v named.store t)

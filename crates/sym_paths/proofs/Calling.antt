@@ -246,7 +246,7 @@ module _ {S : Type 0} (p : PureParts) (m : Actions) (stands : S → List PureVal
         → (w : PureValue) × ((value v t ≡ Some w) × (r ≡ fails_with w place s))
     failed_is t place v s (goes_on u) stood is = absurd stood
     failed_is t place v s (ends end) stood (w, is) =
-        let (u, (val, same)) = stood.ending in
+        let (u, (val, none, same)) = stood.ending in
         (u, (val, ap ends (is ∙ ap (end_at s) (sym (ap (λ (d : End). d.ending) is) ∙ same))))
 
     fails_there : (t : PureTerm) (place : Place) → next.ending ≡ Some (failed t place) → FailsThere p m stands terms path x e es handler next t place

@@ -7,6 +7,7 @@ pub mod Drawing
 pub mod FirstFrame
 pub mod Forms
 pub mod Growing
+pub mod Missing
 pub mod Moving
 pub mod Origins
 pub mod Recording

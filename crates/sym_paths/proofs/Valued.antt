@@ -9,7 +9,7 @@ use Rattle.gil_values.specs.Pure.{PureValue, text}
 use Rattle.gil_values.proofs.OperatorSymbols.{none_contained}
 use Rattle.gil_syntax.specs.Evaluation.{evaluate, bind}
 use Rattle.gil_syntax.specs.Pure.{PureParts, PureExpr, PureCommand, PureNumberedCommand, assign, fail}
-use Rattle.gil_machine.specs.Choices.{choice_at, choice_of}
+use Rattle.gil_machine.specs.Choices.{choice_at, choice_of, miss_at}
 use Rattle.gil_machine.specs.State.{State, Step}
 use Rattle.gil_machine.specs.State as machine
 use Rattle.gil_machine.specs.Step.{command_at, do_command, step, fails_with, with_value}
@@ -40,6 +40,7 @@ use Rattle.sym_paths.proofs.Binding.{agree_bound, each_bound}
 use Rattle.sym_evaluation.proofs.AskedAtoms.{NeedsNone, asked_closed}
 use Rattle.sym_paths.proofs.Closed.{closed_each, closed_both}
 use Rattle.sym_paths.proofs.Growing.{later_among}
+use Rattle.sym_paths.proofs.Missing.{misses_nothing}
 use Rattle.sym_paths.proofs.Moving.{nothing_more, none_next, advanced_frames, running_stands, running_each, advanced_each, open_is_known}
 use Rattle.sym_paths.proofs.Origins.{follows_going, follows_failing}
 use Rattle.sym_paths.proofs.Recording.{same_records, ended_records}
@@ -127,6 +128,9 @@ module _ {S : Type 0} (stands : S → List PureValue → Heap → Type 0) (terms
   chosen_none : (next : PurePath S) (v : List PureValue) (s : State) → next.choices ≡ path.choices → Stands stands path v s → IsChosen path next (choice_at p m s)
   chosen_none next v s same is = subst (IsChosen path next) (sym (choice-is p m [] s c k (standing v s is) command ∙ chooses s)) (same_and_none next.choices path.choices same)
 
+  nothing_missed : (v : List PureValue) (s : State) → Stands stands path v s → miss_at p m s ≡ None
+  nothing_missed v s is = misses_nothing p m s (choice-is p m [] s c k (standing v s is) command ∙ chooses s)
+
   same_place : (v : List PureValue) (fs : List PureFrame) (s : State) → AreFrames v fs (s.current ∷ s.callers) → at_command s ≡ place_at fs c
   same_place v [] s are = absurd are
   same_place v (f ∷ fs) s are = ap (λ (q : List ℕ). record { proc = q; at = c.at }) (sym are.0.procedure)
@@ -172,7 +176,7 @@ module _ {S : Type 0} (stands : S → List PureValue → Heap → Type 0) (terms
         subst (StandsForStep p m stands fp v s fp.ending) (sym fails) (record {
           proper = is.proper;
           meets = met;
-          ending = (text (fault_text fc.fault), (refl, ap (machine.failed (text (fault_text fc.fault))) (same_place v path.stack s is.frames)));
+          ending = (text (fault_text fc.fault), (refl, nothing_missed v s is, ap (machine.failed (text (fault_text fc.fault))) (same_place v path.stack s is.frames)));
           memory = is.memory;
           symbols_below = is.symbols_below;
           draws = is.draws;
@@ -351,7 +355,7 @@ module _ {S : Type 0} (stands : S → List PureValue → Heap → Type 0) (terms
         subst (StandsForStep p m stands tp v s tp.ending) (sym fails) (record {
           proper = is.proper;
           meets = met;
-          ending = (a, (val, ap (machine.failed a) (same_place v path.stack s is.frames)));
+          ending = (a, (val, nothing_missed v s is, ap (machine.failed a) (same_place v path.stack s is.frames)));
           memory = is.memory;
           symbols_below = is.symbols_below;
           draws = is.draws;

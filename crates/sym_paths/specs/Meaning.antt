@@ -75,10 +75,10 @@ EndsAt place vanished = ⊥
 EndsAt place cut = ⊥
 
 -- Under the valuation the end of a path is that of the run whose last step was done from the state s. The key of a miss is the one
--- that is missed there.
+-- that is missed there, and where a path fails nothing is missed.
 abbrev pub IsEnding : PureParts → Actions → List PureValue → State → PureEnd → Ending → Type 0
 IsEnding p m v s (returned t) e = (w : PureValue) × ((value v t ≡ Some w) × (e ≡ machine.returned w))
-IsEnding p m v s (failed t place) e = (w : PureValue) × ((value v t ≡ Some w) × (e ≡ machine.failed w place))
+IsEnding p m v s (failed t place) e = (w : PureValue) × ((value v t ≡ Some w) × (miss_at p m s ≡ None) × (e ≡ machine.failed w place))
 IsEnding p m v s (threw t place) e = (w : PureValue) × ((value v t ≡ Some w) × (e ≡ machine.threw w place))
 IsEnding p m v s (missed k place) e =
     (q : Key) × ((key_value v k.loc k.sub ≡ Some q) × (miss_at p m s ≡ Some q) × (e ≡ machine.failed (text (codes "missing")) place))

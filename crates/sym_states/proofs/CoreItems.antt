@@ -1,5 +1,5 @@
 -- What producing a core predicate gives.
-use Rattle.std.proofs.Common.{◌≡◌, ◌⊎◌, ⊎_elim, inl, inr, List, [], ◌∷◌, ◌++◌, Bool, true, false, if◌then◌else◌, Option, Some, None, IsTrue, refl, sym, ap, subst, ◌∙◌, true≢false}
+use Rattle.std.proofs.Common.{◌≡◌, ◌⊎◌, ⊎_elim, inl, inr, ℕ, ◌+◌, ◌≤◌, ℤ, pos, neg_ℤ, ◌-ℤ◌, ◌+ℤ◌, List, [], ◌∷◌, ◌++◌, Bool, true, false, if◌then◌else◌, Option, Some, None, IsTrue, refl, sym, ap, subst, ◌∙◌, true≢false}
 use Rattle.std.specs.FinMap.{insert}
 use Rattle.std.specs.List.{flat_map}
 use Rattle.std.proofs.lemmas.Grind.{flat_map-append}
@@ -19,26 +19,32 @@ use Rattle.pure_terms.specs.declared.variables.Sort.{Sort}
 use Rattle.pure_terms.specs.Meaning.{all_true, IsOver}
 use Rattle.pure_terms.specs.Pure.{PureTerm, PureAtom, term_of}
 use Rattle.sym_evaluation.specs.Meaning.{HaveValues, IsStoreOver}
+use Rattle.sym_evaluation.specs.Plainly.{IsPlain, text_bound}
 use Rattle.sym_evaluation.specs.Pure.{PureStore}
 use Rattle.sym_evaluation.proofs.AskedAtoms.{one_asked_closed}
-use Rattle.sym_model.specs.CoreLaws.{ProduceLaw, ProducesWhatMatters, MayBeAdded, IsAdded}
+use Rattle.sym_model.specs.CoreLaws.{ProduceLaw, ProducesWhatMatters, MayBeAdded, IsAdded, ArePlainUses}
 use Rattle.sym_model.specs.Cores.{produce_asks, produce_depends}
 use Rattle.sym_model.specs.Forms.{OpensOnly}
-use Rattle.sym_model.specs.Laws.{Serves as MemoryServes, EachTerm}
+use Rattle.sym_model.specs.Laws.{Serves as MemoryServes, EachTerm, IsDecidedWithin, growth}
 use Rattle.sym_model.specs.Lists.{Each, OneOf}
 use Rattle.sym_model.specs.Meaning.{is_open, has_open}
+use Rattle.sym_model.specs.Plain.{IsPlainState}
 use Rattle.sym_model.specs.Pure.{PureBranch}
 use Rattle.sym_model.specs.Terms.{StateTerms, all_of, asked_of, IsOwnCondition, IsMadeOf, AreEachOver}
 use Rattle.sym_model.proofs.ListLaws.{each_append, each_to, each_flat, each_by_place, each_at, one_left, one_right}
+use Rattle.plain_evaluation.specs.Laws.{IsPlainOver}
+use Rattle.plain_evaluation.specs.Plain.{IsPlainItem}
 use Rattle.sym_states.specs.Meaning.{Stands, Serves, IsOverTable}
+use Rattle.sym_states.specs.Plainly.{IsPlainWith, ProducesPlainStates, StaysPlain, item_growth}
 use Rattle.sym_states.specs.Producing.{IsAskedAmong, AreArguments, IsOwnTo, IsUseAdded, IsNext, IsAfter, DependsOn, NeedsForm, IsCovered, AddsToEach, added_conds, branch_state, unless_open, where_open, PureProduction, placed, divided}
 use Rattle.sym_states.specs.Pure.{PureState, PureArguments}
 use Rattle.sym_states.proofs.Additions.{use_parts, use_is, IsKeyAdded, key_parts, key_is}
 use Rattle.sym_states.proofs.Conditions.{met_parts, met_both, open_right, none_open, added_is}
-use Rattle.sym_states.proofs.PureItems.{store_serves}
+use Rattle.sym_states.proofs.Plainness.{plain_up, state_up, lower_more, higher_more, below_zero, above_zero}
+use Rattle.sym_states.proofs.PureItems.{store_serves, grows}
 use Rattle.sym_states.proofs.Values.{only, values_append}
 
-module _ {S : Type 0} (memory : MemoryName) (stands : S → List PureValue → Heap → Type 0) (terms : S → StateTerms) (kept : S → Type 0) (bs : PureStore) (u : PurePredUse) (s : PureState S)
+module _ {S : Type 0} (memory : MemoryName) (stands : S → List PureValue → Heap → Type 0) (terms : S → StateTerms) (kept : S → Type 0) (keeps : Type 0) (bs : PureStore) (u : PurePredUse) (s : PureState S)
     (core : Core) (named : core_of u.pred ≡ Some core) (a : PureArguments) (are : AreArguments bs u a) where
   abbrev arguments : List PureTerm
   arguments = a.ins ++ a.outs
@@ -56,12 +62,19 @@ module _ {S : Type 0} (memory : MemoryName) (stands : S → List PureValue → H
   with_core : (l : LogicState) (ws us : List PureValue) → with_use (core_of u.pred) u.pred ws us l ≡ with_use (Some core) u.pred ws us l
   with_core l ws us = ap (λ o. with_use o u.pred ws us l) named
 
+  -- from a plain memory and plain arguments the branch is plain, on decided conditions
+  abbrev BranchStaysPlain : PureBranch S → Type 0
+  BranchStaysPlain b =
+      (low high : ℤ) → IsPlainState memory (terms s.memory) low high → ArePlainUses u.pred a.ins a.outs low high
+      → Each (IsDecidedWithin (low -ℤ growth) (high +ℤ growth)) b.conds × IsPlainState memory (terms b.state) (low -ℤ growth) (high +ℤ growth)
+
   -- what the laws of production say of one branch
   record IsLawful (b : PureBranch S) : Type 0 where
     own : Each (IsOwnCondition (asked_of (produce_asks u.pred a.ins a.outs) (terms s.memory))) b.conds
     made : Each (IsMadeOf (arguments ++ all_of (terms s.memory)) None) (all_of (terms b.state))
     over : (vars : List Sort) → AreEachOver vars (arguments ++ all_of (terms s.memory)) → Each (λ c. IsOver vars (term_of c)) b.conds × AreEachOver vars (all_of (terms b.state))
     still_kept : kept s.memory → kept b.state
+    still_plain : keeps → BranchStaysPlain b
     exact : (vars : List Sort) (v ws : List PureValue) (h : Heap) → MemoryServes stands terms vars v None arguments s.memory ws h → IsTrue (all_true v b.conds) → has_open b.conds ≡ false
         → IsAdded memory stands terms u.pred v ws h b.state
     matters : (vars : List Sort) (v ws : List PureValue) (h : Heap) → MemoryServes stands terms vars v None arguments s.memory ws h → IsTrue (all_true v b.conds)
@@ -112,8 +125,37 @@ module _ {S : Type 0} (memory : MemoryName) (stands : S → List PureValue → H
         ),
       )
 
-  branch_after : (b : PureBranch S) → IsLawful b → IsAfter memory stands terms kept bs (uses u) s (branch_state s a b)
-  branch_after b law = record { next = branch_next b law; over = branch_over b law; still_kept = law.still_kept; exact = branch_exact b law }
+  plain_uses : (b c : ℕ) → IsPlainOver s.vars c bs → IsPlainItem (uses u) → c + text_bound ≤ b → ArePlainUses u.pred a.ins a.outs (neg_ℤ (pos b)) (pos b)
+  plain_uses b c over item below =
+      let there = are.plain s.vars c over item in
+      record {
+        around_zero = (below_zero b, above_zero b);
+        plain_ins = each_to (IsPlain (c + text_bound)) (IsPlain b) a.ins (plain_up (c + text_bound) b below) there.plain_ins;
+        plain_outs = each_to (IsPlain (c + text_bound)) (IsPlain b) a.outs (plain_up (c + text_bound) b below) there.plain_outs;
+        literal_bound = there.literal_bound;
+      }
+
+  abbrev Decided : ℕ → PureAtom → Type 0
+  Decided b = IsDecidedWithin (neg_ℤ (pos b)) (pos b)
+
+  branch_plain : (b : PureBranch S) → IsLawful b → keeps → StaysPlain memory terms bs (uses u) s (branch_state s a b)
+  branch_plain br law keep b c item over below is =
+      let wide : ℕ = b + item_growth in
+      let wider : IsPlainWith memory terms wide s = state_up memory terms b wide (grows b) s is in
+      let there = law.still_plain keep (neg_ℤ (pos b)) (pos b) is.plain_memory (plain_uses b c over item below) in
+      let conds : Each (Decided wide) br.conds =
+      subst (λ (n : ℤ). Each (IsDecidedWithin n (pos wide)) br.conds) (lower_more b) (subst (λ (n : ℤ). Each (IsDecidedWithin (neg_ℤ (pos b) -ℤ growth) n) br.conds) (higher_more b) there.0) in
+      let state : IsPlainState memory (terms br.state) (neg_ℤ (pos wide)) (pos wide) =
+      subst (λ (n : ℤ). IsPlainState memory (terms br.state) n (pos wide)) (lower_more b) (subst (λ (n : ℤ). IsPlainState memory (terms br.state) (neg_ℤ (pos b) -ℤ growth) n) (higher_more b) there.1) in
+      record {
+        decided = each_append (Decided wide) s.conds (a.conds ++ br.conds) wider.decided
+            (each_append (Decided wide) a.conds br.conds (each_to (λ x. ⊥) (Decided wide) a.conds (λ x none. absurd none) (are.plain s.vars c over item).nothing_asked) conds);
+        plain_memory = state;
+        no_facts = is.no_facts;
+      }
+
+  branch_after : (b : PureBranch S) → IsLawful b → IsAfter memory stands terms kept keeps bs (uses u) s (branch_state s a b)
+  branch_after b law = record { next = branch_next b law; over = branch_over b law; still_kept = law.still_kept; still_plain = λ keep. branch_plain b law keep; exact = branch_exact b law }
 
   branch_needs : (b : PureBranch S) → IsLawful b → has_open b.conds ≡ true → NeedsForm stands terms bs (uses u) s (branch_state s a b)
   branch_needs b law needs =
@@ -136,10 +178,10 @@ module _ {S : Type 0} (memory : MemoryName) (stands : S → List PureValue → H
   -- ---- all branches
 
   abbrev Whole : PureState S → Type 0
-  Whole r = OneOf (λ q. IsAfter memory stands terms kept bs (uses u) q r) (s ∷ [])
+  Whole r = OneOf (λ q. IsAfter memory stands terms kept keeps bs (uses u) q r) (s ∷ [])
 
   abbrev Stopped : PureState S → Type 0
-  Stopped r = OneOf (λ q. IsAfter memory stands terms kept bs (uses u) q r × NeedsForm stands terms bs (uses u) q r) (s ∷ [])
+  Stopped r = OneOf (λ q. IsAfter memory stands terms kept keeps bs (uses u) q r × NeedsForm stands terms bs (uses u) q r) (s ∷ [])
 
   whole_there : (b : PureBranch S) → IsLawful b → Each Whole (unless_open s a b)
   whole_there b law = by (has_open b.conds)
@@ -202,13 +244,15 @@ module _ {S : Type 0} (memory : MemoryName) (stands : S → List PureValue → H
 
   -- the states of the branches
   pub adds_key : (brs : List (PureBranch S)) → ProduceLaw memory stands terms u.pred a.ins a.outs s.memory brs → ProducesWhatMatters memory stands terms u.pred a.ins a.outs s.memory brs
-      → (kept s.memory → Each (λ b. kept b.state) brs) → AddsToEach memory stands terms kept bs (uses u) (s ∷ []) (divided s a brs)
-  adds_key brs law forms keeps =
+      → (kept s.memory → Each (λ b. kept b.state) brs) → (keeps → ProducesPlainStates memory terms u.pred a s.memory brs) → AddsToEach memory stands terms kept keeps bs (uses u) (s ∷ []) (divided s a brs)
+  adds_key brs law forms stays plainly =
       let lawful : Each IsLawful brs = each_by_place IsLawful brs (λ i b at. record {
         own = each_at (λ (c : PureBranch S). Each (IsOwnCondition (asked_of (produce_asks u.pred a.ins a.outs) (terms s.memory))) c.conds) brs i b law.own at;
         made = (each_at (EachTerm terms (IsMadeOf (arguments ++ all_of (terms s.memory)) None)) brs i b law.made at).0;
         over = λ vars over. let there = each_at (λ (c : PureBranch S). Each (λ x. IsOver vars (term_of x)) c.conds × EachTerm terms (IsOver vars) c) brs i b (law.variables vars over tt) at in (there.0, there.1.0);
-        still_kept = λ is. each_at (λ (c : PureBranch S). kept c.state) brs i b (keeps is) at;
+        still_kept = λ is. each_at (λ (c : PureBranch S). kept c.state) brs i b (stays is) at;
+        still_plain = λ keep low high is uses.
+            each_at (λ (c : PureBranch S). Each (IsDecidedWithin (low -ℤ growth) (high +ℤ growth)) c.conds × IsPlainState memory (terms c.state) (low -ℤ growth) (high +ℤ growth)) brs i b (plainly keep low high is uses) at;
         exact = λ vars v ws h serves. each_at (λ (c : PureBranch S). IsTrue (all_true v c.conds) → has_open c.conds ≡ false → IsAdded memory stands terms u.pred v ws h c.state) brs i b (law.exact vars v ws h serves) at;
         matters = λ vars v ws h serves. each_at (λ (c : PureBranch S). IsTrue (all_true v c.conds) → Each (OpensOnly (produce_depends u.pred a.ins a.outs (terms s.memory) v h)) c.conds) brs i b (forms vars v ws h serves) at;
       }) in
@@ -224,7 +268,7 @@ module _ {S : Type 0} (memory : MemoryName) (stands : S → List PureValue → H
               is_heap = subst (λ (x : LogicState). IsHeapOf memory x.heap) key.is heap;
             } in
             let taken = law.cover s.vars v (ws ++ us) l.heap key.k key.w (memory_serves v t l ws us serves have.1 have.2) may in
-            subst (λ (x : LogicState). IsCovered memory stands terms kept bs (uses u) v x (divided s a brs)) (sym key.is) (covered v l key.k key.w serves.state have.0 brs taken);
+            subst (λ (x : LogicState). IsCovered memory stands terms kept keeps bs (uses u) v x (divided s a brs)) (sym key.is) (covered v l key.k key.w serves.state have.0 brs taken);
         whole = each_whole brs lawful;
         stopped = each_stopped brs lawful;
       }

@@ -1,7 +1,7 @@
 -- What adding the items of an assertion one after another gives.
-use Rattle.std.proofs.Common.{◌≡◌, ◌⊎◌, ⊎_elim, inl, inr, ℕ, zero, suc, ◌+◌, ◌<◌, arith, length, get_or, take, List, [], ◌∷◌, ◌++◌, false, Some, IsTrue, refl, sym, ap, subst, ◌∙◌, append_assoc, true≢false}
+use Rattle.std.proofs.Common.{◌≡◌, ◌⊎◌, ⊎_elim, inl, inr, ℕ, zero, suc, ◌+◌, ◌*◌, ◌<◌, ◌≤◌, arith, length, get_or, take, List, [], ◌∷◌, ◌++◌, false, Some, IsTrue, refl, sym, ap, subst, ◌∙◌, append_assoc, true≢false}
 use Rattle.std.specs.Option.{option_and_then}
-use Rattle.std.proofs.lemmas.List.{append-nil, map-append, take_more}
+use Rattle.std.proofs.lemmas.List.{append-nil, length-append, map-append, take_more}
 use Rattle.gil_values.specs.Pure.{PureValue}
 use Rattle.gil_syntax.specs.Evaluation.{Store}
 use Rattle.gil_syntax.specs.Pure.{PureItem}
@@ -15,18 +15,24 @@ use Rattle.pure_terms.specs.declared.variables.Sort.{Sort}
 use Rattle.pure_terms.specs.Meaning.{all_true}
 use Rattle.pure_terms.specs.Pure.{PureAtom}
 use Rattle.sym_evaluation.specs.Meaning.{IsStoreOver}
+use Rattle.sym_evaluation.specs.Plainly.{text_bound}
 use Rattle.sym_evaluation.specs.Pure.{PureStore}
 use Rattle.sym_model.specs.Laws.{IsMeaning}
 use Rattle.sym_model.specs.Lists.{Each, OneOf}
 use Rattle.sym_model.specs.Meaning.{has_open}
 use Rattle.sym_model.specs.Terms.{StateTerms}
-use Rattle.sym_model.proofs.ListLaws.{same_some, each_append, each_to, one_left, one_right, one_to, one_with}
+use Rattle.sym_model.proofs.ListLaws.{same_some, each_append, each_left, each_right, each_to, one_left, one_right, one_to, one_with}
+use Rattle.plain_evaluation.specs.Laws.{IsPlainOver}
+use Rattle.plain_evaluation.specs.Plain.{IsPlainItem}
 use Rattle.sym_states.specs.Laws.{CoversAddings, AreAddings, ComeFromItems, StayOverTable}
 use Rattle.sym_states.specs.Meaning.{Stands, Serves, IsOverTable}
+use Rattle.sym_states.specs.Plainly.{IsPlainWith, StayPlain, item_growth}
 use Rattle.sym_states.specs.Producing.{IsProduced, is_begun, is_added, IsStopped, added_conds, PureProduction, IsAfter, NeedsForm, AddsToEach, AddsNext}
 use Rattle.sym_states.specs.Pure.{PureState}
 use Rattle.sym_states.proofs.Additions.{item_heap, added_more, item_after}
 use Rattle.sym_states.proofs.Conditions.{met_parts, open_right, none_open, added_is, grown}
+use Rattle.sym_states.proofs.Plainness.{state_up, one_more, no_less, reaches_more}
+use Rattle.sym_states.proofs.PureItems.{grows}
 
 -- ---- lists of items
 
@@ -43,7 +49,7 @@ both_of : {A : Type 0} (P Q : A → Type 0) (xs : List A) → Each P xs → OneO
 both_of P Q [] all one = absurd one
 both_of P Q (x ∷ xs) all one = ⊎_elim (λ here. inl (all.0, here)) (λ later. inr (both_of P Q xs all.1 later)) one
 
-module _ {S : Type 0} (memory : MemoryName) (stands : S → List PureValue → Heap → Type 0) (terms : S → StateTerms) (kept : S → Type 0) (meaning : IsMeaning memory stands terms) (bs : PureStore)
+module _ {S : Type 0} (memory : MemoryName) (stands : S → List PureValue → Heap → Type 0) (terms : S → StateTerms) (kept : S → Type 0) (keeps : Type 0) (meaning : IsMeaning memory stands terms) (bs : PureStore)
     (s : PureState S) where
   -- ---- what stays, and what grows
 
@@ -64,11 +70,17 @@ module _ {S : Type 0} (memory : MemoryName) (stands : S → List PureValue → H
       (v : List PureValue) (t : Store) (l : LogicState) → Serves stands terms s bs v t l → IsTrue (all_true v r.conds) → has_open (added_conds s r) ≡ false
       → (m : LogicState) × ((added t items l ≡ Some m) × Stands stands r v m)
 
+  -- from a plain state and plain items, the state is plain
+  abbrev PlainAfter : List PureItem → PureState S → Type 0
+  PlainAfter items r =
+      (b c : ℕ) → Each IsPlainItem items → IsPlainOver s.vars c bs → c + text_bound ≤ b → IsPlainWith memory terms b s → IsPlainWith memory terms (b + length items * item_growth) r
+
   -- a state to which the items were added
   pub record IsWhole (items : List PureItem) (r : PureState S) : Type 0 where
     pub produced : IsProduced terms bs s items r
     pub over : IsOverTable terms s → IsStoreOver s.vars bs → IsOverTable terms r
     pub still_kept : kept s.memory → kept r.memory
+    pub still_plain : keeps → PlainAfter items r
     pub exact : IsExact items r
 
   -- a state at which a literal form is needed
@@ -77,6 +89,7 @@ module _ {S : Type 0} (memory : MemoryName) (stands : S → List PureValue → H
     pub needs : IsTrue (has_open (added_conds s r))
     pub over : IsOverTable terms s → IsStoreOver s.vars bs → IsOverTable terms r
     pub still_kept : kept s.memory → kept r.memory
+    pub still_plain : keeps → PlainAfter items r
 
   pub record Produces (items : List PureItem) (p : PureProduction S) : Type 0 where
     pub cover : (v : List PureValue) (t : Store) (l m : LogicState) → Serves stands terms s bs v t l → added t items l ≡ Some m → IsHeapOf memory m.heap
@@ -89,7 +102,7 @@ module _ {S : Type 0} (memory : MemoryName) (stands : S → List PureValue → H
   pub nothing_produced : Produces [] (record { whole = s ∷ []; stopped = [] })
   nothing_produced = record {
     cover = λ v t l m serves is heap. inl (inl (subst (λ (x : LogicState). Stands stands s v x) (same_some is) serves.state));
-    whole = (record { produced = is_begun refl refl; over = λ over store. over; still_kept = λ is. is; exact = λ v t l serves met none. (l, (refl, serves.state)) }, tt);
+    whole = (record { produced = is_begun refl refl; over = λ over store. over; still_kept = λ is. is; still_plain = λ keep b c all over below is. state_up memory terms b (b + 0 * item_growth) (no_less b 0) s is; exact = λ v t l serves met none. (l, (refl, serves.state)) }, tt);
     stopped = tt;
   }
 
@@ -97,7 +110,7 @@ module _ {S : Type 0} (memory : MemoryName) (stands : S → List PureValue → H
 
   module _ (items : List PureItem) (item : PureItem) where
     abbrev After : PureState S → PureState S → Type 0
-    After = IsAfter memory stands terms kept bs item
+    After = IsAfter memory stands terms kept keeps bs item
 
     store_still_over : (q : PureState S) → IsWhole items q → IsStoreOver s.vars bs → IsStoreOver q.vars bs
     store_still_over q w over = subst (λ (vars : List Sort). IsStoreOver vars bs) (sym (same_table items q w.produced)) over
@@ -110,11 +123,29 @@ module _ {S : Type 0} (memory : MemoryName) (stands : S → List PureValue → H
       state = is;
     }
 
+    plain_next : (q r : PureState S) → IsWhole items q → After q r → keeps → PlainAfter (items ++ item ∷ []) r
+    plain_next q r w after keep b c all over below is =
+        let first = each_left IsPlainItem items (item ∷ []) all in
+        let last = (each_right IsPlainItem items (item ∷ []) all).0 in
+        let before = w.still_plain keep b c first over below is in
+        let n : ℕ = length items in
+        let there = after.still_plain keep (b + n * item_growth) c last (subst (λ (vars : List Sort). IsPlainOver vars c bs) (sym (same_table items q w.produced)) over) (reaches_more b (c + text_bound) n below) before in
+        subst (λ (m : ℕ). IsPlainWith memory terms m r) (one_more b n ∙ ap (λ m. b + m * item_growth) (sym (length-append items (item ∷ [])))) there
+
+    plain_still : (r : PureState S) → IsHalf items r → keeps → PlainAfter (items ++ item ∷ []) r
+    plain_still r half keep b c all over below is =
+        let first = each_left IsPlainItem items (item ∷ []) all in
+        let n : ℕ = length items in
+        let there = half.still_plain keep b c first over below is in
+        subst (λ (m : ℕ). IsPlainWith memory terms m r) (one_more b n ∙ ap (λ m. b + m * item_growth) (sym (length-append items (item ∷ []))))
+        (state_up memory terms (b + n * item_growth) ((b + n * item_growth) + item_growth) (grows (b + n * item_growth)) r there)
+
     whole_next : (q r : PureState S) → IsWhole items q → After q r → IsWhole (items ++ item ∷ []) r
     whole_next q r w after = record {
       produced = is_added w.produced after.next;
       over = λ over store. after.over (w.over over store) (store_still_over q w store);
       still_kept = λ is. after.still_kept (w.still_kept is);
+      still_plain = plain_next q r w after;
       exact = λ v t l serves met none.
           let more = after.next.more in
           let (first, grew) = conds_grow items q w.produced in
@@ -139,6 +170,7 @@ module _ {S : Type 0} (memory : MemoryName) (stands : S → List PureValue → H
           needs = ap has_open all ∙ open_right first more asked;
           over = λ over store. after.over (w.over over store) (store_still_over q w store);
           still_kept = λ is. after.still_kept (w.still_kept is);
+          still_plain = plain_next q r w after;
         }
 
     half_stays : (r : PureState S) → IsHalf items r → IsHalf (items ++ item ∷ []) r
@@ -158,9 +190,10 @@ module _ {S : Type 0} (memory : MemoryName) (stands : S → List PureValue → H
           needs = half.needs;
           over = half.over;
           still_kept = half.still_kept;
+          still_plain = plain_still r half;
         }
 
-    module _ (p d : PureProduction S) (so_far : Produces items p) (adds : AddsToEach memory stands terms kept bs item p.whole d) where
+    module _ (p d : PureProduction S) (so_far : Produces items p) (adds : AddsToEach memory stands terms kept keeps bs item p.whole d) where
       abbrev Met : List PureValue → PureState S → Type 0
       Met v r = IsTrue (all_true v r.conds)
 
@@ -187,7 +220,7 @@ module _ {S : Type 0} (memory : MemoryName) (stands : S → List PureValue → H
             (λ r one. one_with (IsWhole items) (λ q. After q r × NeedsForm stands terms bs item q r) p.whole so_far.whole one (λ q w both. half_next q r w both.0 both.1)) adds.stopped);
       }
 
-    pub produces_more : (p q : PureProduction S) → Produces items p → AddsNext memory stands terms kept bs item p q → Produces (items ++ item ∷ []) q
+    pub produces_more : (p q : PureProduction S) → Produces items p → AddsNext memory stands terms kept keeps bs item p q → Produces (items ++ item ∷ []) q
     produces_more p q so_far (d, (adds, is)) = subst (Produces (items ++ item ∷ [])) (sym is) (produces_next p d so_far adds)
 
   -- ---- the end
@@ -228,3 +261,9 @@ module _ {S : Type 0} (memory : MemoryName) (stands : S → List PureValue → H
     all_kept is =
         each_append (λ (r : PureState S). kept r.memory) p.whole p.stopped (each_to (IsWhole items) (λ r. kept r.memory) p.whole (λ r w. w.still_kept is) all.whole)
         (each_to (IsHalf items) (λ r. kept r.memory) p.stopped (λ r half. half.still_kept is) all.stopped)
+
+    pub all_plain : keeps → StayPlain memory terms bs items s (p.whole ++ p.stopped)
+    all_plain keep b c plain over below is =
+        let Right : PureState S → Type 0 = IsPlainWith memory terms (b + length items * item_growth) in
+        each_append Right p.whole p.stopped (each_to (IsWhole items) Right p.whole (λ r w. w.still_plain keep b c plain over below is) all.whole)
+        (each_to (IsHalf items) Right p.stopped (λ r half. half.still_plain keep b c plain over below is) all.stopped)

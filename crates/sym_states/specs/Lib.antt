@@ -1,5 +1,6 @@
 pub mod Laws
 pub mod Meaning
+pub mod Plainly
 pub mod Producing
 pub mod Pure
 pub mod View

@@ -10,6 +10,7 @@ ghost use Rattle.sym_states.specs.Producing.{are_spelled, arguments_of, AreArgum
 ghost use Rattle.sym_states.specs.View.{arguments_view};
 
 use gil_syntax::PredUse;
+use plain_evaluation::plain_expressions_ask_nothing;
 use pure_terms::{Atoms, Terms};
 use std::alloc::{AllocError, Global};
 use sym_evaluation::{GoodCase, SymStore, evaluate_all};
@@ -62,6 +63,7 @@ pub(crate) fn evaluate_use(
     requires { IsTrue (are_spelled (exprs_of_item (uses (pred_use_view used.now)))) }
     ensures { IfOk result (λ o. AreArgumentsIfAny (store_view store.now) (pred_use_view used.now) (option_map arguments_view o)) }
 {
+    plain_expressions_ask_nothing();
     let ins = evaluate_all(alloc, store, &used.ins)?;
     let outs = evaluate_all(alloc, store, &used.outs)?;
     both(alloc, ins.good, outs.good)

@@ -45,7 +45,7 @@ failure_value false v t place w is = is
 -- a run along the path fails with the value of the term
 pub failure_ends : (thrown : Bool) (p : PureParts) (m : Actions) (v : List PureValue) (s : State) (t : PureTerm) (place : Place) (e : Ending) → IsEnding p m v s (failure thrown t place) e → (w : PureValue) × ((value v t ≡ Some w) × (told e ≡ machine.failed w place))
 failure_ends true p m v s t place e (w, (val, is)) = (w, (val, λ i. told (is i)))
-failure_ends false p m v s t place e (w, (val, is)) = (w, (val, λ i. told (is i)))
+failure_ends false p m v s t place e (w, (val, none, is)) = (w, (val, λ i. told (is i)))
 
 pub cut_is_no_failure_end : (thrown : Bool) (t : PureTerm) (place : Place) → Some cut ≡ Some (failure thrown t place) → {X : Type 0} → X
 cut_is_no_failure_end true t place unlike = cc
