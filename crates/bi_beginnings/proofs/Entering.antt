@@ -1,5 +1,5 @@
 -- The states that the uses and conditions of a beginning give.
-use Rattle.std.proofs.Common.{◌≡◌, ⊎_elim, ℕ, zero, suc, ◌<◌, List, [], ◌∷◌, ◌++◌, map, length, drop, slice_get, Bool, true, false, if◌then◌else◌, ◌&&◌, Option, Some, None, Result, Ok, Err, IfOk, IsSome, IsTrue, refl, sym, ap, subst, ◌∙◌, true≢false, arith}
+use Rattle.std.proofs.Common.{◌≡◌, ◌⊎◌, ⊎_elim, inl, inr, ℕ, zero, suc, ◌<◌, List, [], ◌∷◌, ◌++◌, map, length, drop, slice_get, Bool, true, false, if◌then◌else◌, ◌&&◌, Option, Some, None, Result, Ok, Err, IfOk, IsSome, IsTrue, refl, sym, ap, subst, ◌∙◌, true≢false, arith}
 use Rattle.std.specs.List.{list_all, flat_map}
 use Rattle.std.specs.Str.{bytes_eq}
 use Rattle.std.proofs.lemmas.Bool.{and_parts}
@@ -25,17 +25,17 @@ use Rattle.pure_terms.specs.Pure.{PureTerm, variable, PureAtom, positive, negati
 use Rattle.sym_evaluation.specs.Meaning.{AreSame, StandsFor, IsStoreOver}
 use Rattle.sym_evaluation.specs.Pure.{PureStore, term_at}
 use Rattle.sym_model.specs.Cores.{TakesBoth}
-use Rattle.sym_model.specs.Lists.{Each}
+use Rattle.sym_model.specs.Lists.{Each, OneOf}
 use Rattle.sym_model.specs.Meaning.{has_open}
 use Rattle.sym_model.specs.Pure.{PureUse}
 use Rattle.sym_model.specs.Terms.{StateTerms, all_of, AreEachOver}
 use Rattle.sym_model.proofs.ListLaws.{same_some, not_none, each_append, each_to}
-use Rattle.sym_states.specs.Laws.{AreAddings, ComeFromItems, StayOverTable, AreKept}
+use Rattle.sym_states.specs.Laws.{CoversAddings, AreAddings, ComeFromItems, StayOverTable, AreKept}
 use Rattle.sym_states.specs.Meaning.{Stands, Serves, IsOverTable, AreFacts}
 use Rattle.sym_states.specs.Producing.{are_spelled, FitsCore, IsOfMemory, MayAdd, IsProduced, is_begun, is_added, IsStopped, added_conds}
 use Rattle.sym_states.specs.Pure.{PureFact, PureState}
 use Rattle.bi_beginnings.specs.Beginnings.{IsEntryTable, PureBeginning, IsBeginning}
-use Rattle.bi_beginnings.specs.Opening.{IsVariableOf, HasVariables, IsFirstState, IsEntryState}
+use Rattle.bi_beginnings.specs.Opening.{IsVariableOf, HasVariables, IsFirstState, IsEntryState, IsEnteredWith}
 use Rattle.bi_beginnings.proofs.Tables.{over_variable}
 
 -- ---- items that may be added
@@ -116,11 +116,11 @@ variables_over vars bs has x t at =
     subst (IsOver vars) (sym is) (over_variable vars k in_table)
 
 -- the store of the values
-abbrev value_or_true : Option PureValue → PureValue
+abbrev pub value_or_true : Option PureValue → PureValue
 value_or_true (Some w) = w
 value_or_true None = boolean true
 
-abbrev store_of_values : List PureValue → PureStore → Store
+abbrev pub store_of_values : List PureValue → PureStore → Store
 store_of_values v [] = []
 store_of_values v (b ∷ bs) = bind b.name (value_or_true (value v b.term)) (store_of_values v bs)
 
@@ -143,7 +143,7 @@ get_within [] i less = absurd (omega (arith, less))
 get_within (x ∷ xs) zero less = refl
 get_within (x ∷ xs) (suc i) less = get_within xs i (omega (arith, less))
 
-variables_stand : (vars : List Sort) (v : List PureValue) (bs : PureStore) → IsProper vars v → HasVariables vars bs → StandsFor v bs (store_of_values v bs)
+pub variables_stand : (vars : List Sort) (v : List PureValue) (bs : PureStore) → IsProper vars v → HasVariables vars bs → StandsFor v bs (store_of_values v bs)
 variables_stand vars v bs proper has x = stands_at v bs x (λ t at.
     let (k, (is, in_table)) = has x t at in
     let less : k.number < length vars = slice_get_within vars k.number k.sort in_table in
@@ -155,6 +155,10 @@ pub ok_of_four : {A E : Type 0} (r : Result A E) (P Q R T U : A → Type 0) → 
 ok_of_four (Ok a) P Q R T U f p q r t = f a p q r t
 ok_of_four (Err e) P Q R T U f p q r t = tt
 
+pub ok_of_five : {A E : Type 0} (r : Result A E) (P Q R T V U : A → Type 0) → ((a : A) → P a → Q a → R a → T a → V a → U a) → IfOk r P → IfOk r Q → IfOk r R → IfOk r T → IfOk r V → IfOk r U
+ok_of_five (Ok a) P Q R T V U f p q r t v = f a p q r t v
+ok_of_five (Err e) P Q R T V U f p q r t v = tt
+
 each_under : {V A : Type 0} (Q : V → A → Type 0) (xs : List A) → ((v : V) → Each (Q v) xs) → Each (λ x. (v : V) → Q v x) xs
 each_under Q [] all = tt
 each_under Q (x ∷ xs) all = ((λ v. (all v).0), each_under Q xs (λ v. (all v).1))
@@ -162,6 +166,10 @@ each_under Q (x ∷ xs) all = ((λ v. (all v).0), each_under Q xs (λ v. (all v)
 each_both : {A : Type 0} (P Q R : A → Type 0) (xs : List A) → ((x : A) → P x → Q x → R x) → Each P xs → Each Q xs → Each R xs
 each_both P Q R [] f first second = tt
 each_both P Q R (x ∷ xs) f first second = (f x first.0 second.0, each_both P Q R xs f first.1 second.1)
+
+pub one_of_each : {A : Type 0} (P Q R : A → Type 0) (xs : List A) → ((x : A) → P x → Q x → R x) → Each P xs → OneOf Q xs → OneOf R xs
+one_of_each P Q R [] f all one = absurd one
+one_of_each P Q R (x ∷ xs) f all one = ⊎_elim (λ here. inl (f x all.0 here)) (λ later. inr (one_of_each P Q R xs f all.1 later)) one
 
 module _ {S : Type 0} (stands : S → List PureValue → Heap → Type 0) (terms : S → StateTerms) (bs : PureStore) (s : PureState S) where
   same_table : (items : List PureItem) (r : PureState S) → IsProduced terms bs s items r → r.vars ≡ s.vars
@@ -235,3 +243,19 @@ module _ {S : Type 0} (memory : MemoryName) (stands : S → List PureValue → H
 
   pub are_entries : Each (IsEntryState stands terms kept params) rs
   are_entries = each_both _ IsRight (IsEntryState stands terms kept params) rs is_entry heaps all_right
+
+  -- ---- cover
+
+  -- what an adding comes to is what some state is entered with
+  pub are_entered : CoversAddings memory stands terms bs items s rs → (v : List PureValue) (m : LogicState) → IsProper vars v
+      → IsAdding memory (store_of_values v bs) items nothing m → OneOf (IsEnteredWith stands vars v m.heap) rs
+  are_entered cover v m proper adding =
+      one_of_each IsRight (λ r. IsTrue (all_true v r.conds) × (IsTrue (has_open (added_conds s r)) ⊎ Stands stands r v m)) (IsEnteredWith stands vars v m.heap) rs is_entered all_right
+      (cover v (store_of_values v bs) nothing m (serves v proper) adding)
+    where
+      is_entered : (r : PureState S) → IsRight r → IsTrue (all_true v r.conds) × (IsTrue (has_open (added_conds s r)) ⊎ Stands stands r v m) → IsEnteredWith stands vars v m.heap r
+      is_entered r right (met, there) = record {
+        table = right.0;
+        meets = record { proper = subst (λ (all : List Sort). IsProper all v) (sym right.0) proper; true_there = met };
+        heap = ⊎_elim (λ needed. inl (subst (λ (cs : List PureAtom). IsTrue (has_open cs)) (all_new r) needed)) (λ (is : Stands stands r v m). inr is.memory) there;
+      }

@@ -20,7 +20,7 @@ use Rattle.sym_model.specs.Cores.{TakesBoth}
 use Rattle.sym_model.specs.Lists.{Each}
 use Rattle.sym_model.specs.Pure.{PureFix, PureUse}
 use Rattle.sym_model.specs.Terms.{AreEachOver}
-use Rattle.sym_model.proofs.ListLaws.{each_append, each_to}
+use Rattle.sym_model.proofs.ListLaws.{same_some, not_none, each_append, each_to}
 use Rattle.bi_beginnings.specs.Beginnings.{any_for_each, variables_from, IsEntryTable, PureBeginning, IsBeginning}
 use Rattle.bi_beginnings.specs.Fixing.{IsFixOver}
 
@@ -29,7 +29,7 @@ use Rattle.bi_beginnings.specs.Fixing.{IsFixOver}
 get_front : {X : Type 0} (xs ys : List X) (i : ℕ) (x : X) → slice_get xs i ≡ Some x → slice_get (xs ++ ys) i ≡ Some x
 get_front xs ys i x is = slice_get-append xs ys i (slice_get_within xs i x is) ∙ is
 
-get_back : {X : Type 0} (xs ys : List X) (i k : ℕ) → i ≡ length xs + k → slice_get (xs ++ ys) i ≡ slice_get ys k
+pub get_back : {X : Type 0} (xs ys : List X) (i k : ℕ) → i ≡ length xs + k → slice_get (xs ++ ys) i ≡ slice_get ys k
 get_back [] ys i k e = ap (slice_get ys) (omega (arith, e))
 get_back (x ∷ xs) ys zero k e = absurd (omega (arith, e))
 get_back (x ∷ xs) ys (suc i) k e = get_back xs ys i k (omega (arith, e))
@@ -143,3 +143,13 @@ module _ (memory : MemoryName) (params : List (List ℕ)) (b : PureBeginning) (i
           conds = each_to (λ a. IsOver b.vars (term_of a)) (λ a. IsOver (b.vars ++ f.outs) (term_of a)) b.conds (λ a over. stay_when_tables_grow.over (term_of a) b.vars f.outs over) is.conds;
         } in
         subst (λ (d : PureBeginning). IsBeginning memory params d) (λ i. record { vars = sym vars i; uses = sym uses i; conds = sym conds i; place = c.place; choices = c.choices }) larger
+
+-- ---- the first element
+
+pub first_element : {X : Type 0} (xs : List X) (x : X) → slice_get xs 0 ≡ Some x → (later : List X) × (xs ≡ x ∷ later)
+first_element [] x at = not_none at
+first_element (y ∷ ys) x at = (ys, ap (λ z. z ∷ ys) (same_some at))
+
+pub none_there : {X : Type 0} (xs : List X) → length xs ≡ 0 → xs ≡ []
+none_there [] none = refl
+none_there (x ∷ xs) none = absurd (omega (arith, none))

@@ -1,18 +1,23 @@
 -- Where inference begins: the values with which a procedure is entered, of which nothing is known, and heaps that fix the keys which
 -- earlier paths missed. Bi-abduction is that of Calcagno, Distefano, O'Hearn, Yang, POPL 2009.
-use Rattle.std.specs.Prelude.{◌≡◌, ℕ, suc, List, [], ◌∷◌, ◌++◌, map, false, IsTrue}
+use Rattle.std.specs.Prelude.{◌≡◌, ◌⊎◌, ℕ, suc, ◌+◌, ◌≤◌, List, [], ◌∷◌, ◌++◌, map, length, false, IsTrue}
+use Rattle.std.specs.FinMap.{entries}
 use Rattle.std.specs.List.{list_all}
 use Rattle.gil_values.specs.declared.places.Place.{Place}
 use Rattle.gil_values.specs.Pure.{PureValue}
+use Rattle.gil_values.specs.Symbols.{AreBelow}
 use Rattle.gil_syntax.specs.Pure.{PureProc}
 use Rattle.mem_model.specs.declared.keys.MemoryName.{MemoryName}
-use Rattle.mem_model.specs.Heaps.{Heap}
+use Rattle.mem_model.specs.Heaps.{Heap, IsHeapOf}
+use Rattle.assert_logic.specs.Unions.{IsUnion}
 use Rattle.fresh_atoms.specs.Laws.{is_any_or_list}
 use Rattle.pure_terms.specs.declared.variables.Sort.{Sort}
 use Rattle.pure_terms.specs.Meaning.{IsOver, Satisfies}
 use Rattle.pure_terms.specs.Pure.{PureTerm, variable, PureAtom, term_of}
+use Rattle.sym_evaluation.specs.Meaning.{HaveValues}
 use Rattle.sym_model.specs.Cores.{TakesBoth}
-use Rattle.sym_model.specs.Lists.{Each}
+use Rattle.sym_model.specs.Listing.{AreUnion}
+use Rattle.sym_model.specs.Lists.{Each, OneOf}
 use Rattle.sym_model.specs.Meaning.{has_open}
 use Rattle.sym_model.specs.Pure.{PureUse}
 use Rattle.sym_model.specs.Terms.{StateTerms, AreEachOver}
@@ -73,3 +78,33 @@ pub record IsOpening {S : Type 0} (stands : S → List PureValue → Heap → Ty
   pub is_met : (v : List PureValue) × Satisfies path.vars v path.conds
   pub has_heap : (v : List PureValue) → Satisfies path.vars v path.conds → (h : Heap) × stands path.memory v h
   pub still_kept : kept path.memory
+
+-- under the valuation the path begins with this heap
+pub record BeginsWith {S : Type 0} (stands : S → List PureValue → Heap → Type 0) (vars : List Sort) (v : List PureValue) (own : Heap)
+    (path : PurePath S) : Type 0 where
+  pub table : path.vars ≡ vars
+  pub meets : Satisfies path.vars v path.conds
+  pub heap : stands path.memory v own
+
+-- Cover: where a heap is what the uses of the beginning say, and its conditions are true, one of the paths begins with it, if nothing is left
+-- undecided.
+abbrev pub CoversBeginning : {S : Type 0} → MemoryName → (S → List PureValue → Heap → Type 0) → PureBeginning → Type 0 → List (PurePath S)
+    → Type 0
+CoversBeginning memory stands b undecided starts =
+    (v : List PureValue) (own : Heap) → Satisfies b.vars v b.conds → AreUnion v b.uses own → IsHeapOf memory own
+    → undecided ⊎ OneOf (BeginsWith stands b.vars v own) starts
+
+-- ---- runs that are awaited
+
+-- The beginning awaits the runs of the procedure with these arguments from the heap, with a counter: under some values its conditions are
+-- true, and its uses are a part of the heap. They and the keys of the rest are n at most.
+pub record Awaits (params : List (List ℕ)) (args : List PureValue) (whole : Heap) (counter n : ℕ) (b : PureBeginning) : Type 0 where
+  pub values : List PureValue
+  pub meets : Satisfies b.vars values b.conds
+  pub arguments : HaveValues values (variables_from 0 (any_for_each params)) args
+  pub below : AreBelow counter values
+  pub own : Heap
+  pub rest : Heap
+  pub union : IsUnion whole own rest
+  pub uses : AreUnion values b.uses own
+  pub few : length b.uses + length (entries rest) ≤ n

@@ -1,14 +1,19 @@
 -- Fixes for which a beginning may have a use.
-use Rattle.std.specs.Prelude.{◌≡◌, List, length, IsTrue}
+use Rattle.std.specs.Prelude.{◌≡◌, List, [], ◌∷◌, ◌++◌, length, slice_get, Some, IsTrue}
 use Rattle.std.specs.List.{list_all}
 use Rattle.fresh_atoms.specs.Laws.{is_any_or_list}
 use Rattle.mem_model.specs.declared.cores.Core.{Core}
 use Rattle.mem_model.specs.declared.keys.MemoryName.{MemoryName}
 use Rattle.mem_model.specs.CoreNames.{ins_of, outs_of}
 use Rattle.pure_terms.specs.declared.variables.Sort.{Sort}
+use Rattle.pure_terms.specs.declared.variables.Var.{Var}
+use Rattle.pure_terms.specs.Meaning.{IsOver}
+use Rattle.pure_terms.specs.Pure.{PureTerm, variable, PureAtom, term_of}
 use Rattle.sym_model.specs.Cores.{IsCoreOf}
+use Rattle.sym_model.specs.Lists.{Each, IsAmong}
 use Rattle.sym_model.specs.Pure.{PureFix}
 use Rattle.sym_model.specs.Terms.{AreEachOver}
+use Rattle.bi_beginnings.specs.Beginnings.{variables_from, PureBeginning}
 
 -- the fix is of a core predicate of the memory, with its numbers of ins and outs
 pub record HasCoreNumbers (memory : MemoryName) (f : PureFix) : Type 0 where
@@ -22,3 +27,27 @@ pub record IsFixOver (memory : MemoryName) (vars : List Sort) (f : PureFix) : Ty
   pub numbers : HasCoreNumbers memory f
   pub ins_over : AreEachOver vars f.ins
   pub sorts : IsTrue (list_all is_any_or_list f.outs)
+
+-- the first in of the fix, which is the location, is a symbol that the run took
+abbrev pub IsAtNewSymbol : List Sort → PureFix → Type 0
+IsAtNewSymbol vars f =
+    (x : Var) × ((later : List PureTerm) × ((f.ins ≡ variable x ∷ later) × (slice_get vars x.number ≡ Some Sort.Fresh)))
+
+-- ---- beginnings that fix a key
+
+-- the beginning with a use more, which has new variables for the outs
+abbrev pub with_fix : PureBeginning → PureFix → PureBeginning
+with_fix b f = record b {
+  vars = b.vars ++ f.outs;
+  uses = b.uses ++ record { core = f.core; ins = f.ins; outs = variables_from (length b.vars) f.outs } ∷ [];
+}
+
+-- a condition that is carried is one of these, and names only variables of the table
+abbrev pub IsCarried : List Sort → List PureAtom → PureAtom → Type 0
+IsCarried vars conds a = IsOver vars (term_of a) × IsAmong a conds
+
+-- the beginning has the same table and uses, and carries some of these conditions
+pub record Carries (b : PureBeginning) (conds : List PureAtom) (c : PureBeginning) : Type 0 where
+  pub table : c.vars ≡ b.vars
+  pub same_uses : c.uses ≡ b.uses
+  pub carried : Each (IsCarried b.vars conds) c.conds

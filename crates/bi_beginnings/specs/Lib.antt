@@ -1,5 +1,6 @@
 pub mod Beginnings
 pub mod Conditions
 pub mod Fixing
+pub mod Missing
 pub mod Opening
 pub mod View

@@ -1,14 +1,18 @@
 -- The states in which a procedure may be entered, and what comes of them.
-use Rattle.std.specs.Prelude.{◌≡◌, ℕ, List, [], ◌∷◌, slice_get, false, Option, Some, None}
+use Rattle.std.specs.Prelude.{◌≡◌, ◌⊎◌, ℕ, ◌<◌, List, [], ◌∷◌, slice_get, false, if◌then◌else◌, Option, Some, None, IsTrue}
 use Rattle.std.specs.FinMap.{empty}
+use Rattle.std.specs.Str.{bytes_eq}
 use Rattle.gil_values.specs.Pure.{PureValue}
-use Rattle.mem_model.specs.Heaps.{Heap}
+use Rattle.mem_model.specs.declared.keys.MemoryName.{MemoryName}
+use Rattle.mem_model.specs.Heaps.{Heap, IsHeapOf}
 use Rattle.pure_terms.specs.declared.queries.Query.{Query}
 use Rattle.pure_terms.specs.declared.variables.Sort.{Sort}
 use Rattle.pure_terms.specs.declared.variables.Var.{Var}
 use Rattle.pure_terms.specs.Meaning.{Satisfies}
 use Rattle.pure_terms.specs.Pure.{PureTerm, variable}
 use Rattle.sym_evaluation.specs.Pure.{PureStore, term_at}
+use Rattle.sym_model.specs.Listing.{AreUnion}
+use Rattle.sym_model.specs.Lists.{OneOf}
 use Rattle.sym_model.specs.Meaning.{has_open}
 use Rattle.sym_model.specs.Terms.{StateTerms, no_state_terms}
 use Rattle.sym_paths.specs.Pure.{PurePath}
@@ -16,7 +20,7 @@ use Rattle.sym_paths.specs.View.{path_view}
 use Rattle.sym_states.specs.Meaning.{IsOverTable}
 use Rattle.sym_states.specs.Pure.{PureState}
 use Rattle.bi_beginnings.specs.declared.opening.Opening.{Opening}
-use Rattle.bi_beginnings.specs.Beginnings.{IsEntryTable}
+use Rattle.bi_beginnings.specs.Beginnings.{IsEntryTable, PureBeginning, BeginsWith}
 
 -- the term is a variable of the table
 abbrev pub IsVariableOf : List Sort → PureTerm → Type 0
@@ -25,6 +29,20 @@ IsVariableOf vars t = (x : Var) × ((t ≡ variable x) × (slice_get vars x.numb
 -- each name that has a term has a variable of the table
 abbrev pub HasVariables : List Sort → PureStore → Type 0
 HasVariables vars bs = (x : List ℕ) (t : PureTerm) → term_at bs x ≡ Some t → IsVariableOf vars t
+
+-- what a name has after the variable with a number, if the table has that one, is given to the name x
+abbrev pub named_further : Option Sort → ℕ → List ℕ → PureStore → List ℕ → Option PureTerm
+named_further (Some sort) n x before y = if bytes_eq x y then Some (variable (record { number = n; sort = sort })) else term_at before y
+named_further None n x before y = term_at before y
+
+abbrev pub IsNamedFurther : List Sort → ℕ → List ℕ → PureStore → PureStore → Type 0
+IsNamedFurther vars n x before after = (y : List ℕ) → term_at after y ≡ named_further (slice_get vars n) n x before y
+
+-- the first n of the names have the variables with their numbers
+abbrev pub AreNamed : List (List ℕ) → List Sort → ℕ → PureStore → Type 0
+AreNamed names vars n bs =
+    (i : ℕ) (x : List ℕ) (sort : Sort) → i < n → slice_get names i ≡ Some x → slice_get vars i ≡ Some sort
+    → term_at bs x ≡ Some (variable (record { number = i; sort = sort }))
 
 -- no condition, no key and no fact
 pub record IsFirstState {S : Type 0} (stands : S → List PureValue → Heap → Type 0) (terms : S → StateTerms) (kept : S → Type 0)
@@ -45,6 +63,30 @@ pub record IsEntryState {S : Type 0} (stands : S → List PureValue → Heap →
   pub over : IsOverTable terms s
   pub has_heap : has_open s.conds ≡ false → (v : List PureValue) → Satisfies s.vars v s.conds → (h : Heap) × stands s.memory v h
   pub still_kept : kept s.memory
+
+-- ---- cover
+
+-- The valuation meets the conditions of the state, and the memory has this heap, unless one of the conditions is that a literal form is
+-- needed.
+pub record IsEnteredWith {S : Type 0} (stands : S → List PureValue → Heap → Type 0) (vars : List Sort) (v : List PureValue) (own : Heap)
+    (s : PureState S) : Type 0 where
+  pub table : s.vars ≡ vars
+  pub meets : Satisfies s.vars v s.conds
+  pub heap : IsTrue (has_open s.conds) ⊎ stands s.memory v own
+
+-- Cover: where a heap is what the uses of the beginning say, and its conditions are true, some state is entered with it.
+abbrev pub AreEntered : {S : Type 0} → MemoryName → (S → List PureValue → Heap → Type 0) → PureBeginning → List (PureState S) → Type 0
+AreEntered memory stands b ss =
+    (v : List PureValue) (own : Heap) → Satisfies b.vars v b.conds → AreUnion v b.uses own → IsHeapOf memory own
+    → OneOf (IsEnteredWith stands b.vars v own) ss
+
+-- what the state is entered with, one of the paths begins with, if nothing is left undecided
+abbrev pub IsOpenedBy : {S : Type 0} → (S → List PureValue → Heap → Type 0) → PureState S → Type 0 → List (PurePath S) → Type 0
+IsOpenedBy stands s undecided starts =
+    (vars : List Sort) (v : List PureValue) (own : Heap) → IsEnteredWith stands vars v own s
+    → undecided ⊎ OneOf (BeginsWith stands vars v own) starts
+
+-- ---- what comes of states
 
 -- the path that comes of a state, and the query, where there is one
 abbrev pub starts_of : {S : Type 0} → Opening S → List (PurePath S)

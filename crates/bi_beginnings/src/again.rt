@@ -1,5 +1,5 @@
 //! Beginnings that fix a key which a path missed.
-ghost use Rattle.std.specs.Prelude.{◌≡◌, ℕ, List, IfOk, IsTrue};
+ghost use Rattle.std.specs.Prelude.{◌≡◌, ℕ, List, map, IfOk, IsTrue};
 ghost use Rattle.std.specs.List.{list_all};
 ghost use Rattle.fresh_atoms.specs.Laws.{is_any_or_list as any_or_list};
 ghost use Rattle.pure_terms.specs.Meaning.{IsOver};
@@ -7,10 +7,11 @@ ghost use Rattle.pure_terms.specs.Pure.{term_of};
 ghost use Rattle.pure_terms.specs.View.{terms_view, atom_view, atoms_view};
 ghost use Rattle.sym_model.specs.Lists.{Each};
 ghost use Rattle.sym_model.specs.Terms.{AreEachOver};
-ghost use Rattle.sym_model.specs.View.{fix_view};
+ghost use Rattle.sym_model.specs.View.{key_view, fix_view, fixes_view};
 ghost use Rattle.bi_beginnings.specs.Beginnings.{IsBeginning};
 ghost use Rattle.bi_beginnings.specs.Conditions.{same_atom, stands_among as is_among_conditions};
-ghost use Rattle.bi_beginnings.specs.Fixing.{IsFixOver, HasCoreNumbers};
+ghost use Rattle.bi_beginnings.specs.Fixing.{IsFixOver, HasCoreNumbers, IsAtNewSymbol, with_fix, IsCarried, Carries};
+ghost use Rattle.bi_beginnings.specs.Missing.{AwaitsAgain};
 ghost use Rattle.bi_beginnings.specs.View.{beginning_view, beginnings_view, again_view};
 
 use crate::beginnings::{Beginning, Beginnings, copy_choices, copy_table, copy_uses, extended};
@@ -29,7 +30,8 @@ pub enum Again {
     /// Each of these beginnings fixes it. There is none where the location is a symbol that the run took, since no heap with which it
     /// was entered has it, or where as many keys as the bound are fixed already.
     With(Beginnings),
-    /// The key has this term, which names what the run took. So nothing is known of it at the beginning.
+    /// The key has this term, which names what the run took, or what fixes the key can't be said at the beginning. So nothing is known
+    /// of it there.
     Late(Term),
 }
 
@@ -67,7 +69,7 @@ fn may_be_carried(vars: &VarTable, atom: &Atom) -> bool
 
 /// The conditions that are carried to a beginning with this table, each once.
 fn carried(alloc: Global, vars: &VarTable, conds: &Atoms) -> Result<Atoms, AllocError>
-    ensures { IfOk result (λ atoms. Each (λ a. IsOver vars.now (term_of a)) (atoms_view atoms)) }
+    ensures { IfOk result (λ atoms. Each (IsCarried vars.now (atoms_view conds.now)) (atoms_view atoms)) }
 {
     let mut atoms = Sequence::new(alloc);
     for atom in conds.as_slice() {
@@ -85,8 +87,7 @@ fn carrying(
     path: &Ended,
     place: &Place,
 ) -> Result<Beginning, AllocError>
-    ensures { IfOk result (λ b. (memory : MemoryName) (params : List (List ℕ)) → IsBeginning memory params (beginning_view beginning.now)
-        → IsBeginning memory params (beginning_view b)) }
+    ensures { IfOk result (λ b. Carries (beginning_view beginning.now) (atoms_view path.now.conds) (beginning_view b)) }
 {
     let vars = copy_table(alloc, &beginning.vars)?;
     let uses = copy_uses(alloc, &beginning.uses)?;
@@ -147,10 +148,45 @@ fn is_fix_over(memory: MemoryName, vars: &VarTable, fix: &Fix) -> bool
     has_core_numbers(memory, fix) && are_over(vars, &fix.ins) && are_any_or_list(&fix.outs)
 }
 
+/// Whether a beginning with this table may have a use for each of the fixes.
+fn are_fixes_over(memory: MemoryName, vars: &VarTable, fixes: &Fixes) -> bool
+    ensures { IsTrue result → Each (IsFixOver memory vars.now) (fixes_view fixes.now) }
+{
+    for fix in fixes.as_slice() {
+        if !is_fix_over(memory, vars, fix) {
+            return false;
+        }
+    }
+    true
+}
+
+/// Whether the location of the key that the fix is for is a symbol that the run took.
+fn is_at_new_symbol(vars: &VarTable, fix: &Fix) -> bool
+    ensures { IsTrue result → IsAtNewSymbol vars.now (fix_view fix.now) }
+{
+    match fix.ins.get(0) {
+        Some(Term::Var(location)) => {
+            matches!(vars.get(location.number as usize), Some(Sort::Fresh))
+        }
+        _ => false,
+    }
+}
+
+/// Whether that is so of each of the fixes.
+fn are_at_new_symbols(vars: &VarTable, fixes: &Fixes) -> bool
+    ensures { IsTrue result → Each (IsAtNewSymbol vars.now) (fixes_view fixes.now) }
+{
+    for fix in fixes.as_slice() {
+        if !is_at_new_symbol(vars, fix) {
+            return false;
+        }
+    }
+    true
+}
+
 /// The beginning with a use more, whose outs are new variables.
 fn with_use(alloc: Global, beginning: &Beginning, fix: &Fix) -> Result<Beginning, AllocError>
-    ensures { IfOk result (λ b. (memory : MemoryName) (params : List (List ℕ)) → IsBeginning memory params (beginning_view beginning.now)
-        → IsFixOver memory (beginning_view beginning.now).vars (fix_view fix.now) → IsBeginning memory params (beginning_view b)) }
+    ensures { IfOk result (λ b. beginning_view b ≡ with_fix (beginning_view beginning.now) (fix_view fix.now)) }
 {
     let extended = extended(alloc, &beginning.vars, &fix.outs)?;
     let core = fix.core.copy(alloc)?;
@@ -173,21 +209,13 @@ fn with_use(alloc: Global, beginning: &Beginning, fix: &Fix) -> Result<Beginning
     })
 }
 
-/// The beginnings with a use more, one for each fix that may have one.
-fn with_each(
-    alloc: Global,
-    memory: MemoryName,
-    beginning: &Beginning,
-    fixes: &Fixes,
-) -> Result<Beginnings, AllocError>
-    ensures { IfOk result (λ bs. (params : List (List ℕ)) → IsBeginning memory params (beginning_view beginning.now)
-        → Each (IsBeginning memory params) (beginnings_view bs)) }
+/// The beginnings with a use more, one for each fix.
+fn with_each(alloc: Global, beginning: &Beginning, fixes: &Fixes) -> Result<Beginnings, AllocError>
+    ensures { IfOk result (λ bs. beginnings_view bs ≡ map (with_fix (beginning_view beginning.now)) (fixes_view fixes.now)) }
 {
     let mut beginnings = Sequence::new(alloc);
     for fix in fixes.as_slice() {
-        if is_fix_over(memory, &beginning.vars, fix) {
-            beginnings.push(with_use(alloc, beginning, fix)?)?;
-        }
+        beginnings.push(with_use(alloc, beginning, fix)?)?;
     }
     Ok(beginnings)
 }
@@ -208,7 +236,8 @@ fn late_term<'a>(vars: &VarTable, key: &'a SymKey) -> Option<&'a Term> {
 }
 
 /// What comes of a path that missed a key, which came of a beginning. Each new beginning has one use more, for the key, and carries
-/// those conditions of the path which are in the fragment by themselves and name only variables of the beginning.
+/// those conditions of the path which are in the fragment by themselves and name only variables of the beginning. A run along the path
+/// whose heap has what fixes the key beside what the beginning's uses say is awaited by one of them.
 pub fn begin_again<M: ListedMemory>(
     alloc: Global,
     beginning: &Beginning,
@@ -217,19 +246,25 @@ pub fn begin_again<M: ListedMemory>(
     key: &SymKey,
     place: &Place,
 ) -> Result<Again, AllocError>
-    ensures { IfOk result (λ again. (params : List (List ℕ)) → IsBeginning M.Local.memory params (beginning_view beginning.now)
+    ensures beginnings { IfOk result (λ again. (params : List (List ℕ)) → IsBeginning M.Local.memory params (beginning_view beginning.now)
         → Each (IsBeginning M.Local.memory params) (again_view again)) }
+    ensures cover { IfOk result (λ again. (params : List (List ℕ)) → IsBeginning M.Local.memory params (beginning_view beginning.now)
+        → AwaitsAgain M.Local.memory M.Local.actions params bound (beginning_view beginning.now) path.now.vars (atoms_view path.now.conds)
+        (key_view key.now) again) }
 {
-    if key.loc.is_variable_of(Sort::Fresh) {
+    let fixes = M::empty(alloc)?.fixes(alloc, key)?;
+    if are_at_new_symbols(&path.vars, &fixes) {
         return Ok(Again::With(Sequence::new(alloc)));
     }
     if let Some(term) = late_term(&beginning.vars, key) {
         return Ok(Again::Late(term.copy(alloc)?));
     }
+    if !are_fixes_over(M::name(), &beginning.vars, &fixes) {
+        return Ok(Again::Late(key.loc.copy(alloc)?));
+    }
     if beginning.uses.len() >= bound as usize {
         return Ok(Again::With(Sequence::new(alloc)));
     }
-    let fixes = M::empty(alloc)?.fixes(alloc, key)?;
     let carrying = carrying(alloc, beginning, path, place)?;
-    Ok(Again::With(with_each(alloc, M::name(), &carrying, &fixes)?))
+    Ok(Again::With(with_each(alloc, &carrying, &fixes)?))
 }

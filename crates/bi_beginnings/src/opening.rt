@@ -1,9 +1,12 @@
 //! The paths on which the runs of a beginning begin.
-ghost use Rattle.std.specs.Prelude.{◌≡◌, ◌++◌, length, Some, IfOk, IfSome};
+ghost use Rattle.std.specs.Prelude.{◌≡◌, ◌++◌, length, false, Some, IsSome, IfOk, IfSome, IsTrue};
+ghost use Rattle.std.specs.List.{list_all};
 ghost use Rattle.std.specs.Option.{option_or};
 ghost use Rattle.gil_program.specs.Program.{prog_view};
 ghost use Rattle.gil_syntax.specs.Programs.{find_proc};
+ghost use Rattle.gil_syntax.specs.Valid.{has_twice};
 ghost use Rattle.gil_syntax.specs.View.{proc_view};
+ghost use Rattle.gil_syntax.specs.WellMade.{is_program_name};
 ghost use Rattle.pure_terms.specs.Fragment.{InFragment};
 ghost use Rattle.pure_terms.specs.View.{terms_view, atoms_view};
 ghost use Rattle.sym_evaluation.specs.View.{store_view};
@@ -13,8 +16,18 @@ ghost use Rattle.sym_paths.specs.Steps.{place_of as pure_place};
 ghost use Rattle.sym_paths.specs.View.{path_view, paths_view};
 ghost use Rattle.sym_states.specs.View.{state_view, states_view};
 ghost use Rattle.sym_step.specs.Stepping.{MayStep};
-ghost use Rattle.bi_beginnings.specs.Beginnings.{any_for_each, variables_from, IsBeginning, IsOpening};
-ghost use Rattle.bi_beginnings.specs.Opening.{IsFirstState, IsEntryState, HasVariables, starts_of, undecided_of};
+ghost use Rattle.bi_beginnings.specs.Beginnings.{any_for_each, variables_from, IsBeginning, IsOpening, CoversBeginning};
+ghost use Rattle.bi_beginnings.specs.Opening.{
+  IsFirstState,
+  IsEntryState,
+  HasVariables,
+  IsNamedFurther,
+  AreNamed,
+  AreEntered,
+  IsOpenedBy,
+  starts_of,
+  undecided_of,
+};
 ghost use Rattle.bi_beginnings.specs.View.{beginning_view};
 
 use crate::beginnings::{Beginning, copy_choices, copy_table, extended, sorts_of_params};
@@ -61,7 +74,8 @@ fn with_variable(
     number: usize,
 ) -> Result<SymStore, AllocError>
     requires { HasVariables vars.now (store_view store) }
-    ensures { IfOk result (λ s. HasVariables vars.now (store_view s)) }
+    ensures variables { IfOk result (λ s. HasVariables vars.now (store_view s)) }
+    ensures named { IfOk result (λ s. IsNamedFurther vars.now number name.now (store_view store) (store_view s)) }
 {
     let sort = match vars.get(number) {
         Some(sort) => *sort,
@@ -75,7 +89,8 @@ fn with_variable(
 
 /// The store in which the names have the variables of the table, in order.
 fn store_of(alloc: Global, names: &Texts, vars: &VarTable) -> Result<SymStore, AllocError>
-    ensures { IfOk result (λ s. HasVariables vars.now (store_view s)) }
+    ensures variables { IfOk result (λ s. HasVariables vars.now (store_view s)) }
+    ensures named { has_twice names.now ≡ false → IfOk result (λ s. AreNamed names.now vars.now (length names.now) (store_view s)) }
 {
     let names = names.as_slice();
     let mut store = SymStore::new(alloc);
@@ -115,7 +130,9 @@ fn entry_states<M: ListedMemory>(
     beginning: &Beginning,
 ) -> Result<SymStates<M>, AllocError>
     requires { IsBeginning M.Local.memory (proc_view proc.now).params (beginning_view beginning.now) }
-    ensures { IfOk result (λ ss. Each (IsEntryState M.stands M.terms M.kept (proc_view proc.now).params) (states_view ss)) }
+    ensures entries { IfOk result (λ ss. Each (IsEntryState M.stands M.terms M.kept (proc_view proc.now).params) (states_view ss)) }
+    ensures cover { IsTrue (list_all is_program_name (proc_view proc.now).params) → has_twice (proc_view proc.now).params ≡ false
+        → IfOk result (λ ss. AreEntered M.Local.memory M.stands (beginning_view beginning.now) (states_view ss)) }
 {
     let others = beginning.vars.len() - proc.params.len();
     let names = names_of_table(alloc, &proc.params, others)?;
@@ -192,6 +209,7 @@ fn enter<M: ListedMemory, D: Decider>(
     requires args { terms_view args.now ≡ variables_from 0 (any_for_each (proc_view proc.now).params) }
     requires entry { IsEntryState M.stands M.terms M.kept (proc_view proc.now).params (state_view state) }
     ensures starts { IfOk result (λ o. Each (IsOpening M.stands M.terms M.kept (proc_view proc.now)) (starts_of o)) }
+    ensures cover { IfOk result (λ o. IsOpenedBy M.stands (state_view state) (IsSome (undecided_of o)) (starts_of o)) }
     ensures undecided { IfOk result (λ o. IfSome (undecided_of o) (λ q. ¬ InFragment (atoms_view q.query))) }
 {
     match ask(alloc, decider, &state.vars, state.conds.atoms())? {
@@ -239,6 +257,7 @@ fn enter_each<M: ListedMemory, D: Decider>(
     requires args { terms_view args.now ≡ variables_from 0 (any_for_each (proc_view proc.now).params) }
     requires entries { Each (IsEntryState M.stands M.terms M.kept (proc_view proc.now).params) (states_view states) }
     ensures starts { IfOk result (λ o. Each (IsOpening M.stands M.terms M.kept (proc_view proc.now)) (paths_view o.starts)) }
+    ensures cover { IfOk result (λ o. Each (λ s. IsOpenedBy M.stands s (IsSome o.undecided) (paths_view o.starts)) (states_view states)) }
     ensures undecided { IfOk result (λ o. IfSome o.undecided (λ q. ¬ InFragment (atoms_view q.query))) }
 {
     let mut opened = Opened {
@@ -253,7 +272,8 @@ fn enter_each<M: ListedMemory, D: Decider>(
 }
 
 /// The paths on which the runs of a beginning begin: with any values, the heaps that its uses fix, and the conditions that it carries.
-/// Of one that no valuation meets there is no path, and of one that the decider doesn't know there is a query.
+/// Of one that no valuation meets there is no path, and of one that the decider doesn't know there is a query. Where there is none, each
+/// heap that the uses have is one with which a path begins.
 pub fn begin<M: ListedMemory, D: Decider>(
     alloc: Global,
     prog: &Prog,
@@ -265,6 +285,8 @@ pub fn begin<M: ListedMemory, D: Decider>(
     requires beginning { IsBeginning M.Local.memory (proc_view proc.now).params (beginning_view beginning.now) }
     ensures starts { IfOk result (λ o. Each (IsOpening M.stands M.terms M.kept (proc_view proc.now)) (paths_view o.starts)) }
     ensures step { IfOk result (λ o. Each (MayStep (prog_view prog.now) M.terms) (paths_view o.starts)) }
+    ensures cover { IfOk result (λ o. CoversBeginning M.Local.memory M.stands (beginning_view beginning.now) (IsSome o.undecided)
+        (paths_view o.starts)) }
     ensures undecided { IfOk result (λ o. IfSome o.undecided (λ q. ¬ InFragment (atoms_view q.query))) }
 {
     let states = entry_states(alloc, proc, beginning)?;

@@ -1,7 +1,6 @@
 -- A run from a start of a path's specification goes along the path, and ends as it does.
 use Rattle.std.proofs.Common.{◌≡◌, ◌⊎◌, ⊎_elim, inl, inr, ℕ, ◌+◌, ◌≤◌, ℤ, List, [], ◌++◌, length, drop, Some, None, refl, sym, ap, subst, ◌∙◌, false, true, arith}
 use Rattle.std.specs.List.{list_all}
-use Rattle.std.specs.Prelude.{⊤}
 use Rattle.gil_values.specs.Pure.{PureValue}
 use Rattle.gil_syntax.specs.Evaluation.{Store}
 use Rattle.gil_syntax.specs.Pure.{PureItem, PureProc, PureParts}
@@ -31,22 +30,13 @@ use Rattle.sym_paths.specs.Pure.{PureEnd, returned, failed, threw, missed, vanis
 use Rattle.sym_paths.specs.Steps.{IsUnknown}
 use Rattle.sym_paths.proofs.Beginning.{beginnings_stand}
 use Rattle.bi_beginnings.specs.Beginnings.{any_for_each, variables_from}
+use Rattle.bi_beginnings.proofs.Params.{params_once, params_named}
 use Rattle.bi_specifications.specs.Shape.{late_conds, spec_of, MayBeTold}
-use Rattle.bi_specifications.specs.Specified.{PureEntry, IsExplored}
-use Rattle.bi_specifications.proofs.Entering.{entry_given, params_once, params_named, Entered, entered}
+use Rattle.bi_specifications.specs.Specified.{PureEntry, IsTold, IsExplored}
+use Rattle.bi_specifications.proofs.Entering.{entry_given, Entered, entered}
 use Rattle.bi_specifications.proofs.Grown.{IsGrown, ended_grown, table_split}
 use Rattle.bi_specifications.proofs.RunsAlong.{symbols_from, IsEndAs, EndsAlong, RunsAlong, EachRunsAlong}
 use Rattle.bi_specifications.proofs.Valuing.{symbols_are_next, symbols_proper, all_conds_true}
-
--- ends of which a specification is told: returned, threw, or cut
-abbrev pub IsTold : PureEnd → Type 0
-IsTold (returned t) = ⊤
-IsTold (threw t place) = ⊤
-IsTold cut = ⊤
-IsTold (failed t place) = ⊥
-IsTold (missed k place) = ⊥
-IsTold vanished = ⊥
-IsTold (unknown place reason) = ⊥
 
 not_unknown : (how : PureEnd) → IsTold how → ¬ IsUnknown (Some how)
 not_unknown (returned t) told is = is

@@ -2,7 +2,7 @@
 use Rattle.std.proofs.Common.{◌≡◌, ⊎_elim, inl, inr, ℕ, zero, suc, ◌+◌, ◌-◌, ◌<◌, ◌≤◌, List, [], ◌∷◌, ◌++◌, length, take, drop, slice_get, Bool, true, false, ◌&&◌, Some, IsTrue, refl, sym, ap, subst, ◌∙◌, true≢false, arith}
 use Rattle.std.specs.List.{filter, list_all}
 use Rattle.std.proofs.lemmas.Bool.{and_parts}
-use Rattle.std.proofs.lemmas.List.{length-take-le, take-append-drop}
+use Rattle.std.proofs.lemmas.List.{length-map, length-take-le, take-append-drop}
 use Rattle.std.proofs.lemmas.List.Elements.{Contains-append_left, Contains-append_right, Contains-append_cases}
 use Rattle.std.proofs.lemmas.Option.{slice_get_within}
 use Rattle.gil_values.specs.Pure.{PureValue, integer, boolean, text, symbol, kind, procedure, list}
@@ -32,6 +32,7 @@ use Rattle.pure_terms.specs.declared.variables.Sort.{Sort}
 use Rattle.pure_terms.specs.Kinds.{has_sort}
 use Rattle.pure_terms.specs.Meaning.{all_true, truth, IsProper, Satisfies}
 use Rattle.pure_terms.specs.Pure.{PureTerm, PureAtom}
+use Rattle.sym_evaluation.specs.Meaning.{HaveValues}
 use Rattle.sym_explore.proofs.Following.{proper_part}
 use Rattle.sym_model.specs.Laws.{IsMeaning, ComesFrom}
 use Rattle.sym_model.specs.Lists.{OneOf}
@@ -41,12 +42,13 @@ use Rattle.sym_paths.specs.Meaning.{IsOverTable}
 use Rattle.sym_paths.specs.Pure.{PurePath}
 use Rattle.sym_paths.proofs.Growing.{all_true-more}
 use Rattle.sym_paths.proofs.Moving.{above}
-use Rattle.bi_beginnings.specs.Beginnings.{IsOpening}
+use Rattle.bi_beginnings.specs.Beginnings.{any_for_each, variables_from, IsOpening}
 use Rattle.bi_specifications.specs.Shape.{name_sort, any_params, numbered_params, is_early, early_conds, early_names, pre_of, spec_of, MayBeTold}
 use Rattle.bi_specifications.specs.Specified.{PureEntry, IsEntryOf}
 use Rattle.bi_specifications.proofs.Ends.{all_filtered}
 use Rattle.bi_specifications.proofs.Naming.{same_number, numbered_length, numbered_at, any_names, any_fits, numbered_fits, at_left, at_right}
 use Rattle.bi_specifications.proofs.Once.{kept_true}
+use Rattle.bi_specifications.proofs.Valuing.{have_from}
 use Rattle.bi_specifications.proofs.Words.{early_length, early_uses_over, early_atoms_over, out_stands}
 
 -- ---- sorts
@@ -298,3 +300,23 @@ module _ {S : Type 0} (p : PureParts) (memory : MemoryName) (m : Actions) (stand
 
       in_heap : (n : ℕ) → OccursInHeap n own → n < counter
       in_heap n occurs = among_terms n (all_of (terms start.memory)) (meaning.symbols start.memory early own n own_is occurs)
+
+  -- ---- any heap with which the path begins
+
+  args_have : HaveValues early (variables_from 0 (any_for_each q.params)) args
+  args_have =
+      have_from early args 0 (any_for_each q.params) (sym args_count ∙ sym (length-map q.params (λ x. Sort.Any)))
+      (λ i w at.
+      let here : 0 + i ≡ i = omega arith in
+      ap (slice_get early) here ∙ ap (λ u. slice_get u i) (sym args_and_outs) ∙ at_left args outs i (slice_get_within args i w at) ∙ at)
+
+  abbrev pub IsMetWith : List PureValue → Heap → Type 0
+  IsMetWith ws h =
+      (variables : Store) × (IsEntry (spec_of q e path posts errors) ws variables
+      × Meets (HoldsSomewhere p.preds) (entry_store (spec_of q e path posts errors) ws variables) (pre_of q e path) h)
+
+  pub met_with : (ws : List PureValue) (h : Heap) → HaveValues early (variables_from 0 (any_for_each q.params)) ws → stands start.memory early h → IsMetWith ws h
+  met_with ws h have there =
+      let same_args : args ≡ ws = same_some (sym args_have ∙ have) in
+      let same_heap : own ≡ h = meaning.one_heap start.memory early own h own_is there in
+      subst (λ us. IsMetWith us h) same_args (subst (IsMetWith args) same_heap (variables_met, (entered, meets)))

@@ -104,6 +104,12 @@ module _ {S : Type 0} (q : PureProc) (e : PureEntry) (path : PurePath S) where
   is_named_early k =
       list_any (λ u. list_any (names_number k) (u.ins ++ u.outs)) e.uses || list_any (λ a. names_number k (term_of a)) (early_conds e.count path.conds)
 
+  -- the variables are those of the beginning, of which the first are the parameters, and behind them new symbols
+  pub record HasGrown : Type 0 where
+    pub params_first : length q.params ≤ e.count
+    pub count_within : e.count ≤ length path.vars
+    pub new_symbols : IsTrue (list_all (same_sort Sort.Fresh) (drop e.count path.vars))
+
   -- No parameter has the name of the result. The path drew nothing, and its variables are those of the beginning and behind them new
   -- symbols. Each variable of the beginning that isn't a parameter stands in the precondition, and each condition that doesn't has a form
   -- of the fragment and names a new symbol.

@@ -22,3 +22,9 @@ abbrev pub IfTold : Told → (PureFound → Type 0) → Type 0
 IfTold (Told.Found f) Holds = Holds (found_view f)
 IfTold (Told.Unsaid t) Holds = ⊤
 IfTold Told.Nothing Holds = ⊤
+
+-- what holds of the specification that is told, or else of a path of which nothing is
+abbrev pub MatchTold : Told → (PureFound → Type 0) → Type 0 → Type 0
+MatchTold (Told.Found f) Holds Otherwise = Holds (found_view f)
+MatchTold (Told.Unsaid t) Holds Otherwise = ⊤
+MatchTold Told.Nothing Holds Otherwise = Otherwise

@@ -1,8 +1,6 @@
 //! The specification of a path.
-ghost use Rattle.std.specs.Prelude.{◌≡◌, ℕ, ◌≤◌, ◌<◌, ◌||◌, List, [], ◌∷◌, ◌++◌, length, drop, map, IfOk, IsTrue, Some, true, false};
+ghost use Rattle.std.specs.Prelude.{◌≡◌, ◌↔◌, ℕ, ◌≤◌, ◌<◌, ◌||◌, List, [], ◌∷◌, ◌++◌, length, drop, map, IfNone, IfOk, IsTrue, Some};
 ghost use Rattle.std.specs.List.{list_all, list_any};
-ghost use Rattle.checked_runs.specs.Specifications.{result_name as pure_result_name};
-ghost use Rattle.gil_syntax.specs.Valid.{is_among};
 ghost use Rattle.gil_syntax.specs.View.{proc_view, spec_view, assertion_view};
 ghost use Rattle.pure_terms.specs.declared.variables.Sort.{Sort as PureSort};
 ghost use Rattle.pure_terms.specs.Kinds.{same_sort};
@@ -13,16 +11,16 @@ ghost use Rattle.sym_model.specs.Listing.{IsListing};
 ghost use Rattle.sym_model.specs.Pure.{PureUse};
 ghost use Rattle.sym_model.specs.View.{uses_view};
 ghost use Rattle.sym_paths.specs.View.{end_view, path_view};
-ghost use Rattle.bi_specifications.specs.Shape.{early_conds, late_conds, post_of, spec_of, MayBeTold};
-ghost use Rattle.bi_specifications.specs.Specified.{IsEntryOf, IsTrulyTold};
-ghost use Rattle.bi_specifications.specs.View.{entry_view, found_view, IfTold};
+ghost use Rattle.bi_specifications.specs.Shape.{early_conds, late_conds, post_of, spec_of, HasGrown, MayBeTold};
+ghost use Rattle.bi_specifications.specs.Specified.{IsEntryOf, IsTrulyTold, IsMetAlong, TellsNothing};
+ghost use Rattle.bi_specifications.specs.View.{entry_view, found_view, IfTold, MatchTold};
 
 use crate::conditions::{early_conditions, first_unsaid, late_conditions, stands_in};
 use crate::wording::{
-    any_parameters, numbered_variables, only, postcondition, precondition, some_is_result,
+    any_parameters, numbered_variables, only, postcondition, precondition, result_parameter,
 };
 use gil_syntax::{Assertion, Assertions, Proc, Spec};
-use pure_terms::{Atoms, Sort, Term, VarTable};
+use pure_terms::{Atoms, Sort, Term, Var, VarTable};
 use sequence::Sequence;
 use std::alloc::{AllocError, Global};
 use sym_model::{CoreUses, ListedMemory};
@@ -51,9 +49,10 @@ pub type Founds = Sequence<Found>;
 #[derive(Debug, Drop)]
 pub enum Told {
     Found(Found),
-    /// The path has a condition on this term that no precondition can say, since it names a symbol that the run took.
+    /// What the path says of this term can't be said in a specification: it is of a condition that names a symbol that the run took; or it
+    /// is a parameter that is named as the result, or a variable of the beginning that doesn't stand in the precondition.
     Unsaid(Term),
-    /// No specification is found from it: it drew, failed, missed a key, vanished or is unknown; or a parameter is named as the result.
+    /// No specification is found from it: it drew, failed, missed a key, vanished or is unknown.
     Nothing,
 }
 
@@ -82,37 +81,39 @@ fn are_new_symbols(vars: &VarTable, first: usize) -> bool
     true
 }
 
-/// Whether each variable of the beginning that isn't a parameter stands in the precondition.
-fn are_outs_named(params: usize, entry: &Entry, early: &Atoms) -> bool
-    ensures { IsTrue result → (k : ℕ) → params ≤ k → k < (entry_view entry.now).count
+/// The first variable of the beginning that isn't a parameter and doesn't stand in the precondition, if there is one.
+fn unnamed_out(params: usize, entry: &Entry, early: &Atoms) -> Option<usize>
+    ensures { IfNone result ((k : ℕ) → params ≤ k → k < (entry_view entry.now).count
         → IsTrue (list_any (λ u. list_any (names_number k) (u.ins ++ u.outs)) (entry_view entry.now).uses
-        || list_any (λ a. names_number k (term_of a)) (atoms_view early.now)) }
+        || list_any (λ a. names_number k (term_of a)) (atoms_view early.now))) }
 {
     for number in params..entry.count {
         if !stands_in(&entry.uses, early, number as u64) {
-            return false;
+            return Some(number);
         }
     }
-    true
+    None
 }
 
-/// Whether the path drew nothing, and has new symbols behind the variables of the beginning, of which the first are the parameters; and
-/// no parameter is named as the result.
+/// Whether the path has new symbols behind the variables of the beginning, of which the first are the parameters. One that drew nothing
+/// has.
 fn grew_by_symbols<M>(proc: &Proc, entry: &Entry, path: &Path<M>) -> bool
-    ensures no_result { IsTrue result → is_among (proc_view proc.now).params pure_result_name ≡ false }
-    ensures no_draw { IsTrue result → (path_view path.now).drawn ≡ [] }
-    ensures params_first { IsTrue result → length (proc_view proc.now).params ≤ (entry_view entry.now).count }
-    ensures count_within { IsTrue result → (entry_view entry.now).count ≤ length (path_view path.now).vars }
-    ensures new_symbols { IsTrue result → IsTrue (list_all (same_sort PureSort.Fresh) (drop (entry_view entry.now).count
-        (path_view path.now).vars)) }
+    ensures { IsTrue result ↔ HasGrown (proc_view proc.now) (entry_view entry.now) (path_view path.now) }
 {
-    if path.drawn.len() > 0 || some_is_result(&proc.params) {
-        return false;
-    }
     if entry.count < proc.params.len() || path.vars.len() < entry.count {
         return false;
     }
     are_new_symbols(&path.vars, entry.count)
+}
+
+/// The variable of a table with a number.
+fn variable_at(vars: &VarTable, number: usize) -> Term {
+    let sort = match vars.get(number) {
+        Some(sort) => *sort,
+        None => Sort::Any,
+    };
+    let number = number as u64;
+    Term::Var(Var { number, sort })
 }
 
 /// The specification with these conditions on what was there and these postconditions.
@@ -176,8 +177,11 @@ fn tell<M: ListedMemory>(
     requires may { MayBeTold (proc_view proc.now) (entry_view entry.now) (path_view path.now) }
     requires early { atoms_view early.now ≡ early_conds (entry_view entry.now).count (path_view path.now).conds }
     requires late { atoms_view late.now ≡ late_conds (entry_view entry.now).count (path_view path.now).conds }
-    ensures { IfOk result (λ told. IfTold told (IsTrulyTold M.Local.memory M.Local.actions M.stands M.terms M.asked M.depends M.plain M.keeps_plain
-        M.kept (proc_view proc.now) (entry_view entry.now) (path_view path.now))) }
+    ensures found { IfOk result (λ told. IfTold told (IsTrulyTold M.Local.memory M.Local.actions M.stands M.terms M.asked M.depends M.plain
+        M.keeps_plain M.kept (proc_view proc.now) (entry_view entry.now) (path_view path.now))) }
+    ensures cover { IfOk result (λ told. MatchTold told (IsMetAlong M.Local.memory M.Local.actions M.stands M.terms M.asked M.depends M.plain
+        M.keeps_plain M.kept (proc_view proc.now) (entry_view entry.now) (path_view path.now)) (TellsNothing M.Local.memory M.Local.actions M.stands
+        M.terms M.asked M.depends M.plain M.keeps_plain M.kept (proc_view proc.now) (entry_view entry.now) (path_view path.now))) }
 {
     match end {
         PathEnd::Returned(term) => {
@@ -207,25 +211,34 @@ fn tell<M: ListedMemory>(
 
 /// The specification that a path tells which returned, threw or was cut, and drew nothing. Its precondition has the memory with which the
 /// path began, and those of its conditions that name only what was there; its postcondition has the memory that it left, its result, and
-/// its conditions on new symbols.
+/// its conditions on new symbols. Each heap with which a run along the path begins meets the precondition.
 pub fn specify<M: ListedMemory>(
     alloc: Global,
     proc: &Proc,
     entry: &Entry,
     path: &Path<M>,
 ) -> Result<Told, AllocError>
-    ensures { IfOk result (λ told. IfTold told (IsTrulyTold M.Local.memory M.Local.actions M.stands M.terms M.asked M.depends M.plain M.keeps_plain
-        M.kept (proc_view proc.now) (entry_view entry.now) (path_view path.now))) }
+    ensures found { IfOk result (λ told. IfTold told (IsTrulyTold M.Local.memory M.Local.actions M.stands M.terms M.asked M.depends M.plain
+        M.keeps_plain M.kept (proc_view proc.now) (entry_view entry.now) (path_view path.now))) }
+    ensures cover { IfOk result (λ told. MatchTold told (IsMetAlong M.Local.memory M.Local.actions M.stands M.terms M.asked M.depends M.plain
+        M.keeps_plain M.kept (proc_view proc.now) (entry_view entry.now) (path_view path.now)) (TellsNothing M.Local.memory M.Local.actions M.stands
+        M.terms M.asked M.depends M.plain M.keeps_plain M.kept (proc_view proc.now) (entry_view entry.now) (path_view path.now))) }
 {
     let Some(end) = &path.end else {
         return Ok(Told::Nothing);
     };
+    if path.drawn.len() > 0 {
+        return Ok(Told::Nothing);
+    }
+    if let Some(number) = result_parameter(&proc.params) {
+        return Ok(Told::Unsaid(variable_at(&path.vars, number)));
+    }
     if !grew_by_symbols(proc, entry, path) {
         return Ok(Told::Nothing);
     }
     let early = early_conditions(alloc, path.conds.atoms(), entry.count)?;
-    if !are_outs_named(proc.params.len(), entry, &early) {
-        return Ok(Told::Nothing);
+    if let Some(number) = unnamed_out(proc.params.len(), entry, &early) {
+        return Ok(Told::Unsaid(variable_at(&path.vars, number)));
     }
     let late = late_conditions(alloc, path.conds.atoms(), entry.count)?;
     if let Some(term) = first_unsaid(alloc, &late)? {

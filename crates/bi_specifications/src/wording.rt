@@ -1,5 +1,5 @@
 //! The text of a specification.
-ghost use Rattle.std.specs.Prelude.{◌≡◌, ◌≤◌, ◌-◌, [], ◌∷◌, ◌++◌, length, drop, map, IfOk};
+ghost use Rattle.std.specs.Prelude.{◌≡◌, ◌≤◌, ◌-◌, [], ◌∷◌, ◌++◌, length, drop, map, false, IfNone, IfOk};
 ghost use Rattle.std.specs.Str.{bytes_eq};
 ghost use Rattle.assertion_terms.specs.Named.{table_names, assertion_of as pure_assertion};
 ghost use Rattle.checked_runs.specs.Specifications.{result_name as pure_result_name};
@@ -28,16 +28,17 @@ fn result_name(alloc: Global) -> Result<Text, AllocError>
     }
 }
 
-/// Whether one of the names is that of the result.
-pub(crate) fn some_is_result(names: &Texts) -> bool
-    ensures { result ≡ is_among names.now pure_result_name }
+/// The number of the first of these names that is that of the result, if one is.
+pub(crate) fn result_parameter(names: &Texts) -> Option<usize>
+    ensures { IfNone result (is_among names.now pure_result_name ≡ false) }
 {
-    for name in names.as_slice() {
-        if "ret" == name.as_str() {
-            return true;
+    let names = names.as_slice();
+    for number in 0..names.len() {
+        if "ret" == names[number].as_str() {
+            return Some(number);
         }
     }
-    false
+    None
 }
 
 /// Parameters of any sort.

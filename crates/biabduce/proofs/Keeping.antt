@@ -1,11 +1,14 @@
 -- What inference keeps as it goes on.
-use Rattle.std.proofs.Common.{◌≡◌, ℕ, List, [], ◌∷◌, ◌++◌, Option, Some, None, IfSome, refl, sym, subst}
+use Rattle.std.proofs.Common.{◌≡◌, ℕ, List, [], ◌∷◌, ◌++◌, map, Option, Some, None, Result, Ok, Err, OnOk, IfSome, refl, sym, subst}
+use Rattle.std.specs.Option.{option_map, option_or}
 use Rattle.std.proofs.lemmas.List.{append-nil}
 use Rattle.gil_syntax.specs.Pure.{PureProc, PureParts}
 use Rattle.mem_model.specs.declared.keys.MemoryName.{MemoryName}
 use Rattle.mem_model.specs.Actions.{Actions}
+use Rattle.pure_terms.specs.declared.queries.Query.{Query}
 use Rattle.pure_terms.specs.Fragment.{InFragment}
 use Rattle.pure_terms.specs.Pure.{PureAtom}
+use Rattle.pure_terms.specs.View.{atoms_view}
 use Rattle.sym_model.specs.Lists.{Each}
 use Rattle.sym_model.proofs.ListLaws.{each_append}
 use Rattle.bi_beginnings.specs.Beginnings.{any_for_each, first_beginning, PureBeginning, IsBeginning}
@@ -21,6 +24,18 @@ each_middle P (x ∷ xs) y ys all = each_middle P xs y ys all.1
 pub each_before : {A : Type 0} (P : A → Type 0) (xs ys : List A) → Each P (xs ++ ys) → Each P xs
 each_before P [] ys all = tt
 each_before P (x ∷ xs) ys all = (all.0, each_before P xs ys all.1)
+
+pub on_ok_both : {T E P Q U : Type 0} (r : Result T E) → (P → Q → U) → OnOk r P → OnOk r Q → OnOk r U
+on_ok_both (Ok x) f first second = f first second
+on_ok_both (Err e) f first second = tt
+
+pub seen_back : (o : Option Query) → IfSome (option_map (λ (x : Query). atoms_view x.query) o) (λ kept. ¬ InFragment kept) → IfSome o (λ x. ¬ InFragment (atoms_view x.query))
+seen_back (Some x) outside = outside
+seen_back None outside = tt
+
+pub each_pushed : {A B : Type 0} (P : B → Type 0) (f : A → B) (xs : List A) (x : A) → Each P (map f xs) → P (f x) → Each P (map f (xs ++ x ∷ []))
+each_pushed P f [] x before here = (here, tt)
+each_pushed P f (y ∷ ys) x before here = (before.0, each_pushed P f ys x before.1 here)
 
 module _ (p : PureParts) (memory : MemoryName) (m : Actions) (q : PureProc) (n : ℕ) where
   pub is_first : IsBeginning memory q.params (first_beginning q)
@@ -88,3 +103,19 @@ module _ (p : PureParts) (memory : MemoryName) (m : Actions) (q : PureProc) (n :
   pub after_left : (i j : PureInference) (atoms : List PureAtom) → j ≡ record i { undecided = first_list i.undecided atoms } → IsSound p memory m q n i
       → ¬ InFragment atoms → IsSound p memory m q n j
   after_left i j atoms is sound outside = subst (IsSound p memory m q n) (sym is) (left_sound i atoms sound outside)
+
+  any_outside : (o later : Option (List PureAtom)) → IfSome o (λ kept. ¬ InFragment kept) → IfSome later (λ kept. ¬ InFragment kept) → IfSome (option_or o later) (λ kept. ¬ InFragment kept)
+  any_outside (Some kept) later first second = first
+  any_outside None later first second = second
+
+  seen_outside : (o : Option Query) → IfSome o (λ x. ¬ InFragment (atoms_view x.query)) → IfSome (option_map (λ (x : Query). atoms_view x.query) o) (λ kept. ¬ InFragment kept)
+  seen_outside (Some x) outside = outside
+  seen_outside None outside = tt
+
+  pub after_any : (i j : PureInference) (o : Option Query) → j ≡ record i { undecided = option_or i.undecided (option_map (λ (x : Query). atoms_view x.query) o) } → IsSound p memory m q n i
+      → IfSome o (λ x. ¬ InFragment (atoms_view x.query)) → IsSound p memory m q n j
+  after_any i j o is sound outside = subst (IsSound p memory m q n) (sym is) (record {
+    left = sound.left;
+    founds = sound.founds;
+    undecided = any_outside i.undecided (option_map (λ (x : Query). atoms_view x.query) o) sound.undecided (seen_outside o outside);
+  })

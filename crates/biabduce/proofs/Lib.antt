@@ -1,2 +1,5 @@
+pub mod Accounted
+pub mod Beside
 pub mod Keeping
 pub mod Outside
+pub mod Providing

@@ -1,14 +1,16 @@
 //! What an ended path tells inference.
-ghost use Rattle.std.specs.Prelude.{ℕ, OnOk};
+ghost use Rattle.std.specs.Prelude.{◌≡◌, ◌↔◌, ℕ, [], IsTrue, OnOk};
 ghost use Rattle.std.specs.Option.{option_map};
 ghost use Rattle.gil_syntax.specs.Pure.{PureProc, PureParts};
 ghost use Rattle.gil_syntax.specs.View.{proc_view};
 ghost use Rattle.pure_terms.specs.View.{atoms_view};
+ghost use Rattle.sym_model.specs.View.{key_view};
 ghost use Rattle.sym_paths.specs.View.{end_view, path_view};
-ghost use Rattle.bi_beginnings.specs.Beginnings.{IsBeginning};
+ghost use Rattle.bi_beginnings.specs.Beginnings.{PureBeginning, IsBeginning};
 ghost use Rattle.bi_beginnings.specs.View.{beginning_view};
 ghost use Rattle.bi_specifications.specs.Specified.{IsExplored};
 ghost use Rattle.bi_specifications.specs.View.{entry_view};
+ghost use Rattle.biabduce.specs.Covering.{Keeps, IsToldEnd, CoversMiss, CoversEnd, CoversPath};
 ghost use Rattle.biabduce.specs.Sound.{IsSound, IsUndecidedIfUnknown};
 ghost use Rattle.biabduce.specs.View.{inference_view};
 
@@ -31,11 +33,19 @@ fn tell<M: ListedMemory>(
     entry: &Entry,
     path: Path<M>,
 ) -> Result<(), AllocError>
-    ensures { OnOk result ((p : PureParts) (n : ℕ)
+    requires told { IsToldEnd (path_view path).ending }
+    requires no_draw { (path_view path).drawn ≡ [] }
+    ensures sound { OnOk result ((p : PureParts) (n : ℕ)
         → IsSound p M.Local.memory M.Local.actions (proc_view proc.now) n (inference_view inference.old)
         → IsExplored M.Local.memory M.Local.actions M.stands M.terms M.asked M.depends M.plain M.keeps_plain M.kept (proc_view proc.now)
         (entry_view entry.now) (path_view path) p n
         → IsSound p M.Local.memory M.Local.actions (proc_view proc.now) n (inference_view inference.new)) }
+    ensures cover { OnOk result ((p : PureParts) (n : ℕ) (b : PureBeginning)
+        → (explored : IsExplored M.Local.memory M.Local.actions M.stands M.terms M.asked M.depends M.plain M.keeps_plain M.kept
+        (proc_view proc.now) (entry_view entry.now) (path_view path) p n)
+        → Keeps p M.Local.memory M.Local.actions (proc_view proc.now) n (inference_view inference.old) (inference_view inference.new)
+        × CoversPath p M.Local.memory M.Local.actions (proc_view proc.now) n M.stands explored.start b (path_view path)
+        (inference_view inference.new)) }
 {
     match specify(alloc, proc, entry, &path)? {
         Told::Found(found) => inference.find(found),
@@ -61,10 +71,14 @@ fn fix<M: ListedMemory>(
     key: &SymKey,
     place: Place,
 ) -> Result<(), AllocError>
-    ensures { OnOk result ((p : PureParts) (q : PureProc) (n : ℕ)
+    ensures sound { OnOk result ((p : PureParts) (q : PureProc) (n : ℕ)
         → IsSound p M.Local.memory M.Local.actions q n (inference_view inference.old)
         → IsBeginning M.Local.memory q.params (beginning_view beginning.now)
         → IsSound p M.Local.memory M.Local.actions q n (inference_view inference.new)) }
+    ensures cover { OnOk result ((p : PureParts) (q : PureProc) → IsBeginning M.Local.memory q.params (beginning_view beginning.now)
+        → Keeps p M.Local.memory M.Local.actions q bound (inference_view inference.old) (inference_view inference.new)
+        × CoversMiss p M.Local.memory M.Local.actions q bound (beginning_view beginning.now) path.vars (atoms_view path.conds) (key_view key.now)
+        (inference_view inference.new)) }
 {
     match begin_again::<M>(alloc, beginning, bound, &path, key, &place)? {
         Again::With(beginnings) => inference.begin_with(beginnings),
@@ -83,11 +97,15 @@ fn go_on<M: ListedMemory>(
     bound: u32,
     path: Ended,
 ) -> Result<(), AllocError>
-    ensures { OnOk result ((p : PureParts) (q : PureProc) (n : ℕ)
+    ensures sound { OnOk result ((p : PureParts) (q : PureProc) (n : ℕ)
         → IsSound p M.Local.memory M.Local.actions q n (inference_view inference.old)
         → IsBeginning M.Local.memory q.params (beginning_view beginning.now)
         → IsUndecidedIfUnknown (option_map end_view path.end) (atoms_view path.conds)
         → IsSound p M.Local.memory M.Local.actions q n (inference_view inference.new)) }
+    ensures cover { OnOk result ((p : PureParts) (q : PureProc) → IsBeginning M.Local.memory q.params (beginning_view beginning.now)
+        → Keeps p M.Local.memory M.Local.actions q bound (inference_view inference.old) (inference_view inference.new)
+        × CoversEnd p M.Local.memory M.Local.actions q bound (beginning_view beginning.now) path.vars (atoms_view path.conds)
+        (option_map end_view path.end) (inference_view inference.new)) }
 {
     let mut path = path;
     match replace(&mut path.end, None) {
@@ -103,7 +121,9 @@ fn go_on<M: ListedMemory>(
 }
 
 /// Whether a run that ends so has a specification.
-fn is_told(end: &Option<PathEnd>) -> bool {
+fn is_told(end: &Option<PathEnd>) -> bool
+    ensures { IsTrue result ↔ IsToldEnd (option_map end_view end.now) }
+{
     matches!(
         end,
         Some(PathEnd::Returned(_) | PathEnd::Threw(_, _) | PathEnd::Cut)
@@ -120,12 +140,18 @@ pub(crate) fn take_end<M: ListedMemory>(
     bound: u32,
     path: Path<M>,
 ) -> Result<(), AllocError>
-    ensures { OnOk result ((p : PureParts) (n : ℕ)
+    ensures sound { OnOk result ((p : PureParts) (n : ℕ)
         → IsSound p M.Local.memory M.Local.actions (proc_view proc.now) n (inference_view inference.old)
         → IsBeginning M.Local.memory (proc_view proc.now).params (beginning_view beginning.now)
         → IsExplored M.Local.memory M.Local.actions M.stands M.terms M.asked M.depends M.plain M.keeps_plain M.kept (proc_view proc.now)
         (entry_view entry.now) (path_view path) p n
         → IsSound p M.Local.memory M.Local.actions (proc_view proc.now) n (inference_view inference.new)) }
+    ensures cover { OnOk result ((p : PureParts) → IsBeginning M.Local.memory (proc_view proc.now).params (beginning_view beginning.now)
+        → (explored : IsExplored M.Local.memory M.Local.actions M.stands M.terms M.asked M.depends M.plain M.keeps_plain M.kept
+        (proc_view proc.now) (entry_view entry.now) (path_view path) p bound)
+        → Keeps p M.Local.memory M.Local.actions (proc_view proc.now) bound (inference_view inference.old) (inference_view inference.new)
+        × CoversPath p M.Local.memory M.Local.actions (proc_view proc.now) bound M.stands explored.start (beginning_view beginning.now)
+        (path_view path) (inference_view inference.new)) }
 {
     if path.drawn.len() > 0 {
         return Ok(());

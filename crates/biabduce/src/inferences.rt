@@ -1,5 +1,6 @@
 //! Inference under way.
 ghost use Rattle.std.specs.Prelude.{◌≡◌, ◌++◌, ◌∷◌, [], None, IfOk, OnOk};
+ghost use Rattle.std.specs.Option.{option_map, option_or};
 ghost use Rattle.gil_syntax.specs.View.{proc_view};
 ghost use Rattle.pure_terms.specs.View.{atoms_view};
 ghost use Rattle.bi_beginnings.specs.Beginnings.{first_beginning};
@@ -59,6 +60,18 @@ impl Inference {
     {
         if self.undecided.is_none() {
             self.undecided = Some(query);
+        }
+    }
+
+    /// A list of conditions isn't decided, if there is one.
+    pub(crate) fn leave_any(&mut self, query: Option<Query>)
+        ensures { inference_view self.new ≡ record (inference_view self.old) {
+          undecided = option_or (inference_view self.old).undecided
+              (option_map (λ q. atoms_view q.query) query);
+        } }
+    {
+        if let Some(query) = query {
+            self.leave(query);
         }
     }
 }

@@ -1,8 +1,9 @@
 //! The inference of a procedure's specifications.
-ghost use Rattle.std.specs.Prelude.{◌≡◌, ◌≤◌, Some, IfOk, IfSome, IsSome, OnOk};
+ghost use Rattle.std.specs.Prelude.{◌≡◌, ◌≤◌, Some, None, IfOk, IfSome, IsSome, OnOk};
 ghost use Rattle.gil_program.specs.Program.{prog_view};
 ghost use Rattle.gil_syntax.specs.Programs.{find_proc};
 ghost use Rattle.gil_syntax.specs.View.{proc_view};
+ghost use Rattle.inferred_specs.specs.Inferred.{Covers};
 ghost use Rattle.pure_terms.specs.Fragment.{InFragment};
 ghost use Rattle.pure_terms.specs.View.{atoms_view};
 ghost use Rattle.sym_model.specs.Lists.{Each};
@@ -12,6 +13,7 @@ ghost use Rattle.bi_beginnings.specs.Beginnings.{IsBeginning, IsOpening};
 ghost use Rattle.bi_beginnings.specs.View.{beginning_view};
 ghost use Rattle.bi_specifications.specs.Specified.{IsTrulyFound};
 ghost use Rattle.bi_specifications.specs.View.{founds_view};
+ghost use Rattle.biabduce.specs.Covering.{Keeps, CoversStart, CoversAwaited, CoversAll};
 ghost use Rattle.biabduce.specs.Sound.{IsSound};
 ghost use Rattle.biabduce.specs.View.{inference_view};
 
@@ -55,7 +57,11 @@ fn explore_start<M: ListedMemory, D: Decider>(
     requires opening { IsOpening M.stands M.terms M.kept (proc_view proc.now) (path_view start) }
     requires step { MayStep (prog_view prog.now) M.terms (path_view start) }
     requires sound { IsSound (prog_view prog.now) M.Local.memory M.Local.actions (proc_view proc.now) bound (inference_view inference.old) }
-    ensures { OnOk result (IsSound (prog_view prog.now) M.Local.memory M.Local.actions (proc_view proc.now) bound (inference_view inference.new)) }
+    ensures sound { OnOk result (IsSound (prog_view prog.now) M.Local.memory M.Local.actions (proc_view proc.now) bound (inference_view inference.new)) }
+    ensures keeps { OnOk result (Keeps (prog_view prog.now) M.Local.memory M.Local.actions (proc_view proc.now) bound (inference_view inference.old)
+        (inference_view inference.new)) }
+    ensures cover { OnOk result (CoversStart (prog_view prog.now) M.Local.memory M.Local.actions (proc_view proc.now) bound M.stands
+        (beginning_view beginning.now) (inference_view inference.new) (path_view start)) }
 {
     let entry = entry_of(alloc, &start)?;
     let mut exploration = Exploration::new(alloc, start)?;
@@ -86,7 +92,11 @@ fn explore_starts<M: ListedMemory, D: Decider>(
     requires opening { Each (IsOpening M.stands M.terms M.kept (proc_view proc.now)) (paths_view starts) }
     requires step { Each (MayStep (prog_view prog.now) M.terms) (paths_view starts) }
     requires sound { IsSound (prog_view prog.now) M.Local.memory M.Local.actions (proc_view proc.now) bound (inference_view inference.old) }
-    ensures { OnOk result (IsSound (prog_view prog.now) M.Local.memory M.Local.actions (proc_view proc.now) bound (inference_view inference.new)) }
+    ensures sound { OnOk result (IsSound (prog_view prog.now) M.Local.memory M.Local.actions (proc_view proc.now) bound (inference_view inference.new)) }
+    ensures keeps { OnOk result (Keeps (prog_view prog.now) M.Local.memory M.Local.actions (proc_view proc.now) bound (inference_view inference.old)
+        (inference_view inference.new)) }
+    ensures cover { OnOk result (Each (CoversStart (prog_view prog.now) M.Local.memory M.Local.actions (proc_view proc.now) bound M.stands
+        (beginning_view beginning.now) (inference_view inference.new)) (paths_view starts)) }
 {
     for start in starts.into_vec() {
         explore_start(
@@ -111,12 +121,15 @@ fn follow<M: ListedMemory, D: Decider>(
     requires bounded { bound ≤ 10000 }
     requires beginning { IsBeginning M.Local.memory (proc_view proc.now).params (beginning_view beginning.now) }
     requires sound { IsSound (prog_view prog.now) M.Local.memory M.Local.actions (proc_view proc.now) bound (inference_view inference.old) }
-    ensures { OnOk result (IsSound (prog_view prog.now) M.Local.memory M.Local.actions (proc_view proc.now) bound (inference_view inference.new)) }
+    ensures sound { OnOk result (IsSound (prog_view prog.now) M.Local.memory M.Local.actions (proc_view proc.now) bound (inference_view inference.new)) }
+    ensures keeps { OnOk result (Keeps (prog_view prog.now) M.Local.memory M.Local.actions (proc_view proc.now) bound (inference_view inference.old)
+        (inference_view inference.new)) }
+    ensures cover { OnOk result (CoversAwaited (prog_view prog.now) M.Local.memory M.Local.actions (proc_view proc.now) bound
+        (beginning_view beginning.now) (inference_view inference.new)) }
 {
-    let Opened { starts, undecided } = begin::<M, D>(alloc, prog, proc, beginning, decider)?;
-    if let Some(query) = undecided {
-        inference.leave(query);
-    }
+    let opened = begin::<M, D>(alloc, prog, proc, beginning, decider)?;
+    let Opened { starts, undecided } = opened;
+    inference.leave_any(undecided);
     explore_starts(
         alloc, prog, proc, bound, rules, decider, inference, beginning, starts,
     )
@@ -133,7 +146,8 @@ fn follow_all<M: ListedMemory, D: Decider>(
 ) -> Result<Inference, AllocError>
     requires found { find_proc (prog_view prog.now).procs (proc_view proc.now).name ≡ Some (proc_view proc.now) }
     requires bounded { bound ≤ 10000 }
-    ensures { IfOk result (λ i. IsSound (prog_view prog.now) M.Local.memory M.Local.actions (proc_view proc.now) bound (inference_view i)) }
+    ensures sound { IfOk result (λ i. IsSound (prog_view prog.now) M.Local.memory M.Local.actions (proc_view proc.now) bound (inference_view i)) }
+    ensures cover { IfOk result (λ i. CoversAll (prog_view prog.now) M.Local.memory M.Local.actions (proc_view proc.now) bound (inference_view i)) }
 {
     let mut inference = Inference::new(alloc, proc)?;
     for _turn in 0..u64::MAX {
@@ -156,7 +170,7 @@ fn follow_all<M: ListedMemory, D: Decider>(
 
 /// Specifications of a procedure, found from its code alone. Each of them holds of every run, its runs return or throw or are cut as it is
 /// marked, and it is exact. Where the conditions of a path can't be decided or said, that list of conditions is answered, and what is
-/// found elsewhere all the same.
+/// found elsewhere all the same. Where there is no such list, the specifications cover the runs of the procedure.
 pub fn infer<M: ListedMemory, D: Decider>(
     alloc: Global,
     prog: &Prog,
@@ -168,6 +182,8 @@ pub fn infer<M: ListedMemory, D: Decider>(
     requires entry { IsSome (find_proc (prog_view prog.now).procs name.now) }
     requires bounded { bound ≤ 10000 }
     ensures found { IfOk result (λ i. Each (IsTrulyFound (prog_view prog.now) M.Local.memory M.Local.actions name.now bound) (founds_view i.founds)) }
+    ensures covers { IfOk result (λ i. i.unknown ≡ None → Covers (prog_view prog.now) M.Local.memory M.Local.actions name.now (founds_view i.founds)
+        bound) }
     ensures unknown { IfOk result (λ i. IfSome i.unknown (λ q. ¬ InFragment (atoms_view q.query))) }
 {
     let proc = match prog.proc(name) {

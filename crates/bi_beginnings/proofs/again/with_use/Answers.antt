@@ -5,11 +5,10 @@ use Rattle.sym_model.specs.Pure.{PureUse}
 use Rattle.sym_model.specs.View.{use_view, uses_view, fix_view}
 use Rattle.bi_beginnings.specs.Beginnings.{variables_from}
 use Rattle.bi_beginnings.specs.View.{beginning_view}
-use Rattle.bi_beginnings.proofs.Tables as proved
 use Rattle.bi_beginnings.proofs.again.with_use.Goals as goal
 
 pub returns : goal.returns
-returns c memory params is fits =
+returns c =
     let b = beginning_view c.args.beginning.now in
     let f = fix_view c.args.fix.now in
     let made : PureUse = record { core = c.in_ok-core.core; ins = terms_view c.in_ok-ins.ins; outs = terms_view c.in_ok-extended.extended.added } in
@@ -17,4 +16,10 @@ returns c memory params is fits =
     let same : made ≡ wanted = λ i. record { core = c.in_ok-core.ensures i; ins = c.in_ok-ins.ensures i; outs = c.in_ok-extended.ensures.added i } in
     let pushed : uses_view c.push.new.self ≡ uses_view c.in_ok-uses.uses ++ made ∷ [] = ap uses_view c.in_ok-push.ensures.ok ∙ map-append use_view c.in_ok-uses.uses (_ ∷ []) in
     let uses : uses_view c.push.new.self ≡ b.uses ++ wanted ∷ [] = pushed ∙ (λ i. c.in_ok-uses.ensures i ++ same i ∷ []) in
-    proved.with_use memory params b is f fits _ c.in_ok-extended.ensures.vars uses c.in_ok-conds.ensures
+    λ i. record {
+      vars = c.in_ok-extended.ensures.vars i;
+      uses = uses i;
+      conds = c.in_ok-conds.ensures i;
+      place = c.in_ok-place.ensures i;
+      choices = c.in_ok-choices.ensures i;
+    }

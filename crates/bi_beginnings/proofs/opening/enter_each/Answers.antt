@@ -1,13 +1,18 @@
+use Rattle.std.proofs.Common.{◌≡◌, ◌+◌, [], ◌++◌, length, IsSome, append-nil, rules, sym, ap, subst, ◌∙◌, arith}
 use Rattle.std.specs.Vec.Iter.{into_iter_items}
 use Rattle.gil_syntax.specs.View.{proc_view}
 use Rattle.pure_terms.specs.Fragment.{InFragment}
 use Rattle.pure_terms.specs.View.{atoms_view}
 use Rattle.sym_engine.proofs.Settled.{rest_more, over_next}
 use Rattle.sym_paths.specs.View.{paths_view}
-use Rattle.sym_states.specs.View.{state_view}
+use Rattle.sym_model.specs.Lists.{Each}
+use Rattle.sym_model.proofs.ListLaws.{each_to}
+use Rattle.sym_states.specs.View.{state_view, states_view}
 use Rattle.bi_beginnings.specs.Beginnings.{IsOpening}
-use Rattle.bi_beginnings.specs.Opening.{IsEntryState, starts_of, undecided_of}
+use Rattle.bi_beginnings.specs.Opening.{IsEntryState, IsOpenedBy, starts_of, undecided_of}
+use Rattle.bi_beginnings.proofs.Covering.{opened_more, opened_last, some_first, some_second}
 use Rattle.bi_beginnings.proofs.Openings.{each_further, first_of_both}
+use Rattle.bi_beginnings.proofs.Tables.{each_pushed, none_there}
 use Rattle.bi_beginnings.proofs.opening.enter_each.Goals as goal
 
 pub enter-requires-clause-entry : goal.enter-requires-clause-entry
@@ -15,11 +20,37 @@ enter-requires-clause-entry g c =
     over_next (IsEntryState g.M.SymMemory.stands g.M.SymMemory.terms g.M.SymMemory.kept (proc_view c.args.proc.now).params) state_view c.args.states c.loop-state.yielded
     (into_iter_items c.loop-state.state-iterator) (into_iter_items c.next.new.self) c.in-Some.state c.loop-state.invariant.rest c.in-Some.ensures.steps.0 c.requires.entries
 
+pub loop-state-init : goal.loop-state-init
+loop-state-init g c = record { counted = search rules; rest = search rules; starts = search rules; cover = search rules; undecided = search rules }
+
 pub loop-state-preserved : goal.loop-state-preserved
 loop-state-preserved g c = record {
+  counted =
+      let longer : length (into_iter_items c.loop-state.state-iterator) ≡ length (into_iter_items c.next.new.self) + 1 = ap length c.in-Some.ensures.steps.0 ∙ omega arith in
+      omega (arith, longer, c.in-Some.ensures.steps.1, c.loop-state.invariant.counted);
   rest = rest_more c.args.states c.loop-state.yielded (into_iter_items c.loop-state.state-iterator) (into_iter_items c.next.new.self) c.in-Some.state c.loop-state.invariant.rest c.in-Some.ensures.steps.0;
   starts = each_further (IsOpening g.M.SymMemory.stands g.M.SymMemory.terms g.M.SymMemory.kept (proc_view c.args.proc.now)) (paths_view c.loop-state.opened.starts) (starts_of c.in_ok-opening.opening)
       (paths_view c.in_ok-opened.opened.starts) c.in_ok-opened.ensures.starts c.loop-state.invariant.starts c.in_ok-opening.ensures.starts;
+  cover =
+      let stands = g.M.SymMemory.stands in
+      let before = paths_view c.loop-state.opened.starts in
+      let after = paths_view c.in_ok-opened.opened.starts in
+      let old = IsSome c.loop-state.opened.undecided in
+      let now = IsSome c.in_ok-opened.opened.undecided in
+      each_pushed (λ s. IsOpenedBy stands s now after) state_view c.loop-state.yielded c.in-Some.state
+      (each_to (λ s. IsOpenedBy stands s old before) (λ s. IsOpenedBy stands s now after) (states_view c.loop-state.yielded)
+      (λ s is. opened_more stands s old now before (starts_of c.in_ok-opening.opening) after
+      (some_first c.loop-state.opened.undecided (undecided_of c.in_ok-opening.opening) c.in_ok-opened.opened.undecided c.in_ok-opened.ensures.undecided) c.in_ok-opened.ensures.starts is)
+      c.loop-state.invariant.cover)
+      (opened_last stands (state_view c.in-Some.state) (IsSome (undecided_of c.in_ok-opening.opening)) now before (starts_of c.in_ok-opening.opening) after
+      (some_second c.loop-state.opened.undecided (undecided_of c.in_ok-opening.opening) c.in_ok-opened.opened.undecided c.in_ok-opened.ensures.undecided) c.in_ok-opened.ensures.starts c.in_ok-opening.ensures.cover);
   undecided = first_of_both (λ q. ¬ InFragment (atoms_view q.query)) c.loop-state.opened.undecided (undecided_of c.in_ok-opening.opening) c.in_ok-opened.opened.undecided
       c.in_ok-opened.ensures.undecided c.loop-state.invariant.undecided c.in_ok-opening.ensures.undecided;
 }
+
+pub returns-clause-cover : goal.returns-clause-cover
+returns-clause-cover g c =
+    let left = into_iter_items c.loop-state.state-iterator in
+    let none : left ≡ [] = none_there left (sym c.loop-state.invariant.counted ∙ c.in-None.ensures.steps.0) in
+    let all : c.args.states ≡ c.loop-state.yielded = c.loop-state.invariant.rest ∙ ap (λ xs. c.loop-state.yielded ++ xs) none ∙ append-nil c.loop-state.yielded in
+    subst (λ ss. Each (λ s. IsOpenedBy g.M.SymMemory.stands s (IsSome c.loop-state.opened.undecided) (paths_view c.loop-state.opened.starts)) (states_view ss)) (sym all) c.loop-state.invariant.cover

@@ -1,16 +1,20 @@
-use Rattle.std.proofs.Common.{◌≡◌, ◌++◌, IfSome}
-use Rattle.std.specs.Vec.Iter.{into_iter_items}
+use Rattle.std.proofs.Common.{◌≡◌, ◌++◌, length, IfSome, IsSome}
+use Rattle.std.specs.Vec.Iter.{into_iter_len, into_iter_items}
 use Rattle.gil_syntax.specs.View.{proc_view}
 use Rattle.pure_terms.specs.Fragment.{InFragment}
 use Rattle.pure_terms.specs.View.{atoms_view}
 use Rattle.sym_model.specs.Lists.{Each}
 use Rattle.sym_paths.specs.View.{paths_view}
+use Rattle.sym_states.specs.View.{states_view}
 use Rattle.bi_beginnings.specs.Beginnings.{IsOpening}
+use Rattle.bi_beginnings.specs.Opening.{IsOpenedBy}
 use Rattle.bi_beginnings.proofs.opening.enter_each.Given as goal
 
 abbrev pub invariant-loop-state : goal.invariant-loop-state
 invariant-loop-state g l = record {
+  counted : into_iter_len l.state-iterator ≡ length (into_iter_items l.state-iterator);
   rest : l.fn.states ≡ l.yielded ++ into_iter_items l.state-iterator;
   starts : Each (IsOpening g.M.SymMemory.stands g.M.SymMemory.terms g.M.SymMemory.kept (proc_view l.proc)) (paths_view l.opened.starts);
+  cover : Each (λ s. IsOpenedBy g.M.SymMemory.stands s (IsSome l.opened.undecided) (paths_view l.opened.starts)) (states_view l.yielded);
   undecided : IfSome l.opened.undecided (λ q. ¬ InFragment (atoms_view q.query));
 }

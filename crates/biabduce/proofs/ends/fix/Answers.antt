@@ -1,24 +1,50 @@
-use Rattle.std.proofs.Common.{sym, subst}
+use Rattle.std.proofs.Common.{inl, sym, subst}
 use Rattle.std.proofs.lemmas.Result.{on_ok_weaker}
 use Rattle.pure_terms.specs.Fragment.{InFragment}
 use Rattle.pure_terms.specs.View.{atoms_view, term_view}
 use Rattle.sym_model.specs.Lists.{Each}
+use Rattle.sym_model.specs.View.{key_view}
 use Rattle.bi_beginnings.specs.Beginnings.{IsBeginning}
-use Rattle.bi_beginnings.specs.View.{beginnings_view, again_view}
+use Rattle.bi_beginnings.specs.Missing.{AwaitsAgain}
+use Rattle.bi_beginnings.specs.View.{beginning_view, beginnings_view, again_view}
 use Rattle.biabduce.specs.View.{inference_view}
 use Rattle.biabduce.proofs.Keeping.{after_begun, after_left}
 use Rattle.biabduce.proofs.Outside.{open_outside}
+use Rattle.biabduce.proofs.Providing.{keeps_begun, begun_awaits, keeps_left, left_some}
 use Rattle.biabduce.proofs.ends.fix.Goals as goal
 
-pub returns-in-With : goal.returns-in-With
-returns-in-With g c =
+pub returns-in-With-clause-sound : goal.returns-in-With-clause-sound
+returns-in-With-clause-sound g c =
     on_ok_weaker c.begin_with.result
     (λ is p q n sound beginning.
     after_begun p g.M.Local.LocalMemory.memory g.M.Local.LocalMemory.actions q n (inference_view c.args.inference.now) (inference_view c.begin_with.new.self) (beginnings_view c.in-With.beginnings) is sound
-    (subst (λ again. Each (IsBeginning g.M.Local.LocalMemory.memory q.params) (again_view again)) c.in-With.is (c.in_ok-beginnings.ensures q.params beginning)))
+    (subst (λ again. Each (IsBeginning g.M.Local.LocalMemory.memory q.params) (again_view again)) c.in-With.is (c.in_ok-beginnings.ensures.beginnings q.params beginning)))
     c.begin_with.ensures
 
-pub returns-in_ok-ask_form-in-Late : goal.returns-in_ok-ask_form-in-Late
-returns-in_ok-ask_form-in-Late g c = λ p q n sound beginning.
+pub returns-in_ok-ask_form-in-Late-clause-sound : goal.returns-in_ok-ask_form-in-Late-clause-sound
+returns-in_ok-ask_form-in-Late-clause-sound g c = λ p q n sound beginning.
     after_left p g.M.Local.LocalMemory.memory g.M.Local.LocalMemory.actions q n (inference_view c.args.inference.now) (inference_view c.leave.new.self) (atoms_view c.in_ok-ask_form-in-Late.field-0.query) c.leave.ensures sound
     (subst (λ atoms. ¬ InFragment atoms) (sym c.in_ok-ask_form-in-Late.ensures) (open_outside (atoms_view c.args.path.conds) (term_view c.in-Late.term)))
+
+pub returns-in-With-clause-cover : goal.returns-in-With-clause-cover
+returns-in-With-clause-cover g c =
+    let i = inference_view c.args.inference.now in
+    let j = inference_view c.begin_with.new.self in
+    let more = beginnings_view c.in-With.beginnings in
+    let b = beginning_view c.args.beginning.now in
+    on_ok_weaker c.begin_with.result
+    (λ is p q beginning. (
+      keeps_begun p g.M.Local.LocalMemory.memory g.M.Local.LocalMemory.actions q c.args.bound i j more is,
+      λ r missed.
+          begun_awaits p g.M.Local.LocalMemory.memory g.M.Local.LocalMemory.actions q c.args.bound i j more r is
+          (subst (AwaitsAgain g.M.Local.LocalMemory.memory g.M.Local.LocalMemory.actions q.params c.args.bound b c.args.path.vars (atoms_view c.args.path.conds) (key_view c.args.key.now)) c.in-With.is (c.in_ok-beginnings.ensures.cover q.params beginning)
+          r.args r.heap r.counter missed),
+    ))
+    c.begin_with.ensures
+
+pub returns-in_ok-ask_form-in-Late-clause-cover : goal.returns-in_ok-ask_form-in-Late-clause-cover
+returns-in_ok-ask_form-in-Late-clause-cover g c = λ p q beginning.
+    let i = inference_view c.args.inference.now in
+    let j = inference_view c.leave.new.self in
+    let atoms = atoms_view c.in_ok-ask_form-in-Late.field-0.query in
+    (keeps_left p g.M.Local.LocalMemory.memory g.M.Local.LocalMemory.actions q c.args.bound i j atoms c.leave.ensures, λ r missed. inl (left_some p g.M.Local.LocalMemory.memory g.M.Local.LocalMemory.actions q c.args.bound i j atoms c.leave.ensures))

@@ -3,17 +3,35 @@ use Rattle.std.specs.Option.{option_map}
 use Rattle.std.proofs.lemmas.Result.{on_ok_weaker}
 use Rattle.pure_terms.specs.Fragment.{InFragment}
 use Rattle.pure_terms.specs.View.{atoms_view}
-use Rattle.sym_paths.specs.Pure.{unknown}
+use Rattle.sym_model.specs.View.{key_view}
+use Rattle.sym_paths.specs.Pure.{missed, unknown}
 use Rattle.sym_paths.specs.View.{end_view}
+use Rattle.bi_beginnings.specs.View.{beginning_view}
+use Rattle.biabduce.specs.Covering.{Keeps, CoversEnd}
 use Rattle.biabduce.specs.View.{inference_view}
 use Rattle.biabduce.proofs.Keeping.{after_left}
+use Rattle.biabduce.proofs.Providing.{keeps_left, left_some}
 use Rattle.biabduce.proofs.ends.go_on.Goals as goal
 
-pub returns-in-Some-Missed : goal.returns-in-Some-Missed
-returns-in-Some-Missed g c = on_ok_weaker c.fix.result (λ tells p q n sound beginning undecided. tells p q n sound beginning) c.fix.ensures
+pub returns-in-Some-Missed-clause-sound : goal.returns-in-Some-Missed-clause-sound
+returns-in-Some-Missed-clause-sound g c = on_ok_weaker c.fix.result (λ tells p q n sound beginning undecided. tells p q n sound beginning) c.fix.ensures.sound
 
-pub returns-in-Some-Unknown : goal.returns-in-Some-Unknown
-returns-in-Some-Unknown g c = λ p q n sound beginning undecided.
+pub returns-in-Some-Unknown-clause-sound : goal.returns-in-Some-Unknown-clause-sound
+returns-in-Some-Unknown-clause-sound g c = λ p q n sound beginning undecided.
     let end : option_map end_view c.args.path.end ≡ Some (unknown c.in-Some-Unknown.place c.in-Some-Unknown.reason) = search rules in
     after_left p g.M.Local.LocalMemory.memory g.M.Local.LocalMemory.actions q n (inference_view c.args.inference.now) (inference_view c.leave.new.self) (atoms_view c.ask_conditions.result.query) c.leave.ensures sound
     (subst (λ atoms. ¬ InFragment atoms) (sym c.ask_conditions.ensures) (undecided c.in-Some-Unknown.place c.in-Some-Unknown.reason end))
+
+pub returns-in-Some-Missed-clause-cover : goal.returns-in-Some-Missed-clause-cover
+returns-in-Some-Missed-clause-cover g c =
+    let end : option_map end_view c.args.path.end ≡ Some (missed (key_view c.in-Some-Missed.key) c.in-Some-Missed.place) = search rules in
+    let j = inference_view c.fix.new.inference in
+    on_ok_weaker c.fix.result (λ tells p q beginning. subst (λ o. Keeps p g.M.Local.LocalMemory.memory g.M.Local.LocalMemory.actions q c.args.bound (inference_view c.args.inference.now) j × CoversEnd p g.M.Local.LocalMemory.memory g.M.Local.LocalMemory.actions q c.args.bound (beginning_view c.args.beginning.now) c.args.path.vars (atoms_view c.args.path.conds) o j) (sym end) (tells p q beginning)) c.fix.ensures.cover
+
+pub returns-in-Some-Unknown-clause-cover : goal.returns-in-Some-Unknown-clause-cover
+returns-in-Some-Unknown-clause-cover g c = λ p q beginning.
+    let end : option_map end_view c.args.path.end ≡ Some (unknown c.in-Some-Unknown.place c.in-Some-Unknown.reason) = search rules in
+    let i = inference_view c.args.inference.now in
+    let j = inference_view c.leave.new.self in
+    let atoms = atoms_view c.ask_conditions.result.query in
+    subst (λ o. Keeps p g.M.Local.LocalMemory.memory g.M.Local.LocalMemory.actions q c.args.bound (inference_view c.args.inference.now) j × CoversEnd p g.M.Local.LocalMemory.memory g.M.Local.LocalMemory.actions q c.args.bound (beginning_view c.args.beginning.now) c.args.path.vars (atoms_view c.args.path.conds) o j) (sym end) (keeps_left p g.M.Local.LocalMemory.memory g.M.Local.LocalMemory.actions q c.args.bound i j atoms c.leave.ensures, left_some p g.M.Local.LocalMemory.memory g.M.Local.LocalMemory.actions q c.args.bound i j atoms c.leave.ensures)

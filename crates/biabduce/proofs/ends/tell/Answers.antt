@@ -1,24 +1,59 @@
-use Rattle.std.proofs.Common.{sym, subst}
+use Rattle.std.proofs.Common.{inl, sym, subst}
 use Rattle.std.proofs.lemmas.Result.{on_ok_weaker}
 use Rattle.gil_syntax.specs.View.{proc_view}
 use Rattle.pure_terms.specs.Fragment.{InFragment}
 use Rattle.pure_terms.specs.View.{atoms_view, term_view}
 use Rattle.sym_paths.specs.View.{path_view}
-use Rattle.bi_specifications.specs.Specified.{IsTrulyTold}
-use Rattle.bi_specifications.specs.View.{entry_view, found_view, IfTold}
+use Rattle.bi_specifications.specs.Specified.{IsTrulyTold, IsMetAlong, TellsNothing}
+use Rattle.bi_specifications.specs.View.{entry_view, found_view, IfTold, MatchTold}
 use Rattle.biabduce.specs.View.{inference_view}
+use Rattle.biabduce.proofs.Accounted.{told_there, covered_by_told}
 use Rattle.biabduce.proofs.Keeping.{after_found, after_left}
 use Rattle.biabduce.proofs.Outside.{open_outside}
+use Rattle.biabduce.proofs.Providing.{keeps_found, found_covers, keeps_left, left_some}
 use Rattle.biabduce.proofs.ends.tell.Goals as goal
 
-pub returns-in-Found : goal.returns-in-Found
-returns-in-Found g c =
+pub returns-in-Found-clause-sound : goal.returns-in-Found-clause-sound
+returns-in-Found-clause-sound g c =
     let q = proc_view c.args.proc.now in
-    let told = subst (λ t. IfTold t (IsTrulyTold g.M.Local.LocalMemory.memory g.M.Local.LocalMemory.actions g.M.SymMemory.stands g.M.SymMemory.terms g.M.SymMemory.asked g.M.SymMemory.depends g.M.SymMemory.plain g.M.SymMemory.keeps_plain g.M.SymMemory.kept q (entry_view c.args.entry.now) (path_view c.args.path))) c.in-Found.is c.in_ok-found.ensures in
+    let told = subst (λ t. IfTold t (IsTrulyTold g.M.Local.LocalMemory.memory g.M.Local.LocalMemory.actions g.M.SymMemory.stands g.M.SymMemory.terms g.M.SymMemory.asked g.M.SymMemory.depends g.M.SymMemory.plain g.M.SymMemory.keeps_plain g.M.SymMemory.kept q (entry_view c.args.entry.now) (path_view c.args.path))) c.in-Found.is c.in_ok-found.ensures.found in
     on_ok_weaker c.find.result
     (λ is p n sound explored. after_found p g.M.Local.LocalMemory.memory g.M.Local.LocalMemory.actions q n (inference_view c.args.inference.now) (inference_view c.find.new.self) (found_view c.in-Found.found) is sound (told p n explored)) c.find.ensures
 
-pub returns-in_ok-ask_form-in-Unsaid : goal.returns-in_ok-ask_form-in-Unsaid
-returns-in_ok-ask_form-in-Unsaid g c = λ p n sound explored.
+pub returns-in_ok-ask_form-in-Unsaid-clause-sound : goal.returns-in_ok-ask_form-in-Unsaid-clause-sound
+returns-in_ok-ask_form-in-Unsaid-clause-sound g c = λ p n sound explored.
     after_left p g.M.Local.LocalMemory.memory g.M.Local.LocalMemory.actions (proc_view c.args.proc.now) n (inference_view c.args.inference.now) (inference_view c.leave.new.self) (atoms_view c.in_ok-ask_form-in-Unsaid.field-0.query) c.leave.ensures sound
     (subst (λ atoms. ¬ InFragment atoms) (sym c.in_ok-ask_form-in-Unsaid.ensures) (open_outside (atoms_view c.into_ended.result.conds) (term_view c.in-Unsaid.term)))
+
+pub returns-in-Found-clause-cover : goal.returns-in-Found-clause-cover
+returns-in-Found-clause-cover g c =
+    let q = proc_view c.args.proc.now in
+    let e = entry_view c.args.entry.now in
+    let path = path_view c.args.path in
+    let found = found_view c.in-Found.found in
+    let i = inference_view c.args.inference.now in
+    let along = subst (λ t. MatchTold t (IsMetAlong g.M.Local.LocalMemory.memory g.M.Local.LocalMemory.actions g.M.SymMemory.stands g.M.SymMemory.terms g.M.SymMemory.asked g.M.SymMemory.depends g.M.SymMemory.plain g.M.SymMemory.keeps_plain g.M.SymMemory.kept q e path) (TellsNothing g.M.Local.LocalMemory.memory g.M.Local.LocalMemory.actions g.M.SymMemory.stands g.M.SymMemory.terms g.M.SymMemory.asked g.M.SymMemory.depends g.M.SymMemory.plain g.M.SymMemory.keeps_plain g.M.SymMemory.kept q e path)) c.in-Found.is c.in_ok-found.ensures.cover in
+    on_ok_weaker c.find.result
+    (λ is p n b explored. (
+      keeps_found p g.M.Local.LocalMemory.memory g.M.Local.LocalMemory.actions q n i (inference_view c.find.new.self) found is,
+      λ r wanted a begins accounts.
+          found_covers p g.M.Local.LocalMemory.memory g.M.Local.LocalMemory.actions q n i (inference_view c.find.new.self) found r is
+          (covered_by_told p g.M.Local.LocalMemory.memory g.M.Local.LocalMemory.actions g.met.M.Local.LocalMemory.laws g.M.SymMemory.stands g.M.SymMemory.terms g.M.SymMemory.asked g.M.SymMemory.depends g.M.SymMemory.plain g.M.SymMemory.keeps_plain g.M.SymMemory.kept q e path n explored b r wanted a begins accounts found along i.founds c.requires.told),
+    )) c.find.ensures
+
+pub returns-in_ok-ask_form-in-Unsaid-clause-cover : goal.returns-in_ok-ask_form-in-Unsaid-clause-cover
+returns-in_ok-ask_form-in-Unsaid-clause-cover g c = λ p n b explored.
+    let q = proc_view c.args.proc.now in
+    let i = inference_view c.args.inference.now in
+    let j = inference_view c.leave.new.self in
+    let atoms = atoms_view c.in_ok-ask_form-in-Unsaid.field-0.query in
+    (keeps_left p g.M.Local.LocalMemory.memory g.M.Local.LocalMemory.actions q n i j atoms c.leave.ensures, λ r wanted a begins accounts. inl (left_some p g.M.Local.LocalMemory.memory g.M.Local.LocalMemory.actions q n i j atoms c.leave.ensures))
+
+pub returns-in-Nothing-clause-cover : goal.returns-in-Nothing-clause-cover
+returns-in-Nothing-clause-cover g c = λ p n b explored.
+    let q = proc_view c.args.proc.now in
+    let e = entry_view c.args.entry.now in
+    let path = path_view c.args.path in
+    let nothing = subst (λ t. MatchTold t (IsMetAlong g.M.Local.LocalMemory.memory g.M.Local.LocalMemory.actions g.M.SymMemory.stands g.M.SymMemory.terms g.M.SymMemory.asked g.M.SymMemory.depends g.M.SymMemory.plain g.M.SymMemory.keeps_plain g.M.SymMemory.kept q e path) (TellsNothing g.M.Local.LocalMemory.memory g.M.Local.LocalMemory.actions g.M.SymMemory.stands g.M.SymMemory.terms g.M.SymMemory.asked g.M.SymMemory.depends g.M.SymMemory.plain g.M.SymMemory.keeps_plain g.M.SymMemory.kept q e path)) c.in-Nothing.is c.in_ok-found.ensures.cover in
+    let (how, (ends, told)) = told_there path.ending c.requires.told in
+    (λ r provided. provided, λ r wanted a begins accounts. absurd (nothing p n how explored c.requires.no_draw ends told))

@@ -1,10 +1,17 @@
-use Rattle.std.proofs.Common.{◌≡◌, [], ◌∷◌, refl, sym, ap, subst, arith}
+use Rattle.std.proofs.Common.{◌≡◌, ⊎_elim, inl, inr, [], ◌∷◌, ◌++◌, IfNone, refl, sym, ap, subst, arith}
 use Rattle.std.specs.Option.{option_map}
+use Rattle.gil_machine.specs.Run.{start as start_state}
 use Rattle.gil_program.specs.Program.{prog_view}
-use Rattle.sym_explore.specs.Exploring.{IsFrom, KeepTrails, MayGoOn, or_none}
+use Rattle.gil_syntax.specs.View.{proc_view}
+use Rattle.sym_explore.specs.Exploring.{IsFrom, KeepAccounts, KeepTrails, MayGoOn, or_none}
+use Rattle.sym_explore.specs.Runs.{AccountsFor}
 use Rattle.sym_explore.specs.View.{paths_left}
-use Rattle.sym_model.specs.Lists.{Each}
+use Rattle.sym_model.specs.Lists.{Each, OneOf}
 use Rattle.sym_paths.specs.View.{path_view}
+use Rattle.bi_beginnings.specs.View.{beginning_view}
+use Rattle.bi_specifications.specs.Specified.{IsExplored}
+use Rattle.bi_specifications.specs.View.{entry_view}
+use Rattle.biabduce.proofs.Accounted.{has_input, first_accounts}
 use Rattle.biabduce.proofs.inferring.explore_start.Goals as goal
 
 pub loop-turn-init : goal.loop-turn-init
@@ -19,13 +26,37 @@ loop-turn-init g c =
       placed = subst (Each (MayGoOn p M.terms)) (sym left) ((λ going few. c.requires.step), tt);
       left = subst (Each (IsFrom p m M.stands M.terms M.asked M.depends M.plain M.keeps_plain c.args.bound start)) (sym left) (record { earlier = []; trail = refl; within = omega (arith, none); simple = λ keeps. tt; forms = tt }, tt);
       sound = c.requires.sound;
+      keeps = λ r provided. provided;
+      accounts = λ r wanted a begins.
+          inr
+          (subst (OneOf (AccountsFor p m M.stands [] (start_state p (proc_view c.args.proc.now).name r.args a.own r.counter) start a.values)) (sym left)
+          (inl (first_accounts p g.M.Local.LocalMemory.memory m g.met.M.Local.LocalMemory.laws M.stands M.terms M.asked M.kept (proc_view c.args.proc.now) c.args.bound (beginning_view c.args.beginning.now) r wanted a start c.requires.opening c.requires.found begins)));
     }
 
 pub next_ended-requires-clause-placed : goal.next_ended-requires-clause-placed
 next_ended-requires-clause-placed g c = c.loop-turn.invariant.placed
 
 pub returns-in-None : goal.returns-in-None
-returns-in-None g c = c.loop-turn.invariant.sound
+returns-in-None g c =
+    let M = g.M.SymMemory in
+    let m = g.M.Local.LocalMemory.actions in
+    let p = prog_view c.args.prog.now in
+    let q = proc_view c.args.proc.now in
+    let start = path_view c.args.start in
+    let old = paths_left c.loop-turn.exploration in
+    let now = paths_left c.next_ended.new.self in
+    let keep = subst (λ o. KeepAccounts p m M.stands c.args.bound old (or_none (option_map path_view o) ++ now)) c.in-None.is c.in_ok-next_ended.ensures.cover in
+    let none = subst (λ o. IfNone o (now ≡ [])) c.in-None.is c.in_ok-next_ended.ensures.last in
+    record {
+      sound = c.loop-turn.invariant.sound;
+      keeps = c.loop-turn.invariant.keeps;
+      cover = λ r wanted a begins.
+          let For = AccountsFor p m M.stands [] (start_state p q.name r.args a.own r.counter) start a.values in
+          ⊎_elim (λ provided. provided)
+          (λ one. absurd (subst (OneOf For) none (keep start [] a.values (start_state p q.name r.args a.own r.counter)
+          (has_input p g.M.Local.LocalMemory.memory m g.met.M.Local.LocalMemory.laws M.stands M.terms M.asked M.kept q c.args.bound (beginning_view c.args.beginning.now) r wanted a c.args.prog.now.well_made) one)))
+          (c.loop-turn.invariant.accounts r wanted a begins);
+    }
 
 pub loop-turn-preserved : goal.loop-turn-preserved
 loop-turn-preserved g c =
@@ -37,17 +68,31 @@ loop-turn-preserved g c =
     let now = paths_left c.next_ended.new.self in
     let trails = subst (λ o. KeepTrails p m M.stands M.terms M.asked M.depends M.plain M.keeps_plain c.args.bound old (or_none (option_map path_view o)) now) c.in-Some.is c.in_ok-next_ended.ensures.trails in
     let come = trails start c.loop-turn.invariant.left in
+    let q = proc_view c.args.proc.now in
+    let b = beginning_view c.args.beginning.now in
+    let keep = subst (λ o. KeepAccounts p m M.stands c.args.bound old (or_none (option_map path_view o) ++ now)) c.in-Some.is c.in_ok-next_ended.ensures.cover in
+    let explored : IsExplored g.M.Local.LocalMemory.memory g.M.Local.LocalMemory.actions M.stands M.terms M.asked M.depends M.plain M.keeps_plain M.kept q (entry_view c.in_ok-entry.entry) (path_view c.in-Some.path) p c.args.bound =
+    record {
+      well_made = c.args.prog.now.well_made;
+      valid = c.args.prog.now.valid;
+      found = c.requires.found;
+      start = start;
+      opening = c.requires.opening;
+      entry = c.in_ok-entry.ensures;
+      ended = come.0.0;
+    }
+    in
+    let covers = c.in_ok-take_end-in-Some.ensures.cover p c.requires.beginning explored in
     record {
       placed = c.in_ok-next_ended.ensures.placed;
       left = come.1;
-      sound = c.in_ok-take_end-in-Some.ensures p c.args.bound c.loop-turn.invariant.sound c.requires.beginning
-          (record {
-            well_made = c.args.prog.now.well_made;
-            valid = c.args.prog.now.valid;
-            found = c.requires.found;
-            start = start;
-            opening = c.requires.opening;
-            entry = c.in_ok-entry.ensures;
-            ended = come.0.0;
-          });
+      sound = c.in_ok-take_end-in-Some.ensures.sound p c.args.bound c.loop-turn.invariant.sound c.requires.beginning explored;
+      keeps = λ r provided. covers.0 r (c.loop-turn.invariant.keeps r provided);
+      accounts = λ r wanted a begins.
+          ⊎_elim (λ provided. inl (covers.0 r provided))
+          (λ one.
+          ⊎_elim (λ here. inl (covers.1 r wanted a begins here)) inr
+          (keep start [] a.values (start_state p q.name r.args a.own r.counter)
+          (has_input p g.M.Local.LocalMemory.memory m g.met.M.Local.LocalMemory.laws M.stands M.terms M.asked M.kept q c.args.bound b r wanted a c.args.prog.now.well_made) one))
+          (c.loop-turn.invariant.accounts r wanted a begins);
     }

@@ -1,9 +1,15 @@
+use Rattle.std.proofs.Common.{◌⊎◌, []}
 use Rattle.gil_program.specs.Program.{prog_view}
 use Rattle.gil_syntax.specs.View.{proc_view}
+use Rattle.gil_machine.specs.Run.{start as start_state}
 use Rattle.sym_explore.specs.Exploring.{IsFrom, MayGoOn}
+use Rattle.sym_explore.specs.Runs.{AccountsFor}
 use Rattle.sym_explore.specs.View.{paths_left}
-use Rattle.sym_model.specs.Lists.{Each}
+use Rattle.sym_model.specs.Lists.{Each, OneOf}
 use Rattle.sym_paths.specs.View.{path_view}
+use Rattle.bi_beginnings.specs.Beginnings.{BeginsWith}
+use Rattle.bi_beginnings.specs.View.{beginning_view}
+use Rattle.biabduce.specs.Covering.{PureRun, IsWanted, IsAwaited, IsProvided, Keeps}
 use Rattle.biabduce.specs.Sound.{IsSound}
 use Rattle.biabduce.specs.View.{inference_view}
 use Rattle.biabduce.proofs.inferring.explore_start.Given as goal
@@ -13,4 +19,8 @@ invariant-loop-turn g l = record {
   placed : Each (MayGoOn (prog_view l.prog) g.M.SymMemory.terms) (paths_left l.exploration);
   left : Each (IsFrom (prog_view l.prog) g.M.Local.LocalMemory.actions g.M.SymMemory.stands g.M.SymMemory.terms g.M.SymMemory.asked g.M.SymMemory.depends g.M.SymMemory.plain g.M.SymMemory.keeps_plain l.bound (path_view l.fn.start)) (paths_left l.exploration);
   sound : IsSound (prog_view l.prog) g.M.Local.LocalMemory.memory g.M.Local.LocalMemory.actions (proc_view l.proc) l.bound (inference_view l.inference);
+  keeps : Keeps (prog_view l.prog) g.M.Local.LocalMemory.memory g.M.Local.LocalMemory.actions (proc_view l.proc) l.bound (inference_view l.initial.inference) (inference_view l.inference);
+  accounts : (r : PureRun) → IsWanted (prog_view l.prog) g.M.Local.LocalMemory.memory g.M.Local.LocalMemory.actions (proc_view l.proc) l.bound r → (a : IsAwaited (prog_view l.prog) g.M.Local.LocalMemory.memory g.M.Local.LocalMemory.actions (proc_view l.proc) l.bound r (beginning_view l.beginning)) → BeginsWith g.M.SymMemory.stands (beginning_view l.beginning).vars a.values a.own (path_view l.fn.start)
+      → IsProvided (prog_view l.prog) g.M.Local.LocalMemory.memory g.M.Local.LocalMemory.actions (proc_view l.proc) l.bound (inference_view l.inference) r
+      ⊎ OneOf (AccountsFor (prog_view l.prog) g.M.Local.LocalMemory.actions g.M.SymMemory.stands [] (start_state (prog_view l.prog) (proc_view l.proc).name r.args a.own r.counter) (path_view l.fn.start) a.values) (paths_left l.exploration);
 }

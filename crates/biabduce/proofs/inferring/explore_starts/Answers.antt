@@ -1,4 +1,4 @@
-use Rattle.std.proofs.Common.{◌≡◌, ◌+◌, ◌∷◌, ◌++◌, length, rules, ap, subst, ◌∙◌, arith}
+use Rattle.std.proofs.Common.{◌≡◌, ◌+◌, [], ◌∷◌, ◌++◌, length, rules, sym, ap, subst, ◌∙◌, append-nil, arith}
 use Rattle.std.specs.Vec.Iter.{into_iter_items}
 use Rattle.std.proofs.lemmas.List.{map-append}
 use Rattle.gil_program.specs.Program.{prog_view}
@@ -8,11 +8,16 @@ use Rattle.sym_model.specs.Lists.{Each}
 use Rattle.sym_paths.specs.View.{path_view, paths_view}
 use Rattle.sym_step.specs.Stepping.{MayStep}
 use Rattle.bi_beginnings.specs.Beginnings.{IsOpening}
-use Rattle.biabduce.proofs.Keeping.{each_middle}
+use Rattle.bi_beginnings.specs.View.{beginning_view}
+use Rattle.bi_specifications.proofs.Telling.{none_there}
+use Rattle.biabduce.specs.Covering.{CoversStart}
+use Rattle.biabduce.specs.View.{inference_view}
+use Rattle.biabduce.proofs.Keeping.{each_middle, each_pushed}
+use Rattle.biabduce.proofs.Providing.{still_started}
 use Rattle.biabduce.proofs.inferring.explore_starts.Goals as goal
 
 pub loop-start-init : goal.loop-start-init
-loop-start-init g c = record { counted = search rules; rest = search rules; sound = c.requires.sound }
+loop-start-init g c = record { counted = search rules; rest = search rules; sound = c.requires.sound; keeps = λ r provided. provided; cover = tt }
 
 pub explore_start-requires-clause-opening : goal.explore_start-requires-clause-opening
 explore_start-requires-clause-opening g c =
@@ -37,8 +42,29 @@ loop-start-preserved g c =
     record {
       counted = omega (arith, longer, c.in-Some.ensures.steps.1, c.loop-start.invariant.counted);
       rest = rest_more c.args.starts c.loop-start.yielded (into_iter_items c.loop-start.start-iterator) (into_iter_items c.next.new.self) c.in-Some.start c.loop-start.invariant.rest c.in-Some.ensures.steps.0;
-      sound = c.in_ok-explore_start.ensures;
+      sound = c.in_ok-explore_start.ensures.sound;
+      keeps = λ r provided. c.in_ok-explore_start.ensures.keeps r (c.loop-start.invariant.keeps r provided);
+      cover =
+          let p = prog_view c.args.prog.now in
+          let q = proc_view c.args.proc.now in
+          let b = beginning_view c.args.beginning.now in
+          let i = inference_view c.loop-start.inference in
+          let j = inference_view c.explore_start.new.inference in
+          each_pushed (CoversStart p g.M.Local.LocalMemory.memory g.M.Local.LocalMemory.actions q c.args.bound g.M.SymMemory.stands b j) path_view c.loop-start.yielded c.in-Some.start
+          (still_started p g.M.Local.LocalMemory.memory g.M.Local.LocalMemory.actions q c.args.bound g.M.SymMemory.stands b i j (paths_view c.loop-start.yielded) c.in_ok-explore_start.ensures.keeps c.loop-start.invariant.cover)
+          c.in_ok-explore_start.ensures.cover;
     }
 
-pub returns : goal.returns
-returns g c = c.loop-start.invariant.sound
+pub returns-clause-sound : goal.returns-clause-sound
+returns-clause-sound g c = c.loop-start.invariant.sound
+
+pub returns-clause-keeps : goal.returns-clause-keeps
+returns-clause-keeps g c = c.loop-start.invariant.keeps
+
+pub returns-clause-cover : goal.returns-clause-cover
+returns-clause-cover g c =
+    let left = into_iter_items c.loop-start.start-iterator in
+    let none : left ≡ [] = none_there left (sym c.loop-start.invariant.counted ∙ c.in-None.ensures.steps.0) in
+    let all : c.args.starts ≡ c.loop-start.yielded = c.loop-start.invariant.rest ∙ ap (λ xs. c.loop-start.yielded ++ xs) none ∙ append-nil c.loop-start.yielded in
+    subst (λ xs. Each (CoversStart (prog_view c.args.prog.now) g.M.Local.LocalMemory.memory g.M.Local.LocalMemory.actions (proc_view c.args.proc.now) c.args.bound g.M.SymMemory.stands (beginning_view c.args.beginning.now) (inference_view c.loop-start.inference)) (paths_view xs)) (sym all)
+    c.loop-start.invariant.cover

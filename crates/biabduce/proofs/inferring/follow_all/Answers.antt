@@ -1,39 +1,57 @@
-use Rattle.std.proofs.Common.{[], ◌∷◌, sym, ap, subst, ◌∙◌}
+use Rattle.std.proofs.Common.{◌≡◌, ◌-◌, take, [], ◌∷◌, sym, ap, subst, ◌∙◌}
 use Rattle.std.proofs.lemmas.List.{append-nil, map-append}
 use Rattle.gil_program.specs.Program.{prog_view}
 use Rattle.gil_syntax.specs.View.{proc_view}
 use Rattle.bi_beginnings.specs.View.{beginning_view, beginnings_view}
 use Rattle.biabduce.specs.Sound.{IsSound}
 use Rattle.biabduce.specs.View.{inference_view}
+use Rattle.biabduce.specs.View.{inference_view}
 use Rattle.biabduce.proofs.Keeping.{first_sound, over_sound, taken_sound}
+use Rattle.biabduce.proofs.Providing.{first_provided, followed, all_covered}
 use Rattle.biabduce.proofs.inferring.follow_all.Goals as goal
 
 pub loop-turn-init : goal.loop-turn-init
 loop-turn-init g c =
     let p = prog_view c.args.prog.now in
     let q = proc_view c.args.proc.now in
-    subst (IsSound p g.M.Local.LocalMemory.memory g.M.Local.LocalMemory.actions q c.args.bound) (sym c.in_ok-inference.ensures) (first_sound p g.M.Local.LocalMemory.memory g.M.Local.LocalMemory.actions q c.args.bound)
+    record {
+      sound = subst (IsSound p g.M.Local.LocalMemory.memory g.M.Local.LocalMemory.actions q c.args.bound) (sym c.in_ok-inference.ensures) (first_sound p g.M.Local.LocalMemory.memory g.M.Local.LocalMemory.actions q c.args.bound);
+      cover = first_provided p g.M.Local.LocalMemory.memory g.M.Local.LocalMemory.actions q c.args.bound c.requires.found (inference_view c.in_ok-inference.inference) c.in_ok-inference.ensures;
+    }
 
-pub returns-in_default : goal.returns-in_default
-returns-in_default g c =
+pub returns-in_default-clause-sound : goal.returns-in_default-clause-sound
+returns-in_default-clause-sound g c =
     let p = prog_view c.args.prog.now in
     let q = proc_view c.args.proc.now in
     let is = ap beginnings_view (c.in_default.ensures.items ∙ append-nil c.pop.new.self.items) in
-    over_sound p g.M.Local.LocalMemory.memory g.M.Local.LocalMemory.actions q c.args.bound (inference_view c.loop-turn.inference) (beginnings_view c.pop.new.self.items) is c.loop-turn.invariant
+    over_sound p g.M.Local.LocalMemory.memory g.M.Local.LocalMemory.actions q c.args.bound (inference_view c.loop-turn.inference) (beginnings_view c.pop.new.self.items) is c.loop-turn.invariant.sound
 
 pub follow-requires-clause-beginning : goal.follow-requires-clause-beginning
 follow-requires-clause-beginning g c =
     let p = prog_view c.args.prog.now in
     let q = proc_view c.args.proc.now in
     let is = ap beginnings_view c.in-Some.ensures.items ∙ map-append beginning_view c.pop.new.self.items (c.in-Some.beginning ∷ []) in
-    (taken_sound p g.M.Local.LocalMemory.memory g.M.Local.LocalMemory.actions q c.args.bound (inference_view c.loop-turn.inference) (beginnings_view c.pop.new.self.items) (beginning_view c.in-Some.beginning) is c.loop-turn.invariant).0
+    (taken_sound p g.M.Local.LocalMemory.memory g.M.Local.LocalMemory.actions q c.args.bound (inference_view c.loop-turn.inference) (beginnings_view c.pop.new.self.items) (beginning_view c.in-Some.beginning) is c.loop-turn.invariant.sound).0
 
 pub follow-requires-clause-sound : goal.follow-requires-clause-sound
 follow-requires-clause-sound g c =
     let p = prog_view c.args.prog.now in
     let q = proc_view c.args.proc.now in
     let is = ap beginnings_view c.in-Some.ensures.items ∙ map-append beginning_view c.pop.new.self.items (c.in-Some.beginning ∷ []) in
-    (taken_sound p g.M.Local.LocalMemory.memory g.M.Local.LocalMemory.actions q c.args.bound (inference_view c.loop-turn.inference) (beginnings_view c.pop.new.self.items) (beginning_view c.in-Some.beginning) is c.loop-turn.invariant).1
+    (taken_sound p g.M.Local.LocalMemory.memory g.M.Local.LocalMemory.actions q c.args.bound (inference_view c.loop-turn.inference) (beginnings_view c.pop.new.self.items) (beginning_view c.in-Some.beginning) is c.loop-turn.invariant.sound).1
+
+pub returns-in_default-clause-cover : goal.returns-in_default-clause-cover
+returns-in_default-clause-cover g c = λ r wanted few.
+    let none : c.pop.new.self.items ≡ [] = c.in_default.ensures.rest ∙ ap (λ k. take (k - 1) c.loop-turn.inference.left.items) c.in_default.ensures.cases.0 in
+    let is = ap beginnings_view (c.in_default.ensures.items ∙ append-nil c.pop.new.self.items ∙ none) in
+    all_covered (prog_view c.args.prog.now) g.M.Local.LocalMemory.memory g.M.Local.LocalMemory.actions (proc_view c.args.proc.now) c.args.bound (inference_view c.loop-turn.inference) r is (c.loop-turn.invariant.cover r wanted few)
 
 pub loop-turn-preserved : goal.loop-turn-preserved
-loop-turn-preserved g c = c.in_ok-follow.ensures
+loop-turn-preserved g c =
+    let is = ap beginnings_view c.in-Some.ensures.items ∙ map-append beginning_view c.pop.new.self.items (c.in-Some.beginning ∷ []) in
+    record {
+      sound = c.in_ok-follow.ensures.sound;
+      cover = λ r wanted few.
+          followed (prog_view c.args.prog.now) g.M.Local.LocalMemory.memory g.M.Local.LocalMemory.actions (proc_view c.args.proc.now) c.args.bound (inference_view c.loop-turn.inference) (beginnings_view c.pop.new.self.items) (beginning_view c.in-Some.beginning) (inference_view c.follow.new.inference) r is
+          c.in_ok-follow.ensures.keeps c.in_ok-follow.ensures.cover wanted (c.loop-turn.invariant.cover r wanted few);
+    }

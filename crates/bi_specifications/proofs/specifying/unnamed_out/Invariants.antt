@@ -4,7 +4,7 @@ use Rattle.pure_terms.specs.Naming.{names_number}
 use Rattle.pure_terms.specs.Pure.{term_of}
 use Rattle.pure_terms.specs.View.{atoms_view}
 use Rattle.bi_specifications.specs.View.{entry_view}
-use Rattle.bi_specifications.proofs.specifying.are_outs_named.Given as goal
+use Rattle.bi_specifications.proofs.specifying.unnamed_out.Given as goal
 
 abbrev pub invariant-loop-number : goal.invariant-loop-number
 invariant-loop-number l = (k : ℕ) → l.params ≤ k → k < l.number
