@@ -11,3 +11,4 @@ pub mod MatchedSorts
 pub mod PostExact
 pub mod PostLaws
 pub mod RowExact
+pub mod Unspecified

@@ -1,9 +1,9 @@
 -- What is answered of the next paths at a call.
-use Rattle.std.specs.Prelude.{◌≡◌, ℕ, List, [], ◌∷◌, Option, Some, None, IsTrue, ⊤}
+use Rattle.std.specs.Prelude.{◌≡◌, ℕ, ℤ, List, [], ◌∷◌, Option, Some, None, IsTrue, ⊤}
 use Rattle.gil_values.specs.declared.places.Place.{Place}
-use Rattle.gil_values.specs.Pure.{PureValue}
+use Rattle.gil_values.specs.Pure.{PureValue, procedure}
 use Rattle.gil_syntax.specs.Programs.{find_spec}
-use Rattle.gil_syntax.specs.Pure.{PureParts, PureCommand, call, PureNumberedCommand, PureSpec}
+use Rattle.gil_syntax.specs.Pure.{PureParts, PureExpr, literal, PureCommand, call, PureNumberedCommand, PureSpec}
 use Rattle.gil_syntax.specs.Valid.{is_among}
 use Rattle.mem_model.specs.declared.keys.MemoryName.{MemoryName}
 use Rattle.mem_model.specs.Heaps.{Heap}
@@ -38,6 +38,17 @@ name_of (Some used) = used.name ∷ []
 abbrev pub IsSpecOf : PureParts → PureSpec → Type 0
 IsSpecOf p used = find_spec p.specs used.name ≡ Some used
 
+-- the path stands at a call whose expression is a literal, which names no procedure with a specification
+pub record CallsUnspecified {S : Type 0} (p : PureParts) (path : PurePath S) : Type 0 where
+  pub numbered : PureNumberedCommand
+  pub there : command_of_path p path ≡ Some numbered
+  pub variable : List ℕ
+  pub value : PureValue
+  pub args : List PureExpr
+  pub handler : Option ℤ
+  pub command : numbered.command ≡ call variable (literal value) args handler
+  pub unspecified : (callee : List ℕ) → value ≡ procedure callee → find_spec p.specs callee ≡ None
+
 abbrev pub IsCall : PureCommand → Type 0
 IsCall (call x e es handler) = ⊤
 IsCall command = ⊥
@@ -52,6 +63,10 @@ IsNamedNext p names next =
 
 abbrev pub AreNamed : {S : Type 0} → PureParts → List (List ℕ) → List (PurePath S) → Type 0
 AreNamed p names nexts = Each (IsNamedNext p names) nexts
+
+-- the next path isn't called by a specification
+abbrev pub IsUnspecified : {S : Type 0} → PureParts → PurePath S → Type 0
+IsUnspecified p next = called_by p next.ending next.stack ≡ None
 
 -- what a next path, facts and passed invariants name is in its table, and where it goes on a call waits
 pub record IsNextOver {S : Type 0} (terms : S → StateTerms) (e : PureEntry) (facts : List PureFact) (passed : List (List (PurePassed S)))

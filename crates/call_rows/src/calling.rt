@@ -2,7 +2,8 @@
 ghost use Rattle.std.specs.Prelude.{◌≡◌, ◌∷◌, ◌++◌, [], map, IfOk, IfSome, Some};
 ghost use Rattle.std.specs.Option.{option_map};
 ghost use Rattle.assert_logic.specs.Modes.{HasModes};
-ghost use Rattle.call_rows.specs.Calling.{AnswersFurther, AreNamed, EachIsCalled, IsSpecOf, IsAtCall, IsCall, IsCalled, IsNextOver, called_by, name_of, spec_there};
+ghost use Rattle.call_rows.specs.Calling.{AnswersFurther, AreNamed, CallsUnspecified, EachIsCalled, IsSpecOf, IsUnspecified, IsAtCall, IsCall, IsCalled, IsNextOver, called_by, name_of, spec_there};
+ghost use Rattle.checked_paths.specs.Following.{OfGoing};
 ghost use Rattle.checked_paths.specs.Meaning.{IsCheckedOver};
 ghost use Rattle.checked_paths.specs.View.{checking_view, entry_view, next_view, nexts_view, passed_by_view};
 ghost use Rattle.checked_rows.specs.Rows.{AreRowOf, IsExactRowOf};
@@ -12,6 +13,7 @@ ghost use Rattle.gil_syntax.specs.Pure.{PureCommand};
 ghost use Rattle.gil_syntax.specs.View.{spec_view};
 ghost use Rattle.sym_leaving.specs.Leaving.{HasCaller};
 ghost use Rattle.sym_model.specs.Lists.{Each};
+ghost use Rattle.sym_paths.specs.Origins.{Follows};
 ghost use Rattle.sym_paths.specs.View.{frames_view, path_view, paths_view};
 ghost use Rattle.sym_states.specs.View.{facts_view};
 ghost use Rattle.sym_step.specs.Stepping.{MayStep};
@@ -81,7 +83,8 @@ fn names_used<M: ListedMemory>(
     prog: &Prog,
     paths: &Paths<M>,
 ) -> Result<Texts, AllocError>
-    ensures { IfOk result (λ names. AreNamed (prog_view prog.now) names (paths_view paths.now)) }
+    ensures named { IfOk result (λ names. AreNamed (prog_view prog.now) names (paths_view paths.now)) }
+    ensures only { Each (IsUnspecified (prog_view prog.now)) (paths_view paths.now) → IfOk result (λ names. names ≡ []) }
 {
     let mut names = Sequence::new(alloc);
     for path in paths.as_slice() {
@@ -199,6 +202,8 @@ pub fn call_row<M: ListedMemory, D: Decider>(
     requires may { MayStep (prog_view prog.now) M.terms (path_view checking.path) }
     requires over { IsCheckedOver M.terms (entry_view spec.now entered.now) (checking_view checking) }
     requires at { IsAtCall (prog_view prog.now) (path_view checking.path) }
+    ensures unspecified { CallsUnspecified (prog_view prog.now) (path_view checking.path) → IfOk result (λ s. (s.uses ≡ [])
+        × Each (OfGoing (Follows (prog_view prog.now) M.Local.actions M.terms (path_view checking.path))) (nexts_view s.nexts)) }
     ensures next { IfOk result (λ s. (command : PureCommand) → IsCall command → AreRowOf (prog_view prog.now) M.Local.memory M.Local.actions
         M.stands M.terms (entry_view spec.now entered.now) (checking_view checking) command s.uses (nexts_view s.nexts)) }
     ensures exact { IfOk result (λ s. (command : PureCommand) → IsCall command → IsExactRowOf (prog_view prog.now) M.Local.memory

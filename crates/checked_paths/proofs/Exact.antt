@@ -30,13 +30,13 @@ use Rattle.sym_paths.proofs.Silent.{stands_at}
 use Rattle.checked_paths.specs.Causes.{PureShown, PureCause, failure, fault, bound, undecided, shown_in, shown_of, caused_by, ShowsStop, ShowsEnd, EachShowsEnd}
 use Rattle.checked_paths.specs.declared.nexts.FaultKind.{FaultKind}
 use Rattle.checked_paths.specs.Choosing.{LeadsAlong}
-use Rattle.checked_paths.specs.Exactness.{IsUnder, LeadsOn, IsFollowed, IsShownAt, IsSurely, IsFailure, FailsWith, IsRightCause, IsExactNext, AreExact, HaveMoreOf, AddsOnly}
+use Rattle.checked_paths.specs.Exactness.{IsUnder, LeadsOn, IsFollowed, IsShownAt, IsSurely, FailsWith, IsRightCause, IsExactNext, AreExact, HaveMoreOf, AddsOnly}
 use Rattle.checked_paths.specs.Following.{GoesOnWith, IsAnswerTo, IsAnswered, EachIsAnswered, StaysInFrame, stays_in_frame, is_of_machine}
 use Rattle.checked_paths.specs.Meaning.{EachWith, IsCheckedOver, MayGoOn}
 use Rattle.checked_paths.specs.Pure.{PureEntry, PureChecking, PureNext, further, over, caused}
 use Rattle.checked_paths.proofs.Answering.{goes_there}
 use Rattle.checked_paths.proofs.Lists.{each_across}
-use Rattle.checked_paths.proofs.Machine.{drawn_values, next_values, others_and, others_go_on, leads_along, leads_by_call, IsNoLeave, Stays, step_stays, machine_if_stays, fails_so}
+use Rattle.checked_paths.proofs.Machine.{drawn_values, next_values, others_and, others_go_on, leads_along, leads_by_call, IsNoLeave, Stays, step_stays, machine_if_stays}
 
 pub if_ok_both : {X E : Type 0} (P Q T : X → Type 0) (r : Result X E) → ((x : X) → P x → Q x → T x) → IfOk r P → IfOk r Q → IfOk r T
 if_ok_both P Q T (Ok x) go p q = go x p q
@@ -46,7 +46,7 @@ if_ok_both P Q T (Err e) go p q = tt
 
 end_has_input : (p : PureParts) (m : Actions) (v : List PureValue) (s : State) (how : PureEnd) (e : Ending) → IsEnding p m v s how e → ¬ IsInputFault e
 end_has_input p m v s (returned t) e (w, (is, same)) input_fault = subst IsInputFault same input_fault
-end_has_input p m v s (failed t place) e (w, (is, same)) input_fault = subst IsInputFault same input_fault
+end_has_input p m v s (failed t place) e (w, (is, none, same)) input_fault = subst IsInputFault same input_fault
 end_has_input p m v s (threw t place) e (w, (is, same)) input_fault = subst IsInputFault same input_fault
 end_has_input p m v s (missed k place) e (q, (key, missed_there, same)) input_fault = subst IsInputFault same input_fault
 end_has_input p m v s vanished e same input_fault = subst IsInputFault same input_fault
@@ -250,8 +250,8 @@ module _ {S : Type 0} (p : PureParts) (memory : MemoryName) (m : Actions) (stand
       where
         by : (w : List PureValue) (entry : Entry) (c : Checked) (inputs : List PureValue) (end : End) → command_at p c.machine.current ≡ Some n → step p m inputs c.machine ≡ ends end
             → IsEnding p m w c.machine (failed t place) end.ending → FailsWith t w (ended p memory m entry c end.ending)
-        by w entry c inputs end there does_it (u, (value_is, ends_so)) =
-            (u, (value_is, subst (λ k. IsFailure u (ended p memory m entry c k)) (sym ends_so) (fails_so p m inputs n c.machine end u place there does_it ends_so)))
+        by w entry c inputs end there does_it (u, (value_is, none, ends_so)) =
+            (u, (value_is, ap (ended p memory m entry c) ends_so ∙ ap (λ o. fails_or_misses o u) none))
 
     misses_surely : (k : PureKey) (place : Place) → next.ending ≡ Some (missed k place) → IsSurely p memory m stands e x (λ w out. out ≡ has_fault missing) shown
     misses_surely k place still = surely (λ w out. out ≡ has_fault missing) (missed k place) still (λ is. is) by

@@ -1,5 +1,6 @@
 pub mod Lists
 pub mod Copies
+pub mod Going
 pub mod Growing
 pub mod Inputs
 pub mod Stops

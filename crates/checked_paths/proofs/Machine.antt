@@ -1,7 +1,6 @@
 -- A step of the machine with some inputs is one of a checked run, and inputs that give new variables their values.
-use Rattle.std.proofs.Common.{◌≡◌, inl, inr, ℕ, zero, suc, ◌+◌, ℤ, pos, negsuc, List, [], ◌∷◌, Bool, true, false, cond, Option, Some, None, Ok, Err, slice_get, IsTrue, codes, refl, sym, ap, subst, ◌∙◌, true≢false, arith}
+use Rattle.std.proofs.Common.{◌≡◌, ℕ, zero, suc, ◌+◌, ℤ, pos, negsuc, List, [], ◌∷◌, Bool, true, false, cond, Option, Some, None, Ok, Err, slice_get, IsTrue, refl, sym, ap, subst, ◌∙◌, true≢false, arith}
 use Rattle.std.specs.Prelude.{⊤}
-use Rattle.std.specs.Option.{option_and_then}
 use Rattle.gil_values.specs.declared.kinds.Kind.{Kind}
 use Rattle.gil_values.specs.declared.places.Place.{Place}
 use Rattle.gil_values.specs.Equality.{same_kind}
@@ -10,20 +9,19 @@ use Rattle.gil_values.specs.Pure.{PureValue, integer, boolean, text, symbol, kin
 use Rattle.gil_syntax.specs.Pure.{PureCommand, assign, call, act, usym, isym, ifgoto, return, fail, throw, vanish, fold_use, unfold_use, assert_that, loop_invariant, PureNumberedCommand, PureSpec, PureParts}
 use Rattle.gil_syntax.specs.Programs.{find_spec}
 use Rattle.gil_syntax.specs.Evaluation.{Outcomes, evaluate, evaluate_all}
-use Rattle.gil_machine.specs.Choices.{choice_at, choice_of, missed_key, of_values, result_of, miss_at}
+use Rattle.gil_machine.specs.Choices.{choice_at, choice_of}
 use Rattle.gil_machine.specs.State.{State, Ending, returned, threw, failed, vanished, no_input, bad_input, cut, End, Step, goes_on, ends, end_at}
-use Rattle.gil_machine.specs.Step.{command_at, to_label, assigned, with_value, with_values, branch, after_action, action_result, do_action, draw, do_command, step}
-use Rattle.mem_model.specs.declared.keys.Key.{Key}
+use Rattle.gil_machine.specs.Step.{command_at, to_label, assigned, with_value, with_values, branch, after_action, action_result, draw, do_command, step}
 use Rattle.mem_model.specs.declared.keys.MemoryName.{MemoryName}
-use Rattle.mem_model.specs.Actions.{Actions, ActionResult}
+use Rattle.mem_model.specs.Actions.{Actions}
 use Rattle.mem_model.specs.Pure.{PureOutcome, done, failed as action_failed, miss}
-use Rattle.checked_runs.specs.Checked.{Checked, Entry, fails_or_misses, stepped, Entered, Calls, is_call, used_in}
+use Rattle.checked_runs.specs.Checked.{Checked, Entry, stepped, Entered, Calls, is_call, used_in}
 use Rattle.pure_terms.specs.declared.variables.Sort.{Sort}
 use Rattle.sym_model.proofs.ListLaws.{not_none}
 use Rattle.sym_paths.specs.Steps.{IsNext, AreNext, counter_after, draws_after, HasInput}
 use Rattle.sym_paths.proofs.Silent.{step-is, choice-is}
 use Rattle.checked_paths.specs.Choosing.{choice_of_entered, choice_of_call, LeadsAlongBy, LeadsAlongAt, LeadsAlong}
-use Rattle.checked_paths.specs.Exactness.{IsNewValue, AreNewValues, IsFailure}
+use Rattle.checked_paths.specs.Exactness.{IsNewValue, AreNewValues}
 use Rattle.checked_paths.specs.Following.{is_of_machine, stays_in_frame}
 use Rattle.checked_paths.proofs.Inputs.{drawn_so}
 
@@ -246,59 +244,3 @@ pub machine_if_stays : (k : PureCommand) → IsTrue (stays_in_frame k) → IsTru
 machine_if_stays (return e) stays = refl
 machine_if_stays (throw e) stays = refl
 machine_if_stays k stays = stays
-
--- ---- misses
-
--- a step that misses fails with the text of a miss
-abbrev TellsMiss : Option Key → Step → Type 0
-TellsMiss None r = ⊤
-TellsMiss (Some k) (goes_on s) = ⊥
-TellsMiss (Some k) (ends e) = (place : Place) × (e.ending ≡ failed (text (codes "missing")) place)
-
-miss_told : (o : PureOutcome) (x : List ℕ) (here : Place) (s : State) → TellsMiss (missed_key o) (after_action o x here s)
-miss_told (done v) x here s = tt
-miss_told (action_failed v) x here s = tt
-miss_told (miss k) x here s = (here, refl)
-
-module _ (p : PureParts) (m : Actions) (inputs : List PureValue) where
-  misses_told : (r : Outcomes) (x a : List ℕ) (here : Place) (s : State)
-      → TellsMiss (option_and_then (λ (w : ActionResult). missed_key w.outcome) (of_values (λ args. Some (action_result (m.takes_symbol a) m a args s)) r)) (with_values r here s (λ args. do_action (m.takes_symbol a) m x a args here s))
-  misses_told (Ok args) x a here s = miss_told (action_result (m.takes_symbol a) m a args s).outcome x here _
-  misses_told (Err f) x a here s = tt
-
-  command_tells : (k : PureCommand) (here : Place) (s : State) → TellsMiss (option_and_then (λ (w : ActionResult). missed_key w.outcome) (result_of p m k s)) (do_command p m inputs k here s)
-  command_tells (act x a es) here s = misses_told (evaluate_all es s.current.store) x a here s
-  command_tells (assign x e) here s = tt
-  command_tells (call x e es handler) here s = tt
-  command_tells (usym x) here s = tt
-  command_tells (isym x k) here s = tt
-  command_tells (ifgoto e i) here s = tt
-  command_tells (return e) here s = tt
-  command_tells (fail e) here s = tt
-  command_tells (throw e) here s = tt
-  command_tells vanish here s = tt
-  command_tells (fold_use u) here s = tt
-  command_tells (unfold_use u) here s = tt
-  command_tells (assert_that items) here s = tt
-  command_tells (loop_invariant xs ps items) here s = tt
-
-  step_tells : (n : PureNumberedCommand) (s : State) → command_at p s.current ≡ Some n → TellsMiss (miss_at p m s) (step p m inputs s)
-  step_tells n s at =
-      let here : Place = record { proc = s.current.procedure; at = n.at } in
-      let missed : miss_at p m s ≡ option_and_then (λ (w : ActionResult). missed_key w.outcome) (result_of p m n.command s) =
-      ap (λ o. option_and_then (λ (w : ActionResult). missed_key w.outcome) (option_and_then (λ (c : PureNumberedCommand). result_of p m c.command s) o)) at in
-      subst (λ r. TellsMiss (miss_at p m s) r) (sym (step-is p m inputs s n n.command at refl))
-      (subst (λ o. TellsMiss o (do_command p m inputs n.command here s)) (sym missed) (command_tells n.command here s))
-
-  abbrev value_told : Ending → PureValue
-  value_told (failed v place) = v
-  value_told _ = integer (pos 0)
-
-  failure_by : (o : Option Key) (e : End) (v : PureValue) (place : Place) → TellsMiss o (ends e) → e.ending ≡ failed v place → IsFailure v (fails_or_misses o v)
-  failure_by None e v place tells is = inl refl
-  failure_by (Some k) e v place tells is = inr (sym (ap value_told is) ∙ ap value_told tells.1, refl)
-
-  -- a step that fails is a failure of a checked run
-  pub fails_so : (n : PureNumberedCommand) (s : State) (e : End) (v : PureValue) (place : Place) → command_at p s.current ≡ Some n → step p m inputs s ≡ ends e → e.ending ≡ failed v place
-      → IsFailure v (fails_or_misses (miss_at p m s) v)
-  fails_so n s e v place at does is = failure_by (miss_at p m s) e v place (subst (TellsMiss (miss_at p m s)) does (step_tells n s at)) is

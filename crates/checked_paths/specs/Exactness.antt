@@ -1,8 +1,8 @@
 -- What is exact of a step's answers: wherever a path stands for a checked state, that state leads to one for which the path that goes on
 -- stands, or has the fault that is the cause, under each valuation that meets the later conditions. Exactness beside cover is that of
 -- Gillian, Part I (PLDI 2020); checked runs here take the place of the concrete semantics.
-use Rattle.std.specs.Prelude.{◌≡◌, ◌⊎◌, ℕ, List, [], ◌∷◌, ◌++◌, Option, Some, codes, ⊤}
-use Rattle.gil_values.specs.Pure.{PureValue, symbol, text}
+use Rattle.std.specs.Prelude.{◌≡◌, ℕ, List, [], ◌∷◌, ◌++◌, Option, Some, ⊤}
+use Rattle.gil_values.specs.Pure.{PureValue, symbol}
 use Rattle.gil_values.specs.Symbols.{AreBelow}
 use Rattle.gil_syntax.specs.Pure.{PureParts}
 use Rattle.gil_machine.specs.Choices.{with_choice}
@@ -51,13 +51,9 @@ HaveMore {A} xs ys = (more : List A) × (ys ≡ xs ++ more)
 
 -- ---- failures
 
--- The run fails with the value. A miss, whose choice tells it from a failure, may be told as a failure with its text.
-abbrev pub IsFailure : PureValue → Outcome → Type 0
-IsFailure r out = (out ≡ has_fault (runs.fails r)) ⊎ ((r ≡ text (codes "missing")) × (out ≡ has_fault runs.missing))
-
--- it fails with the term's value
+-- the run fails with the term's value
 abbrev pub FailsWith : PureTerm → List PureValue → Outcome → Type 0
-FailsWith t w out = (r : PureValue) × ((value w t ≡ Some r) × IsFailure r out)
+FailsWith t w out = (r : PureValue) × ((value w t ≡ Some r) × (out ≡ has_fault (runs.fails r)))
 
 -- ---- what goes on from a path
 

@@ -15,7 +15,7 @@ use Rattle.sym_paths.specs.Steps.{Extends, IsUnknown}
 use Rattle.sym_states.specs.Pure.{PureFact}
 use Rattle.checked_paths.specs.Covering.{CoversOutcome, IsCaused}
 use Rattle.checked_paths.specs.Meaning.{EachWith, StandsForChecked, IsCheckedOver, kept_by, SayTheSame}
-use Rattle.checked_paths.specs.Pure.{PureEntry, PurePassed, PureChecking, PureNext, further, over}
+use Rattle.checked_paths.specs.Pure.{PureEntry, PurePassed, PureChecking, PureNext, further, over, caused}
 
 -- what is answered of a path that ends so: one that vanished is over, and any other one is a cause
 abbrev pub IsStopOf : {S : Type 0} → PureEnd → PureNext S → Type 0
@@ -51,6 +51,12 @@ module _ {S : Type 0} (stands : S → List PureValue → Heap → Type 0) (terms
 
   abbrev pub EachIsAnswered : List (PurePath S) → List (PureNext S) → Type 0
   EachIsAnswered paths ns = EachWith IsAnswered paths ns
+
+-- where a path goes on, this holds of it
+abbrev pub OfGoing : {S : Type 0} → (PurePath S → Type 0) → PureNext S → Type 0
+OfGoing P (further y) = P y.path
+OfGoing P over = ⊤
+OfGoing P (caused cause) = ⊤
 
 -- a command of the machine that is no call
 abbrev pub is_of_machine : PureCommand → Bool

@@ -4,13 +4,14 @@ ghost use Rattle.std.specs.Option.{option_map};
 ghost use Rattle.checked_paths.specs.Causes.{shown_of, shown_view, EachShowsEnd, ShowsEnd, ShowsStop};
 ghost use Rattle.checked_paths.specs.Covering.{AreNexts};
 ghost use Rattle.checked_paths.specs.Exactness.{AddsOnly, AreExact};
-ghost use Rattle.checked_paths.specs.Following.{EachIsAnswered, IsAnswered, IsStop, IsAtMachineCommand, StaysInFrame};
+ghost use Rattle.checked_paths.specs.Following.{EachIsAnswered, IsAnswered, IsStop, IsAtMachineCommand, OfGoing, StaysInFrame};
 ghost use Rattle.checked_paths.specs.Meaning.{MayGoOn};
 ghost use Rattle.checked_paths.specs.Pure.{PureEntry};
 ghost use Rattle.checked_paths.specs.View.{checking_view, next_view, nexts_view, passed_by_view};
 ghost use Rattle.gil_program.specs.Program.{prog_view};
 ghost use Rattle.sym_engine.specs.Lawful.{IsOwnAt};
 ghost use Rattle.sym_model.specs.Lists.{Each};
+ghost use Rattle.sym_paths.specs.Origins.{Follows};
 ghost use Rattle.sym_paths.specs.Steps.{IsPlaceOf};
 ghost use Rattle.sym_paths.specs.View.{end_view, path_view, paths_view};
 ghost use Rattle.sym_states.specs.View.{facts_view};
@@ -142,6 +143,8 @@ pub fn step_machine<M: SymMemory, D: Decider>(
     ensures exact { IfOk result (λ ns. (e : PureEntry) → MayGoOn (prog_view prog.now) M.terms e (checking_view checking)
         → StaysInFrame (prog_view prog.now) (path_view checking.path) → IsPlaceOf (prog_view prog.now) (path_view checking.path).stack here.now
         → AreExact (prog_view prog.now) M.Local.memory M.Local.actions M.stands e (checking_view checking) (nexts_view ns)) }
+    ensures origin { IfOk result (λ ns. Each (OfGoing (Follows (prog_view prog.now) M.Local.actions M.terms (path_view checking.path)))
+        (nexts_view ns)) }
     ensures own { IfOk result (λ ns. Each (AddsOnly (IsOwnAt M.stands M.terms M.asked M.Local.actions (prog_view prog.now)
         (path_view checking.path)) (checking_view checking)) (nexts_view ns)) }
 {

@@ -1,3 +1,4 @@
+pub mod EndGoing
 pub mod EndRowLaws
 pub mod EndExactLaws
 pub mod EndLaws

@@ -1,6 +1,7 @@
 //! Returns and throws that end the entry: a postcondition is matched, and nothing is left.
 ghost use Rattle.std.specs.Prelude.{◌≡◌, [], ◌++◌, length, map, IfNone, IfOk, IfSome};
 ghost use Rattle.std.specs.Option.{option_map};
+ghost use Rattle.checked_paths.specs.Following.{OfGoing};
 ghost use Rattle.checked_paths.specs.Meaning.{IsCheckedOver, IsEntryOver};
 ghost use Rattle.checked_paths.specs.View.{checking_view, entry_view, next_view, nexts_view, passed_by_view};
 ghost use Rattle.checked_rows.specs.Doubts.{IsToldThere};
@@ -25,6 +26,7 @@ ghost use Rattle.sym_evaluation.specs.Pure.{term_at};
 ghost use Rattle.sym_evaluation.specs.View.{store_view};
 ghost use Rattle.sym_model.specs.Lists.{Each, OneOf};
 ghost use Rattle.sym_paths.specs.Frames.{IsBound};
+ghost use Rattle.sym_paths.specs.Origins.{Follows};
 ghost use Rattle.sym_states.specs.Meaning.{IsOverTable};
 ghost use Rattle.sym_states.specs.View.{facts_view, state_view};
 
@@ -364,6 +366,8 @@ pub fn end_row<M: ListedMemory, D: Decider>(
     requires posts { Each (MayMatch M.Local.memory) (map assertion_view spec.now.posts) }
     requires errors { Each (MayMatch M.Local.memory) (map assertion_view spec.now.errors) }
     requires cases { CasesMayMatch M.Local.memory (prog_view prog.now).preds }
+    ensures origin { IfOk result (λ ns. Each (OfGoing (Follows (prog_view prog.now) M.Local.actions M.terms (path_view checking.path)))
+        (nexts_view ns)) }
     ensures next { IfOk result (λ ns. (command : PureCommand) → IsLeaving command → AreRowOf (prog_view prog.now) M.Local.memory M.Local.actions
         M.stands M.terms (entry_view spec.now entered.now) (checking_view checking) command [] (nexts_view ns)) }
     ensures exact { IfOk result (λ ns. (command : PureCommand) → IsLeaving command → IsExactRowOf (prog_view prog.now) M.Local.memory

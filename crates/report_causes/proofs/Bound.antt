@@ -1,8 +1,10 @@
 -- How values are bound one by one, and terms that are too wide among others.
-use Rattle.std.proofs.Common.{◌≡◌, ◌+◌, ℕ, zero, suc, List, [], ◌∷◌, ◌++◌, drop, Bool, true, false, ◌||◌, if◌then◌else◌, cond, Option, Some, slice_get, refl, sym, ap, subst, ◌∙◌, add-one, append_assoc, append-nil}
+use Rattle.std.proofs.Common.{◌≡◌, ◌+◌, ◌<◌, ℕ, zero, suc, List, [], ◌∷◌, ◌++◌, length, get_or, take, drop, Bool, true, false, ◌||◌, if◌then◌else◌, cond, Option, Some, slice_get, refl, sym, ap, subst, ◌∙◌, add-one, append_assoc, append-nil}
 use Rattle.std.specs.List.{filter, list_any}
 use Rattle.std.specs.Option.{option_and_then, option_to_list}
 use Rattle.std.proofs.lemmas.Bool.{or_left, or_right}
+use Rattle.std.proofs.lemmas.List.{take_more}
+use Rattle.std.proofs.lemmas.List.Elements.{filter-append}
 use Rattle.std.proofs.lemmas.List.Folds.{list_any-append}
 use Rattle.gil_syntax.specs.declared.assertions.Param.{Param}
 use Rattle.gil_values.specs.Pure.{PureValue}
@@ -105,3 +107,24 @@ module _ (v : List PureValue) where
         let same : q ≡ y = cc in
         first_wide (p y) y (filter p qs) (subst (λ (z : Param). AreTooWide v (if p z then option_to_list (term_at bs z.name) else [])) same wide)
     wide_own (y ∷ qs) (suc i) q at wide = later_wide (p y) y (filter p qs) (wide_own qs i q at wide)
+
+-- ---- terms of variables
+
+terms_append : (bs : PureStore) (xs ys : List Param) → variable_terms bs (xs ++ ys) ≡ variable_terms bs xs ++ variable_terms bs ys
+terms_append bs [] ys = refl
+terms_append bs (q ∷ xs) ys =
+    ap (λ ts. option_to_list (term_at bs q.name) ++ ts) (terms_append bs xs ys) ∙ sym (append_assoc (option_to_list (term_at bs q.name)) (variable_terms bs xs) (variable_terms bs ys))
+
+last_terms : (bs : PureStore) (b : Bool) (q : Param) → variable_terms bs (cond b (q ∷ []) []) ≡ (if b then option_to_list (term_at bs q.name) else [])
+last_terms bs true q = append-nil (option_to_list (term_at bs q.name))
+last_terms bs false q = refl
+
+pub terms_more : (bs : PureStore) (p : Param → Bool) (qs : List Param) (i : ℕ) (q : Param) (done more first : List PureTerm) → i < length qs → q ≡ get_or qs i q
+    → more ≡ done ++ (if p q then option_to_list (term_at bs q.name) else []) → done ≡ first ++ variable_terms bs (filter p (take i qs)) → more ≡ first ++ variable_terms bs (filter p (take (i + 1) qs))
+terms_more bs p qs i q done more first below at is before =
+    let one : List PureTerm = if p q then option_to_list (term_at bs q.name) else [] in
+    let longer : take (i + 1) qs ≡ take i qs ++ q ∷ [] = take_more qs i q below ∙ ap (λ y. take i qs ++ y ∷ []) (sym at) in
+    let all : variable_terms bs (filter p (take (i + 1) qs)) ≡ variable_terms bs (filter p (take i qs)) ++ one =
+    ap (λ ys. variable_terms bs (filter p ys)) longer ∙ ap (variable_terms bs) (filter-append p (take i qs) (q ∷ [])) ∙ terms_append bs (filter p (take i qs)) (filter p (q ∷ []))
+    ∙ ap (λ ts. variable_terms bs (filter p (take i qs)) ++ ts) (last_terms bs (p q) q) in
+    is ∙ ap (λ ts. ts ++ one) before ∙ append_assoc first (variable_terms bs (filter p (take i qs))) one ∙ ap (λ ts. first ++ ts) (sym all)

@@ -1,25 +1,28 @@
 -- A reported cause that tells a cause of the specification says of its checked runs what is so; and each cause can be told.
-use Rattle.std.proofs.Common.{◌≡◌, inl, inr, ℕ, List, Some, sym, subst, ◌∙◌}
+use Rattle.std.proofs.Common.{◌≡◌, ◌⊎◌, ⊎_elim, inl, inr, ℕ, List, [], ◌∷◌, Some, refl, sym, ap, subst, ◌∙◌}
 use Rattle.gil_values.specs.Pure.{PureValue}
 use Rattle.gil_syntax.specs.Pure.{PureParts, PureSpec}
 use Rattle.mem_model.specs.declared.keys.MemoryName.{MemoryName}
 use Rattle.mem_model.specs.Actions.{Actions}
 use Rattle.checked_runs.specs.Checked.{Outcome, has_fault}
+use Rattle.checked_runs.specs.Checked as runs
 use Rattle.pure_terms.specs.declared.deciders.Reason.{Reason}
 use Rattle.pure_terms.specs.Meaning.{value}
 use Rattle.pure_terms.specs.Pure.{PureTerm}
-use Rattle.checked_paths.specs.Causes.{PureShown, PureCause, failure, fault, bound, undecided, fault_of}
+use Rattle.sym_model.specs.Lists.{Each, IsAmong}
+use Rattle.sym_model.proofs.ListLaws.{each_to}
+use Rattle.checked_paths.specs.Causes.{PureShown, PureCause, failure, fault, bound, undecided, shown_in, fault_of}
 use Rattle.checked_paths.specs.declared.nexts.FaultKind.{FaultKind}
-use Rattle.checked_paths.specs.Exactness.{IsFailure, FailsWith}
+use Rattle.checked_paths.specs.Exactness.{FailsWith}
 use Rattle.checked_paths.specs.Pure.{PureEntry}
-use Rattle.checked_traces.specs.Trails.{Runs, StandsAt, RunsInto}
+use Rattle.checked_traces.specs.Trails.{Runs, StandsAt, RunsInto, IsDecided}
 use Rattle.spec_causes.specs.Causes.{MeetsAbove, ShowsMeeting, ComesSurely, ComesToBound, IsCauseOf}
 use Rattle.gil_report.specs.declared.answers.Lack.{Lack}
-use Rattle.gil_report.specs.Pure.{PureWitness}
+use Rattle.gil_report.specs.Pure.{PureQuestion, PureWitness}
 use Rattle.gil_report.specs.Pure as report
-use Rattle.report_causes.specs.Causes.{ComesTo, IsCutOff, LacksThere, IsRightCause}
+use Rattle.report_causes.specs.Causes.{wide_question, entry_terms, telling_terms, ComesTo, IsCutOff, LacksThere, IsTooWide, IsRightCause}
 use Rattle.report_causes.specs.Names.{place_of}
-use Rattle.report_causes.specs.Telling.{TellsShown, lack_of, TellsFailure, TellsLack, TellsOpen, TellsCause, CanBeTold}
+use Rattle.report_causes.specs.Telling.{TellsShown, AsksOfWide, IsAskedOfWide, lack_of, TellsFailure, TellsLack, TellsOpen, TellsCause, CanBeTold}
 use Rattle.report_causes.proofs.Told.{values_told}
 
 same_valuation : (shown : PureShown) (shows : ShowsMeeting shown) (v : List PureValue) → shown.valuation ≡ Some v → shows.valuation ≡ v
@@ -34,6 +37,23 @@ no_dependence_told s e (failure t shown) g told = told
 no_dependence_told s e (fault kind shown) g told = told
 no_dependence_told s e (bound shown) g told = told
 no_dependence_told s e (undecided reason shown) g told = told
+
+each_itself : (ts : List PureTerm) → Each (λ t. IsAmong t ts) ts
+each_itself [] = tt
+each_itself (t ∷ ts) = (inl refl, each_to (λ u. IsAmong u ts) (λ u. IsAmong u (t ∷ ts)) ts (λ u among. inr among) (each_itself ts))
+
+-- a cause that asks of wide terms of the entry tells what is lacking, or the failure
+pub lack_asked : (lack : Lack) (s : PureSpec) (e : PureEntry) (shown : PureShown) (told : report.PureCause) → IsAskedOfWide (entry_terms s e) shown told → TellsLack lack s e shown told
+lack_asked lack s e shown (report.undecided_cause q) asks = asks
+lack_asked lack s e shown (report.fails r w) asks = absurd asks
+lack_asked lack s e shown (report.lacks l w) asks = absurd asks
+lack_asked lack s e shown (report.depends name) asks = absurd asks
+
+pub failure_asked : (t : PureTerm) (s : PureSpec) (e : PureEntry) (shown : PureShown) (told : report.PureCause) → IsAskedOfWide (t ∷ []) shown told ⊎ IsAskedOfWide (entry_terms s e) shown told → TellsFailure t s e shown told
+failure_asked t s e shown (report.undecided_cause q) asks = asks
+failure_asked t s e shown (report.fails r w) asks = ⊎_elim (λ no. absurd no) (λ no. absurd no) asks
+failure_asked t s e shown (report.lacks l w) asks = ⊎_elim (λ no. absurd no) (λ no. absurd no) asks
+failure_asked t s e shown (report.depends name) asks = ⊎_elim (λ no. absurd no) (λ no. absurd no) asks
 
 module _ (p : PureParts) (memory : MemoryName) (m : Actions) (s : PureSpec) (most : ℕ) where
   -- another class of outcomes
@@ -92,8 +112,8 @@ module _ (p : PureParts) (memory : MemoryName) (m : Actions) (s : PureSpec) (mos
         }
 
   -- what fails with the value of a term fails with that value
-  fails_there : (t : PureTerm) (v : List PureValue) (r : PureValue) (w : PureWitness) → value v t ≡ Some r → ComesTo p memory m s most (FailsWith t v) w → ComesTo p memory m s most (IsFailure r) w
-  fails_there t v r w is comes = comes_also (FailsWith t v) (IsFailure r) w (λ out fails. subst (λ y. IsFailure y out) (same fails.0 fails.1.0) fails.1.1) comes
+  fails_there : (t : PureTerm) (v : List PureValue) (r : PureValue) (w : PureWitness) → value v t ≡ Some r → ComesTo p memory m s most (FailsWith t v) w → ComesTo p memory m s most (λ out. out ≡ has_fault (runs.fails r)) w
+  fails_there t v r w is comes = comes_also (FailsWith t v) (λ out. out ≡ has_fault (runs.fails r)) w (λ out fails. fails.1.1 ∙ ap (λ y. has_fault (runs.fails y)) (same fails.0 fails.1.0)) comes
     where
       same : (x : PureValue) → value v t ≡ Some x → x ≡ r
       same x has = let both : Some x ≡ Some r = sym has ∙ is in cc
@@ -106,49 +126,39 @@ module _ (p : PureParts) (memory : MemoryName) (m : Actions) (s : PureSpec) (mos
   lacks_there FaultKind.FoldBody w comes = comes
 
   module _ (e : PureEntry) where
+    too_wide : (cause : PureCause) (shown : PureShown) → shown_in cause ≡ shown → (ts : List PureTerm) (q : PureQuestion) → IsCauseOf p memory m s most e cause → IsDecided cause → AsksOfWide ts shown q
+        → Each (λ t. IsAmong t (telling_terms s e cause)) ts → IsTooWide p memory m s most q
+    too_wide cause shown same ts q is decided asks telling = record {
+      entry = e;
+      cause = cause;
+      is_cause = is;
+      decided = decided;
+      terms = ts;
+      telling = telling;
+      asked = asks.asked ∙ ap (λ u. wide_question u ts) (sym same);
+      valuation = asks.valuation;
+      is_shown = ap (λ (u : PureShown). u.valuation) same ∙ asks.is_shown;
+      wide = asks.wide;
+    }
+
     failure_right : (t : PureTerm) (shown : PureShown) (told : report.PureCause) → IsCauseOf p memory m s most e (failure t shown) → TellsFailure t s e shown told → IsRightCause p memory m s most told
     failure_right t shown (report.fails r w) is (told, has) = fails_there t told.valuation r w has (comes_there e is.of_spec shown w told is.shows (FailsWith t) is.runs)
-    failure_right t shown (report.undecided_cause q) is asks = inr (record {
-      entry = e;
-      cause = failure t shown;
-      is_cause = is;
-      decided = tt;
-      asked = asks.asked;
-      valuation = asks.valuation;
-      is_shown = asks.is_shown;
-      wide = asks.wide;
-    })
+    failure_right t shown (report.undecided_cause q) is (inl asks) = inr (too_wide (failure t shown) shown refl (t ∷ []) q is tt asks (inl refl, tt))
+    failure_right t shown (report.undecided_cause q) is (inr asks) =
+        inr (too_wide (failure t shown) shown refl (entry_terms s e) q is tt asks (each_to (λ u. IsAmong u (entry_terms s e)) (λ u. IsAmong u (t ∷ entry_terms s e)) (entry_terms s e) (λ u among. inr among) (each_itself (entry_terms s e))))
     failure_right t shown (report.lacks lack w) is none = absurd none
     failure_right t shown (report.depends name) is none = absurd none
 
     fault_right : (kind : FaultKind) (shown : PureShown) (told : report.PureCause) → IsCauseOf p memory m s most e (fault kind shown) → TellsLack (lack_of kind) s e shown told → IsRightCause p memory m s most told
     fault_right kind shown (report.lacks lack w) is (same, told) =
         subst (λ l. LacksThere p memory m s most l w) (sym same) (lacks_there kind w (comes_there e is.of_spec shown w told is.shows (λ v out. out ≡ has_fault (fault_of kind)) is.runs))
-    fault_right kind shown (report.undecided_cause q) is asks = inr (record {
-      entry = e;
-      cause = fault kind shown;
-      is_cause = is;
-      decided = tt;
-      asked = asks.asked;
-      valuation = asks.valuation;
-      is_shown = asks.is_shown;
-      wide = asks.wide;
-    })
+    fault_right kind shown (report.undecided_cause q) is asks = inr (too_wide (fault kind shown) shown refl (entry_terms s e) q is tt asks (each_itself (entry_terms s e)))
     fault_right kind shown (report.fails r w) is none = absurd none
     fault_right kind shown (report.depends name) is none = absurd none
 
     bound_right : (shown : PureShown) (told : report.PureCause) → IsCauseOf p memory m s most e (bound shown) → TellsLack Lack.Cut s e shown told → IsRightCause p memory m s most told
     bound_right shown (report.lacks lack w) is (same, told) = subst (λ l. LacksThere p memory m s most l w) (sym same) (cut_there e is.of_spec shown w told is.shows is.runs)
-    bound_right shown (report.undecided_cause q) is asks = inr (record {
-      entry = e;
-      cause = bound shown;
-      is_cause = is;
-      decided = tt;
-      asked = asks.asked;
-      valuation = asks.valuation;
-      is_shown = asks.is_shown;
-      wide = asks.wide;
-    })
+    bound_right shown (report.undecided_cause q) is asks = inr (too_wide (bound shown) shown refl (entry_terms s e) q is tt asks (each_itself (entry_terms s e)))
     bound_right shown (report.fails r w) is none = absurd none
     bound_right shown (report.depends name) is none = absurd none
 

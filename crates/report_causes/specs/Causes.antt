@@ -1,6 +1,6 @@
 -- What a reported cause says of the checked runs of a specification: that a run with the values that are shown comes to the cause, at
 -- the place and along the choices that are shown.
-use Rattle.std.specs.Prelude.{◌≡◌, ◌⊎◌, ℕ, ◌<◌, List, [], ◌∷◌, ◌++◌, map, true, Option, Some, None, ⊤}
+use Rattle.std.specs.Prelude.{◌≡◌, ◌⊎◌, ℕ, ◌<◌, List, [], ◌∷◌, ◌++◌, length, map, true, Option, Some, None, ⊤}
 use Rattle.std.specs.List.{list_any}
 use Rattle.std.specs.Option.{option_to_list}
 use Rattle.gil_values.specs.Pure.{PureValue}
@@ -13,11 +13,11 @@ use Rattle.mem_model.specs.Actions.{Actions}
 use Rattle.checked_runs.specs.Checked.{Checked, Outcome, has_fault, Entry, IsStart}
 use Rattle.checked_runs.specs.Checked as runs
 use Rattle.pure_terms.specs.declared.deciders.Reason.{Reason}
-use Rattle.pure_terms.specs.Pure.{PureTerm}
+use Rattle.pure_terms.specs.Pure.{PureTerm, opening}
 use Rattle.pure_terms.specs.Wide.{has_wide_part}
 use Rattle.sym_evaluation.specs.Pure.{PureStore, term_at}
+use Rattle.sym_model.specs.Lists.{Each, IsAmong}
 use Rattle.checked_paths.specs.Causes.{PureShown, PureCause, failure, shown_in}
-use Rattle.checked_paths.specs.Exactness.{IsFailure}
 use Rattle.checked_paths.specs.Pure.{PureEntry}
 use Rattle.checked_traces.specs.Trails.{Runs, StandsAt, RunsInto, IsDecided}
 use Rattle.spec_causes.specs.Causes.{IsOpen, IsCauseOf}
@@ -63,6 +63,11 @@ question_shown shown outside = record {
   query = map (condition_of []) shown.conds;
   outside = outside;
 }
+
+-- The same with further questions behind the conditions: whether these terms have a form. The first of them keeps the list out of the fragment.
+abbrev pub wide_question : PureShown → List PureTerm → PureQuestion
+wide_question shown ts =
+    record (question_shown shown (length shown.conds)) { query = map (condition_of []) (shown.conds ++ map opening ts) }
 
 -- ---- values that can't be reported
 
@@ -131,23 +136,25 @@ module _ (p : PureParts) (memory : MemoryName) (m : Actions) (s : PureSpec) (mos
     pub asked : q ≡ question_shown shown (place_of reason)
     pub is_open : IsOpen p memory m entry most reason shown
 
-  -- Runs come to a cause wherever the conditions that are asked are met, as under a valuation that is known; but under that one a value
-  -- that would tell it leaves 128 bits.
+  -- Runs come to a cause wherever some conditions are met, as under a valuation that is known; but under that one a value that would tell the
+  -- cause leaves 128 bits. It is asked behind these conditions whether such terms have a form.
   pub record IsTooWide (q : PureQuestion) : Type 0 where
     pub entry : PureEntry
     pub cause : PureCause
     pub is_cause : IsCauseOf p memory m s most entry cause
     pub decided : IsDecided cause
-    pub asked : q ≡ question_shown (shown_in cause) 0
+    pub terms : List PureTerm
+    pub telling : Each (λ t. IsAmong t (telling_terms s entry cause)) terms
+    pub asked : q ≡ wide_question (shown_in cause) terms
     pub valuation : List PureValue
     pub is_shown : (shown_in cause).valuation ≡ Some valuation
-    pub wide : AreTooWide valuation (telling_terms s entry cause)
+    pub wide : AreTooWide valuation terms
 
   -- ---- causes
 
   -- What a reported cause says of the checked runs of the specification within the bound. What it depends on is said beside it.
   abbrev pub IsRightCause : report.PureCause → Type 0
-  IsRightCause (report.fails v shown) = ComesTo (IsFailure v) shown
+  IsRightCause (report.fails v shown) = ComesTo (λ out. out ≡ has_fault (runs.fails v)) shown
   IsRightCause (report.lacks lack shown) = LacksThere lack shown
   IsRightCause (report.undecided_cause q) = IsLeftOpen q ⊎ IsTooWide q
   IsRightCause (report.depends name) = ⊤

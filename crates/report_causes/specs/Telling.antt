@@ -1,6 +1,6 @@
 -- Which reported cause tells a cause that a check met: its place and its choices, and the values of its terms under the valuation that is
 -- shown; or its conditions, where they aren't decided or a value can't be reported.
-use Rattle.std.specs.Prelude.{◌≡◌, ℕ, List, [], ◌∷◌, ◌++◌, Option, Some, ⊤}
+use Rattle.std.specs.Prelude.{◌≡◌, ◌⊎◌, ℕ, List, [], ◌∷◌, ◌++◌, Option, Some, ⊤}
 use Rattle.std.specs.Option.{option_and_then}
 use Rattle.gil_values.specs.Pure.{PureValue}
 use Rattle.gil_syntax.specs.Pure.{PureSpec}
@@ -14,7 +14,7 @@ use Rattle.checked_paths.specs.Pure.{PureEntry}
 use Rattle.gil_report.specs.declared.answers.Lack.{Lack}
 use Rattle.gil_report.specs.Pure.{PureBinding, PureQuestion, PureWitness}
 use Rattle.gil_report.specs.Pure as report
-use Rattle.report_causes.specs.Causes.{binding_of, bindings_by, question_shown, entry_terms, AreTooWide}
+use Rattle.report_causes.specs.Causes.{binding_of, bindings_by, question_shown, wide_question, entry_terms, AreTooWide}
 use Rattle.report_causes.specs.Names.{own_variables, place_of}
 
 -- ---- values
@@ -47,12 +47,19 @@ pub record TellsShown (s : PureSpec) (e : PureEntry) (shown : PureShown) (told :
   pub is_shown : shown.valuation ≡ Some valuation
   pub tells : TellsPath s e shown valuation told
 
--- the conditions are asked, since under the valuation that is shown some of these terms are too wide
+-- it is asked whether these terms have a form, since under the valuation that is shown some of them are too wide
 pub record AsksOfWide (ts : List PureTerm) (shown : PureShown) (q : PureQuestion) : Type 0 where
   pub valuation : List PureValue
   pub is_shown : shown.valuation ≡ Some valuation
   pub wide : AreTooWide valuation ts
-  pub asked : q ≡ question_shown shown 0
+  pub asked : q ≡ wide_question shown ts
+
+-- the reported cause asks that
+abbrev pub IsAskedOfWide : List PureTerm → PureShown → report.PureCause → Type 0
+IsAskedOfWide ts shown (report.undecided_cause q) = AsksOfWide ts shown q
+IsAskedOfWide ts shown (report.fails r told) = ⊥
+IsAskedOfWide ts shown (report.lacks lack told) = ⊥
+IsAskedOfWide ts shown (report.depends name) = ⊥
 
 -- what a path lacks that has such a fault
 abbrev pub lack_of : FaultKind → Lack
@@ -64,7 +71,7 @@ lack_of FaultKind.FoldBody = Lack.FoldBody
 
 abbrev pub TellsFailure : PureTerm → PureSpec → PureEntry → PureShown → report.PureCause → Type 0
 TellsFailure t s e shown (report.fails r told) = (tells : TellsShown s e shown told) × (value tells.valuation t ≡ Some r)
-TellsFailure t s e shown (report.undecided_cause q) = AsksOfWide (t ∷ entry_terms s e) shown q
+TellsFailure t s e shown (report.undecided_cause q) = AsksOfWide (t ∷ []) shown q ⊎ AsksOfWide (entry_terms s e) shown q
 TellsFailure t s e shown (report.lacks lack told) = ⊥
 TellsFailure t s e shown (report.depends name) = ⊥
 

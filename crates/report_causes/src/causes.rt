@@ -1,5 +1,5 @@
 //! Why specifications aren't verified, as reports have it.
-ghost use Rattle.std.specs.Prelude.{◌≡◌, Some, IfOk};
+ghost use Rattle.std.specs.Prelude.{◌≡◌, [], ◌∷◌, Some, IfOk};
 ghost use Rattle.checked_paths.specs.Causes.{cause_view, shown_view};
 ghost use Rattle.gil_report.specs.View as report;
 ghost use Rattle.gil_syntax.specs.View.{spec_view};
@@ -7,17 +7,18 @@ ghost use Rattle.gil_values.specs.View.{value_view, values_view};
 ghost use Rattle.pure_terms.specs.Meaning.{value as pure_value};
 ghost use Rattle.pure_terms.specs.Pure.{PureTerm};
 ghost use Rattle.pure_terms.specs.View.{term_view};
-ghost use Rattle.report_causes.specs.Telling.{lack_of, CanBeTold, HasShownValue, IsShownUnder};
+ghost use Rattle.report_causes.specs.Causes.{entry_terms, AreTooWide};
+ghost use Rattle.report_causes.specs.Telling.{lack_of, CanBeTold, HasShownValue, IsAskedOfWide, IsShownUnder};
 ghost use Rattle.report_causes.specs.Telling.{TellsCause, TellsFailure, TellsLack, TellsOpen};
 ghost use Rattle.spec_causes.specs.Causes.{entry_for};
 
-use crate::questions::{place_of, question};
-use crate::values::witness;
+use crate::questions::{place_of, question, wide_question};
+use crate::values::{entry_terms, witness};
 use checked_paths::{Cause as CheckCause, Entered, FaultKind, Shown};
 use gil_report::{Cause, Lack};
 use gil_syntax::Spec;
 use gil_values::Value;
-use pure_terms::{HoldsFault, Term, Valuation, value_of};
+use pure_terms::{HoldsFault, Term, Terms, Valuation, value_of};
 use spec_causes::Met;
 use std::alloc::{AllocError, Global};
 
@@ -41,6 +42,39 @@ fn undecided(alloc: Global, shown: &Shown, outside: usize) -> Result<Cause, Allo
     Ok(Cause::Undecided(question(alloc, shown, outside)?))
 }
 
+/// The conditions that are shown, and behind them whether this term has a form, whose value leaves 128 bits.
+fn wide_value(
+    alloc: Global,
+    term: &Term,
+    shown: &Shown,
+    valuation: &Valuation,
+) -> Result<Cause, AllocError>
+    requires shown { (shown_view shown.now).valuation ≡ Some (values_view valuation.now) }
+    requires wide { AreTooWide (values_view valuation.now) (term_view term.now ∷ []) }
+    ensures { IfOk result (λ told. IsAskedOfWide (term_view term.now ∷ []) (shown_view shown.now) (report.cause_view told)) }
+{
+    let mut terms = Terms::new(alloc);
+    terms.push(term.copy(alloc)?)?;
+    Ok(Cause::Undecided(wide_question(alloc, shown, &terms)?))
+}
+
+/// The conditions that are shown, and behind them whether the terms of the entry have a form, of which some value leaves 128 bits.
+fn wide_entry(
+    alloc: Global,
+    spec: &Spec,
+    entered: &Entered,
+    shown: &Shown,
+    valuation: &Valuation,
+) -> Result<Cause, AllocError>
+    requires shown { (shown_view shown.now).valuation ≡ Some (values_view valuation.now) }
+    requires wide { AreTooWide (values_view valuation.now) (entry_terms (spec_view spec.now) (entry_for (spec_view spec.now) entered.now)) }
+    ensures { IfOk result (λ told. IsAskedOfWide (entry_terms (spec_view spec.now) (entry_for (spec_view spec.now) entered.now))
+        (shown_view shown.now) (report.cause_view told)) }
+{
+    let terms = entry_terms(alloc, spec, entered)?;
+    Ok(Cause::Undecided(wide_question(alloc, shown, &terms)?))
+}
+
 /// What a path lacks, or its conditions where a value of the entry leaves 128 bits.
 fn lack(
     alloc: Global,
@@ -58,7 +92,7 @@ fn lack(
     };
     match witness(alloc, spec, entered, shown, valuation) {
         Ok(witness) => Ok(Cause::Lacks(lack, witness)),
-        Err(HoldsFault::Number) => Ok(Cause::Undecided(question(alloc, shown, 0)?)),
+        Err(HoldsFault::Number) => wide_entry(alloc, spec, entered, shown, valuation),
         Err(HoldsFault::Memory) => Err(AllocError),
     }
 }
@@ -79,7 +113,7 @@ fn failed(
 {
     match witness(alloc, spec, entered, shown, valuation) {
         Ok(witness) => Ok(Cause::Fails(value, witness)),
-        Err(HoldsFault::Number) => Ok(Cause::Undecided(question(alloc, shown, 0)?)),
+        Err(HoldsFault::Number) => wide_entry(alloc, spec, entered, shown, valuation),
         Err(HoldsFault::Memory) => Err(AllocError),
     }
 }
@@ -102,7 +136,7 @@ fn failure(
     match value_of(alloc, term, valuation) {
         Ok(Some(value)) => failed(alloc, spec, entered, value, shown, valuation),
         Ok(None) => unreachable!(),
-        Err(HoldsFault::Number) => Ok(Cause::Undecided(question(alloc, shown, 0)?)),
+        Err(HoldsFault::Number) => wide_value(alloc, term, shown, valuation),
         Err(HoldsFault::Memory) => Err(AllocError),
     }
 }

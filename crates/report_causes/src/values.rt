@@ -26,7 +26,7 @@ use gil_syntax::{Param, Params, Spec, Texts};
 use gil_values::Text;
 use pure_terms::{HoldsFault, Term, Terms, Valuation, value_of};
 use sequence::Sequence;
-use std::alloc::Global;
+use std::alloc::{AllocError, Global};
 use sym_evaluation::SymStore;
 use sym_naming::names_in;
 use sym_paths::copy_place;
@@ -155,6 +155,68 @@ fn bindings_of(
     let mut bindings = arguments(alloc, &spec.params, &entered.args, valuation)?;
     bind_variables(alloc, &mut bindings, spec, &entered.variables, valuation)?;
     Ok(bindings)
+}
+
+/// The terms with that of what is declared, where the precondition names it and it has one. These are the names in the precondition.
+fn with_own(
+    alloc: Global,
+    terms: Terms,
+    named: &Texts,
+    spec: &Spec,
+    param: &Param,
+    variables: &SymStore,
+) -> Result<Terms, AllocError>
+    requires { is_among named.now param.now.name ≡ named_by_items (spec_view spec.now).pre param.now.name }
+    ensures { IfOk result (λ all. terms_view all ≡ terms_view terms ++ (if is_own_variable (spec_view spec.now) param.now
+        then option_to_list (term_at (store_view variables.now) param.now.name) else [])) }
+{
+    let mut terms = terms;
+    if is_own_variable(named, spec, param) {
+        if let Some(term) = variables.get(&param.name) {
+            terms.push(term.copy(alloc)?)?;
+        }
+    }
+    Ok(terms)
+}
+
+/// The terms with those of the declared variables that the precondition names.
+fn with_variables(
+    alloc: Global,
+    terms: Terms,
+    spec: &Spec,
+    variables: &SymStore,
+) -> Result<Terms, AllocError>
+    ensures { IfOk result (λ all. terms_view all
+        ≡ terms_view terms ++ variable_terms (store_view variables.now) (own_variables (spec_view spec.now))) }
+{
+    let named = names_in(alloc, &spec.pre)?;
+    let mut terms = terms;
+    for param in spec.logicals.as_slice() {
+        terms = with_own(alloc, terms, &named, spec, param, variables)?;
+    }
+    Ok(terms)
+}
+
+fn copy_terms(alloc: Global, terms: &Terms) -> Result<Terms, AllocError>
+    ensures { IfOk result (λ copied. terms_view copied ≡ terms_view terms.now) }
+{
+    let mut copied = Terms::new(alloc);
+    for term in terms.as_slice() {
+        copied.push(term.copy(alloc)?)?;
+    }
+    Ok(copied)
+}
+
+/// The terms of the values with which a path begins.
+pub(crate) fn entry_terms(
+    alloc: Global,
+    spec: &Spec,
+    entered: &Entered,
+) -> Result<Terms, AllocError>
+    ensures { IfOk result (λ terms. terms_view terms ≡ entry_terms (spec_view spec.now) (entry_for (spec_view spec.now) entered.now)) }
+{
+    let terms = copy_terms(alloc, &entered.args)?;
+    with_variables(alloc, terms, spec, &entered.variables)
 }
 
 /// The path that is shown, with the values of the entry's terms.

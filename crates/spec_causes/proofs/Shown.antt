@@ -1,5 +1,5 @@
 -- What is shown of a cause that was found is one of the specification.
-use Rattle.std.proofs.Common.{◌≡◌, ◌⊎◌, inl, inr, ℕ, ◌<◌, ◌≤◌, List, [], ◌∷◌, ◌++◌, Option, Some, None, refl, sym, ap, subst, ◌∙◌, arith, append-nil}
+use Rattle.std.proofs.Common.{◌≡◌, ◌⊎◌, inl, inr, ℕ, List, [], Some, refl, sym, subst}
 use Rattle.gil_values.specs.Pure.{PureValue}
 use Rattle.gil_syntax.specs.Pure.{PureParts, PureSpec}
 use Rattle.mem_model.specs.declared.keys.MemoryName.{MemoryName}
@@ -13,8 +13,8 @@ use Rattle.pure_terms.specs.Pure.{PureAtom}
 use Rattle.sym_witness.specs.Numbering.{IsNumbered}
 use Rattle.checked_paths.specs.Causes.{PureShown, PureCause, failure, fault, bound, undecided}
 use Rattle.checked_paths.specs.Pure.{PureEntry}
-use Rattle.spec_causes.specs.Causes.{MeetsAbove, ShowsMeeting, RunsWherever, ComesTo, ComesSurely, ComesToBound, IsOpen, HasRuns, ShowsWhereDecided, IsCauseOf}
-use Rattle.spec_causes.specs.Reaching.{MayBeMet, IsFoundCause}
+use Rattle.spec_causes.specs.Causes.{MeetsAbove, MayBeMet, ShowsMeeting, ComesSurely, ComesToBound, IsOnTheWay, IsOpen, IsCauseOf}
+use Rattle.spec_causes.specs.Reaching.{IsFoundCause}
 use Rattle.spec_causes.specs.Showing.{IsCanonicalLike, IsLeftOpen, HasValuation, IsShownAs}
 use Rattle.spec_causes.proofs.Canonical.{numbered_in_turn}
 
@@ -56,27 +56,8 @@ module _ (p : PureParts) (memory : MemoryName) (m : Actions) (e : PureEntry) (mo
       by (inr outside) (inr none) = outside
       by (inl (w, meets)) (inr none) = absurd (none w meets)
 
-  surely_open : (Is : List PureValue → Outcome → Type 0) (shown : PureShown) (reason : Reason) → MayBeMet shown.vars shown.conds → Surely Is shown → IsLeftOpen shown reason → IsOpen p memory m e most reason shown
-  surely_open Is shown reason may comes left = record {
-    outside = not_inside shown reason may left;
-    first = left.first;
-    steps = comes.steps;
-    within = let less : comes.steps < most = comes.within in omega (arith, less);
-    runs = inr (λ counter w above.
-        let (entry, (first, (under, into))) = comes.runs counter w above in
-        (entry, (first, (under, record { state = into.state; there = into.there; earlier = into.earlier; runs = into.runs; chosen = into.chosen; choices_are = into.choices_are }))));
-  }
-
-  bound_open : (shown : PureShown) (reason : Reason) → MayBeMet shown.vars shown.conds → ComesToBound p memory m e most shown → IsLeftOpen shown reason → IsOpen p memory m e most reason shown
-  bound_open shown reason may comes left = record {
-    outside = not_inside shown reason may left;
-    first = left.first;
-    steps = most;
-    within = omega arith;
-    runs = inr (λ counter w above.
-        let (entry, (first, (under, (c, (runs, there))))) = comes counter w above in
-        (entry, (first, (under, record { state = c; there = there; earlier = shown.choices; runs = runs; chosen = None; choices_are = sym (append-nil shown.choices) }))));
-  }
+  left_open : (shown : PureShown) (reason : Reason) → MayBeMet shown.vars shown.conds → IsOnTheWay p memory m e most shown → IsLeftOpen shown reason → IsOpen p memory m e most reason shown
+  left_open shown reason may way left = record { outside = not_inside shown reason may left; first = left.first; way = inr way }
 
   module _ (spec : PureSpec) (of_spec : e.spec ≡ spec) where
     abbrev Cause : PureCause → Type 0
@@ -92,9 +73,9 @@ module _ (p : PureParts) (memory : MemoryName) (m : Actions) (e : PureEntry) (mo
     cause_shown (fault kind shown) (fault k after) found (same, has) =
         subst (λ r. Cause (fault r after)) (sym same) (record { of_spec = of_spec; runs = surely_same _ shown after has found.runs; shows = shows_meeting shown after has })
     cause_shown (bound shown) (bound after) found has = record { of_spec = of_spec; runs = bound_same shown after has found.runs; shows = shows_meeting shown after has }
-    cause_shown (failure t shown) (undecided reason after) found (same, left) = open_cause shown reason after same (surely_open _ shown reason found.may_be_met found.runs left)
-    cause_shown (fault kind shown) (undecided reason after) found (same, left) = open_cause shown reason after same (surely_open _ shown reason found.may_be_met found.runs left)
-    cause_shown (bound shown) (undecided reason after) found (same, left) = open_cause shown reason after same (bound_open shown reason found.may_be_met found.runs left)
+    cause_shown (failure t shown) (undecided reason after) found (same, left) = open_cause shown reason after same (left_open shown reason found.may_be_met found.way left)
+    cause_shown (fault kind shown) (undecided reason after) found (same, left) = open_cause shown reason after same (left_open shown reason found.may_be_met found.way left)
+    cause_shown (bound shown) (undecided reason after) found (same, left) = open_cause shown reason after same (left_open shown reason found.may_be_met found.way left)
     cause_shown (failure t shown) (fault k after) found is = absurd is
     cause_shown (failure t shown) (bound after) found is = absurd is
     cause_shown (fault kind shown) (failure u after) found is = absurd is

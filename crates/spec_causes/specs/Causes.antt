@@ -1,5 +1,6 @@
 -- Why a specification isn't verified, told by its checked runs: under each valuation that meets what is shown, one comes to the cause.
-use Rattle.std.specs.Prelude.{◌≡◌, ◌⊎◌, ℕ, ◌<◌, ◌≤◌, List, [], ◌++◌, true, Option, Some, ⊤}
+use Rattle.std.specs.Prelude.{◌≡◌, ◌⊎◌, ℕ, ◌<◌, ◌≤◌, List, [], ◌++◌, not, Option, Some, ⊤}
+use Rattle.std.specs.List.{filter}
 use Rattle.gil_values.specs.declared.places.Place.{Place}
 use Rattle.gil_values.specs.Pure.{PureValue}
 use Rattle.gil_syntax.specs.Programs.{find_proc}
@@ -15,8 +16,10 @@ use Rattle.pure_terms.specs.Fragment.{InFragment}
 use Rattle.pure_terms.specs.Meaning.{Satisfies}
 use Rattle.pure_terms.specs.Pure.{PureAtom}
 use Rattle.pure_terms.specs.View.{terms_view}
+use Rattle.sym_beginning.specs.Origins.{ComeOf, NeedForm}
 use Rattle.sym_evaluation.specs.View.{store_view}
-use Rattle.sym_model.specs.Meaning.{has_open}
+use Rattle.sym_model.specs.Lists.{Each}
+use Rattle.sym_model.specs.Meaning.{is_open}
 use Rattle.sym_paths.specs.Steps.{counter_past, IsFirstOutside}
 use Rattle.checked_paths.specs.Causes.{PureShown, PureCause, failure, fault, bound, undecided, fault_of}
 use Rattle.checked_paths.specs.declared.checking.Entered.{Entered}
@@ -24,6 +27,7 @@ use Rattle.checked_paths.specs.Exactness.{AreNewValues, HaveMore, FailsWith}
 use Rattle.checked_paths.specs.Meaning.{IsEntered}
 use Rattle.checked_paths.specs.Pure.{PureEntry}
 use Rattle.checked_traces.specs.Trails.{Runs, StandsAt, RunsInto}
+use Rattle.spec_causes.specs.Asking.{AsksThere, RunsAsking}
 
 -- ---- valuations
 
@@ -32,6 +36,14 @@ use Rattle.checked_traces.specs.Trails.{Runs, StandsAt, RunsInto}
 pub record MeetsAbove (counter : ℕ) (vars : List Sort) (conds : List PureAtom) (w : List PureValue) : Type 0 where
   pub in_turn : AreNewValues counter vars w
   pub meets : Satisfies vars w conds
+
+-- some valuation meets the conditions, or they aren't in the fragment
+abbrev pub MayBeMet : List Sort → List PureAtom → Type 0
+MayBeMet vars conds = ((w : List PureValue) × Satisfies vars w conds) ⊎ (¬ InFragment conds)
+
+-- the conditions but for those that a literal form is needed
+abbrev pub without_forms : List PureAtom → List PureAtom
+without_forms conds = filter (λ a. not (is_open a)) conds
 
 -- a valuation is shown, and it meets the conditions that are shown, above some counter
 pub record ShowsMeeting (shown : PureShown) : Type 0 where
@@ -59,13 +71,19 @@ module _ (p : PureParts) (memory : MemoryName) (m : Actions) (e : PureEntry) whe
       → (entry : Entry) × ((start : Checked) × (StartsUnder counter vars w entry start × Does w entry start))
 
   -- The run makes so many steps and stands then at the place. With the choice of one step more, if that makes one, it makes these choices.
-  pub record ComesTo (steps : ℕ) (choices : List ℕ) (place : Place) (entry : Entry) (start : Checked) : Type 0 where
+  -- The commands at which it stood, and that at the place, may ask these conditions, one after another.
+  pub record ComesTo (steps : ℕ) (choices : List ℕ) (place : Place) (asked : List PureAtom) (w : List PureValue) (entry : Entry)
+      (start : Checked) : Type 0 where
     pub state : Checked
     pub there : StandsAt p memory m entry place state
     pub earlier : List ℕ
-    pub runs : Runs p memory m entry start steps earlier state
+    pub asked_before : List PureAtom
+    pub runs : RunsAsking p memory m entry w start steps earlier asked_before state
     pub chosen : Option ℕ
     pub choices_are : choices ≡ earlier ++ with_choice chosen []
+    pub more : List PureAtom
+    pub asks : Each (AsksThere p w state) more
+    pub asked_are : asked ≡ asked_before ++ more
 
   -- ---- what each kind of cause says
 
@@ -83,22 +101,47 @@ module _ (p : PureParts) (memory : MemoryName) (m : Actions) (e : PureEntry) whe
       RunsWherever shown.vars shown.conds (λ w entry start.
       (c : Checked) × (Runs p memory m entry start most shown.choices c × StandsAt p memory m entry shown.place c))
 
-  -- the first command of the specification's procedure, before any choice, where some condition is that a literal form is needed
+  -- Before the first command of the specification's procedure, and before any choice, the conditions are those of adding the precondition's
+  -- first items, up to one at which a literal form is needed. Apart from that they are met by some valuation, or aren't in the fragment.
   pub record IsAtFirst (shown : PureShown) : Type 0 where
     pub command : PureNumberedCommand
     pub first_there : command_of (find_proc p.procs e.spec.name) 0 ≡ Some command
     pub place : shown.place ≡ record { proc = e.spec.name; at = command.at }
     pub choices : shown.choices ≡ []
-    pub needed : has_open shown.conds ≡ true
+    pub come : NeedForm e.spec shown.vars e.args e.variables shown.conds
+    pub may_be_met : MayBeMet shown.vars (without_forms shown.conds)
 
-  -- The conditions that are shown aren't in the fragment, and the reason names the first of them that by itself isn't. Wherever they are
-  -- met, a run comes to the place within the bound; or they are those of the precondition, and need a literal form.
+  -- The conditions go on from those of adding the whole precondition, which some valuation meets or which aren't in the fragment. Where these
+  -- can be met, those can.
+  pub record IsReachable (vars : List Sort) (conds : List PureAtom) : Type 0 where
+    pub first_vars : List Sort
+    pub first : List PureAtom
+    pub come : ComeOf e.spec first_vars e.args e.variables e.spec.pre first
+    pub may_be_met : MayBeMet first_vars first
+    pub table : HaveMore first_vars vars
+    pub longer : HaveMore first conds
+    pub can : (v : List PureValue) → Satisfies first_vars v first → (w : List PureValue) × Satisfies vars w conds
+
+  -- The conditions that are shown are those of adding the precondition, and then others that commands may ask: wherever conditions before
+  -- them are met, which can be, a run comes to the place within the bound, whose commands may ask these others.
+  pub record IsOnTheWay (most : ℕ) (shown : PureShown) : Type 0 where
+    pub vars : List Sort
+    pub conds : List PureAtom
+    pub reachable : IsReachable vars conds
+    pub table : HaveMore vars shown.vars
+    pub longer : HaveMore conds shown.conds
+    pub asked : List PureAtom
+    pub are_asked : shown.conds ≡ reachable.first ++ asked
+    pub steps : ℕ
+    pub within : steps ≤ most
+    pub runs : RunsWherever vars conds (ComesTo steps shown.choices shown.place asked)
+
+  -- The conditions that are shown aren't in the fragment, and the reason names the first of them that by itself isn't. They are asked on the
+  -- way of a run, or in adding the precondition.
   pub record IsOpen (most : ℕ) (reason : Reason) (shown : PureShown) : Type 0 where
     pub outside : ¬ InFragment shown.conds
     pub first : IsFirstOutside shown.conds reason
-    pub steps : ℕ
-    pub within : steps ≤ most
-    pub runs : IsAtFirst shown ⊎ RunsWherever shown.vars shown.conds (λ w entry start. ComesTo steps shown.choices shown.place entry start)
+    pub way : IsAtFirst shown ⊎ IsOnTheWay most shown
 
   -- the runs of which a cause tells
   abbrev pub HasRuns : ℕ → PureCause → Type 0

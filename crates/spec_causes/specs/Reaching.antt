@@ -1,24 +1,27 @@
 -- Paths that checked runs of a specification reach from its starts.
-use Rattle.std.specs.Prelude.{◌≡◌, ◌⊎◌, ℕ, List, [], ◌∷◌, Some}
+use Rattle.std.specs.Prelude.{◌≡◌, ℕ, zero, suc, List, [], ◌∷◌, Some}
 use Rattle.gil_values.specs.Pure.{PureValue}
-use Rattle.gil_syntax.specs.Pure.{PureParts, PureSpec}
+use Rattle.gil_syntax.specs.Pure.{PureNumberedCommand, PureParts, PureSpec}
 use Rattle.mem_model.specs.declared.keys.MemoryName.{MemoryName}
 use Rattle.mem_model.specs.Actions.{Actions}
 use Rattle.mem_model.specs.Heaps.{Heap}
 use Rattle.checked_runs.specs.Checked.{Checked, Entry, IsStart}
-use Rattle.pure_terms.specs.declared.variables.Sort.{Sort}
-use Rattle.pure_terms.specs.Fragment.{InFragment}
 use Rattle.pure_terms.specs.Meaning.{Satisfies, IsOver}
 use Rattle.pure_terms.specs.Pure.{PureAtom, term_of}
 use Rattle.sym_model.specs.Lists.{Each}
 use Rattle.sym_model.specs.Terms.{StateTerms}
 use Rattle.sym_beginning.specs.Beginning.{PureStart, PureBeginnings}
+use Rattle.sym_beginning.specs.Origins.{ComeOf}
+use Rattle.sym_paths.specs.Frames.{running_store}
+use Rattle.sym_paths.specs.Meaning.{command_of_path}
 use Rattle.sym_paths.specs.Steps.{counter_past}
 use Rattle.checked_paths.specs.Causes.{PureShown, PureCause, failure, fault, bound, undecided, shown_in}
+use Rattle.checked_paths.specs.Exactness.{HaveMoreOf}
 use Rattle.checked_paths.specs.Meaning.{StandsForChecked, IsEntryOver}
 use Rattle.checked_paths.specs.Pure.{PureEntry, PureChecking}
-use Rattle.checked_traces.specs.Trails.{IsTrail}
-use Rattle.spec_causes.specs.Causes.{MeetsAbove, HasRuns}
+use Rattle.checked_traces.specs.Trails.{IsTrailStep}
+use Rattle.spec_causes.specs.Asking.{MayAsk}
+use Rattle.spec_causes.specs.Causes.{MeetsAbove, MayBeMet, IsOnTheWay, HasRuns}
 
 -- ---- starts
 
@@ -32,9 +35,14 @@ checked_start s = record { path = s.path; facts = s.facts; passed = [] ∷ [] }
 
 -- ---- what is reached
 
--- some valuation meets the conditions, or they aren't in the fragment
-abbrev pub MayBeMet : List Sort → List PureAtom → Type 0
-MayBeMet vars conds = ((w : List PureValue) × Satisfies vars w conds) ⊎ (¬ InFragment conds)
+-- the command at which the path stands may ask the condition
+abbrev pub MayAskAt : {S : Type 0} → PureParts → PureChecking S → PureAtom → Type 0
+MayAskAt p x a =
+    (n : PureNumberedCommand) × ((command_of_path p x.path ≡ Some n) × MayAsk (running_store x.path.stack) n.command a)
+
+-- these conditions are the path's, and then only such that the command there may ask
+abbrev pub AddsAsked : {S : Type 0} → PureParts → PureChecking S → List PureAtom → Type 0
+AddsAsked p x conds = HaveMoreOf (MayAskAt p x) x.path.conds conds
 
 -- a valuation that is shown meets the conditions that are shown
 abbrev pub IsKnown : PureShown → Type 0
@@ -58,12 +66,20 @@ module _ {S : Type 0} (p : PureParts) (memory : MemoryName) (m : Actions) (stand
     pub stands_there : (counter : ℕ) (v : List PureValue) → MeetsAbove counter x.path.vars x.path.conds v
         → (entry : Entry) × ((start : Checked) × IsStartUnder x counter v entry start)
 
-  -- The path comes of a real start by as many steps as it has made; and its conditions may be met.
+  -- the path comes of the start by so many steps, at each of which only conditions are added that the command there may ask
+  abbrev pub IsAskingTrail : PureChecking S → ℕ → PureChecking S → Type 0
+  IsAskingTrail start zero x = x ≡ start
+  IsAskingTrail start (suc n) x =
+      (before : PureChecking S) × (IsAskingTrail start n before × IsTrailStep p memory m stands terms e before x
+      × AddsAsked p before x.path.conds)
+
+  -- The path comes by as many steps as it has made of a real start, whose conditions come of adding the precondition and may be met.
   pub record IsReached (x : PureChecking S) : Type 0 where
     pub start : PureChecking S
     pub real : IsRealStart start
-    pub trail : IsTrail p memory m stands terms e start x.path.steps x
-    pub may_be_met : MayBeMet x.path.vars x.path.conds
+    pub come : ComeOf e.spec start.path.vars e.args e.variables e.spec.pre start.path.conds
+    pub may_be_met : MayBeMet start.path.vars start.path.conds
+    pub trail : IsAskingTrail start x.path.steps x
 
 -- what is decided may be met
 abbrev pub MayBeMetWhereDecided : PureCause → Type 0
@@ -72,8 +88,16 @@ MayBeMetWhereDecided (failure t shown) = MayBeMet shown.vars shown.conds
 MayBeMetWhereDecided (fault kind shown) = MayBeMet shown.vars shown.conds
 MayBeMetWhereDecided (bound shown) = MayBeMet shown.vars shown.conds
 
+-- what is decided is asked on the way of a run
+abbrev pub IsOnTheWayWhereDecided : PureParts → MemoryName → Actions → PureEntry → ℕ → PureCause → Type 0
+IsOnTheWayWhereDecided p memory m e most (undecided reason shown) = Unit {0}
+IsOnTheWayWhereDecided p memory m e most (failure t shown) = IsOnTheWay p memory m e most shown
+IsOnTheWayWhereDecided p memory m e most (fault kind shown) = IsOnTheWay p memory m e most shown
+IsOnTheWayWhereDecided p memory m e most (bound shown) = IsOnTheWay p memory m e most shown
+
 -- A cause with its runs, which may have no valuation that is shown.
 pub record IsFoundCause (p : PureParts) (memory : MemoryName) (m : Actions) (e : PureEntry) (most : ℕ) (cause : PureCause) : Type 0 where
   pub runs : HasRuns p memory m e most cause
   pub may_be_met : MayBeMetWhereDecided cause
+  pub way : IsOnTheWayWhereDecided p memory m e most cause
   pub known : IsKnown (shown_in cause)

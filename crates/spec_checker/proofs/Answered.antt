@@ -1,12 +1,13 @@
 -- The answers to what was found out of a program's specifications.
-use Rattle.std.proofs.Common.{◌≡◌, ℕ, zero, suc, List, [], ◌∷◌, map, length, slice_get, true, Some, refl, sym, ap, subst, ◌∙◌, arith}
+use Rattle.std.proofs.Common.{◌≡◌, ℕ, zero, suc, List, [], ◌∷◌, map, length, slice_get, true, Some, IsTrue, refl, sym, ap, subst, ◌∙◌, true≢false, arith}
 use Rattle.gil_syntax.specs.Programs.{find_spec}
 use Rattle.gil_syntax.specs.Pure.{PureSpec, PureParts}
-use Rattle.gil_syntax.specs.Valid.{IsValid}
+use Rattle.gil_syntax.specs.Valid.{IsValid, is_among}
 use Rattle.gil_syntax.specs.WellMade.{is_well_made}
 use Rattle.mem_model.specs.declared.keys.MemoryName.{MemoryName}
 use Rattle.mem_model.specs.Actions.{Actions, IsMemory}
 use Rattle.assert_logic.specs.Modes.{HasModes}
+use Rattle.plain_specs.specs.Contained.{IsContained}
 use Rattle.spec_answers.specs.declared.answers.Examined.{Examined}
 use Rattle.spec_answers.specs.declared.answers.Finding.{Finding}
 use Rattle.spec_answers.specs.declared.answers.SpecAnswer.{SpecAnswer}
@@ -14,7 +15,8 @@ use Rattle.spec_answers.specs.declared.answers.Verdict.{Verdict}
 use Rattle.spec_answers.specs.Holding.{Fits, AreFindings, AreTrue, AnswersAreRight}
 use Rattle.spec_causes.specs.declared.meeting.Met.{Met}
 use Rattle.spec_checker.specs.Answers.{Shows, AnswerEach, IsCauseIfUnproved, AreCauses}
-use Rattle.spec_checker.specs.Examining.{ShowsProof, IsCauseIfCaused, IsExamined, AreExamined}
+use Rattle.spec_checker.specs.Deciding.{IsOwn}
+use Rattle.spec_checker.specs.Examining.{ShowsProof, IsCauseIfCaused, IsExamined, AreExamined, UsesNone}
 use Rattle.spec_checker.proofs.Found.{found_at}
 
 at_place : {A B : Type 0} (xs : List A) (ys : List B) (k : ℕ) (y : B) → length xs ≡ length ys → slice_get ys k ≡ Some y → (x : A) × (slice_get xs k ≡ Some x)
@@ -51,6 +53,14 @@ cause_by p memory m most answers s (Finding.Clean xs) (Verdict.DependsOn g) fits
 cause_by p memory m most answers s (Finding.Vacuous proof) v fits right = subst (λ (w : Verdict Met). IsCauseIfUnproved p memory m most s w) (sym fits) tt
 cause_by p memory m most answers s (Finding.Caused c) v fits right = subst (λ (w : Verdict Met). IsCauseIfUnproved p memory m most s w) (sym fits) right
 
+own_by : (answers : List (SpecAnswer Met)) (f : Finding Met) (v : Verdict Met) → Fits answers f v → UsesNone f → IsOwn v
+own_by answers (Finding.Clean xs) Verdict.Verified fits none = tt
+own_by answers (Finding.Clean xs) (Verdict.Vacuous proof) fits none = tt
+own_by answers (Finding.Clean xs) (Verdict.Unproved c) fits none = tt
+own_by answers (Finding.Clean xs) (Verdict.DependsOn g) fits none = true≢false (sym (subst (λ (ys : List (List ℕ)). IsTrue (is_among ys g)) none fits.0))
+own_by answers (Finding.Vacuous proof) v fits none = subst (λ (w : Verdict Met). IsOwn w) (sym fits) tt
+own_by answers (Finding.Caused c) v fits none = subst (λ (w : Verdict Met). IsOwn w) (sym fits) tt
+
 module _ (p : PureParts) (memory : MemoryName) (m : Actions) (most : ℕ) (xs : List (Examined Met)) (examined : AreExamined p memory m most p.specs xs)
     (answers : List (SpecAnswer Met)) (right : AnswersAreRight xs answers) where
   pub answered_each : AnswerEach p.specs answers
@@ -71,6 +81,12 @@ module _ (p : PureParts) (memory : MemoryName) (m : Actions) (most : ℕ) (xs : 
         let answer = right.each_answers k x a at_x at_a in
         cause_by p memory m most answers s x.finding a.verdict answer.fits is.found.cause;
   }
+
+  -- a contained specification depends on none
+  pub answered_own : (k : ℕ) (s : PureSpec) (a : SpecAnswer Met) → slice_get p.specs k ≡ Some s → slice_get answers k ≡ Some a → IsContained p s → IsOwn a.verdict
+  answered_own k s a at_s at_a contained =
+      let (x, at_x) = at_place xs p.specs k s examined.as_many at_s in
+      own_by answers x.finding a.verdict (right.each_answers k x a at_x at_a).fits ((examined.each_examined k s x at_s at_x).found.contained contained)
 
   module _ (valid : IsValid p) where
     are_findings : AreFindings p memory m xs

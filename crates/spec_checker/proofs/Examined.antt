@@ -6,6 +6,7 @@ use Rattle.mem_model.specs.declared.keys.MemoryName.{MemoryName}
 use Rattle.mem_model.specs.Actions.{Actions}
 use Rattle.checked_paths.specs.Causes.{cause_view}
 use Rattle.checked_runs.specs.Checked.{HasNoFault, UsesOnly}
+use Rattle.plain_specs.specs.Contained.{IsContained}
 use Rattle.solver_proof.specs.declared.proofs.Proof.{Proof}
 use Rattle.solver_proof.specs.Closing.{Closes}
 use Rattle.solver_proof.specs.View.{proof_view}
@@ -23,15 +24,15 @@ same_some is = cc
 module _ (p : PureParts) (memory : MemoryName) (m : Actions) (most : ℕ) (s : PureSpec) where
   pub vacuous_found : VacuousSpecificationsHaveNoRun → (proof : Proof) → HasNoStart s → Closes (precondition_table s) (precondition_atoms s) (proof_view proof)
       → IsFound p memory m most s (Finding.Vacuous proof)
-  vacuous_found law proof none closes = let run = law s none p memory m in record { holds = (run.0, run.1 (is_among [])); shows = closes; cause = tt }
+  vacuous_found law proof none closes = let run = law s none p memory m in record { holds = (run.0, run.1 (is_among [])); shows = closes; cause = tt; contained = λ inside. tt }
 
   pub explored_found : (cause : Option Met) (uses : List (List ℕ)) (finding : Finding Met) → finding ≡ finding_by cause uses
       → IfNone cause (HasNoFault p memory m s × UsesOnly p memory m (is_among uses) s) → IfSome cause (λ met. IsCauseOf p memory m s most (entry_for s met.entered) (cause_view met.cause))
-      → IsFound p memory m most s finding
-  explored_found (Some met) uses finding is none right =
-      subst (λ (f : Finding Met). IsFound p memory m most s f) (sym is) (record { holds = tt; shows = tt; cause = right })
-  explored_found None uses finding is holds none =
-      subst (λ (f : Finding Met). IsFound p memory m most s f) (sym is) (record { holds = holds; shows = tt; cause = tt })
+      → (IsContained p s → uses ≡ []) → IsFound p memory m most s finding
+  explored_found (Some met) uses finding is none right no_uses =
+      subst (λ (f : Finding Met). IsFound p memory m most s f) (sym is) (record { holds = tt; shows = tt; cause = right; contained = λ inside. tt })
+  explored_found None uses finding is holds none no_uses =
+      subst (λ (f : Finding Met). IsFound p memory m most s f) (sym is) (record { holds = holds; shows = tt; cause = tt; contained = no_uses })
 
 -- the last of a list, or one before it
 last_or_before : {A : Type 0} (xs : List A) (x : A) (k : ℕ) (y : A) → slice_get (xs ++ x ∷ []) k ≡ Some y

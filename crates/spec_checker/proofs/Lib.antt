@@ -1,3 +1,4 @@
 pub mod Answered
 pub mod Examined
 pub mod Found
+pub mod Deciding

@@ -1,9 +1,10 @@
 -- What is found out of specifications by themselves.
-use Rattle.std.specs.Prelude.{◌≡◌, ℕ, List, length, Option, Some, None, slice_get, ⊤}
+use Rattle.std.specs.Prelude.{◌≡◌, ℕ, List, [], length, Option, Some, None, slice_get, ⊤}
 use Rattle.gil_syntax.specs.Pure.{PureSpec, PureParts}
 use Rattle.mem_model.specs.declared.keys.MemoryName.{MemoryName}
 use Rattle.mem_model.specs.Actions.{Actions}
 use Rattle.checked_paths.specs.Causes.{cause_view}
+use Rattle.plain_specs.specs.Contained.{IsContained}
 use Rattle.solver_proof.specs.Closing.{Closes}
 use Rattle.solver_proof.specs.View.{proof_view}
 use Rattle.spec_answers.specs.declared.answers.Examined.{Examined}
@@ -26,6 +27,11 @@ abbrev pub ShowsProof : PureSpec → Finding Met → Type 0
 ShowsProof s (Finding.Vacuous proof) = Closes (precondition_table s) (precondition_atoms s) (proof_view proof)
 ShowsProof s _ = ⊤
 
+-- what was found names no specification that is used
+abbrev pub UsesNone : Finding Met → Type 0
+UsesNone (Finding.Clean uses) = uses ≡ []
+UsesNone _ = ⊤
+
 module _ (p : PureParts) (memory : MemoryName) (m : Actions) (most : ℕ) where
   -- the cause that was found is right
   abbrev pub IsCauseIfCaused : PureSpec → Finding Met → Type 0
@@ -36,6 +42,7 @@ module _ (p : PureParts) (memory : MemoryName) (m : Actions) (most : ℕ) where
     pub holds : FindingHolds p memory m s finding
     pub shows : ShowsProof s finding
     pub cause : IsCauseIfCaused s finding
+    pub contained : IsContained p s → UsesNone finding
 
   pub record IsExamined (s : PureSpec) (x : Examined Met) : Type 0 where
     pub same_name : x.name ≡ s.name

@@ -4,9 +4,11 @@ ghost use Rattle.assert_logic.specs.Modes.{HasModes};
 ghost use Rattle.gil_program.specs.Program.{prog_view};
 ghost use Rattle.spec_answers.specs.Holding.{AreTrue};
 ghost use Rattle.spec_checker.specs.Answers.{AnswerEach, AreCauses};
+ghost use Rattle.spec_checker.specs.Deciding.{AreDecided};
 
 use crate::examining::examine_all;
 use gil_program::Prog;
+use plain_specs::contained_specifications_are_decided;
 use rewrite_book::RuleBook;
 use solver_proof::Refuter;
 use spec_answers::{SpecAnswers, answer_specifications};
@@ -28,7 +30,11 @@ pub fn check<M: ListedMemory, D: Refuter>(
     ensures answers { IfOk result (AnswerEach (prog_view prog.now).specs) }
     ensures hold { IfOk result (AreTrue (prog_view prog.now) M.Local.memory M.Local.actions) }
     ensures causes { IfOk result (AreCauses (prog_view prog.now) M.Local.memory M.Local.actions bound) }
+
+    // A contained specification depends on no other one, and where its runs do as it tells, no fault of it is shown.
+    ensures contained { IfOk result (AreDecided (prog_view prog.now) M.Local.memory M.Local.actions bound) }
 {
+    contained_specifications_are_decided();
     let examined = examine_all::<M, D>(alloc, prog, rules, bound, decider)?;
     answer_specifications(alloc, examined)
 }

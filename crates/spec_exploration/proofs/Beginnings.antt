@@ -1,6 +1,8 @@
 -- The checked paths of the starts cover those of the checked runs, and may go on; and runs reach them.
-use Rattle.std.proofs.Common.{◌≡◌, ◌⊎◌, inl, inr, ℕ, ℤ, List, [], ◌∷◌, length, false, Some, IsSome, IsTrue, refl, sym, ap, subst, ◌∙◌, true≢false, arith}
+use Rattle.std.proofs.Common.{◌≡◌, ◌⊎◌, ⊎_elim, inl, inr, ℕ, ℤ, List, [], ◌∷◌, length, not, true, false, Bool, ◌&&◌, Some, IsSome, IsTrue, refl, sym, ap, subst, ◌∙◌, true≢false, arith, append-nil, if◌then◌else◌}
 use Rattle.std.specs.FinMap.{empty}
+use Rattle.std.specs.List.{Contains}
+use Rattle.std.proofs.lemmas.List.Elements.{Contains-append_left, Contains-append_right, Contains-append_cases}
 use Rattle.gil_values.specs.declared.places.Place.{Place}
 use Rattle.gil_values.specs.Pure.{PureValue}
 use Rattle.gil_syntax.specs.Evaluation.{Store}
@@ -14,15 +16,19 @@ use Rattle.mem_model.specs.Actions.{Actions}
 use Rattle.mem_model.specs.Heaps.{Heap}
 use Rattle.checked_runs.specs.Checked.{Checked, goes_on_to, IsStart}
 use Rattle.pure_terms.specs.declared.deciders.Reason.{Reason}
-use Rattle.pure_terms.specs.Meaning.{IsProper, all_true}
+use Rattle.pure_terms.specs.declared.variables.Sort.{Sort}
+use Rattle.pure_terms.specs.declared.variables.Var.{Var}
+use Rattle.pure_terms.specs.Meaning.{AreOver, IsProper, IsUnsatisfiable, all_true, truth}
+use Rattle.pure_terms.specs.Pure.{PureAtom, term_of, variables, variables_of_atoms}
 use Rattle.sym_asking.proofs.Fragments.{each_over_all}
 use Rattle.sym_beginning.specs.Beginning as beginning
 use Rattle.sym_beginning.specs.Beginning.{PureStart, PureBeginnings, IsEntryUnder, IsBegunFrom, IsBeginning, AreBeginnings, AreStarts}
+use Rattle.sym_beginning.specs.Origins.{ComeOf, NeedForm, IsOfPrecondition, AreOfPrecondition}
 use Rattle.checked_runs.proofs.Readable.{names_length}
 use Rattle.sym_engine.specs.Placed.{AreAtCommands}
 use Rattle.sym_model.specs.Laws.{IsMeaning}
 use Rattle.sym_model.specs.Lists.{Each}
-use Rattle.sym_model.specs.Meaning.{has_open}
+use Rattle.sym_model.specs.Meaning.{has_open, is_open}
 use Rattle.sym_model.specs.Terms.{StateTerms, AreEachOver}
 use Rattle.sym_model.proofs.ListLaws.{each_to, not_none}
 use Rattle.sym_evaluation.specs.Meaning.{IsStoreOver}
@@ -35,7 +41,8 @@ use Rattle.checked_paths.specs.Covering.{CoversOutcome}
 use Rattle.checked_paths.specs.Meaning.{ArePassedBy, AreFactsOver, EachWith, MayGoOn}
 use Rattle.checked_paths.specs.Pure.{PureEntry, PureNext, further, over, caused}
 use Rattle.checked_paths.proofs.Lists.{one_across, each_across, each_with_if}
-use Rattle.spec_causes.specs.Reaching.{IsFoundCause, IsRealStart, MayBeMet, checked_start}
+use Rattle.spec_causes.specs.Causes.{MayBeMet, without_forms}
+use Rattle.spec_causes.specs.Reaching.{IsFoundCause, checked_start}
 use Rattle.spec_causes.proofs.Reached.{start_reached}
 use Rattle.spec_causes.proofs.Starts.{start_real}
 use Rattle.spec_exploration.specs.Beginning.{IsFirstPlace, IsStartOver, IsLeftOut, IsUnknownStart, IsStartOf, AreStartsOf}
@@ -135,50 +142,100 @@ module _ {S : Type 0} (p : PureParts) (memory : MemoryName) (m : Actions) (stand
       abbrev Reached : PureNext S → Type 0
       Reached = IsReachedNext p memory m stands terms Of most
 
-      taken_reached : (s : PureStart S) → IsExact s → IsBeginning b are.proc terms kept s → has_open s.path.conds ≡ false → MayBeMet s.path.vars s.path.conds
+      -- where no literal form is needed, the whole precondition was added
+      whole_there : (s : PureStart S) → IsOfPrecondition b spec s → has_open s.path.conds ≡ false → ComeOf spec s.path.vars b.args b.variables spec.pre s.path.conds
+      whole_there s (inl whole) no_form = whole
+      whole_there s (inr half) no_form = absurd (true≢false (sym half.needed ∙ no_form))
+
+      -- where one is needed, some first items were
+      needs_there : (s : PureStart S) → IsOfPrecondition b spec s → has_open s.path.conds ≡ true → NeedForm spec s.path.vars b.args b.variables s.path.conds
+      needs_there s (inl whole) needed = record { items = spec.pre; later = []; are_first = sym (append-nil spec.pre); come = whole; needed = needed }
+      needs_there s (inr half) needed = half
+
+      taken_reached : (s : PureStart S) → IsExact s → IsOfPrecondition b spec s → IsBeginning b are.proc terms kept s → has_open s.path.conds ≡ false → MayBeMet s.path.vars s.path.conds
           → IsReachedWithin p memory m stands terms Of most (checked_start s)
-      taken_reached s exact is no_form may_be =
+      taken_reached s exact origin is no_form may_be =
           let none : s.path.steps ≡ 0 = (start_may s is).1 in
           record {
             reached = start_reached memory m stands terms meaning p Of (checked_start s)
-                (start_real memory m stands terms kept plain meaning (beginnings_stand stands terms plain) p spec b are.proc are.found s is (start_may s is).0 exact no_form) may_be;
+                (start_real memory m stands terms kept plain meaning (beginnings_stand stands terms plain) p spec b are.proc are.found s is (start_may s is).0 exact no_form) (whole_there s origin no_form) may_be;
             within = omega (arith, none);
           }
 
-      left_out_found : (s : PureStart S) (reason : Reason) (shown : PureShown) → IsBeginning b are.proc terms kept s → IsLeftOut here s reason shown → IsFoundCause p memory m Of most (undecided reason shown)
-      left_out_found s reason shown is left =
+      left_out_found : (s : PureStart S) (reason : Reason) (shown : PureShown) → IsOfPrecondition b spec s → IsBeginning b are.proc terms kept s → IsLeftOut here s reason shown
+          → IsFoundCause p memory m Of most (undecided reason shown)
+      left_out_found s reason shown origin is left =
           let (command, (there, place)) = first in
           subst (λ t. IsFoundCause p memory m Of most (undecided reason t)) (sym left.is) (record {
             runs = record {
               outside = left.outside.outside;
               first = left.outside.first;
-              steps = 0;
-              within = omega arith;
-              runs = inl (record { command = command; first_there = there; place = place; choices = ap (λ q. q.choices) is.begins.is; needed = left.needed });
+              way = inl (record { command = command; first_there = there; place = place; choices = ap (λ q. q.choices) is.begins.is; come = needs_there s origin left.needed; may_be_met = left.may_be_met });
             };
             may_be_met = tt;
+            way = tt;
             known = λ u none. not_none none;
           })
 
-      unknown_found : (s : PureStart S) (cause : PureCause) → IsBeginning b are.proc terms kept s → IsUnknownStart here s cause → IsFoundCause p memory m Of most cause
-      unknown_found s (undecided reason shown) is left = left_out_found s reason shown is left
-      unknown_found s (failure t shown) is left = absurd left
-      unknown_found s (fault kind shown) is left = absurd left
-      unknown_found s (bound shown) is left = absurd left
+      unknown_found : (s : PureStart S) (cause : PureCause) → IsOfPrecondition b spec s → IsBeginning b are.proc terms kept s → IsUnknownStart here s cause → IsFoundCause p memory m Of most cause
+      unknown_found s (undecided reason shown) origin is left = left_out_found s reason shown origin is left
+      unknown_found s (failure t shown) origin is left = absurd left
+      unknown_found s (fault kind shown) origin is left = absurd left
+      unknown_found s (bound shown) origin is left = absurd left
 
-      reached_start : (s : PureStart S) (n : PureNext S) → IsExact s → IsStartOf here s n → IsBeginning b are.proc terms kept s → Reached n
-      reached_start s (caused cause) exact start is = unknown_found s (cause_view cause) is start
-      reached_start s over exact start is = tt
-      reached_start s (further y) exact start is = subst (λ z. Reached (further z)) (sym start.is) (taken_reached s exact is start.no_form start.may_be_met)
+      reached_start : (s : PureStart S) (n : PureNext S) → IsExact s → IsOfPrecondition b spec s → IsStartOf here s n → IsBeginning b are.proc terms kept s → Reached n
+      reached_start s (caused cause) exact origin start is = unknown_found s (cause_view cause) origin is start
+      reached_start s over exact origin start is = tt
+      reached_start s (further y) exact origin start is = subst (λ z. Reached (further z)) (sym start.is) (taken_reached s exact origin is start.no_form start.may_be_met)
+
+      abbrev OriginStart : PureStart S → PureNext S → Type 0
+      OriginStart s n = IsOfPrecondition b spec s × IsStartOf here s n
 
       abbrev ExactStart : PureStart S → PureNext S → Type 0
-      ExactStart s n = IsExact s × IsStartOf here s n
+      ExactStart s n = IsExact s × OriginStart s n
 
-      pub starts_reached : (ns : List (PureNext S)) → AreStarts b memory stands spec → AreStartsOf here b.starts ns → Each Reached ns
-      starts_reached ns exact starts =
+      pub starts_reached : (ns : List (PureNext S)) → AreStarts b memory stands spec → AreOfPrecondition b spec → AreStartsOf here b.starts ns → Each Reached ns
+      starts_reached ns exact origin starts =
           each_across ExactStart (IsBeginning b are.proc terms kept) Reached b.starts ns
-          (each_with_if IsExact (IsStartOf here) ExactStart b.starts ns (λ s n is start. (is, start)) exact starts)
-          (λ s n start is. reached_start s n start.0 start.1 is) are.each
+          (each_with_if IsExact OriginStart ExactStart b.starts ns (λ s n is start. (is, start)) exact
+          (each_with_if (IsOfPrecondition b spec) (IsStartOf here) OriginStart b.starts ns (λ s n is start. (is, start)) origin starts))
+          (λ s n start is. reached_start s n start.0 start.1.0 start.1.1 is) are.each
+
+-- ---- literal forms
+
+kept_among : (a : PureAtom) (conds others : List PureAtom) (x : Var) (b : Bool) → (Contains (variables_of_atoms others) x → Contains (variables_of_atoms conds) x) → Contains (variables_of_atoms (if b then (a ∷ others) else others)) x
+    → Contains (variables_of_atoms (a ∷ conds)) x
+kept_among a conds others x true later has =
+    ⊎_elim (λ here. Contains-append_left (variables (term_of a)) (variables_of_atoms conds) x here) (λ rest. Contains-append_right (variables (term_of a)) (variables_of_atoms conds) x (later rest))
+    (Contains-append_cases (variables (term_of a)) (variables_of_atoms others) x has)
+kept_among a conds others x false later has = Contains-append_right (variables (term_of a)) (variables_of_atoms conds) x (later has)
+
+others_among : (conds : List PureAtom) (x : Var) → Contains (variables_of_atoms (without_forms conds)) x → Contains (variables_of_atoms conds) x
+others_among [] x has = has
+others_among (a ∷ conds) x has = kept_among a conds (without_forms conds) x (not (is_open a)) (others_among conds x) has
+
+pub others_over : (vars : List Sort) (conds : List PureAtom) → AreOver vars conds → AreOver vars (without_forms conds)
+others_over vars conds all x has = all x (others_among conds x has)
+
+true_before : (a b c : Bool) → IsTrue (a && b) → (IsTrue b → IsTrue c) → IsTrue (a && c)
+true_before true b c both later = later both
+true_before false b c both later = both
+
+true_later : (a b : Bool) → IsTrue (a && b) → IsTrue b
+true_later true b both = both
+true_later false b both = absurd (true≢false (sym both))
+
+kept_true : (v : List PureValue) (a : PureAtom) (conds others : List PureAtom) (b : Bool) → (IsTrue (all_true v conds) → IsTrue (all_true v others)) → IsTrue (all_true v (a ∷ conds)) → IsTrue (all_true v (if b then (a ∷ others) else others))
+kept_true v a conds others true later all = true_before (truth v a) (all_true v conds) (all_true v others) all later
+kept_true v a conds others false later all = later (true_later (truth v a) (all_true v conds) all)
+
+others_true : (v : List PureValue) (conds : List PureAtom) → IsTrue (all_true v conds) → IsTrue (all_true v (without_forms conds))
+others_true v [] all = all
+others_true v (a ∷ conds) all = kept_true v a conds (without_forms conds) (not (is_open a)) (others_true v conds) all
+
+-- where nothing meets the others, nothing meets all
+pub others_never : (vars : List Sort) (conds : List PureAtom) → IsUnsatisfiable vars (without_forms conds) → IsUnsatisfiable vars conds
+others_never vars conds never v meets = never v (record { proper = meets.proper; true_there = others_true v conds meets.true_there })
 
 -- ---- what is answered of one
 

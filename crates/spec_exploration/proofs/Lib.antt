@@ -1,3 +1,5 @@
+pub mod Inside
+pub mod Asking
 pub mod Beginnings
 pub mod Meeting
 pub mod Placing

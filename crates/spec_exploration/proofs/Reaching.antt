@@ -12,10 +12,10 @@ use Rattle.sym_model.proofs.ListLaws.{each_append, one_with}
 use Rattle.checked_paths.specs.Causes.{cause_view, shown_of}
 use Rattle.checked_paths.specs.Covering.{FollowsOn, AreNexts}
 use Rattle.checked_paths.specs.declared.nexts.Cause.{Cause}
-use Rattle.checked_paths.specs.Exactness.{IsExactNext, AreExact}
+use Rattle.checked_paths.specs.Exactness.{IsExactNext, AreExact, AddsOnly}
 use Rattle.checked_paths.specs.Meaning.{MayGoOn}
 use Rattle.checked_paths.specs.Pure.{PureEntry, PureChecking, PureNext, further, over, caused}
-use Rattle.spec_causes.specs.Reaching.{IsFoundCause}
+use Rattle.spec_causes.specs.Reaching.{MayAskAt, IsFoundCause}
 use Rattle.spec_causes.proofs.Reached.{next_reached, cause_found, cut_found}
 use Rattle.spec_exploration.specs.Exploring.{PureExploration, furthers, AreTaken, IsCutAt, IsReachedWithin, IsReachedNext, AreReached}
 use Rattle.spec_exploration.proofs.Taking.{each_zip, further_each, last_apart}
@@ -59,18 +59,23 @@ module _ {S : Type 0} (p : PureParts) (memory : MemoryName) (m : Actions) (stand
       (record { left = both.0; cause = reached.cause }, both.1)
 
   module _ (meaning : IsMeaning memory stands terms) (x : PureChecking S) (within : Within x) (may : MayGoOn p terms e x) where
-    next_within : x.path.steps < most → (n : PureNext S) → FollowsOn p terms e x n → IsExactNext p memory m stands e x n → ReachedNext n
-    next_within early (further y) follows followed =
+    -- an answer is exact, and adds only conditions that the command may ask
+    abbrev IsExactAsking : PureNext S → Type 0
+    IsExactAsking n = IsExactNext p memory m stands e x n × AddsOnly (MayAskAt p x) x n
+
+    next_within : x.path.steps < most → (n : PureNext S) → FollowsOn p terms e x n → IsExactAsking n → ReachedNext n
+    next_within early (further y) follows (followed, asks) =
         let one_more : y.path.steps ≡ x.path.steps + 1 = follows.1 in
-        record { reached = next_reached memory m stands terms meaning p e x within.reached may y followed one_more; within = omega (arith, early, one_more) }
+        record { reached = next_reached memory m stands terms meaning p e x within.reached may y followed asks one_more; within = omega (arith, early, one_more) }
     next_within early over follows is = tt
-    next_within early (caused cause) follows right = cause_found memory m stands terms meaning p e x within.reached may most early (cause_view cause) right
+    next_within early (caused cause) follows (right, asks) = cause_found memory m stands terms meaning p e x within.reached may most early (cause_view cause) right asks
 
     pub step_reached : (before after : PureExploration S) (names : List (List ℕ)) (ns : List (PureNext S)) → x.path.steps < most → AreNexts p memory m stands terms e x names ns → AreExact p memory m stands e x ns
-        → AreTaken (record before { uses = before.uses ++ names }) ns after → All before → All after
-    step_reached before after names ns early laws exact taken reached =
+        → Each (AddsOnly (MayAskAt p x) x) ns → AreTaken (record before { uses = before.uses ++ names }) ns after → All before → All after
+    step_reached before after names ns early laws exact asked taken reached =
         taken_reached (record before { uses = before.uses ++ names }) after ns (record { left = reached.left; cause = reached.cause })
-        (each_zip (FollowsOn p terms e x) (IsExactNext p memory m stands e x) ReachedNext ns (next_within early) laws.follow exact) taken
+        (each_zip (FollowsOn p terms e x) IsExactAsking ReachedNext ns (next_within early) laws.follow
+        (each_zip (IsExactNext p memory m stands e x) (AddsOnly (MayAskAt p x) x) IsExactAsking ns (λ n is adds. (is, adds)) exact asked)) taken
 
     cut_is_found : (c : Cause) → most ≤ x.path.steps → IsCutAt p x.path (cause_view c) → Found c
     cut_is_found c late (here, (place, is)) =

@@ -12,7 +12,8 @@ use Rattle.sym_model.specs.Meaning.{has_open}
 use Rattle.checked_paths.specs.Causes.{PureShown, PureCause, failure, fault, bound, undecided, cause_view, shown_of}
 use Rattle.checked_paths.specs.Meaning.{EachWith}
 use Rattle.checked_paths.specs.Pure.{PureChecking, PureNext, further, over, caused}
-use Rattle.spec_causes.specs.Reaching.{MayBeMet, checked_start}
+use Rattle.spec_causes.specs.Causes.{MayBeMet, without_forms}
+use Rattle.spec_causes.specs.Reaching.{checked_start}
 
 -- the place of the first command of the specification's procedure
 abbrev pub IsFirstPlace : PureParts → PureSpec → Place → Type 0
@@ -29,10 +30,11 @@ pub record IsTaken {S : Type 0} (s : PureStart S) (y : PureChecking S) : Type 0 
   pub no_form : has_open s.path.conds ≡ false
   pub may_be_met : MayBeMet s.path.vars s.path.conds
 
--- A literal form is needed, and the conditions aren't decided for this reason. They are shown at the place.
+-- A literal form is needed, and the conditions aren't decided for this reason. Apart from that they may be met. They are shown at the place.
 pub record IsLeftOut {S : Type 0} (here : Place) (s : PureStart S) (reason : Reason) (shown : PureShown) : Type 0 where
   pub needed : has_open s.path.conds ≡ true
   pub outside : IsOutside s.path.conds reason
+  pub may_be_met : MayBeMet s.path.vars (without_forms s.path.conds)
   pub is : shown ≡ shown_of here s.path
 
 abbrev pub IsUnknownStart : {S : Type 0} → Place → PureStart S → PureCause → Type 0

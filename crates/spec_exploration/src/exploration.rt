@@ -10,9 +10,11 @@ ghost use Rattle.gil_program.specs.Program.{prog_view};
 ghost use Rattle.gil_syntax.specs.Programs.{find_spec};
 ghost use Rattle.gil_syntax.specs.Valid.{is_among};
 ghost use Rattle.gil_syntax.specs.View.{spec_view};
+ghost use Rattle.plain_specs.specs.Contained.{IsContained};
 ghost use Rattle.spec_causes.specs.Causes.{IsCauseOf, entry_for};
 ghost use Rattle.spec_causes.specs.Reaching.{IsFoundCause, IsKnown};
 ghost use Rattle.spec_exploration.specs.Exploring.{ArePlaced, AreReached, AreTaken, IsCutAt, IsMetOf, IsNamed, IsReachedNext, IsReachedWithin, IsSettledBy, StartPlaced, exploration_view};
+ghost use Rattle.spec_exploration.specs.Inside.{IsInside, IsNextInside, StaysInside};
 ghost use Rattle.sym_model.specs.Lists.{Each};
 
 use crate::beginning::{first_place, starts_of};
@@ -214,6 +216,10 @@ fn advance<M: ListedMemory, D: Decider>(
     ensures placed { IfOk result (λ after. ArePlaced (prog_view prog.now) M.terms (entry_view spec.now entered.now) (exploration_view after)) }
     ensures all_reached { IfOk result (λ after. AreReached (prog_view prog.now) M.Local.memory M.Local.actions M.stands M.terms
         (entry_view spec.now entered.now) bound (exploration_view after)) }
+    ensures inside { IsContained (prog_view prog.now) (spec_view spec.now)
+        → StaysInside (prog_view prog.now) (spec_view spec.now) (exploration_view exploration)
+        → IsInside (prog_view prog.now) (spec_view spec.now) (checking_view checking).path
+        → IfOk result (λ after. StaysInside (prog_view prog.now) (spec_view spec.now) (exploration_view after)) }
 {
     if checking.path.steps >= bound {
         let cause = cut(alloc, prog, spec, entered, &checking)?;
@@ -247,6 +253,8 @@ fn explore_from<M: ListedMemory, D: Decider>(
         (entry_view spec.now entered.now) bound) (nexts_view starts) }
     ensures verified { IfOk result (λ found. IfNone found.cause (HasNoFault (prog_view prog.now) M.Local.memory M.Local.actions (spec_view spec.now)
         × UsesOnly (prog_view prog.now) M.Local.memory M.Local.actions (is_among found.uses) (spec_view spec.now))) }
+    ensures inside { IsContained (prog_view prog.now) (spec_view spec.now)
+        → Each (IsNextInside (prog_view prog.now) (spec_view spec.now)) (nexts_view starts) → IfOk result (λ found. found.uses ≡ []) }
     ensures causes { IfOk result (λ found. IfSome found.cause (λ cause. IsFoundCause (prog_view prog.now) M.Local.memory M.Local.actions
         (entry_view spec.now entered.now) bound (cause_view cause))) }
 {
@@ -297,7 +305,7 @@ fn met<D: Decider>(
 }
 
 /// Explores the checked paths of a specification within a bound of steps. Where there is no cause, none of its checked runs has a fault,
-/// and each uses only the named specifications. A cause is right: runs come to it wherever its conditions are met, and a valuation is
+/// and each uses only the named specifications; of a contained one none is named. A cause is right: runs come to it wherever its conditions are met, and a valuation is
 /// shown that meets them unless they aren't in the fragment.
 pub fn explore_specification<M: ListedMemory, D: Decider>(
     alloc: Global,
@@ -315,6 +323,7 @@ pub fn explore_specification<M: ListedMemory, D: Decider>(
         × UsesOnly (prog_view prog.now) M.Local.memory M.Local.actions (is_among explored.uses) (spec_view spec.now))) }
     ensures causes { IfOk result (λ explored. IfSome explored.cause (λ met. IsCauseOf (prog_view prog.now) M.Local.memory M.Local.actions
         (spec_view spec.now) bound (entry_for (spec_view spec.now) met.entered) (cause_view met.cause))) }
+    ensures contained { IsContained (prog_view prog.now) (spec_view spec.now) → IfOk result (λ explored. explored.uses ≡ []) }
 {
     let Beginnings {
         vars: _,

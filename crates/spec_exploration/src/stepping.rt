@@ -3,8 +3,8 @@ ghost use Rattle.std.specs.Prelude.{◌≡◌, ◌<◌, [], Some, IfOk, IsTrue, 
 ghost use Rattle.assert_logic.specs.Modes.{HasModes};
 ghost use Rattle.call_rows.specs.Calling.{IsCall};
 ghost use Rattle.checked_paths.specs.Covering.{AreNexts};
-ghost use Rattle.checked_paths.specs.Exactness.{AreExact};
-ghost use Rattle.checked_paths.specs.Following.{is_of_machine as is_machine_command};
+ghost use Rattle.checked_paths.specs.Exactness.{AreExact, AddsOnly};
+ghost use Rattle.checked_paths.specs.Following.{OfGoing, is_of_machine as is_machine_command};
 ghost use Rattle.checked_paths.specs.Meaning.{MayGoOn};
 ghost use Rattle.checked_paths.specs.View.{checking_view, entry_view, nexts_view};
 ghost use Rattle.checked_rows.specs.Ending.{IsLeaving};
@@ -13,8 +13,13 @@ ghost use Rattle.gil_program.specs.Program.{prog_view};
 ghost use Rattle.gil_syntax.specs.Programs.{find_spec};
 ghost use Rattle.gil_syntax.specs.Pure.{PureCommand};
 ghost use Rattle.gil_syntax.specs.View.{command_view, numbered_command_view, spec_view};
+ghost use Rattle.plain_specs.specs.Contained.{IsContained};
+ghost use Rattle.spec_exploration.specs.Inside.{IsInside, IsNextInside};
+ghost use Rattle.spec_causes.specs.Reaching.{MayAskAt};
 ghost use Rattle.sym_engine.specs.Lawful.{MayAdvance};
+ghost use Rattle.sym_model.specs.Lists.{Each};
 ghost use Rattle.sym_paths.specs.Meaning.{command_of_path};
+ghost use Rattle.sym_paths.specs.Origins.{Follows};
 ghost use Rattle.sym_paths.specs.View.{frames_view, path_view};
 ghost use Rattle.sym_step.specs.Stepping.{most_steps};
 
@@ -91,6 +96,8 @@ fn leave<M: ListedMemory, D: Decider>(
     requires modes { HasModes (prog_view prog.now) M.Local.memory }
     requires may { MayGoOn (prog_view prog.now) M.terms (entry_view spec.now entered.now) (checking_view checking) }
     requires early { checking.path.steps < most_steps }
+    ensures origin { IfOk result (λ ns. Each (OfGoing (Follows (prog_view prog.now) M.Local.actions M.terms (path_view checking.path)))
+        (nexts_view ns)) }
     ensures next { IfOk result (λ ns. (command : PureCommand) → IsLeaving command → AreRowOf (prog_view prog.now) M.Local.memory M.Local.actions
         M.stands M.terms (entry_view spec.now entered.now) (checking_view checking) command [] (nexts_view ns)) }
     ensures exact { IfOk result (λ ns. (command : PureCommand) → IsLeaving command → IsExactRowOf (prog_view prog.now) M.Local.memory
@@ -122,10 +129,14 @@ fn step_at<M: ListedMemory, D: Decider>(
     requires no_call { ¬ IsCall (numbered_command_view numbered.now).command }
     requires at { command_of_path (prog_view prog.now) (path_view checking.path) ≡ Some (numbered_command_view numbered.now) }
     requires next { MayAdvance (frames_view checking.path.stack) }
+    ensures origin { IsContained (prog_view prog.now) (spec_view spec.now) → IsInside (prog_view prog.now) (spec_view spec.now) (path_view checking.path)
+        → IfOk result (λ ns. Each (OfGoing (Follows (prog_view prog.now) M.Local.actions M.terms (path_view checking.path))) (nexts_view ns)) }
     ensures next { IfOk result (λ ns. AreNexts (prog_view prog.now) M.Local.memory M.Local.actions M.stands M.terms
         (entry_view spec.now entered.now) (checking_view checking) [] (nexts_view ns)) }
     ensures exact { IfOk result (λ ns. AreExact (prog_view prog.now) M.Local.memory M.Local.actions M.stands
         (entry_view spec.now entered.now) (checking_view checking) (nexts_view ns)) }
+    ensures asked { IfOk result (λ ns. Each (AddsOnly (MayAskAt (prog_view prog.now) (checking_view checking)) (checking_view checking))
+        (nexts_view ns)) }
 {
     let here = place_of(alloc, &checking.path.stack, numbered)?;
     if is_leaving(&numbered.command) {
@@ -177,10 +188,15 @@ fn step_call<M: ListedMemory, D: Decider>(
     requires early { checking.path.steps < most_steps }
     requires at { command_of_path (prog_view prog.now) (path_view checking.path) ≡ Some (numbered_command_view numbered.now) }
     requires call { IsCall (numbered_command_view numbered.now).command }
+    ensures unspecified { IsContained (prog_view prog.now) (spec_view spec.now)
+        → IsInside (prog_view prog.now) (spec_view spec.now) (path_view checking.path) → IfOk result (λ s. (s.uses ≡ [])
+        × Each (OfGoing (Follows (prog_view prog.now) M.Local.actions M.terms (path_view checking.path))) (nexts_view s.nexts)) }
     ensures next { IfOk result (λ s. AreNexts (prog_view prog.now) M.Local.memory M.Local.actions M.stands M.terms
         (entry_view spec.now entered.now) (checking_view checking) s.uses (nexts_view s.nexts)) }
     ensures exact { IfOk result (λ s. AreExact (prog_view prog.now) M.Local.memory M.Local.actions M.stands
         (entry_view spec.now entered.now) (checking_view checking) (nexts_view s.nexts)) }
+    ensures asked { IfOk result (λ s. Each (AddsOnly (MayAskAt (prog_view prog.now) (checking_view checking)) (checking_view checking))
+        (nexts_view s.nexts)) }
 {
     let here = place_of(alloc, &checking.path.stack, numbered)?;
     call_row(alloc, prog, rules, spec, entered, checking, &here, decider)
@@ -200,10 +216,15 @@ pub(crate) fn check_step<M: ListedMemory, D: Decider>(
     requires modes { HasModes (prog_view prog.now) M.Local.memory }
     requires may { MayGoOn (prog_view prog.now) M.terms (entry_view spec.now entered.now) (checking_view checking) }
     requires early { checking.path.steps < most_steps }
+    ensures inside { IsContained (prog_view prog.now) (spec_view spec.now)
+        → IsInside (prog_view prog.now) (spec_view spec.now) (path_view checking.path) → IfOk result (λ s. (s.uses ≡ [])
+        × Each (IsNextInside (prog_view prog.now) (spec_view spec.now)) (nexts_view s.nexts)) }
     ensures next { IfOk result (λ s. AreNexts (prog_view prog.now) M.Local.memory M.Local.actions M.stands M.terms
         (entry_view spec.now entered.now) (checking_view checking) s.uses (nexts_view s.nexts)) }
     ensures exact { IfOk result (λ s. AreExact (prog_view prog.now) M.Local.memory M.Local.actions M.stands
         (entry_view spec.now entered.now) (checking_view checking) (nexts_view s.nexts)) }
+    ensures asked { IfOk result (λ s. Each (AddsOnly (MayAskAt (prog_view prog.now) (checking_view checking)) (checking_view checking))
+        (nexts_view s.nexts)) }
 {
     let numbered = match command_of(prog, &checking.path.stack) {
         Some(numbered) => numbered,

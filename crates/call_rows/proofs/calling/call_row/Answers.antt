@@ -1,14 +1,16 @@
 use Rattle.std.proofs.Common.{sym, ap, subst}
 use Rattle.gil_program.specs.Program.{prog_view}
 use Rattle.sym_model.specs.Lists.{Each}
+use Rattle.sym_model.proofs.ListLaws.{each_to}
 use Rattle.sym_paths.specs.Origins.{Follows}
 use Rattle.sym_engine.specs.Lawful.{IsOwnAt, IsAskedByMemoryAt}
 use Rattle.sym_paths.specs.Steps.{AreNextPaths, Covers, Grows}
 use Rattle.sym_paths.specs.View.{path_view, paths_view}
 use Rattle.sym_states.specs.View.{facts_view}
 use Rattle.checked_paths.specs.View.{checking_view, entry_view, nexts_view, passed_by_view}
-use Rattle.call_rows.specs.Calling.{EachIsCalled, IsNextOver}
+use Rattle.call_rows.specs.Calling.{EachIsCalled, IsNextOver, IsUnspecified}
 use Rattle.call_rows.proofs.CallLaws.{nexts_over, row_covers}
+use Rattle.call_rows.proofs.Unspecified.{is_unspecified, calls_go}
 use Rattle.call_rows.proofs.RowExact.{row_exact}
 use Rattle.call_rows.proofs.calling.call_row.Goals as goal
 
@@ -44,7 +46,7 @@ returns-clause-next g c =
     row_covers p memory m stands terms g.met.M.SymMemory.meaning kept e x c.args.prog.now.well_made c.args.prog.now.valid c.requires.modes c.args.here.now nexts ns c.in_ok-uses.uses
     (subst (λ qs. EachIsCalled p memory stands terms kept e c.args.here.now x.facts qs nexts ns) (ap passed_by_view c.into_parts-path.ensures.passed)
     (subst (λ fs. EachIsCalled p memory stands terms kept e c.args.here.now fs (passed_by_view parts.2) nexts ns) (ap facts_view c.into_parts-path.ensures.preds) c.in_ok-nexts.ensures))
-    cover growth c.in_ok-paths.ensures.placed c.in_ok-uses.ensures
+    cover growth c.in_ok-paths.ensures.placed c.in_ok-uses.ensures.named
 
 pub returns-clause-exact : goal.returns-clause-exact
 returns-clause-exact g c =
@@ -67,3 +69,21 @@ returns-clause-exact g c =
     (subst (λ qs. EachIsCalled p memory stands terms kept e here x.facts qs nexts ns) (ap passed_by_view c.into_parts-path.ensures.passed)
     (subst (λ fs. EachIsCalled p memory stands terms kept e here fs (passed_by_view parts.2) nexts ns) (ap facts_view c.into_parts-path.ensures.preds) c.in_ok-nexts.ensures))
     laws c.in_ok-paths.ensures.placed
+
+pub returns-clause-unspecified : goal.returns-clause-unspecified
+returns-clause-unspecified g c calls =
+    let stands = g.M.SymMemory.stands in
+    let terms = g.M.SymMemory.terms in
+    let memory = g.M.Local.LocalMemory.memory in
+    let m = g.M.Local.LocalMemory.actions in
+    let p = prog_view c.args.prog.now in
+    let e = entry_view c.args.spec.now c.args.entered.now in
+    let path = path_view c.args.checking.path in
+    let nexts = paths_view c.in_ok-paths.paths in
+    let parts = c.into_parts-path.result in
+    let Comes = Follows p m terms path in
+    let origin : Each Comes nexts = subst (λ q. Each (Follows p m terms q) nexts) (ap path_view c.into_parts-path.ensures.path) c.in_ok-paths.ensures.next.origin in (
+      c.in_ok-uses.ensures.only (each_to Comes (IsUnspecified p) nexts (is_unspecified p m terms path calls) origin),
+      calls_go p memory stands terms g.M.SymMemory.kept e c.args.here.now (facts_view parts.1) (passed_by_view parts.2) Comes nexts (nexts_view c.in_ok-nexts.nexts) c.in_ok-nexts.ensures
+          (each_to Comes (λ next. IsUnspecified p next × Comes next) nexts (λ next comes. (is_unspecified p m terms path calls next comes, comes)) origin),
+    )

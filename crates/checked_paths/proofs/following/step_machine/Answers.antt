@@ -1,8 +1,9 @@
-use Rattle.std.proofs.Common.{◌≡◌, [], sym, subst}
+use Rattle.std.proofs.Common.{◌≡◌, [], sym, ap, subst}
 use Rattle.std.proofs.lemmas.Result.{IfOk-weaker}
 use Rattle.gil_program.specs.Program.{prog_view}
 use Rattle.sym_engine.specs.Lawful.{IsOwnAt}
 use Rattle.sym_model.specs.Lists.{Each}
+use Rattle.sym_paths.specs.Origins.{Follows}
 use Rattle.sym_paths.specs.Steps.{IsPlaceOf}
 use Rattle.sym_paths.specs.View.{path_view, paths_view}
 use Rattle.sym_states.specs.View.{facts_view}
@@ -14,6 +15,7 @@ use Rattle.checked_paths.specs.Pure.{PureEntry}
 use Rattle.checked_paths.specs.View.{checking_view, nexts_view, passed_by_view}
 use Rattle.checked_paths.proofs.Answering.{machine_nexts}
 use Rattle.checked_paths.proofs.Exact.{adds_own, if_ok_both, machine_exact}
+use Rattle.checked_paths.proofs.Going.{answers_go}
 use Rattle.checked_paths.proofs.following.step_machine.Goals as goal
 
 pub returns-clause-next : goal.returns-clause-next
@@ -62,3 +64,14 @@ returns-clause-own g c =
     (adds_own M.stands M.terms _ (record { path = path_view parts.0; facts = facts_view parts.1; passed = passed_by_view parts.2 }) c.args.here.now
     (paths_view c.in_ok-paths.paths) (nexts_view ns) are shows c.in_ok-paths.ensures.next.own_conditions))
     c.follow_all.ensures.answer c.follow_all.ensures.shows
+
+pub returns-clause-origin : goal.returns-clause-origin
+returns-clause-origin g c =
+    let M = g.M.SymMemory in
+    let m = g.M.Local.LocalMemory.actions in
+    let p = prog_view c.args.prog.now in
+    let nexts = paths_view c.in_ok-paths.paths in
+    let Comes = Follows p m M.terms (path_view c.args.checking.path) in
+    IfOk-weaker c.follow_all.result _ _
+    (λ ns are. answers_go Comes M.stands M.terms _ _ nexts (nexts_view ns) are (subst (λ q. Each (Follows p m M.terms q) nexts) (ap path_view c.into_parts-path.ensures.path) c.in_ok-paths.ensures.next.origin))
+    c.follow_all.ensures.answer

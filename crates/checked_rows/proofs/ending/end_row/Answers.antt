@@ -4,15 +4,18 @@ use Rattle.gil_syntax.specs.Pure.{PureCommand}
 use Rattle.sym_model.proofs.ListLaws.{each_to}
 use Rattle.sym_model.specs.Lists.{Each}
 use Rattle.sym_engine.specs.Lawful.{IsOwnAt, IsAskedByMemoryAt}
+use Rattle.sym_paths.specs.Origins.{Follows}
 use Rattle.sym_paths.specs.Steps.{Covers, Grows, AreNextPaths}
 use Rattle.sym_paths.specs.View.{path_view, paths_view}
 use Rattle.sym_states.proofs.Values.{ok_to}
 use Rattle.sym_states.specs.View.{facts_view, state_view}
+use Rattle.checked_paths.specs.Following.{OfGoing}
 use Rattle.checked_paths.specs.View.{checking_view, entry_view, nexts_view, passed_by_view}
 use Rattle.checked_rows.specs.Ending.{EachIsEnded, EachIsExactlyEnded, IsLeaving, MayEnd}
 use Rattle.checked_rows.specs.Rows.{AreRowOf, IsExactRowOf}
 use Rattle.checked_rows.proofs.EndExactLaws.{end_exact}
 use Rattle.checked_rows.proofs.EndRowLaws.{may_end, end_covers}
+use Rattle.checked_rows.proofs.EndGoing.{ends_go}
 use Rattle.checked_rows.proofs.ending.end_row.Goals as goal
 
 pub end_all-requires-clause-end : goal.end_all-requires-clause-end
@@ -69,3 +72,18 @@ returns-clause-exact g c =
     (subst (λ fs. EachIsExactlyEnded p stands terms e s fs (passed_by_view parts.2) here nexts (nexts_view ns)) (ap facts_view c.into_parts-path.ensures.preds) are))
     laws)
     c.end_all.ensures.exact
+
+pub returns-clause-origin : goal.returns-clause-origin
+returns-clause-origin g c =
+    let stands = g.M.SymMemory.stands in
+    let terms = g.M.SymMemory.terms in
+    let m = g.M.Local.LocalMemory.actions in
+    let p = prog_view c.args.prog.now in
+    let e = entry_view c.args.spec.now c.args.entered.now in
+    let s = state_view c.in_ok-state.state in
+    let nexts = paths_view c.in_ok-paths.paths in
+    let parts = c.into_parts-path.result in
+    let Comes = Follows p m terms (path_view c.args.checking.path) in
+    let origin : Each Comes nexts = subst (λ q. Each (Follows p m terms q) nexts) (ap path_view c.into_parts-path.ensures.path) c.in_ok-paths.ensures.next.origin in
+    ok_to c.end_all.result (λ ns. EachIsEnded p stands terms e s (facts_view parts.1) (passed_by_view parts.2) nexts (nexts_view ns)) (λ ns. Each (OfGoing Comes) (nexts_view ns))
+    (λ ns are. ends_go p stands terms e s (facts_view parts.1) (passed_by_view parts.2) Comes nexts (nexts_view ns) are origin) c.end_all.ensures.next

@@ -21,4 +21,4 @@ returns-in-Some g c =
 pub returns-in_ok-explored-in-None : goal.returns-in_ok-explored-in-None
 returns-in_ok-explored-in-None g c =
     explored_found (prog_view c.args.prog.now) g.M.Local.LocalMemory.memory g.M.Local.LocalMemory.actions c.args.bound (spec_view c.args.spec.now)
-    c.in_ok-explored-in-None.explored.cause c.in_ok-explored-in-None.explored.uses c.finding_of.result c.finding_of.ensures c.in_ok-explored-in-None.ensures.verified c.in_ok-explored-in-None.ensures.causes
+    c.in_ok-explored-in-None.explored.cause c.in_ok-explored-in-None.explored.uses c.finding_of.result c.finding_of.ensures c.in_ok-explored-in-None.ensures.verified c.in_ok-explored-in-None.ensures.causes c.in_ok-explored-in-None.ensures.contained

@@ -25,7 +25,7 @@ returns-in-Unsatisfiable g c =
     let path = path_view c.args.started.path in
     subst (λ s. IsRightly path.vars path.conds (satisfiability_view s)) c.in-Unsatisfiable.is (subst (λ atoms. IsRightly path.vars atoms (satisfiability_view c.in_ok-ask.field-0)) c.atoms.ensures c.in_ok-ask.ensures)
 
-pub undecided_start-requires : goal.undecided_start-requires
-undecided_start-requires g c =
+pub undecided_start-requires-clause-outside : goal.undecided_start-requires-clause-outside
+undecided_start-requires-clause-outside g c =
     let path = path_view c.args.started.path in
     subst (λ s. IsRightly path.vars path.conds (satisfiability_view s)) c.in-Undecided.is (subst (λ atoms. IsRightly path.vars atoms (satisfiability_view c.in_ok-ask.field-0)) c.atoms.ensures c.in_ok-ask.ensures)

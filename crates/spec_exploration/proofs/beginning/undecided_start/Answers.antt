@@ -8,12 +8,10 @@ use Rattle.checked_paths.specs.View.{next_view}
 use Rattle.spec_exploration.proofs.Beginnings.{start_taken}
 use Rattle.spec_exploration.proofs.beginning.undecided_start.Goals as goal
 
-pub returns-then-needs_form : goal.returns-then-needs_form
-returns-then-needs_form g c =
-    let needed : has_open (path_view c.args.started.path).conds ≡ true = ap has_open (sym c.atoms.ensures) ∙ sym (open_seen c.atoms.result.now) ∙ sym c.needs_form.ensures ∙ c.if-needs_form.true in
-    record { needed = needed; outside = c.requires; is = c.in_ok-shown.ensures }
+pub start_in_need-requires-clause-needed : goal.start_in_need-requires-clause-needed
+start_in_need-requires-clause-needed g c = ap has_open (sym c.atoms.ensures) ∙ sym (open_seen c.atoms.result.now) ∙ sym c.needs_form.ensures ∙ c.if-needs_form.true
 
-pub returns : goal.returns
-returns g c =
+pub returns-else-needs_form : goal.returns-else-needs_form
+returns-else-needs_form g c =
     let known : has_open (path_view c.args.started.path).conds ≡ false = ap has_open (sym c.atoms.ensures) ∙ sym (open_seen c.atoms.result.now) ∙ sym c.needs_form.ensures ∙ c.if-needs_form.false in
-    IfOk-weaker c.path_from.result _ _ (λ n is. start_taken c.args.here.now (start_view c.args.started) (next_view n) known (inr c.requires.outside) is) c.path_from.ensures
+    IfOk-weaker c.path_from.result _ _ (λ n is. start_taken c.args.here.now (start_view c.args.started) (next_view n) known (inr c.requires.outside.outside) is) c.path_from.ensures

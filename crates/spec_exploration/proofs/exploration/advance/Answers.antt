@@ -1,8 +1,11 @@
-use Rattle.std.proofs.Common.{◌<◌, ◌≤◌, arith, subst}
+use Rattle.std.proofs.Common.{◌<◌, ◌≤◌, ◌++◌, arith, sym, subst}
 use Rattle.std.proofs.lemmas.Result.{IfOk-weaker}
 use Rattle.gil_program.specs.Program.{prog_view}
+use Rattle.gil_syntax.specs.View.{spec_view}
 use Rattle.checked_paths.specs.View.{checking_view, entry_view, nexts_view}
 use Rattle.spec_exploration.specs.Exploring.{AreTaken, exploration_view}
+use Rattle.spec_exploration.specs.Inside.{StaysInside}
+use Rattle.spec_exploration.proofs.Inside.{taken_inside}
 use Rattle.spec_exploration.proofs.Reaching.{cut_reached, step_reached}
 use Rattle.spec_exploration.proofs.Taking.{cut_settled, cut_placed, step_settled, step_placed}
 use Rattle.spec_exploration.proofs.exploration.advance.Goals as goal
@@ -69,6 +72,22 @@ returns-clause-all_reached g c =
     let early : x.path.steps < c.args.bound = omega (arith, c.if-checking-bound.false) in
     IfOk-weaker c.take.result _ _
     (λ after taken. step_reached (prog_view c.args.prog.now) L.memory L.actions M.stands M.terms (entry_view c.args.spec.now c.args.entered.now) c.args.bound g.met.M.SymMemory.meaning x c.requires.reached c.requires.may
-    (exploration_view c.args.exploration) (exploration_view after) c.in_ok-stepped.stepped.uses ns early c.in_ok-stepped.ensures.next c.in_ok-stepped.ensures.exact
+    (exploration_view c.args.exploration) (exploration_view after) c.in_ok-stepped.stepped.uses ns early c.in_ok-stepped.ensures.next c.in_ok-stepped.ensures.exact c.in_ok-stepped.ensures.asked
     (subst (λ a. AreTaken a ns (exploration_view after)) c.in_ok-exploration.ensures taken) c.requires.all_reached)
     c.take.ensures
+
+pub returns-then-checking-bound-clause-inside :
+    goal.returns-then-checking-bound-clause-inside
+returns-then-checking-bound-clause-inside g c contained inside here =
+    IfOk-weaker c.take_one.result _ _
+    (λ after taken. taken_inside (prog_view c.args.prog.now) (spec_view c.args.spec.now) (exploration_view c.args.exploration) (exploration_view after) _ taken inside (tt, tt)) c.take_one.ensures
+
+pub returns-clause-inside : goal.returns-clause-inside
+returns-clause-inside g c contained inside here =
+    let p = prog_view c.args.prog.now in
+    let s = spec_view c.args.spec.now in
+    let stepped = c.in_ok-stepped.ensures.inside contained here in
+    let before : StaysInside p s (exploration_view c.in_ok-exploration.exploration) =
+    subst (StaysInside p s) (sym c.in_ok-exploration.ensures) (record { left = inside.left; none_used = λ i. inside.none_used i ++ stepped.0 i }) in
+    IfOk-weaker c.take.result _ _
+    (λ after taken. taken_inside p s (exploration_view c.in_ok-exploration.exploration) (exploration_view after) (nexts_view c.in_ok-stepped.stepped.nexts) taken before stepped.1) c.take.ensures

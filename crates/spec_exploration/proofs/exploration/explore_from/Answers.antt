@@ -1,9 +1,11 @@
-use Rattle.std.proofs.Common.{◌≡◌, [], ◌∷◌, ◌++◌, None, map, rules, ap, subst, ◌∙◌}
+use Rattle.std.proofs.Common.{◌≡◌, [], ◌∷◌, ◌++◌, None, map, rules, refl, ap, subst, ◌∙◌}
 use Rattle.std.proofs.lemmas.List.{map-append}
 use Rattle.gil_program.specs.Program.{prog_view}
+use Rattle.gil_syntax.specs.View.{spec_view}
 use Rattle.checked_paths.specs.Meaning.{MayGoOn}
 use Rattle.checked_paths.specs.View.{checking_view, entry_view, nexts_view}
 use Rattle.spec_exploration.specs.Exploring.{AreTaken, exploration_view}
+use Rattle.spec_exploration.proofs.Inside.{taken_inside, apart_inside}
 use Rattle.spec_exploration.proofs.Reaching.{starts_reached, all_but_last}
 use Rattle.spec_exploration.proofs.Taking.{starts_settle, starts_placed, settle_later, settled_runs, last_apart, if_none}
 use Rattle.spec_exploration.proofs.exploration.explore_from.Goals as goal
@@ -22,6 +24,7 @@ loop-turn-init g c =
       settles = starts_settle (prog_view c.args.prog.now) L.memory L.actions M.stands M.terms e c.args.bound starts first taken c.requires.placed;
       placed = starts_placed (prog_view c.args.prog.now) L.memory L.actions M.stands M.terms e c.args.bound starts first taken c.requires.placed;
       reached = starts_reached (prog_view c.args.prog.now) L.memory L.actions M.stands M.terms e c.args.bound first starts c.requires.reached taken;
+      inside = λ contained starts_in. taken_inside (prog_view c.args.prog.now) (spec_view c.args.spec.now) (record { left = []; cause = None; uses = [] }) first starts taken (record { left = tt; none_used = refl }) starts_in;
     }
 
 pub returns-in_default-clause-verified :
@@ -81,4 +84,10 @@ loop-turn-preserved g c =
           (ap (λ xs. record old { left = xs }) is) c.in_ok-exploration-2.ensures.settled c.loop-turn.invariant.settles;
       placed = c.in_ok-exploration-2.ensures.placed;
       reached = c.in_ok-exploration-2.ensures.all_reached;
+      inside = λ contained starts_in.
+          let apart = apart_inside (prog_view c.args.prog.now) (spec_view c.args.spec.now) old (map checking_view c.pop.new.self.items) x is (c.loop-turn.invariant.inside contained starts_in) in
+          c.in_ok-exploration-2.ensures.inside contained apart.0 apart.1;
     }
+
+pub returns-in_default-clause-inside : goal.returns-in_default-clause-inside
+returns-in_default-clause-inside g c contained starts_in = (c.loop-turn.invariant.inside contained starts_in).none_used

@@ -1,12 +1,19 @@
 use Rattle.gil_program.specs.Program.{prog_view}
+use Rattle.gil_syntax.specs.View.{spec_view}
+use Rattle.plain_specs.specs.Contained.{IsContained}
+use Rattle.sym_model.specs.Lists.{Each}
 use Rattle.checked_paths.specs.View.{entry_view, nexts_view}
 use Rattle.spec_exploration.specs.Exploring.{ArePlaced, AreReached, SettlesStarts, exploration_view}
+use Rattle.spec_exploration.specs.Inside.{IsNextInside, StaysInside}
 use Rattle.spec_exploration.proofs.exploration.explore_from.Given as goal
 
 abbrev pub invariant-loop-turn : goal.invariant-loop-turn
 invariant-loop-turn g l = record {
   settles : SettlesStarts (prog_view l.prog) g.M.Local.LocalMemory.memory g.M.Local.LocalMemory.actions g.M.SymMemory.stands (entry_view l.spec l.entered) l.bound (nexts_view l.fn.starts) (exploration_view l.exploration);
   placed : ArePlaced (prog_view l.prog) g.M.SymMemory.terms (entry_view l.spec l.entered) (exploration_view l.exploration);
+  inside :
+      IsContained (prog_view l.prog) (spec_view l.spec) → Each (IsNextInside (prog_view l.prog) (spec_view l.spec)) (nexts_view l.fn.starts)
+      → StaysInside (prog_view l.prog) (spec_view l.spec) (exploration_view l.exploration);
   reached :
       AreReached (prog_view l.prog) g.M.Local.LocalMemory.memory g.M.Local.LocalMemory.actions g.M.SymMemory.stands g.M.SymMemory.terms (entry_view l.spec l.entered) l.bound (exploration_view l.exploration);
 }

@@ -6,6 +6,7 @@ use Rattle.checked_paths.specs.declared.checking.Entered.{Entered}
 use Rattle.checked_paths.specs.View.{nexts_view}
 use Rattle.spec_causes.specs.Causes.{entry_for}
 use Rattle.spec_exploration.proofs.Beginnings.{first_there, starts_over, starts_cover, starts_may, starts_reached}
+use Rattle.spec_exploration.proofs.Inside.{starts_inside}
 use Rattle.spec_exploration.proofs.Meeting.{found_known, met_none, met_right}
 use Rattle.spec_exploration.proofs.Steps.{params_there}
 use Rattle.spec_exploration.proofs.exploration.explore_specification.Goals as goal
@@ -57,7 +58,7 @@ explore_from-requires-clause-reached g c =
     let begin = c.in_ok-args.ensures.begin in
     let same = params_there p L.memory (programs_are_addable p L.memory c.args.prog.now.well_made c.args.prog.now.valid c.requires.modes) s c.requires.found begin.proc begin.found in
     starts_reached p L.memory L.actions M.stands s (beginnings_view c.in_ok-args.field-0) c.in_ok-here.here M.terms M.kept c.args.prog.now.valid begin same M.plain g.met.M.SymMemory.meaning c.args.bound c.in_ok-here.ensures (nexts_view c.in_ok-starts.starts)
-    c.in_ok-args.ensures.exact c.in_ok-starts.ensures
+    c.in_ok-args.ensures.exact c.in_ok-args.ensures.origin c.in_ok-starts.ensures
 
 pub met-requires : goal.met-requires
 met-requires g c =
@@ -74,4 +75,7 @@ returns g c =
     record {
       verified = met_none c.in_ok-cause.field-0.cause entered c.in_ok-cause-2.cause _ c.in_ok-cause-2.ensures c.in_ok-cause.ensures.verified;
       causes = met_right p L.memory L.actions c.args.bound s entered c.in_ok-cause.field-0.cause c.in_ok-cause-2.cause c.in_ok-cause-2.ensures c.in_ok-cause.ensures.causes;
+      contained = λ contained.
+          c.in_ok-cause.ensures.inside contained
+          (starts_inside p s (beginnings_view c.in_ok-args.field-0) g.M.SymMemory.terms g.M.SymMemory.kept c.in_ok-args.ensures.begin c.in_ok-here.here (nexts_view c.in_ok-starts.starts) c.in_ok-starts.ensures);
     }

@@ -1,11 +1,14 @@
-use Rattle.std.proofs.Common.{refl, sym, ap, subst, ◌∙◌}
+use Rattle.std.proofs.Common.{IsTrue, refl, sym, ap, subst, ◌∙◌, true≢false}
 use Rattle.std.proofs.lemmas.Result.{IfOk-weaker}
 use Rattle.gil_program.specs.Program.{prog_view}
-use Rattle.gil_syntax.specs.View.{command_view, exprs_view, numbered_command_view}
+use Rattle.gil_syntax.specs.View.{command_view, exprs_view, numbered_command_view, spec_view}
 use Rattle.addable_programs.specs.Addable.{IsAddableCommand}
 use Rattle.addable_programs.proofs.AddableLaws.{programs_are_addable}
-use Rattle.sym_paths.specs.View.{frames_view}
-use Rattle.checked_paths.specs.View.{entry_view}
+use Rattle.plain_specs.specs.Contained.{is_told_by_itself}
+use Rattle.sym_paths.specs.View.{frames_view, path_view}
+use Rattle.checked_paths.specs.View.{entry_view, checking_view, nexts_view}
+use Rattle.spec_exploration.proofs.Inside.{told}
+use Rattle.spec_exploration.proofs.Asking.{MayAskAll, leaving_asks, all_asked, own_asked}
 use Rattle.spec_exploration.proofs.Steps.{addable_there, ins_spelled, outs_spelled, of_some_kind, machine_stays}
 use Rattle.spec_exploration.proofs.stepping.step_at.Goals as goal
 
@@ -138,7 +141,89 @@ returns-in-LoopInvariant-clause-exact g c =
     IfOk-weaker c.invariant_row.result _ _
     (λ ns row. row (numbered_command_view c.args.numbered.now) c.requires.may c.requires.at (ap command_view c.in-LoopInvariant.is) (c.in_ok-here.ensures (prog_view c.args.prog.now) c.requires.at)) c.invariant_row.ensures.exact
 
+pub returns-then-is_leaving-clause-asked : goal.returns-then-is_leaving-clause-asked
+returns-then-is_leaving-clause-asked g c =
+    let L = g.M.Local.LocalMemory in
+    let p = prog_view c.args.prog.now in
+    let n = numbered_command_view c.args.numbered.now in
+    let leaves = c.is_leaving.ensures.is c.if-is_leaving.true in
+    IfOk-weaker c.leave.result _ _
+    (λ ns row. all_asked p (checking_view c.args.checking) L.memory L.actions g.M.SymMemory.stands (entry_view c.args.spec.now c.args.entered.now) n c.requires.at (leaving_asks n.command leaves) (nexts_view ns)
+    (row n.command leaves n c.requires.may c.requires.at refl (c.in_ok-here.ensures p c.requires.at))) c.leave.ensures.exact
+
+pub returns-then-is_of_machine-clause-asked : goal.returns-then-is_of_machine-clause-asked
+returns-then-is_of_machine-clause-asked g c =
+    let M = g.M.SymMemory in
+    IfOk-weaker c.step_machine.result _ _
+    (λ ns own. own_asked (prog_view c.args.prog.now) (checking_view c.args.checking) M.stands M.terms M.asked g.M.Local.LocalMemory.actions g.met.M.SymMemory.asked_are_given (nexts_view ns) own) c.step_machine.ensures.own
+
+pub returns-in-AssertThat-clause-asked : goal.returns-in-AssertThat-clause-asked
+returns-in-AssertThat-clause-asked g c =
+    let L = g.M.Local.LocalMemory in
+    let p = prog_view c.args.prog.now in
+    let n = numbered_command_view c.args.numbered.now in
+    let same = ap command_view c.in-AssertThat.is in
+    IfOk-weaker c.assert_row.result _ _
+    (λ ns row. all_asked p (checking_view c.args.checking) L.memory L.actions g.M.SymMemory.stands (entry_view c.args.spec.now c.args.entered.now) n c.requires.at (subst MayAskAll (sym same) (λ bs a. tt)) (nexts_view ns)
+    (row n c.requires.may c.requires.at same (c.in_ok-here.ensures p c.requires.at))) c.assert_row.ensures.exact
+
+pub returns-in-Fold-clause-asked : goal.returns-in-Fold-clause-asked
+returns-in-Fold-clause-asked g c =
+    let L = g.M.Local.LocalMemory in
+    let p = prog_view c.args.prog.now in
+    let n = numbered_command_view c.args.numbered.now in
+    let same = ap command_view c.in-Fold.is in
+    IfOk-weaker c.fold_row.result _ _
+    (λ ns row. all_asked p (checking_view c.args.checking) L.memory L.actions g.M.SymMemory.stands (entry_view c.args.spec.now c.args.entered.now) n c.requires.at (subst MayAskAll (sym same) (λ bs a. tt)) (nexts_view ns)
+    (row n c.requires.may c.requires.at same (c.in_ok-here.ensures p c.requires.at))) c.fold_row.ensures.exact
+
+pub returns-in-Unfold-clause-asked : goal.returns-in-Unfold-clause-asked
+returns-in-Unfold-clause-asked g c =
+    let L = g.M.Local.LocalMemory in
+    let p = prog_view c.args.prog.now in
+    let n = numbered_command_view c.args.numbered.now in
+    let same = ap command_view c.in-Unfold.is in
+    IfOk-weaker c.unfold_row.result _ _
+    (λ ns row. all_asked p (checking_view c.args.checking) L.memory L.actions g.M.SymMemory.stands (entry_view c.args.spec.now c.args.entered.now) n c.requires.at (subst MayAskAll (sym same) (λ bs a. tt)) (nexts_view ns)
+    (row n c.requires.may c.requires.at same (c.in_ok-here.ensures p c.requires.at))) c.unfold_row.ensures.exact
+
+pub returns-in-LoopInvariant-clause-asked : goal.returns-in-LoopInvariant-clause-asked
+returns-in-LoopInvariant-clause-asked g c =
+    let L = g.M.Local.LocalMemory in
+    let p = prog_view c.args.prog.now in
+    let n = numbered_command_view c.args.numbered.now in
+    let same = ap command_view c.in-LoopInvariant.is in
+    IfOk-weaker c.invariant_row.result _ _
+    (λ ns row. all_asked p (checking_view c.args.checking) L.memory L.actions g.M.SymMemory.stands (entry_view c.args.spec.now c.args.entered.now) n c.requires.at (subst MayAskAll (sym same) (λ bs a. tt)) (nexts_view ns)
+    (row n c.requires.may c.requires.at same (c.in_ok-here.ensures p c.requires.at))) c.invariant_row.ensures.exact
+
 pub unreachable-requires : goal.unreachable-requires
 unreachable-requires g c =
     of_some_kind c.args.numbered.now.command c.requires.no_call (c.is_leaving.ensures.other c.if-is_leaving.false) (sym c.is_of_machine.ensures ∙ c.if-is_of_machine.false)
     c.in_default.not-Fold c.in_default.not-Unfold c.in_default.not-AssertThat c.in_default.not-LoopInvariant
+
+pub returns-then-is_leaving-clause-origin : goal.returns-then-is_leaving-clause-origin
+returns-then-is_leaving-clause-origin g c contained inside = c.leave.ensures.origin
+
+pub returns-then-is_of_machine-clause-origin : goal.returns-then-is_of_machine-clause-origin
+returns-then-is_of_machine-clause-origin g c contained inside = c.step_machine.ensures.origin
+
+pub returns-in-AssertThat-clause-origin : goal.returns-in-AssertThat-clause-origin
+returns-in-AssertThat-clause-origin g c contained inside =
+    let told = told (prog_view c.args.prog.now) (spec_view c.args.spec.now) contained (path_view c.args.checking.path) (numbered_command_view c.args.numbered.now) c.requires.at inside in
+    absurd (true≢false (sym (subst (λ k. IsTrue (is_told_by_itself k)) (ap command_view c.in-AssertThat.is) told)))
+
+pub returns-in-Fold-clause-origin : goal.returns-in-Fold-clause-origin
+returns-in-Fold-clause-origin g c contained inside =
+    let told = told (prog_view c.args.prog.now) (spec_view c.args.spec.now) contained (path_view c.args.checking.path) (numbered_command_view c.args.numbered.now) c.requires.at inside in
+    absurd (true≢false (sym (subst (λ k. IsTrue (is_told_by_itself k)) (ap command_view c.in-Fold.is) told)))
+
+pub returns-in-Unfold-clause-origin : goal.returns-in-Unfold-clause-origin
+returns-in-Unfold-clause-origin g c contained inside =
+    let told = told (prog_view c.args.prog.now) (spec_view c.args.spec.now) contained (path_view c.args.checking.path) (numbered_command_view c.args.numbered.now) c.requires.at inside in
+    absurd (true≢false (sym (subst (λ k. IsTrue (is_told_by_itself k)) (ap command_view c.in-Unfold.is) told)))
+
+pub returns-in-LoopInvariant-clause-origin : goal.returns-in-LoopInvariant-clause-origin
+returns-in-LoopInvariant-clause-origin g c contained inside =
+    let told = told (prog_view c.args.prog.now) (spec_view c.args.spec.now) contained (path_view c.args.checking.path) (numbered_command_view c.args.numbered.now) c.requires.at inside in
+    absurd (true≢false (sym (subst (λ k. IsTrue (is_told_by_itself k)) (ap command_view c.in-LoopInvariant.is) told)))

@@ -1,0 +1,26 @@
+use Rattle.gil_program.specs.Program.{prog_view}
+use Rattle.gil_syntax.specs.View.{spec_view}
+use Rattle.checked_paths.proofs.Exact.{if_ok_both}
+use Rattle.checked_paths.specs.View.{checking_view, entry_view, nexts_view}
+use Rattle.spec_exploration.proofs.Inside.{command_there, nexts_inside}
+use Rattle.spec_exploration.proofs.stepping.check_step.Goals as goal
+
+pub returns-then-is_call-clause-inside : goal.returns-then-is_call-clause-inside
+returns-then-is_call-clause-inside g c contained inside =
+    let p = prog_view c.args.prog.now in
+    let x = checking_view c.args.checking in
+    let (n, at) = command_there p x.path.stack c.requires.may.placed in
+    if_ok_both _ _ _ c.step_call.result
+    (λ st nexts both.
+    (both.0, nexts_inside p (spec_view c.args.spec.now) contained g.M.Local.LocalMemory.actions g.M.SymMemory.terms (entry_view c.args.spec.now c.args.entered.now) x n at inside (nexts_view st.nexts) nexts.follow both.1))
+    c.step_call.ensures.next (c.step_call.ensures.unspecified contained inside)
+
+pub returns-clause-inside : goal.returns-clause-inside
+returns-clause-inside g c contained inside =
+    let p = prog_view c.args.prog.now in
+    let x = checking_view c.args.checking in
+    let (n, at) = command_there p x.path.stack c.requires.may.placed in (
+      c.new-uses.ensures,
+      nexts_inside p (spec_view c.args.spec.now) contained g.M.Local.LocalMemory.actions g.M.SymMemory.terms (entry_view c.args.spec.now c.args.entered.now) x n at inside (nexts_view c.in_ok-nexts.nexts)
+          c.in_ok-nexts.ensures.next.follow (c.in_ok-nexts.ensures.origin contained inside),
+    )
