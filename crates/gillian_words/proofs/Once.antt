@@ -8,8 +8,8 @@ use Rattle.gil_lexer.proofs.LiteralLaws.{literal_once}
 use Rattle.gillian_words.specs.declared.tasks.Language.{Language}
 use Rattle.gillian_words.specs.declared.tasks.Language.TheVariants.{GilRecord, GilBlock, GilObject, While, Clike, Object}
 use Rattle.gillian_words.specs.declared.scan.Scan.TheVariants.{Outside}
-use Rattle.gillian_words.specs.Asked.{AskFor, Asks, AsksTask, Given, IsOption, SpellsBound, SpellsEntry}
-use Rattle.gillian_words.specs.Tasks.{PureTask, run, test, check, infer, compile, solve, PureRequest, mode_word, language_word}
+use Rattle.gillian_words.specs.Asked.{AskFor, Asks, AsksTask, Given, IsGiven, IsOption, SpellsBound, SpellsEntry, SpellsSize}
+use Rattle.gillian_words.specs.Tasks.{PureTask, run, test, check, infer, compile, solve, sweep, PureRequest, mode_word, language_word}
 use Rattle.gillian_words.specs.Inputs.{comma, boolean_word, SpellsInput, SpellsInputs, SpellsNumber, SpellsSome}
 use Rattle.gillian_words.specs.Pieces.{piece_len}
 use Rattle.gillian_words.proofs.Scans.{first_piece, first_spelled, last_piece, more_spelled}
@@ -106,6 +106,10 @@ one_option spells default None x y once h k = h ∙ sym k
 
 one_bound : (word : List ℕ) (m n : ℕ) → SpellsBound word m → SpellsBound word n → m ≡ n
 one_bound word m n h k = h.2 ∙ sym k.2
+
+one_size : (given : Option (List ℕ)) (m n : ℕ) → IsGiven SpellsSize given m → IsGiven SpellsSize given n → m ≡ n
+one_size (Some word) m n h k = h.2 ∙ sym k.2
+one_size None m n h k = absurd h
 
 one_entry : (word e f : List ℕ) → SpellsEntry word e → SpellsEntry word f → e ≡ f
 one_entry word e f h k = h.1 ∙ sym k.1
@@ -233,6 +237,25 @@ asks_once g solve (infer l' e' n') h k =
     let is = one_mode g solve (infer l' e' n') h k in absurd (let first : 115 ≡ 105 = ap (λ bytes. get_or bytes 0 0) is in omega arith)
 asks_once g (infer l e n) solve h k =
     let is = one_mode g (infer l e n) solve h k in absurd (let first : 105 ≡ 115 = ap (λ bytes. get_or bytes 0 0) is in omega arith)
+asks_once g (sweep m) (sweep n) h k = ap sweep (one_size g.second m n h.second k.second)
+asks_once g (sweep m) (run l' e' n' vs') h k = let is = one_mode g _ _ h k in cc
+asks_once g (sweep m) (test l' e' n') h k = let is = one_mode g _ _ h k in cc
+asks_once g (sweep m) (compile l') h k = let is = one_mode g _ _ h k in cc
+asks_once g (run l e n vs) (sweep m) h k = let is = one_mode g _ _ h k in cc
+asks_once g (test l e n) (sweep m) h k = let is = one_mode g _ _ h k in cc
+asks_once g (compile l) (sweep m) h k = let is = one_mode g _ _ h k in cc
+asks_once g (sweep m) (check l' n') h k =
+    let is = one_mode g (sweep m) (check l' n') h k in absurd (let first : 115 ≡ 99 = ap (λ bytes. get_or bytes 0 0) is in omega arith)
+asks_once g (check l n) (sweep m) h k =
+    let is = one_mode g (check l n) (sweep m) h k in absurd (let first : 99 ≡ 115 = ap (λ bytes. get_or bytes 0 0) is in omega arith)
+asks_once g (sweep m) (infer l' e' n') h k =
+    let is = one_mode g (sweep m) (infer l' e' n') h k in absurd (let first : 115 ≡ 105 = ap (λ bytes. get_or bytes 0 0) is in omega arith)
+asks_once g (infer l e n) (sweep m) h k =
+    let is = one_mode g (infer l e n) (sweep m) h k in absurd (let first : 105 ≡ 115 = ap (λ bytes. get_or bytes 0 0) is in omega arith)
+asks_once g (sweep m) solve h k =
+    let is = one_mode g (sweep m) solve h k in absurd (let second : 119 ≡ 111 = ap (λ bytes. get_or bytes 1 0) is in omega arith)
+asks_once g solve (sweep m) h k =
+    let is = one_mode g solve (sweep m) h k in absurd (let second : 111 ≡ 119 = ap (λ bytes. get_or bytes 1 0) is in omega arith)
 
 abbrev request_of : PureTask → Bool → PureRequest
 request_of task json = record { task = task; json = json }

@@ -6,11 +6,15 @@ use Rattle.gil_values.specs.Pure.{PureValue}
 use Rattle.gil_lexer.specs.Spelling.{IsName}
 use Rattle.gillian_words.specs.Inputs.{SpellsInputs}
 use Rattle.gillian_words.specs.Line.{AreTaken, matched}
-use Rattle.gillian_words.specs.Tasks.{PureTask, run, test, check, infer, compile, solve, PureRequest, has_report, mode_word, second_word}
+use Rattle.gillian_words.specs.Tasks.{PureTask, run, test, check, infer, compile, solve, sweep, PureRequest, has_report, language_word, mode_word}
 
 -- one to five digits, and at most 10,000
 abbrev pub SpellsBound : List ℕ → ℕ → Type 0
 SpellsBound word n = IsNumeral 10 word × (length word ≤ 5) × (n ≡ digits_value 10 word) × (n ≤ 10000)
+
+-- one to four digits, a number from 1 to 1,000
+abbrev pub SpellsSize : List ℕ → ℕ → Type 0
+SpellsSize word n = IsNumeral 10 word × (length word ≤ 4) × (n ≡ digits_value 10 word) × (1 ≤ n) × (n ≤ 1000)
 
 -- the form of a name, reserved or not
 abbrev pub SpellsEntry : List ℕ → List ℕ → Type 0
@@ -55,6 +59,21 @@ given_by words = record {
   json = matched words (codes "json");
 }
 
+-- a word is given, and it spells the value
+abbrev pub IsGiven : {X : Type 0} → (List ℕ → X → Type 0) → Option (List ℕ) → X → Type 0
+IsGiven spells (Some word) x = spells word x
+IsGiven spells None x = ⊥
+
+-- The second word names the language of the programs, or that of atoms where these are solved, or spells the size of a made program.
+abbrev pub IsSecond : Option (List ℕ) → PureTask → Type 0
+IsSecond given (run language entry bound inputs) = given ≡ Some (language_word language)
+IsSecond given (test language entry bound) = given ≡ Some (language_word language)
+IsSecond given (check language bound) = given ≡ Some (language_word language)
+IsSecond given (infer language entry bound) = given ≡ Some (language_word language)
+IsSecond given (compile language) = given ≡ Some (language_word language)
+IsSecond given solve = given ≡ Some (codes "atoms")
+IsSecond given (sweep size) = IsGiven SpellsSize given size
+
 -- The options with a value that a mode takes have these values, and no other such option is given.
 abbrev pub HasOptions : Given → PureTask → Type 0
 HasOptions g (run language entry bound inputs) = IsEntryOption g.entry entry × IsBoundOption g.bound bound × IsInputsOption g.inputs inputs
@@ -63,11 +82,12 @@ HasOptions g (check language bound) = (g.entry ≡ None) × IsBoundOption g.boun
 HasOptions g (infer language entry bound) = IsEntryOption g.entry entry × IsBoundOption g.bound bound × (g.inputs ≡ None)
 HasOptions g (compile language) = (g.entry ≡ None) × (g.bound ≡ None) × (g.inputs ≡ None)
 HasOptions g solve = (g.entry ≡ None) × (g.bound ≡ None) × (g.inputs ≡ None)
+HasOptions g (sweep size) = (g.entry ≡ None) × (g.bound ≡ None) × (g.inputs ≡ None)
 
 -- what is given asks for this, the form of the report aside
 pub record AsksTask (g : Given) (t : PureTask) : Type 0 where
   pub mode : g.mode ≡ Some (mode_word t)
-  pub second : g.second ≡ Some (second_word t)
+  pub second : IsSecond g.second t
   pub options : HasOptions g t
 
 -- what is given asks for this: for JSON where the flag `--json` is given, which the modes with a report take

@@ -5,7 +5,8 @@ use Rattle.gillian_words.specs.declared.tasks.Language.{Language}
 use Rattle.gillian_words.specs.declared.tasks.Language.TheVariants.{GilRecord, GilBlock, GilObject, While, Clike, Object}
 
 -- A run of an entry within a bound on inputs, a test of an entry within a bound, a check of specifications within a
--- bound, the specifications of an entry within a bound, the program of a text, and the solution of a list of atoms.
+-- bound, the specifications of an entry within a bound, the program of a text, the solution of a list of atoms, and a test of a made program
+-- of a size.
 pub data PureTask : Type 0 where
   run : Language → List ℕ → ℕ → List PureValue → PureTask
   test : Language → List ℕ → ℕ → PureTask
@@ -13,6 +14,7 @@ pub data PureTask : Type 0 where
   infer : Language → List ℕ → ℕ → PureTask
   compile : Language → PureTask
   solve : PureTask
+  sweep : ℕ → PureTask
 
 -- what is asked for, and whether its report is to be JSON
 pub record PureRequest : Type 0 where
@@ -27,6 +29,17 @@ has_report (check language bound) = true
 has_report (infer language entry bound) = true
 has_report (compile language) = false
 has_report solve = true
+has_report (sweep size) = true
+
+-- a made program is none that a source gives
+abbrev pub reads_source : PureTask → Bool
+reads_source (run language entry bound inputs) = true
+reads_source (test language entry bound) = true
+reads_source (check language bound) = true
+reads_source (infer language entry bound) = true
+reads_source (compile language) = true
+reads_source solve = true
+reads_source (sweep size) = false
 
 abbrev pub language_word : Language → List ℕ
 language_word GilRecord = codes "gil-record"
@@ -44,12 +57,4 @@ mode_word (check language bound) = codes "check"
 mode_word (infer language entry bound) = codes "infer"
 mode_word (compile language) = codes "compile"
 mode_word solve = codes "solve"
-
--- the second word: the language of the programs, and that of atoms where these are solved
-abbrev pub second_word : PureTask → List ℕ
-second_word (run language entry bound inputs) = language_word language
-second_word (test language entry bound) = language_word language
-second_word (check language bound) = language_word language
-second_word (infer language entry bound) = language_word language
-second_word (compile language) = language_word language
-second_word solve = codes "atoms"
+mode_word (sweep size) = codes "sweep"

@@ -5,11 +5,11 @@ use Rattle.clap.specs.Words.{found_of, first_value}
 use Rattle.clap.specs.declared.parser.matches.ArgMatches.{ArgMatches}
 use Rattle.gil_values.specs.View.{values_view}
 use Rattle.gillian_words.specs.declared.tasks.Task.{Task}
-use Rattle.gillian_words.specs.declared.tasks.Task.TheVariants.{Run, Test, Check, Infer, Compile, Solve}
+use Rattle.gillian_words.specs.declared.tasks.Task.TheVariants.{Run, Test, Check, Infer, Compile, Solve, Sweep}
 use Rattle.gillian_words.specs.declared.line.Given.{Given as Matches}
 use Rattle.gillian_words.specs.Asked.{Given}
 use Rattle.gillian_words.specs.declared.tasks.Request.{Request}
-use Rattle.gillian_words.specs.Tasks.{PureTask, run, test, check, infer, compile, solve, PureRequest}
+use Rattle.gillian_words.specs.Tasks.{PureTask, run, test, check, infer, compile, solve, sweep, PureRequest}
 
 abbrev pub task_view : Task → PureTask
 task_view (Run language entry bound inputs) = run language entry bound.steps (values_view inputs)
@@ -18,6 +18,7 @@ task_view (Check language bound) = check language bound.steps
 task_view (Infer language entry bound) = infer language entry bound.steps
 task_view (Compile language) = compile language
 task_view Solve = solve
+task_view (Sweep size) = sweep size.assertions
 
 abbrev pub request_view : Request → PureRequest
 request_view r = record { task = task_view r.task; json = r.json }

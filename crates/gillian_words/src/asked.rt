@@ -8,7 +8,7 @@ ghost use Rattle.gillian_words.specs.Tasks.{PureRequest, PureTask, language_word
 ghost use Rattle.gillian_words.specs.View.{given_view, request_view, task_view};
 
 use crate::line::{Given, match_words};
-use crate::options::{bound_option, entry_option, inputs_option, no_option};
+use crate::options::{bound_option, entry_option, given_size, inputs_option, no_option};
 use crate::tasks::{Language, Request, Task};
 use std::alloc::{AllocError, Global};
 use thiserror::Error;
@@ -74,6 +74,7 @@ fn task_of(alloc: Global, given: &Given) -> Result<Task, WordsFault>
         "infer" => infer_of(alloc, given),
         "compile" => compile_of(given),
         "solve" => solve_of(given),
+        "sweep" => sweep_of(given),
         _ => Err(WordsFault::Refused),
     }
 }
@@ -167,6 +168,19 @@ fn solve_of(given: &Given) -> Result<Task, WordsFault>
     no_option(given.bound)?;
     no_option(given.inputs)?;
     Ok(Task::Solve)
+}
+
+/// The sweep that is asked for.
+fn sweep_of(given: &Given) -> Result<Task, WordsFault>
+    requires mode { option_map (λ s. s.now) given.now.mode ≡ Some (codes "sweep") }
+    ensures asked { IfOk result (λ task. AsksTask (given_view given.now) (task_view task)) }
+    ensures refused { IsErrOf result WordsFault.Refused → (t : PureTask) → AsksTask (given_view given.now) t → ⊥ }
+{
+    let size = given_size(given.second)?;
+    no_option(given.entry)?;
+    no_option(given.bound)?;
+    no_option(given.inputs)?;
+    Ok(Task::Sweep { size })
 }
 
 /// The language that a word names.

@@ -11,4 +11,4 @@ mod tasks;
 
 pub use asked::{WordsFault, read_words};
 pub use laws::words_ask_for_one_thing;
-pub use tasks::{Bound, Language, Request, Task};
+pub use tasks::{Bound, Language, Request, Size, Task};

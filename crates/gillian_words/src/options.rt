@@ -1,14 +1,14 @@
-//! What the options spell.
+//! What the options and the size of a made program spell.
 ghost use Rattle.std.specs.Prelude.{◌≡◌, ◌≢◌, ◌≤◌, ℕ, List, None, IfOk, IfSome, IfNone, IsErrOf, OnOk};
 ghost use Rattle.std.specs.Option.{option_map};
 ghost use Rattle.gil_values.specs.Pure.{PureValue};
 ghost use Rattle.gil_values.specs.View.{values_view};
-ghost use Rattle.gillian_words.specs.Asked.{IsBoundOption, IsEntryOption, IsInputsOption, SpellsBound, SpellsEntry};
+ghost use Rattle.gillian_words.specs.Asked.{IsBoundOption, IsEntryOption, IsGiven, IsInputsOption, SpellsBound, SpellsEntry, SpellsSize};
 ghost use Rattle.gillian_words.specs.Inputs.{SpellsInputs};
 
 use crate::asked::WordsFault;
 use crate::inputs::inputs_of;
-use crate::tasks::Bound;
+use crate::tasks::{Bound, Size};
 use gil_lexer::is_name;
 use gil_values::{Text, Values};
 use std::alloc::{AllocError, Global};
@@ -38,6 +38,31 @@ pub fn bound_option(word: Option<&str>) -> Result<Bound, WordsFault>
             Some(bound) => Ok(bound),
             None => Err(WordsFault::Refused),
         },
+    }
+}
+
+/// The size of a made program: one to four digits, from 1 to 1,000.
+fn size_of(word: &str) -> Option<Size>
+    ensures some { IfSome result (λ size. SpellsSize word.now size.assertions) }
+    ensures none { IfNone result ((n : ℕ) → SpellsSize word.now n → ⊥) }
+{
+    if word.len() > 4 || word.as_bytes().first() == Some(&b'+') {
+        return None;
+    }
+    match word.parse::<u32>() {
+        Ok(assertions) if 1 <= assertions && assertions <= 1000 => Some(Size { assertions }),
+        _ => None,
+    }
+}
+
+/// The size that is given.
+pub fn given_size(word: Option<&str>) -> Result<Size, WordsFault>
+    ensures spelled { IfOk result (λ size. IsGiven SpellsSize (option_map (λ s. s.now) word.entry) size.assertions) }
+    ensures refused { IsErrOf result WordsFault.Refused → (n : ℕ) → IsGiven SpellsSize (option_map (λ s. s.now) word.entry) n → ⊥ }
+{
+    match word.and_then(size_of) {
+        Some(size) => Ok(size),
+        None => Err(WordsFault::Refused),
     }
 }
 

@@ -63,6 +63,14 @@ pub struct Bound {
     pub ghost within: { steps ≤ 10000 },
 }
 
+/// How many assertions a made program has: from 1 to 1,000.
+#[derive(Clone, Copy, Debug)]
+pub struct Size {
+    pub assertions: u32,
+    pub ghost least: { 1 ≤ assertions },
+    pub ghost most: { assertions ≤ 1000 },
+}
+
 /// What is asked for: a mode, with what it works on and its options. Contracts see it as its pure data, by `task_view`.
 #[derive(Debug, Drop)]
 pub enum Task {
@@ -96,6 +104,10 @@ pub enum Task {
     },
     /// A solution of a list of atoms.
     Solve,
+    /// A test of a made program.
+    Sweep {
+        size: Size,
+    },
 }
 
 /// What words ask for, with the form of its report. Contracts see it as its pure data, by `request_view`.
@@ -108,7 +120,7 @@ pub struct Request {
 
 impl Task {
     ghost use Rattle.std.specs.Prelude.{◌≡◌};
-    ghost use Rattle.gillian_words.specs.Tasks.{has_report};
+    ghost use Rattle.gillian_words.specs.Tasks.{has_report, reads_source};
     ghost use Rattle.gillian_words.specs.View.{task_view};
 
     /// Whether a report is written of it. A program is none.
@@ -121,6 +133,22 @@ impl Task {
             | Task::Test { .. }
             | Task::Check { .. }
             | Task::Infer { .. }
+            | Task::Solve
+            | Task::Sweep { .. } => true,
+        }
+    }
+
+    /// Whether it is done with the text of the source. A made program needs none.
+    pub fn reads_source(&self) -> bool
+        ensures { result ≡ reads_source (task_view self.now) }
+    {
+        match self {
+            Task::Sweep { .. } => false,
+            Task::Run { .. }
+            | Task::Test { .. }
+            | Task::Check { .. }
+            | Task::Infer { .. }
+            | Task::Compile { .. }
             | Task::Solve => true,
         }
     }
