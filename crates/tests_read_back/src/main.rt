@@ -39,10 +39,10 @@ fn read_reports(rt: &HostRuntime, bytes: &[u8]) -> io::Result<ExitCode> {
             println!(rt; "piece {number} has another form")?;
             return Ok(ExitCode::from(1));
         };
-        if is_report(rt.alloc(), report)? {
-            read = read.saturating_add(1);
-        } else {
-            println!(rt; "report {number} isn't read back")?;
+        match is_report(rt.alloc(), report) {
+            Ok(true) => read = read.saturating_add(1),
+            Ok(false) => println!(rt; "report {number} isn't read back")?,
+            Err(_) => println!(rt; "report {number} isn't read for want of memory")?,
         }
         number = number.saturating_add(1);
         rest = behind;

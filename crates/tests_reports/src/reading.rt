@@ -1,9 +1,11 @@
 //! Reports that are read back from their lines, and lines that are nearly those of a report.
 use crate::parts::read;
 use gil_report::text;
+use report_json::{DEEPEST_REPORT, read_either};
 use report_text::read_report;
 use std::alloc::Global;
 use std::test::Fail;
+use value_text::ReadFault;
 
 /// Whether the lines are read, as a report that has these lines.
 fn is_read(alloc: Global, lines: &str) -> Result<bool, Fail> {
@@ -14,6 +16,42 @@ fn is_read(alloc: Global, lines: &str) -> Result<bool, Fail> {
         }
         None => Ok(false),
     }
+}
+
+/// The lines of a run that returns these pieces, each so many times.
+fn returned(alloc: Global, pieces: &[(&str, usize)]) -> Result<String, Fail> {
+    let mut lines = String::from_str(
+        alloc,
+        "gillian run gil-record entry main bound 1000\nreturned ",
+    )?;
+    for (piece, times) in pieces {
+        for _ in 0..*times {
+            lines.push_str(piece)?;
+        }
+    }
+    lines.push_str("\n")?;
+    Ok(lines)
+}
+
+#[test]
+fn depth(rt: HostRuntime) -> Result<(), Fail> {
+    let alloc = rt.alloc();
+    let more = DEEPEST_REPORT.saturating_add(1);
+    let deepest = returned(alloc, &[("[", DEEPEST_REPORT), ("]", DEEPEST_REPORT)])?;
+    let deeper = returned(alloc, &[("[", more), ("]", more)])?;
+    let literal = returned(
+        alloc,
+        &[("\"", 1), ("[", more), ("\\\"", 1), ("(", more), ("\"", 1)],
+    )?;
+    assert!(rt; read(read_either(alloc, deepest.as_bytes()))?.is_some());
+    assert!(rt;
+        matches!(
+            read_either(alloc, deeper.as_bytes()),
+            Err(ReadFault::Memory)
+        )
+    );
+    assert!(rt; read(read_either(alloc, literal.as_bytes()))?.is_some());
+    Ok(())
 }
 
 #[test]
