@@ -9,7 +9,7 @@ use Rattle.mem_model.specs.Actions.{Actions}
 use Rattle.assert_logic.specs.declared.checking.ModeItem.{ModeItem}
 use Rattle.assert_logic.specs.declared.checking.ModeKind.{ModeKind}
 use Rattle.assert_logic.specs.Modes.{HasModes, IsNamedModeFault}
-use Rattle.checked_paths.specs.Causes.{PureCause as PureMet, cause_view}
+use Rattle.checked_paths.specs.Causes.{PureCause as PureMet, failure, fault, bound as cut_off, undecided, cause_view}
 use Rattle.checked_paths.specs.Pure.{PureEntry}
 use Rattle.checked_runs.specs.Specifications.{SpecHolds}
 use Rattle.solver_proof.specs.View.{proof_view}
@@ -18,13 +18,14 @@ use Rattle.spec_answers.specs.declared.answers.Verdict.{Verdict}
 use Rattle.spec_answers.specs.Holding as holding
 use Rattle.spec_answers.specs.Holding.{AreTrue, is_verified, is_verified_name}
 use Rattle.spec_causes.specs.declared.meeting.Met.{Met}
-use Rattle.spec_causes.specs.Causes.{entry_for}
+use Rattle.spec_causes.specs.Causes.{entry_for, IsCauseOf}
 use Rattle.spec_checker.specs.Answers.{AnswerEach, AreCauses, IsCauseIfUnproved, Shows}
+use Rattle.spec_checker.specs.Deciding.{IsDoubt, ShowsNoFault, AreDecided}
 use Rattle.spec_checker.proofs.Found.{found_at}
-use Rattle.gil_report.specs.Pure.{PureAnswer, PureCause, fails, lacks, undecided_cause, depends}
+use Rattle.gil_report.specs.Pure.{PureAnswer, unproved, PureCause, fails, lacks, undecided_cause, depends}
 use Rattle.report_causes.specs.Telling.{TellsCause}
 use Rattle.report_causes.proofs.Right.{can_be_told, told_right, no_dependence_told}
-use Rattle.gillian_core.specs.Checked.{AreRightAnswers, CanEachBeTold, CanVerdictBeTold, IsLed, IsOwn, IsRightAnswer, IsReportOf, LeadsToCause, has_cause, depends_on, ReportsEach}
+use Rattle.gillian_core.specs.Checked.{AreRightAnswers, CanEachBeTold, CanVerdictBeTold, IsLed, IsOwn, IsRightAnswer, IsReportOf, LeadsToCause, has_cause, depends_on, ReportsEach, TellsNoFault}
 
 some_not_none : {A : Type 0} {x : A} → Some x ≡ None → ⊥
 some_not_none is = cc
@@ -178,7 +179,8 @@ module _ (ss : List PureSpec) (answers : List (SpecAnswer Met)) (many : length a
 -- ---- what is reported is right
 
 module _ (memory : MemoryName) (m : Actions) (bound : ℕ) (p : PureParts) (valid : IsValid p) (answers : List (SpecAnswer Met))
-    (answered : AnswerEach p.specs answers) (true_ones : AreTrue p memory m answers) (causes : AreCauses p memory m bound answers) where
+    (answered : AnswerEach p.specs answers) (true_ones : AreTrue p memory m answers) (causes : AreCauses p memory m bound answers)
+    (decided : AreDecided p memory m bound answers) where
   holds_at : (k : ℕ) (s : PureSpec) (x : SpecAnswer Met) → slice_get p.specs k ≡ Some s → slice_get answers k ≡ Some x → is_verified x.verdict ≡ true
       → SpecHolds p memory m s
   holds_at k s x at_s at_x is =
@@ -202,6 +204,27 @@ module _ (memory : MemoryName) (m : Actions) (bound : ℕ) (p : PureParts) (vali
     right_by s name (Verdict.DependsOn g) a same holds shows cause is =
         subst (λ (b : PureAnswer). IsRight s b) (sym is) (same, tt, led_reported p.specs answers answered.as_many reported reports g shows)
 
+    abbrev NoFault : PureSpec → PureAnswer → Type 0
+    NoFault s a = TellsNoFault memory m bound p reported s a
+
+    doubt_told : (s : PureSpec) (name : List ℕ) (e : PureEntry) (met : PureMet) (told : PureCause) → IsDoubt met → IsCauseOf p memory m s bound e met → TellsCause s e met told
+        → NoFault s (unproved name told)
+    doubt_told s name e (undecided reason shown) (undecided_cause q) doubt cause asked =
+        record { entry = e; of_spec = cause.of_spec; reason = reason; shown = shown; asked = asked; is_open = cause.runs }
+    doubt_told s name e (undecided reason shown) (fails v w) doubt cause tells = absurd tells
+    doubt_told s name e (undecided reason shown) (lacks lack w) doubt cause tells = absurd tells
+    doubt_told s name e (undecided reason shown) (depends g) doubt cause tells = absurd tells
+    doubt_told s name e (failure t shown) told doubt cause tells = absurd doubt
+    doubt_told s name e (fault kind shown) told doubt cause tells = absurd doubt
+    doubt_told s name e (cut_off shown) told doubt cause tells = absurd doubt
+
+    no_fault_by : (s : PureSpec) (name : List ℕ) (v : Verdict Met) (a : PureAnswer) → ShowsNoFault v → IsCauseIfUnproved p memory m bound s v → IsReportOf s name v a → NoFault s a
+    no_fault_by s name Verdict.Verified a shows cause is = subst (λ (b : PureAnswer). NoFault s b) (sym is) tt
+    no_fault_by s name (Verdict.Vacuous proof) a shows cause is = subst (λ (b : PureAnswer). NoFault s b) (sym is) tt
+    no_fault_by s name (Verdict.Unproved met) a shows cause (told, (is, tells)) =
+        subst (λ (b : PureAnswer). NoFault s b) (sym is) (doubt_told s name (entry_for s met.entered) (cause_view met.cause) told shows cause tells)
+    no_fault_by s name (Verdict.DependsOn g) a shows cause is = absurd shows
+
     pub right_answers : AreRightAnswers memory m bound p reported
     right_answers = record {
       as_many = reports.as_many;
@@ -210,4 +233,7 @@ module _ (memory : MemoryName) (m : Actions) (bound : ℕ) (p : PureParts) (vali
           let answer = answered.each_answered k s x at_s at_x in
           right_by s x.name x.verdict a answer.same_name (λ is. holds_at k s x at_s at_x is) answer.shows (causes.each_right k s x at_s at_x)
           (reports.each_reported k s x a at_s at_x at_a);
+      contained = λ k s a at_s at_a contained alone.
+          let (x, at_x) = at_place answers p.specs k s answered.as_many at_s in
+          no_fault_by s x.name x.verdict a (decided.each_decided k s x at_s at_x contained alone) (causes.each_right k s x at_s at_x) (reports.each_reported k s x a at_s at_x at_a);
     }

@@ -1,5 +1,5 @@
 -- How a call ends, from what its stages leave.
-use Rattle.std.proofs.Common.{◌≡◌, ◌⊎◌, inl, inr, ◌≤◌, ◌<◌, ◌++◌, ℕ, List, length, length-append, Option, Some, None, IfSome, refl, sym}
+use Rattle.std.proofs.Common.{◌≡◌, ◌⊎◌, inl, inr, ◌≤◌, ◌<◌, ◌++◌, ℕ, List, [], length, length-append, Option, Some, None, IfSome, refl, sym}
 use Rattle.std.proofs.Common.{◌∙◌, ap, subst, arith, Bool, true, false, if◌then◌else◌}
 use Rattle.std.proofs.lemmas.Option.{same_Some}
 use Rattle.std.specs.List.{list_all}
@@ -9,15 +9,16 @@ use Rattle.gil_io.specs.Reading.{Takes}
 use Rattle.gil_io.specs.Writing.{IsUsedUp}
 use Rattle.gil_text.specs.declared.refused.Refused.{Refused}
 use Rattle.gillian_words.specs.Asked.{AskFor}
-use Rattle.gillian_words.specs.Tasks.{PureRequest}
+use Rattle.gillian_words.specs.Tasks.{PureTask, run, test, check, infer, compile, solve, sweep, PureRequest, reads_source}
 use Rattle.gillian_core.specs.declared.status.Status.{Status}
 use Rattle.gillian_core.specs.declared.status.Status.TheVariants.{Good, Found, Words, Text, ReadFault, WriteFault, Memory, TooLarge}
 use Rattle.gillian_core.specs.Accepted.{IsAccepted}
 use Rattle.gillian_core.specs.Outcomes.{Call, IsReported, Ends, written, write_failed, read_failed, out_of_memory, MayWrite, IsRead}
-use Rattle.gillian_core.specs.Outcomes.{WordsFit, IsRefused, IsRight, OfBytes, Refuses, Reports, most_bytes}
+use Rattle.gillian_core.specs.Outcomes.{WordsFit, IsReadFor, IsRefused, IsRight, OfBytes, Refuses, Reports, most_bytes}
 use Rattle.gillian_core.specs.Outputs.{PureOutput, a_report, a_program, is_good, output_status, output_text}
 use Rattle.gillian_core.specs.Finishing.{Finishes, Answers, IsResponse, Told}
 use Rattle.gillian_core.specs.Refusals.{IsRefusal, refusal_line}
+use Rattle.gillian_core.specs.Right.{IsRightOutput}
 
 -- what the sink of a call tells
 abbrev told_of : Call → Told
@@ -29,32 +30,78 @@ ends_of_finish c status result text may (inl w) = subst (Ends c) (sym w.0) (writ
 ends_of_finish c status result text may (inr w) = subst (Ends c) (sym w.0) (write_failed status text may w.1 w.2 w.3)
 
 -- an output is written with a status of its own
-by_goodness : (c : Call) (good : Bool) (text : List ℕ) → IsRead c → Reports c (if good then Good else Found) text → MayWrite c (if good then Good else Found) text
-by_goodness c true text read reports = (read, reports)
-by_goodness c false text read reports = (read, reports)
+by_goodness : (c : Call) (good : Bool) (text : List ℕ) → Reports c (if good then Good else Found) text → MayWrite c (if good then Good else Found) text
+by_goodness c true text reports = reports
+by_goodness c false text reports = reports
 
-may_report : (c : Call) (output : PureOutput) (text : List ℕ) → IsRead c → Reports c (output_status output) text → MayWrite c (output_status output) text
-may_report c (a_report r) text read reports = by_goodness c (list_all is_good r.answers) text read reports
-may_report c (a_program p) text read reports = (read, reports)
+may_report : (c : Call) (output : PureOutput) (text : List ℕ) → Reports c (output_status output) text → MayWrite c (output_status output) text
+may_report c (a_report r) text reports = by_goodness c (list_all is_good r.answers) text reports
+may_report c (a_program p) text reports = reports
 
 if_some_weaker : {X : Type 0} (o : Option X) (P Q : X → Type 0) → ((x : X) → P x → Q x) → IfSome o P → IfSome o Q
 if_some_weaker None P Q f h = tt
 if_some_weaker (Some x) P Q f h = f x h
 
-module _ (c : Call) (q : PureRequest) (asked : AskFor c.words q) (read : IsRead c) (bytes : List ℕ) (whole : IfSome c.left (λ left. bytes ≡ left)) where
+-- what is done without a text refuses none
+reads_if_refused : (t : PureTask) (bytes : List ℕ) (r : Refused) → IsRefusal t bytes r → reads_source t ≡ true
+reads_if_refused (run language entry bound inputs) bytes r refusal = refl
+reads_if_refused (test language entry bound) bytes r refusal = refl
+reads_if_refused (check language bound) bytes r refusal = refl
+reads_if_refused (infer language entry bound) bytes r refusal = refl
+reads_if_refused (compile language) bytes r refusal = refl
+reads_if_refused solve bytes r refusal = refl
+reads_if_refused (sweep size) bytes r refusal = absurd (refusal.not_accepted tt)
+
+pub false_and_true : (b : Bool) → b ≡ false → b ≡ true → ⊥
+false_and_true b f t = cc
+
+read_of : (c : Call) (reads : Bool) → reads ≡ true → IsReadFor reads c → IsRead c
+read_of c true is read = read
+read_of c false is read = absurd (false_and_true false refl is)
+
+pub read_for : (c : Call) (reads : Bool) → reads ≡ true → IsRead c → IsReadFor reads c
+read_for c true is read = read
+read_for c false is read = absurd (false_and_true false refl is)
+
+pub unread_for : (c : Call) (reads : Bool) → reads ≡ false → c.left_after ≡ c.left → c.read_faults_after ≡ c.read_faults → IsReadFor reads c
+unread_for c true is left faults = absurd (false_and_true true is refl)
+unread_for c false is left faults = (left, faults)
+
+-- some bytes, which are those that are told
+told_bytes : (left : Option (List ℕ)) → (bytes : List ℕ) × IfSome left (λ all. bytes ≡ all)
+told_bytes None = ([], tt)
+told_bytes (Some bytes) = (bytes, refl)
+
+-- what is done without a text is right for any bytes, and so for those that are told
+right_where_told : (c : Call) (t : PureTask) (bytes : List ℕ) (o : PureOutput)
+    → (reads_source t ≡ true → IfSome c.left (λ left. bytes ≡ left)) → IsRightOutput t bytes o → OfBytes c (λ all. IsRightOutput t all o)
+right_where_told c (run language entry bound inputs) bytes o whole right = (bytes, whole refl, right)
+right_where_told c (test language entry bound) bytes o whole right = (bytes, whole refl, right)
+right_where_told c (check language bound) bytes o whole right = (bytes, whole refl, right)
+right_where_told c (infer language entry bound) bytes o whole right = (bytes, whole refl, right)
+right_where_told c (compile language) bytes o whole right = (bytes, whole refl, right)
+right_where_told c solve bytes o whole right = (bytes, whole refl, right)
+right_where_told c (sweep size) bytes o whole right = let told = told_bytes c.left in (told.0, told.1, right)
+
+module _ (c : Call) (q : PureRequest) (asked : AskFor c.words q) (source : IsReadFor (reads_source q.task) c) (bytes : List ℕ)
+    (whole : reads_source q.task ≡ true → IfSome c.left (λ left. bytes ≡ left)) where
   may_write_response : (status : Status) (text : List ℕ) → IsResponse q bytes status text → MayWrite c status text
   may_write_response status text (inl (r, refusal, is, says)) =
-      let refuses : Refuses c text = record { refusal = r; written = says; right = (bytes, whole, (q, asked, refusal)) } in
+      let reads = reads_if_refused q.task bytes r refusal in
+      let refuses : Refuses c text = record { refusal = r; written = says; right = (bytes, whole reads, (q, asked, refusal)) } in
+      let read : IsRead c = read_of c (reads_source q.task) reads source in
       rw is (read, refuses)
   may_write_response status text (inr (output, right, writable, is, says)) =
+      let told = right_where_told c q.task bytes output whole right in
       let reports : Reports c (output_status output) text = record {
         request = q;
         output = output;
+        source = source;
         written = says;
         ends = refl;
-        right = (bytes, whole, (asked, right, writable));
+        right = (told.0, told.1, (asked, told.2, writable));
       } in
-      subst (λ s. MayWrite c s text) (sym is) (may_report c output text read reports)
+      subst (λ s. MayWrite c s text) (sym is) (may_report c output text reports)
 
   pub ends_of_answer : (result : Status) → Answers q bytes (told_of c) result → Ends c result
   ends_of_answer result (inl w) = subst (Ends c) (sym w.0) (out_of_memory w.1)
@@ -110,8 +157,8 @@ by_reports c status text reports e =
 pub right_if_reported : (c : Call) (result : Status) → Ends c result → IsReported result
     → IfSome c.left (λ bytes. IfSome c.taken (λ before. (r : PureRequest) × (p : PureOutput) × (c.taken_after ≡ Some (before ++ output_text r.json p))
     × IsRight c.words bytes r p × (result ≡ output_status p)))
-right_if_reported c result (written Good text may e) h = by_reports c Good text may.1 e
-right_if_reported c result (written Found text may e) h = by_reports c Found text may.1 e
+right_if_reported c result (written Good text may e) h = by_reports c Good text may e
+right_if_reported c result (written Found text may e) h = by_reports c Found text may e
 right_if_reported c result (written Words text may e) (inl h) = cc
 right_if_reported c result (written Words text may e) (inr h) = cc
 right_if_reported c result (written Text text may e) (inl h) = cc
@@ -152,29 +199,36 @@ refused_if_text c result (write_failed status text may rose part used) h = cc
 refused_if_text c result (read_failed rose nothing) h = cc
 refused_if_text c result (out_of_memory nothing) h = cc
 
--- where an output or a refusal is written, the source was read to its end
-pub read_if_answered : (c : Call) (result : Status) → Ends c result → IsReported result ⊎ (result ≡ Text) → IsAtEnd c.left_after
-read_if_answered c result (written Good text may e) h = may.0.end
-read_if_answered c result (written Found text may e) h = may.0.end
-read_if_answered c result (written Text text may e) h = may.0.end
-read_if_answered c result (written Words text may e) (inl (inl h)) = cc
-read_if_answered c result (written Words text may e) (inl (inr h)) = cc
-read_if_answered c result (written Words text may e) (inr h) = cc
-read_if_answered c result (written TooLarge text may e) (inl (inl h)) = cc
-read_if_answered c result (written TooLarge text may e) (inl (inr h)) = cc
-read_if_answered c result (written TooLarge text may e) (inr h) = cc
-read_if_answered c result (written ReadFault text may e) h = absurd may
-read_if_answered c result (written WriteFault text may e) h = absurd may
-read_if_answered c result (written Memory text may e) h = absurd may
-read_if_answered c result (write_failed status text may rose part used) (inl (inl h)) = cc
-read_if_answered c result (write_failed status text may rose part used) (inl (inr h)) = cc
-read_if_answered c result (write_failed status text may rose part used) (inr h) = cc
-read_if_answered c result (read_failed rose nothing) (inl (inl h)) = cc
-read_if_answered c result (read_failed rose nothing) (inl (inr h)) = cc
-read_if_answered c result (read_failed rose nothing) (inr h) = cc
-read_if_answered c result (out_of_memory nothing) (inl (inl h)) = cc
-read_if_answered c result (out_of_memory nothing) (inl (inr h)) = cc
-read_if_answered c result (out_of_memory nothing) (inr h) = cc
+-- where an output or a refusal of something that is done with a text is written, the source was read to its end
+module _ (c : Call) (once : (a b : PureRequest) → AskFor c.words a → AskFor c.words b → a ≡ b) (q : PureRequest) (asked : AskFor c.words q)
+    (reads : reads_source q.task ≡ true) where
+  read_if_reported : (status : Status) (text : List ℕ) → Reports c status text → IsAtEnd c.left_after
+  read_if_reported status text reports =
+      let same : q ≡ reports.request = once q reports.request asked reports.right.2.0 in
+      (read_of c (reads_source reports.request.task) (subst (λ r. reads_source r.task ≡ true) same reads) reports.source).end
+
+  pub read_if_answered : (result : Status) → Ends c result → IsReported result ⊎ (result ≡ Text) → IsAtEnd c.left_after
+  read_if_answered result (written Good text may e) h = read_if_reported Good text may
+  read_if_answered result (written Found text may e) h = read_if_reported Found text may
+  read_if_answered result (written Text text may e) h = may.0.end
+  read_if_answered result (written Words text may e) (inl (inl h)) = cc
+  read_if_answered result (written Words text may e) (inl (inr h)) = cc
+  read_if_answered result (written Words text may e) (inr h) = cc
+  read_if_answered result (written TooLarge text may e) (inl (inl h)) = cc
+  read_if_answered result (written TooLarge text may e) (inl (inr h)) = cc
+  read_if_answered result (written TooLarge text may e) (inr h) = cc
+  read_if_answered result (written ReadFault text may e) h = absurd may
+  read_if_answered result (written WriteFault text may e) h = absurd may
+  read_if_answered result (written Memory text may e) h = absurd may
+  read_if_answered result (write_failed status text may rose part used) (inl (inl h)) = cc
+  read_if_answered result (write_failed status text may rose part used) (inl (inr h)) = cc
+  read_if_answered result (write_failed status text may rose part used) (inr h) = cc
+  read_if_answered result (read_failed rose nothing) (inl (inl h)) = cc
+  read_if_answered result (read_failed rose nothing) (inl (inr h)) = cc
+  read_if_answered result (read_failed rose nothing) (inr h) = cc
+  read_if_answered result (out_of_memory nothing) (inl (inl h)) = cc
+  read_if_answered result (out_of_memory nothing) (inl (inr h)) = cc
+  read_if_answered result (out_of_memory nothing) (inr h) = cc
 
 -- with a fault of the source, and where memory runs out, nothing is written
 pub nothing_written : (c : Call) (result : Status) → Ends c result → (result ≡ ReadFault) ⊎ (result ≡ Memory) → c.taken_after ≡ c.taken
@@ -266,3 +320,33 @@ answered_where_told c once result ends q asked = by c.left refl
         → (FaultRose c.read_faults c.read_faults_after → ⊥) → IsReported result ⊎ (result ≡ WriteFault) ⊎ (result ≡ Memory))
     by None is = tt
     by (Some bytes) is = λ accepted short no_fault. answered_if_accepted c once q asked bytes is accepted short no_fault result ends
+
+-- ---- what is done without a text
+
+pub consumes_nothing : (left : Option (List ℕ)) → Consumes left left []
+consumes_nothing None = tt
+consumes_nothing (Some bytes) = refl
+
+-- an output is written with one of two statuses
+output_reported : (good : Bool) → IsReported (if good then Good else Found)
+output_reported true = inl refl
+output_reported false = inr refl
+
+status_reported : (o : PureOutput) → IsReported (output_status o)
+status_reported (a_report r) = output_reported (list_all is_good r.answers)
+status_reported (a_program p) = inl refl
+
+pub unread_answered : (q : PureRequest) (bytes : List ℕ) (k : Told) (result : Status) → reads_source q.task ≡ false → Answers q bytes k result
+    → IsReported result ⊎ (result ≡ WriteFault) ⊎ (result ≡ Memory)
+unread_answered q bytes k result unread (inl w) = inr (inr w.0)
+unread_answered q bytes k result unread (inr (status, text, inl response, finishes)) =
+    absurd (false_and_true (reads_source q.task) unread (reads_if_refused q.task bytes response.0 response.1))
+unread_answered q bytes k result unread (inr (status, text, inr response, inl w)) =
+    inl (subst IsReported (sym (w.0 ∙ response.3)) (status_reported response.0))
+unread_answered q bytes k result unread (inr (status, text, inr response, inr w)) = inr (inl w.0)
+
+-- words that ask for something that is done with a text ask for nothing that is done without
+pub never_unread : (words : List (List ℕ)) → ((a b : PureRequest) → AskFor words a → AskFor words b → a ≡ b) → (q : PureRequest) → AskFor words q
+    → reads_source q.task ≡ true → (r : PureRequest) → AskFor words r → reads_source r.task ≡ false → ⊥
+never_unread words once q asked reads r other unread =
+    false_and_true (reads_source r.task) unread (subst (λ a. reads_source a.task ≡ true) (once q r asked other) reads)

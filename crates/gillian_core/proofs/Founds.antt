@@ -1,5 +1,5 @@
 -- Specifications that are found as they are reported.
-use Rattle.std.proofs.Common.{◌≡◌, ℕ, List, [], ◌∷◌, ◌++◌, map, Option, Some, None, IfSome, ap, ap₂, sym, ◌∙◌}
+use Rattle.std.proofs.Common.{◌≡◌, ℕ, List, [], ◌∷◌, ◌++◌, map, Option, Some, None, IfSome, refl, ap, ap₂, sym, ◌∙◌}
 use Rattle.std.specs.Option.{option_map}
 use Rattle.std.proofs.lemmas.List.{append-nil, map-append}
 use Rattle.bi_specifications.specs.declared.specifying.Found.{Found}
@@ -7,7 +7,7 @@ use Rattle.bi_specifications.specs.View.{found_view, founds_view}
 use Rattle.gil_report.specs.declared.answers.Answer.{Answer}
 use Rattle.gil_report.specs.Pure.{PureAnswer, found, undecided}
 use Rattle.gil_report.specs.View.{answer_view}
-use Rattle.inferred_specs.specs.Inferred.{PureFound}
+use Rattle.inferred_specs.specs.Inferred.{PureFound, Covers}
 use Rattle.mem_model.specs.declared.keys.MemoryName.{MemoryName}
 use Rattle.mem_model.specs.Actions.{Actions}
 use Rattle.gil_syntax.specs.Pure.{PureParts}
@@ -41,15 +41,21 @@ undecided_query : (o : Option Query) → IfSome o (λ q. ¬ InFragment (atoms_vi
 undecided_query None is_open = tt
 undecided_query (Some q) is_open = is_open
 
+no_query : (o : Option Query) → option_map query_view o ≡ None → o ≡ None
+no_query None none = refl
+no_query (Some q) none = absurd (cc)
+
 -- what is found, with what isn't decided, is right
 pub right_founds : (p : PureParts) (memory : MemoryName) (m : Actions) (f : List ℕ) (n : ℕ) (told : List Found) (o : Option Query)
     (answers : List Answer) (reported : List PureAnswer) → Each (IsTrulyFound p memory m f n) (founds_view told)
     → IfSome o (λ q. ¬ InFragment (atoms_view q.query)) → map answer_view answers ≡ found_answers (founds_view told)
-    → reported ≡ map answer_view answers ++ question_answers (option_map query_view o) → AreRightFounds p memory m f n reported
-right_founds p memory m f n told o answers reported true_ones is_open before is = record {
+    → reported ≡ map answer_view answers ++ question_answers (option_map query_view o) → (o ≡ None → Covers p memory m f (founds_view told) n)
+    → AreRightFounds p memory m f n reported
+right_founds p memory m f n told o answers reported true_ones is_open before is covers = record {
   founds = founds_view told;
   unknown = option_map query_view o;
   in_order = is ∙ ap (λ (xs : List PureAnswer). xs ++ question_answers (option_map query_view o)) before;
   truly_found = true_ones;
   undecided_one = undecided_query o is_open;
+  covers = λ none. covers (no_query o none);
 }

@@ -27,6 +27,11 @@ no_cause X F r is = record { never = λ refused x. refused is; fault = λ refuse
 pub no_output_for_memory : (t : PureTask) (bytes : List ℕ) (r : Refused) → r.kind ≡ kinds.Memory → IsNoOutput t bytes r
 no_output_for_memory t bytes r is = λ refused. absurd (refused is)
 
+pub memory_alone : {T : Type 0} (t : PureTask) (bytes : List ℕ) (r : Result T Refused) → IfErr r (λ refused. refused.kind ≡ kinds.Memory)
+    → IfErr r (IsNoOutput t bytes)
+memory_alone t bytes (Ok x) is = tt
+memory_alone t bytes (Err e) is = no_output_for_memory t bytes e is
+
 -- what is the cause for all that is asked refuses the text
 pub refused_for : (t : PureTask) (bytes : List ℕ) (r : Refused) → IsCause (IsAccepted t bytes) (IsFirstKind t bytes) r → IsNoOutput t bytes r
 refused_for t bytes r cause = λ refused. record { not_accepted = cause.never refused; kind = cause.fault refused }

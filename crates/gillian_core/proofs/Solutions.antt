@@ -52,8 +52,3 @@ solution_known bytes t spelled found (Ok x) is right = record {
   solution = subst (λ q. IfOk q (λ answer. IsRightSolution t (answer_view answer))) is right;
 }
 solution_known bytes t spelled found (Err e) is right = tt
-
--- want of memory says nothing
-pub memory_alone : (bytes : List ℕ) (r : Result Answer Refused) → IfErr r (λ refused. refused.kind ≡ kinds.Memory) → IfErr r (IsNoOutput solve bytes)
-memory_alone bytes (Ok x) is = tt
-memory_alone bytes (Err e) is = λ refused. absurd (refused is)

@@ -1,11 +1,11 @@
 -- Which texts are accepted.
-use Rattle.std.specs.Prelude.{ℕ, List, IsSome}
+use Rattle.std.specs.Prelude.{ℕ, List, IsSome, ⊤}
 use Rattle.gil_syntax.specs.Programs.{find_proc}
 use Rattle.gil_syntax.specs.Pure.{PureParts}
 use Rattle.gil_machine.specs.Run.{IsEntry}
 use Rattle.assert_logic.specs.Modes.{HasModes}
 use Rattle.atom_text.specs.Accepted.{PureAtomText, SpellAtoms}
-use Rattle.gillian_words.specs.Tasks.{PureTask, run, test, check, infer, compile, solve}
+use Rattle.gillian_words.specs.Tasks.{PureTask, run, test, check, infer, compile, solve, sweep}
 use Rattle.gillian_core.specs.Definitions.{Definition}
 use Rattle.gillian_core.specs.Languages.{definition_of}
 
@@ -35,7 +35,7 @@ HasAtoms bytes = (t : PureAtomText) × SpellAtoms bytes t
 
 -- `run` and `test` accept the texts with programs in which they find their entry, without parameters; `infer` those in which it finds it,
 -- with any; `check` those with programs whose assertions can be read; `compile` the texts with programs; `solve` those of variables and
--- atoms.
+-- atoms. `sweep` looks at no text, and so accepts any.
 abbrev pub IsAccepted : PureTask → List ℕ → Type 0
 IsAccepted (run language entry bound inputs) bytes = HasProgramThat (definition_of language) (EntersAt entry) bytes
 IsAccepted (test language entry bound) bytes = HasProgramThat (definition_of language) (EntersAt entry) bytes
@@ -43,3 +43,4 @@ IsAccepted (check language bound) bytes = HasReadable (definition_of language) b
 IsAccepted (infer language entry bound) bytes = HasProgramThat (definition_of language) (HasProc entry) bytes
 IsAccepted (compile language) bytes = HasProgram (definition_of language) bytes
 IsAccepted solve bytes = HasAtoms bytes
+IsAccepted (sweep size) bytes = ⊤

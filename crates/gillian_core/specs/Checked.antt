@@ -5,6 +5,7 @@ use Rattle.mem_model.specs.declared.keys.MemoryName.{MemoryName}
 use Rattle.mem_model.specs.Actions.{Actions}
 use Rattle.checked_paths.specs.Causes.{cause_view}
 use Rattle.checked_runs.specs.Specifications.{SpecHolds}
+use Rattle.plain_specs.specs.Contained.{IsContained, RunsAlone}
 use Rattle.solver_proof.specs.Closing.{Closes}
 use Rattle.solver_proof.specs.Pure.{PureProof}
 use Rattle.solver_proof.specs.View.{proof_view}
@@ -13,8 +14,8 @@ use Rattle.spec_answers.specs.declared.answers.Verdict.{Verdict}
 use Rattle.spec_causes.specs.declared.meeting.Met.{Met}
 use Rattle.spec_causes.specs.Causes.{entry_for}
 use Rattle.spec_vacuity.specs.Translation.{precondition_table, precondition_atoms}
-use Rattle.gil_report.specs.Pure.{PureAnswer, PureCause, verified, vacuous, unproved, depends}
-use Rattle.report_causes.specs.Causes.{IsRightCause}
+use Rattle.gil_report.specs.Pure.{PureAnswer, PureCause, verified, vacuous, unproved, fails, lacks, undecided_cause, depends}
+use Rattle.report_causes.specs.Causes.{IsRightCause, IsLeftOpen}
 use Rattle.report_causes.specs.Names.{variable_names}
 use Rattle.report_causes.specs.Telling.{CanBeTold, TellsCause}
 use Rattle.report_names.specs.Named.{proof_of}
@@ -51,11 +52,22 @@ module _ (memory : MemoryName) (m : Actions) (bound : ℕ) (p : PureParts) (answ
   IsRightAnswer s (unproved name cause) = (name ≡ s.name) × IsRightCause p memory m s bound cause × IsLed answers cause
   IsRightAnswer s _ = ⊥
 
--- one right answer for each specification of the program, in order
+  -- what isn't verified is left open: neither a fault nor the bound is told, nor that it depends on another one
+  abbrev pub TellsNoFault : PureSpec → PureAnswer → Type 0
+  TellsNoFault s (unproved name (undecided_cause q)) = IsLeftOpen p memory m s bound q
+  TellsNoFault s (unproved name (fails v shown)) = ⊥
+  TellsNoFault s (unproved name (lacks lack shown)) = ⊥
+  TellsNoFault s (unproved name (depends g)) = ⊥
+  TellsNoFault s _ = ⊤
+
+-- One right answer for each specification of the program, in order. Of a contained one whose runs, with nothing beside its precondition's
+-- heap, end within the bound and as it tells, no fault is told.
 pub record AreRightAnswers (memory : MemoryName) (m : Actions) (bound : ℕ) (p : PureParts) (answers : List PureAnswer) : Type 0 where
   pub as_many : length answers ≡ length p.specs
   pub each_right : (k : ℕ) (s : PureSpec) (a : PureAnswer) → slice_get p.specs k ≡ Some s → slice_get answers k ≡ Some a
       → IsRightAnswer memory m bound p answers s a
+  pub contained : (k : ℕ) (s : PureSpec) (a : PureAnswer) → slice_get p.specs k ≡ Some s → slice_get answers k ≡ Some a
+      → IsContained p s → RunsAlone p memory m s bound → TellsNoFault memory m bound p answers s a
 
 -- ---- what is reported
 

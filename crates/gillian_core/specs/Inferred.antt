@@ -3,7 +3,7 @@ use Rattle.std.specs.Prelude.{◌≡◌, ℕ, List, [], ◌∷◌, ◌++◌, map
 use Rattle.gil_syntax.specs.Pure.{PureParts}
 use Rattle.mem_model.specs.declared.keys.MemoryName.{MemoryName}
 use Rattle.mem_model.specs.Actions.{Actions}
-use Rattle.inferred_specs.specs.Inferred.{PureFound}
+use Rattle.inferred_specs.specs.Inferred.{PureFound, Covers}
 use Rattle.bi_specifications.specs.Specified.{IsTrulyFound}
 use Rattle.pure_terms.specs.Fragment.{InFragment}
 use Rattle.sym_model.specs.Lists.{Each}
@@ -20,10 +20,11 @@ question_answers None = []
 question_answers (Some q) = undecided (question_of q) ∷ []
 
 -- The answers are specifications, each truly found of the procedure within the bound, and behind them at most one list of conditions that
--- isn't in the fragment.
+-- isn't in the fragment. Where there is none, the specifications cover the runs of the procedure.
 pub record AreRightFounds (p : PureParts) (memory : MemoryName) (m : Actions) (f : List ℕ) (n : ℕ) (answers : List PureAnswer) : Type 0 where
   pub founds : List PureFound
   pub unknown : Option PureQuery
   pub in_order : answers ≡ found_answers founds ++ question_answers unknown
   pub truly_found : Each (IsTrulyFound p memory m f n) founds
   pub undecided_one : IfSome unknown (λ q. ¬ InFragment q.query)
+  pub covers : unknown ≡ None → Covers p memory m f founds n

@@ -1,12 +1,12 @@
 -- How a call of the program may end, and what it has then written.
-use Rattle.std.specs.Prelude.{◌≡◌, ◌≤◌, ◌<◌, ℕ, List, ◌⊎◌, length, Option, IfSome, codes}
+use Rattle.std.specs.Prelude.{◌≡◌, ◌≤◌, ◌<◌, ℕ, List, ◌⊎◌, length, Bool, true, false, Option, IfSome, codes}
 use Rattle.std.specs.Io.KnownBytes.{Appends, IsAtEnd}
 use Rattle.gil_io.specs.Faults.{FaultRose}
 use Rattle.gil_io.specs.Reading.{Takes}
 use Rattle.gil_io.specs.Writing.{IsUsedUp, TakesPart}
 use Rattle.gil_text.specs.declared.refused.Refused.{Refused}
 use Rattle.gillian_words.specs.Asked.{AskFor}
-use Rattle.gillian_words.specs.Tasks.{PureRequest}
+use Rattle.gillian_words.specs.Tasks.{PureRequest, reads_source}
 use Rattle.gillian_core.specs.declared.status.Status.{Status}
 use Rattle.gillian_core.specs.declared.status.Status.TheVariants.{Good, Found, Words, Text, ReadFault, WriteFault, Memory, TooLarge}
 use Rattle.gillian_core.specs.Outputs.{PureOutput, IsWritableOutput, output_status, output_text}
@@ -68,6 +68,11 @@ pub record IsRead (c : Call) : Type 0 where
   pub end : IsAtEnd c.left_after
   pub within : IfSome c.left (λ bytes. length bytes ≤ most_bytes)
 
+-- What becomes of the source: it is read to its end for what is done with its text, and is left as it was for what is done without.
+abbrev pub IsReadFor : Bool → Call → Type 0
+IsReadFor true c = IsRead c
+IsReadFor false c = (c.left_after ≡ c.left) × (c.read_faults_after ≡ c.read_faults)
+
 -- P holds of some bytes, which are those of the source where it tells them.
 abbrev pub OfBytes : Call → (List ℕ → Type 0) → Type 0
 OfBytes c P = (bytes : List ℕ) × IfSome c.left (λ left. bytes ≡ left) × P bytes
@@ -92,6 +97,7 @@ IsReported status = (status ≡ Good) ⊎ (status ≡ Found)
 pub record Reports (c : Call) (status : Status) (text : List ℕ) : Type 0 where
   pub request : PureRequest
   pub output : PureOutput
+  pub source : IsReadFor (reads_source request.task) c
   pub written : text ≡ output_text request.json output
   pub ends : status ≡ output_status output
   pub right : OfBytes c (λ bytes. IsRight c.words bytes request output)
@@ -107,8 +113,8 @@ abbrev pub MayWrite : Call → Status → List ℕ → Type 0
 MayWrite c Words text = (WordsFit c.words → ⊥) × (text ≡ usage_line)
 MayWrite c TooLarge text = WordsFit c.words × Takes c.left c.left_after (λ gave. most_bytes < length gave) × (text ≡ refused_size)
 MayWrite c Text text = IsRead c × Refuses c text
-MayWrite c Good text = IsRead c × Reports c Good text
-MayWrite c Found text = IsRead c × Reports c Found text
+MayWrite c Good text = Reports c Good text
+MayWrite c Found text = Reports c Found text
 MayWrite c ReadFault text = ⊥
 MayWrite c WriteFault text = ⊥
 MayWrite c Memory text = ⊥

@@ -12,7 +12,7 @@ use Rattle.gil_text.specs.declared.refused.RefusedKind.{RefusedKind}
 use Rattle.gil_text.specs.declared.refused.RefusedKind.TheVariants.{Lex, Nesting, Syntax, Invalid, Limit, Entry, Modes, Memory}
 use Rattle.atom_text.specs.Refusals as atoms
 use Rattle.assert_logic.specs.Modes.{HasModes}
-use Rattle.gillian_words.specs.Tasks.{PureTask, run, test, check, infer, compile, solve}
+use Rattle.gillian_words.specs.Tasks.{PureTask, run, test, check, infer, compile, solve, sweep}
 use Rattle.gillian_core.specs.Accepted.{EntersAt, HasProc, IsAccepted}
 use Rattle.gillian_core.specs.Definitions.{Definition}
 use Rattle.gillian_core.specs.Languages.{definition_of}
@@ -67,6 +67,7 @@ IsFirstKind (check language bound) bytes at kind = IsFaultOfModes (definition_of
 IsFirstKind (infer language entry bound) bytes at kind = IsFaultOfEntry (definition_of language) (HasProc entry) bytes at kind
 IsFirstKind (compile language) bytes at kind = (definition_of language).IsFault bytes at kind
 IsFirstKind solve bytes at kind = (kind ≢ Memory) × atoms.IsRefusedFor bytes at kind
+IsFirstKind (sweep size) bytes at kind = ⊥
 
 -- the refusal of a text where this is asked: it isn't accepted, and the kind is the first that applies
 pub record IsRefusal (t : PureTask) (bytes : List ℕ) (r : Refused) : Type 0 where

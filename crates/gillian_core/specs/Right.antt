@@ -1,5 +1,5 @@
 -- What is right to be written of a text, by what is asked for.
-use Rattle.std.specs.Prelude.{◌≡◌, ℕ, List, [], ◌∷◌, map}
+use Rattle.std.specs.Prelude.{◌≡◌, ℕ, List, [], ◌∷◌, length, map, codes}
 use Rattle.std.specs.FinMap.{empty}
 use Rattle.gil_values.specs.Pure.{PureValue}
 use Rattle.gil_syntax.specs.Pure.{PureParts}
@@ -13,12 +13,13 @@ use Rattle.pure_terms.specs.declared.deciders.Reason.{Reason}
 use Rattle.solver_proof.specs.Closing.{Closes}
 use Rattle.solver_proof.specs.Pure.{PureProof}
 use Rattle.atom_text.specs.Accepted.{PureAtomText, SpellAtoms}
+use Rattle.sweep_text.specs.Made.{made_text}
 use Rattle.sym_test.specs.Undecided.{FailsSimply}
 use Rattle.sym_test.specs.View.{PureQuery}
-use Rattle.gillian_words.specs.Tasks.{PureTask, run, test, check, infer, compile, solve}
+use Rattle.gillian_words.specs.Tasks.{PureTask, run, test, check, infer, compile, solve, sweep}
 use Rattle.gil_report.specs.declared.heads.EntryMode.TheVariants.{Run, Test, Infer}
 use Rattle.gil_report.specs.declared.heads.Head.{Head}
-use Rattle.gil_report.specs.Pure.{PureAnswer, failed, clean, bug, undecided, sat, unsat, unknown, PureReport}
+use Rattle.gil_report.specs.Pure.{PureAnswer, failed, clean, bug, undecided, sat, unsat, unknown, bytes as text_length, PureReport}
 use Rattle.report_causes.specs.Names.{place_of}
 use Rattle.report_names.specs.Named.{proof_of}
 use Rattle.gillian_core.specs.Accepted.{HasProc}
@@ -29,6 +30,7 @@ use Rattle.gillian_core.specs.Ends.{end_answer}
 use Rattle.gillian_core.specs.Inferred.{AreRightFounds}
 use Rattle.gillian_core.specs.Languages.{definition_of}
 use Rattle.gillian_core.specs.Outputs.{PureOutput, a_report, a_program}
+use Rattle.gillian_core.specs.WhileLanguage.{while_language}
 
 -- ---- run
 
@@ -117,6 +119,19 @@ pub record IsSolved (bytes : List ℕ) (answer : PureAnswer) : Type 0 where
 abbrev pub IsProgramOf : Definition → List ℕ → PureParts → Type 0
 IsProgramOf d bytes p = d.IsText bytes p × d.KeepsEnds bytes p
 
+-- ---- sweep
+
+-- There are two answers: the length of the made text, and a verdict on that text in While, which is right within 10,000 steps.
+abbrev pub AreRightSweep : ℕ → List PureAnswer → Type 0
+AreRightSweep size answers =
+    (verdict : PureAnswer) × (answers ≡ text_length (length (made_text size)) ∷ verdict ∷ [])
+    × IsRightTest while_language (codes "main") 10000 (made_text size) verdict
+
+-- nothing is looked at but the size
+abbrev pub IsSwept : ℕ → PureOutput → Type 0
+IsSwept size (a_report r) = (r.head ≡ Head.Sweep size) × AreRightSweep size r.answers
+IsSwept size (a_program p) = ⊥
+
 -- ---- each task
 
 -- the report has this head and one answer, of which this holds
@@ -141,3 +156,4 @@ IsRightOutput (compile language) bytes (a_report r) = ⊥
 IsRightOutput (compile language) bytes (a_program p) = IsProgramOf (definition_of language) bytes p
 IsRightOutput solve bytes (a_report r) = Says r Head.Solve (IsSolved bytes)
 IsRightOutput solve bytes (a_program p) = ⊥
+IsRightOutput (sweep size) bytes output = IsSwept size output

@@ -1,5 +1,5 @@
 //! The top call.
-ghost use Rattle.std.specs.Prelude.{◌≡◌, ◌⊎◌, ◌<◌, ◌++◌, ◌≤◌, ℕ, List, length, Some, IfOk, IfErr, IfSome};
+ghost use Rattle.std.specs.Prelude.{◌≡◌, ◌⊎◌, ◌<◌, ◌++◌, ◌≤◌, ℕ, List, length, true, false, Some, IfOk, IfErr, IfSome};
 ghost use Rattle.std.specs.Io.KnownBytes.{IsAtEnd};
 ghost use Rattle.gil_io.specs.Faults.{FaultRose};
 ghost use Rattle.gil_io.specs.Reading.{Takes};
@@ -7,7 +7,7 @@ ghost use Rattle.gil_io.specs.Writing.{IsUsedUp};
 ghost use Rattle.gil_text.specs.declared.refused.Refused.{Refused};
 ghost use Rattle.gillian_words.specs.Asked.{AskFor};
 ghost use Rattle.gillian_words.specs.Line.{spelled};
-ghost use Rattle.gillian_words.specs.Tasks.{PureRequest};
+ghost use Rattle.gillian_words.specs.Tasks.{PureRequest, reads_source};
 ghost use Rattle.gillian_words.specs.View.{request_view};
 ghost use Rattle.gillian_core.specs.Accepted.{IsAccepted};
 ghost use Rattle.gillian_core.specs.Finishing.{Answers, Finishes, IsResponse, told};
@@ -33,7 +33,7 @@ const USAGE_LINE: &str =
 /// What is written where the source has more bytes.
 const REFUSED_SIZE: &str = "refused size\n";
 
-/// Does what the words ask with the text that the source gives. The words are read first, then the source to its end,
+/// Does what the words ask with the text that the source gives. The words are read first, then the source to its end, but for a sweep,
 /// then the text; then the work is done and the whole output is built, and only then is the first byte written. The rules
 /// may be any: what is answered is right whatever they are.
 ///
@@ -79,8 +79,13 @@ pub fn gillian<S: Source, K: Sink>(
     ensures text { result ≡ Status.Text → IfSome (S.left source.old) (λ bytes. IfSome (K.taken out.old) (λ before. (r : Refused)
         × (K.taken out.new ≡ Some (before ++ refusal_line r)) × IsRefused (spelled words.now) bytes r)) }
 
-    // With 0, 1 and 3 the source was read to its end.
-    ensures read { IsReported result ⊎ (result ≡ Status.Text) → IsAtEnd (S.left source.new) }
+    // With 0, 1 and 3 the source was read to its end, where the words ask for something that is done with a text.
+    ensures read { (q : PureRequest) → AskFor (spelled words.now) q → reads_source q.task ≡ true
+        → IsReported result ⊎ (result ≡ Status.Text) → IsAtEnd (S.left source.new) }
+
+    // Where they ask for what is done without, the source isn't read, and 0, 1, 5 and 6 are all that comes.
+    ensures unread { (q : PureRequest) → AskFor (spelled words.now) q → reads_source q.task ≡ false
+        → (IsReported result ⊎ (result ≡ Status.WriteFault) ⊎ (result ≡ Status.Memory)) × (source.new ≡ source.old) }
 
     // Nothing is written with 4 and 6.
     ensures nothing { (result ≡ Status.ReadFault) ⊎ (result ≡ Status.Memory) → K.taken out.new ≡ K.taken out.old }
@@ -106,14 +111,20 @@ fn respond<S: Source, K: Sink>(
     ensures too_large { Takes (S.left source.old) (S.left source.new) (λ gave.
         (result ≡ Status.TooLarge → most_bytes < length gave)
         × (most_bytes < length gave → (result ≡ Status.TooLarge) ⊎ (result ≡ Status.WriteFault))) }
+    ensures unread { (q : PureRequest) → AskFor (spelled words.now) q → reads_source q.task ≡ false
+        → (IsReported result ⊎ (result ≡ Status.WriteFault) ⊎ (result ≡ Status.Memory)) × (source.new ≡ source.old) }
     ensures ends { Ends (call_of S.left S.faults K.taken K.faults K.room (spelled words.now) source.old source.new out.old out.new)
         result }
 {
+    words_ask_for_one_thing();
     let request = match read_words(alloc, words) {
         Ok(request) => request,
         Err(WordsFault::Refused) => return finish_line(out, USAGE_LINE, Status::Words),
         Err(WordsFault::Memory) => return Status::Memory,
     };
+    if !request.task.reads_source() {
+        return answer(alloc, request, rules, &[], out);
+    }
     match read_all(alloc, source, MOST_BYTES) {
         Ok(bytes) => answer(alloc, request, rules, &bytes, out),
         Err(ReadEnd::ReadFault) => Status::ReadFault,

@@ -1,28 +1,30 @@
 //! The work: what is to be written of a text.
-ghost use Rattle.std.specs.Prelude.{◌≡◌, [], ◌∷◌, IfOk, IfErr};
+ghost use Rattle.std.specs.Prelude.{◌≡◌, ℕ, List, [], ◌∷◌, IfOk, IfErr};
 ghost use Rattle.gil_values.specs.View.{values_view};
-ghost use Rattle.gillian_words.specs.Tasks.{run, test, check, infer, compile, solve};
+ghost use Rattle.gillian_words.specs.Tasks.{run, test, check, infer, compile, solve, sweep};
 ghost use Rattle.gillian_words.specs.View.{task_view};
 ghost use Rattle.gil_report.specs.View.{answer_view};
 ghost use Rattle.gillian_core.specs.Answers.{output_view};
 ghost use Rattle.gillian_core.specs.Finishing.{IsNoOutput};
 ghost use Rattle.gillian_core.specs.Outputs.{a_report};
-ghost use Rattle.gillian_core.specs.Right.{IsRightOutput};
+ghost use Rattle.gillian_core.specs.Right.{IsRightOutput, IsSwept};
 
 use crate::entries::{program_that_has, program_with};
-use crate::languages::{check_in, infer_in, program, run_in, verdict_in};
+use crate::judging::verdict_on;
+use crate::languages::{check_in, infer_in, program, run_in};
 use crate::modes::readable_program;
 use crate::outputs::Output;
 use crate::refusals::or_memory;
 use crate::solving::solution;
+use crate::sweeping::swept;
 use gil_report::{Answer, Answers, EntryMode, Head, Report};
 use gil_text::Refused;
 use gil_values::{Text, Values};
-use gillian_words::{Bound, Language, Task};
+use gillian_words::{Bound, Language, Size, Task};
 use rewrite_book::RuleBook;
 use std::alloc::{AllocError, Global};
 
-/// Does what is asked with a text.
+/// Does what is asked with a text, which a sweep doesn't look at.
 pub fn work(alloc: Global, task: Task, rules: &RuleBook, bytes: &[u8]) -> Result<Output, Refused>
     ensures output { IfOk result (λ output. IsRightOutput (task_view task) bytes.now (output_view output)) }
     ensures none { IfErr result (IsNoOutput (task_view task) bytes.now) }
@@ -47,6 +49,7 @@ pub fn work(alloc: Global, task: Task, rules: &RuleBook, bytes: &[u8]) -> Result
         } => infer_output(alloc, language, entry, bound, rules, bytes),
         Task::Compile { language } => compile_output(alloc, language, bytes),
         Task::Solve => solve_output(alloc, rules, bytes),
+        Task::Sweep { size } => sweep_output(alloc, size, rules),
     }
 }
 
@@ -87,8 +90,7 @@ fn test_output(
     ensures output { IfOk result (λ output. IsRightOutput (test language entry bound.steps) bytes.now (output_view output)) }
     ensures none { IfErr result (IsNoOutput (test language entry bound.steps) bytes.now) }
 {
-    let prog = program_with(alloc, language, &entry, bytes)?;
-    let answer = or_memory(verdict_in(alloc, language, &prog, &entry, bound, rules))?;
+    let answer = verdict_on(alloc, language, &entry, bound, rules, bytes)?;
     let head = Head::Entry {
         mode: EntryMode::Test,
         language,
@@ -159,6 +161,18 @@ fn solve_output(alloc: Global, rules: &RuleBook, bytes: &[u8]) -> Result<Output,
     let answer = solution(alloc, rules, bytes)?;
     let output = or_memory(report_of(alloc, Head::Solve, answer))?;
     Ok(output)
+}
+
+/// The report of a sweep. What keeps it from coming is want of memory alone, whatever the source has.
+fn sweep_output(alloc: Global, size: Size, rules: &RuleBook) -> Result<Output, Refused>
+    ensures output { IfOk result (λ output. IsSwept size.assertions (output_view output)) }
+    ensures none { (bytes : List ℕ) → IfErr result (IsNoOutput (sweep size.assertions) bytes) }
+{
+    let answers = or_memory(swept(alloc, size, rules))?;
+    let head = Head::Sweep {
+        size: size.assertions,
+    };
+    Ok(Output::Report(Report { head, answers }))
 }
 
 /// The report with one answer.

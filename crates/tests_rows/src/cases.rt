@@ -90,6 +90,18 @@ pub struct Beginning {
     pub begins: String,
 }
 
+impl Output {
+    /// The same.
+    pub fn copy(&self) -> Result<Output, AllocError> {
+        Ok(match self {
+            Output::Text(text) => Output::Text(text.clone()?),
+            Output::Begins(beginning) => Output::Begins(Beginning {
+                begins: beginning.begins.clone()?,
+            }),
+        })
+    }
+}
+
 impl fmt::Display for Output {
     fn fmt<W: fmt::Write>(&self, f: &mut fmt::Formatter<W>) -> fmt::Result {
         match self {

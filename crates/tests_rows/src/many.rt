@@ -3,7 +3,7 @@ use crate::cases::{Beginning, Case, Output, Piece, Rules, SourceText};
 use serde::Deserialize;
 use std::alloc::{AllocError, Global};
 
-/// A text of which each prefix is refused that lacks more than blanks.
+/// A text of which each prefix is refused that isn't a whole text itself.
 #[derive(Debug, Drop, Deserialize)]
 #[serde(deny_unknown_fields)]
 pub struct Prefixes {
@@ -11,10 +11,13 @@ pub struct Prefixes {
     pub name: String,
     pub words: Vec<String>,
     pub source: String,
-    /// What the text is answered with, and each prefix of at least so many bytes.
+    /// What the text is answered with, each prefix of at least so many bytes, and each with another number of bytes with which it is a
+    /// whole text.
     pub status: u8,
-    pub output: String,
+    pub output: Output,
     pub enough: usize,
+    #[serde(default)]
+    pub whole: Vec<Span>,
     /// The numbers of bytes of prefixes that end within a token which can't end there.
     #[serde(default)]
     pub lexical: Vec<Span>,
@@ -66,15 +69,15 @@ const BLANKS: [&str; 5] = [" ", "\t", "\r", "\n", "// a comment: \" $ |\r\n"];
 const STRANGE: [u8; 3] = [0, 0x7F, 0xFF];
 
 impl Borders {
-    /// A case for each blank between all tokens, and one for each strange byte behind each token.
+    /// A case for each blank between all tokens, and one for each strange byte before the first token and behind each.
     pub fn cases(&self, alloc: Global) -> Result<Vec<Case>, AllocError> {
         let mut cases = Vec::new(alloc);
         for (place, blank) in BLANKS.iter().enumerate() {
             cases.push(self.apart(alloc, place, blank)?)?;
         }
-        for place in 0..self.tokens.len() {
+        for before in 0..self.tokens.len().saturating_add(1) {
             for strange in STRANGE {
-                cases.push(self.broken(alloc, place, strange)?)?;
+                cases.push(self.broken(alloc, before, strange)?)?;
             }
         }
         Ok(cases)
@@ -102,20 +105,23 @@ impl Borders {
         })
     }
 
-    /// The tokens with a space behind each, and with a strange byte behind the token at the place, where it is refused.
-    fn broken(&self, alloc: Global, place: usize, strange: u8) -> Result<Case, AllocError> {
+    /// The tokens with a space behind each, and with a strange byte right behind so many of them, where it is refused.
+    fn broken(&self, alloc: Global, before: usize, strange: u8) -> Result<Case, AllocError> {
         let mut bytes = Vec::new(alloc);
         let mut at = 0;
+        if before == 0 {
+            bytes.push(strange)?;
+        }
         for (number, token) in self.tokens.iter().enumerate() {
             bytes.extend_from_slice(token.as_bytes())?;
-            if number == place {
+            if number.saturating_add(1) == before {
                 at = bytes.len();
                 bytes.push(strange)?;
             }
             bytes.push(b' ')?;
         }
         Ok(Case {
-            name: format!(in alloc; "{} with byte {strange} behind token {place}", self.name)?,
+            name: format!(in alloc; "{} with byte {strange} behind {before} tokens", self.name)?,
             words: self.words.clone()?,
             source: SourceText::Pieces(vec![in alloc; Piece::Bytes(bytes)]?),
             status: 3,
@@ -170,8 +176,8 @@ impl Prefixes {
 
     /// What the first bytes are answered with.
     fn answer(&self, alloc: Global, length: usize) -> Result<(u8, Output), AllocError> {
-        if length >= self.enough {
-            return Ok((self.status, Output::Text(self.output.clone()?)));
+        if length >= self.enough || self.whole.iter().any(|span| span.contains(length)) {
+            return Ok((self.status, self.output.copy()?));
         }
         let kind = if self.lexical.iter().any(|span| span.contains(length)) {
             "lex"

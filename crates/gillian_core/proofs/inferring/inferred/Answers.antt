@@ -8,4 +8,4 @@ pub returns : goal.returns
 returns g c =
     right_founds (prog_view c.args.prog.now) g.M.Local.LocalMemory.memory g.M.Local.LocalMemory.actions c.args.entry.now c.args.bound.steps
     c.in_ok-inferred.inferred.founds c.in_ok-inferred.inferred.unknown c.in_ok-answers.answers (map answer_view c.in_ok-answers-2.answers)
-    c.in_ok-inferred.ensures.found c.in_ok-inferred.ensures.unknown c.in_ok-answers.ensures c.in_ok-answers-2.ensures
+    c.in_ok-inferred.ensures.found c.in_ok-inferred.ensures.unknown c.in_ok-answers.ensures c.in_ok-answers-2.ensures c.in_ok-inferred.ensures.covers

@@ -21,4 +21,4 @@ pub returns-clause-nothing : goal.returns-clause-nothing
 returns-clause-nothing g c = nothing_written _ _ c.respond.ensures.ends
 
 pub returns-clause-read : goal.returns-clause-read
-returns-clause-read g c = read_if_answered _ _ c.respond.ensures.ends
+returns-clause-read g c = λ q asked reads. read_if_answered _ (c.words_ask_for_one_thing.ensures _) q asked reads _ c.respond.ensures.ends
