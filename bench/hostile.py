@@ -6,13 +6,14 @@ doubled, swapped and flipped.
                      [--program FILE] [--reader FILE]
 
 Outside the gate. The texts are made from the cases in crates/tests_rows/data, with a fixed seed, and each run has an address space of
-1 GiB and ten seconds of a processor. It looks for: an end by a signal, or for want of time in a mode in which a run takes as many steps
-as it is allowed at most (paths and splits have no limit, so that in the others such runs are only counted), an exit code that the table of
-README doesn't have, output that fits no exit code, output beside an exit code that has none, more than one line on standard error, a report
-in lines or in JSON that isn't read back by the reader, which is the program `tests_read_back`, reports in JSON that are none by
-docs/report.schema.json, a reader that ends otherwise than with 0 or 1 on reports that were changed in the same ways, and a refused
-allocation that is answered otherwise than by 6 with nothing written or by what the same run answers without a refusal. It stops at the
-first fault, or at number N, and writes the words and the text of each to a file.
+1 GiB, 8 MiB of stack and ten seconds of a processor. It looks for: an end by a signal, or for want of time in a mode in which a run takes
+as many steps as it is allowed at most (paths and splits have no limit, so that in the others such runs are only counted, as those with too
+many paths), an exit code that the table of README doesn't have, output that fits no exit code, output beside an exit code that has none, more
+than one line on standard error, a report in lines or in JSON that isn't read back by the reader, which is the program `tests_read_back`,
+reports in JSON that are none by docs/report.schema.json, a reader that ends otherwise than with 0 or 1 on reports that were changed in the
+same ways, a refused allocation that is answered otherwise than by 6 with nothing written or by what the same run answers without a
+refusal, and values, terms, calls and searches that grow and end otherwise than they are to. It stops at the first fault, or at number N, and
+writes the words and the text of each to a file. The programs fork for each text, by bench/serve.c, so that a text costs a millisecond.
 """
 
 import argparse
@@ -24,8 +25,8 @@ import itertools
 import os
 import random
 import re
-import resource
 import signal
+import struct
 import subprocess
 import sys
 import tempfile
@@ -37,18 +38,12 @@ TOP = Path(__file__).resolve().parent.parent
 ROWS = TOP / "crates" / "tests_rows" / "data"
 SPACE = 1 << 30
 SECONDS = 10
-LIMITS = (
-    (resource.RLIMIT_AS, (SPACE, SPACE)),
-    # Past the first number a run gets SIGXCPU.
-    (resource.RLIMIT_CPU, (SECONDS, SECONDS + 5)),
-    (resource.RLIMIT_CORE, (0, 0)),
-)
-# The longest that a run may take by the clock, on a machine on which other work runs too.
-PATIENCE = 300
+# The longest that the reader may take for a handful of reports, by the clock.
+PATIENCE = 600
 # How many texts a worker is handed at once. Their reports are read back together.
 HANDFUL = 250
 # Modes in which the time that a text takes has no limit.
-ENDLESS = (b"test", b"check", b"solve")
+ENDLESS = (b"test", b"check", b"infer", b"solve")
 # The most steps of a run, where the words say so.
 MOST_STEPS = 200
 
@@ -70,26 +65,48 @@ class Late(Fault):
     """A run didn't end in its time."""
 
 
-def run(program, words, text, environment=None):
-    """Returns the exit code, the output and what was said on standard error of a run within the limits."""
-    with subprocess.Popen(
-        [program, *words],
-        stdin=subprocess.PIPE,
-        stdout=subprocess.PIPE,
-        stderr=subprocess.PIPE,
-        env={**os.environ, **environment} if environment else None,
-    ) as ran:
-        # The program reads its input to the end before it does anything else, so that the limits are there in time.
-        for limit, most in LIMITS:
-            resource.prlimit(ran.pid, limit, most)
-        try:
-            output, said = ran.communicate(text, PATIENCE)
-        except subprocess.TimeoutExpired as late:
-            ran.kill()
-            raise Fault(f"no answer in {PATIENCE} seconds by the clock") from late
-    if ran.returncode == -signal.SIGXCPU:
-        raise Late(f"no answer in {SECONDS} seconds of a processor")
-    return ran.returncode, output, said
+Ended = collections.namedtuple("Ended", "code output said seconds kilobytes")
+
+
+class Server:
+    """Forks of one fresh process of a program, each of which runs it once within the limits: bench/serve.c."""
+
+    def __init__(self, program, libraries):
+        self.process = subprocess.Popen(
+            [program],
+            stdin=subprocess.PIPE,
+            stdout=subprocess.PIPE,
+            env={"LD_PRELOAD": libraries, "SERVE_SPACE": str(SPACE)},
+        )
+
+    def run(self, words, text, environment=()):
+        """Returns how a run ended, what it wrote and said, and what it took. Raises a fault where it didn't end in its time."""
+        spelled = [b"".join(os.fsencode(it) + b"\0" for it in part) for part in (words, environment)]
+        numbers = struct.pack("6I", len(words), len(environment), len(spelled[0]), len(spelled[1]), len(text), SECONDS)
+        self.process.stdin.write(numbers + b"".join(spelled) + text)
+        self.process.stdin.flush()
+        answer = self.process.stdout.read(20)
+        if len(answer) < 20:
+            raise Fault("the server of runs has ended")
+        status, output, said, microseconds, kilobytes = struct.unpack("5I", answer)
+        output, said = self.process.stdout.read(output), self.process.stdout.read(said)
+        code = os.waitstatus_to_exitcode(status)
+        if code == -signal.SIGXCPU:
+            raise Late(f"no answer in {SECONDS} seconds of a processor")
+        if code == -signal.SIGALRM:
+            raise Fault("no answer in an hour by the clock")
+        return Ended(code, output, said, microseconds / 1_000_000, kilobytes)
+
+
+@functools.cache
+def server_of(program, libraries, process):
+    """The server of a program that this process has. One of another process is never used: their requests would be mixed."""
+    return Server(program, libraries)
+
+
+def server(program, libraries):
+    """The server of a program, one for each worker."""
+    return server_of(program, libraries, os.getpid())
 
 
 def fits(words, code, output, said):
@@ -99,7 +116,7 @@ def fits(words, code, output, said):
         raise Fault(f"an end by signal {-code}")
     if code not in (0, 1, 2, 3, 6, 7):
         raise Fault(f"the exit code {code}")
-    if said and (code != 6 or said.count(b"\n") != 1):
+    if not re.fullmatch(rb"gillian: .+\n" if code == 6 else b"", said):
         raise Fault(f"on standard error {said[:200]!r}")
     if code == 2 and not re.fullmatch(rb"usage: gillian .*\n", output):
         raise Fault("code 2 without the usage line")
@@ -147,10 +164,12 @@ def is_report(output):
 
 def read_back(reader, reports):
     """Returns the number of the first of these reports that isn't read back, or None. Raises a fault where the reader fails."""
-    code, output, said = run(reader, [], b"".join(b"%d\n%b" % (len(it), it) for it in reports))
+    asked = b"".join(b"%d\n%b" % (len(it), it) for it in reports)
+    read = subprocess.run([reader], input=asked, capture_output=True, timeout=PATIENCE)
+    code, output, said = read.returncode, read.stdout, read.stderr
     if code not in (0, 1) or said or not re.search(rb"^\d+ of %d reports are read back\n\Z" % len(reports), output, re.M):
         raise Fault(f"the reader ends with {code} and {output[-200:]!r}, {said[:200]!r}")
-    unread = re.search(rb"^report (\d+) isn't read back$", output, re.M)
+    unread = re.search(rb"^report (\d+) isn't read ", output, re.M)
     return int(unread[1]) if unread else None
 
 
@@ -260,16 +279,20 @@ def in_some_form(seed, index, words):
 
 
 class Handful:
-    """What became of some texts: how many ended with which exit code, how many reports were read back, the longest time of a run that
-    ended with its number, the numbers of those that didn't in their time, and the faults."""
+    """What became of some texts: how many ended with which exit code, how many reports were read back, the seconds of a processor in all,
+    the most that one run took of them and of memory, each with its number, the numbers of those that didn't end in their time, and the
+    faults."""
 
     def __init__(self):
-        self.codes, self.read, self.slowest, self.late, self.faults = collections.Counter(), 0, (0.0, 0), [], []
+        self.codes, self.read, self.seconds, self.late, self.faults = collections.Counter(), 0, 0.0, [], []
+        self.slowest, self.largest = (0.0, 0), (0, 0)
 
     def add(self, other):
         self.codes += other.codes
         self.read += other.read
+        self.seconds += other.seconds
         self.slowest = max(self.slowest, other.slowest)
+        self.largest = max(self.largest, other.largest)
         self.late += other.late
         self.faults += other.faults
 
@@ -277,28 +300,29 @@ class Handful:
         return ", ".join(f"{count} with {code}" for code, count in sorted(self.codes.items(), key=lambda it: str(it[0])))
 
 
-def try_handful(program, reader, seed, start, end):
+def try_handful(program, libraries, reader, seed, start, end):
     """Tries the texts with these numbers."""
     every = cases()
     texts = [text for _, text in every]
     found, reports = Handful(), []
     for index in range(start, end):
         words, text = made(every, texts, seed, index)
-        begun = time.monotonic()
         try:
-            code, output, said = run(program, words, text)
-            fits([os.fsdecode(it) for it in words], code, output, said)
+            ended = server(program, libraries).run([program, *words], text)
+            fits([os.fsdecode(it) for it in words], ended.code, ended.output, ended.said)
         except Fault as fault:
             if isinstance(fault, Late) and words and words[0] in ENDLESS:
-                found.codes["no answer"] += 1
+                found.codes["too many paths"] += 1
                 found.late.append(index)
             else:
                 found.faults.append(f"text {index} of seed {seed}: {fault}: {keep(words, text)}")
             continue
-        found.slowest = max(found.slowest, (time.monotonic() - begun, index))
-        found.codes[code] += 1
-        if is_report(output):
-            reports.append((output, words, text, index))
+        found.seconds += ended.seconds
+        found.slowest = max(found.slowest, (ended.seconds, index))
+        found.largest = max(found.largest, (ended.kilobytes, index))
+        found.codes[ended.code] += 1
+        if is_report(ended.output):
+            reports.append((ended.output, words, text, index))
     if reader and reports:
         try_reports(reader, seed, reports, found)
     return found
@@ -321,17 +345,21 @@ def try_reports(reader, seed, reports, found):
     found.read += len(reports)
 
 
-def try_texts(program, reader, number, first, seed, jobs, most_faults):
+def try_texts(program, libraries, reader, number, first, seed, jobs, most_faults):
     all_of_them, told_at, begun = Handful(), 0, time.monotonic()
     with concurrent.futures.ProcessPoolExecutor(jobs) as pool:
         starts = iter(range(first, first + number, HANDFUL))
         waiting = collections.deque()
         while True:
-            for start in itertools.islice(starts, 2 * jobs + 1 - len(waiting)):
-                waiting.append(pool.submit(try_handful, program, reader, seed, start, min(first + number, start + HANDFUL)))
+            # Many, so that nobody waits for a handful with a text that takes its whole time.
+            for start in itertools.islice(starts, 40 * jobs - len(waiting)):
+                waiting.append(pool.submit(try_handful, program, libraries, reader, seed, start, min(first + number, start + HANDFUL)))
             if not waiting:
                 break
-            all_of_them.add(waiting.popleft().result())
+            found = waiting.popleft().result()
+            for fault in found.faults:
+                print(f"hostile: {fault}", file=sys.stderr, flush=True)
+            all_of_them.add(found)
             if len(all_of_them.faults) >= most_faults:
                 pool.shutdown(wait=False, cancel_futures=True)
                 break
@@ -342,57 +370,80 @@ def try_texts(program, reader, number, first, seed, jobs, most_faults):
     done = all_of_them.codes.total()
     print(f"{done} hostile texts in {time.monotonic() - begun:.0f} s: {all_of_them.told()}")
     print(f"{all_of_them.read} reports read back, and as many with changes handed to the reader" if reader else "no reader: no report is read back")
-    seconds, index = all_of_them.slowest
-    print(f"the longest run, that of text {index}, took {seconds:.2f} s by the clock")
+    (seconds, slowest), (kilobytes, largest) = all_of_them.slowest, all_of_them.largest
+    print(f"{all_of_them.seconds:.0f} s of a processor in all; the longest run that ended, that of text {slowest}, took {seconds:.2f} s")
+    print(f"the most memory, {kilobytes / 1024:.0f} MiB, was taken for text {largest}")
     if all_of_them.late:
-        print(f"without an answer in {SECONDS} s of a processor: the texts {', '.join(map(str, all_of_them.late[:20]))}")
+        print(f"without an answer in {SECONDS} s of a processor: the texts {', '.join(map(str, all_of_them.late))}")
     if all_of_them.faults:
-        sys.exit("\n".join(f"hostile: {it}" for it in all_of_them.faults))
+        sys.exit(f"hostile: {len(all_of_them.faults)} faults")
     print("no fault")
 
 
-# Runs whose allocations are refused one after another: the words, and the file of the text in examples/.
+# Runs whose allocations are refused one after another: the words, and the text or its file in examples/.
 REFUSED = [
     (["test", "gil-record"], "ten.gil"),
     (["run", "gil-record", "--inputs", "4"], "sum.gil"),
     (["test", "while"], "alias.while"),
     (["compile", "while"], "alias.while"),
     (["check", "while"], "swap.while"),
+    (["infer", "while", "--entry", "f"], "func f(a, b) { u = a.v; w = b.v; return 0; }\n"),
+    (["check", "gil-block"], "filled.gil"),
     (["test", "clike"], "greatest.clike"),
+    (["test", "gil-object"], "thrown.gil"),
     (["test", "object"], "swallowed.object"),
     (["solve", "atoms"], "order.atoms"),
     (["test", "gil-record", "--json"], "ten.gil"),
 ]
 
 
-def refuse(program, library, words, text, number, later):
-    return run(program, words, text, {"LD_PRELOAD": library, "REFUSE_FROM": str(number), "REFUSE_LATER": later})
-
-
-def try_refusals(program, library, most, jobs):
-    for words, file in REFUSED:
-        name = f"{' '.join(words)} {file}"
-        text = (TOP / "examples" / file).read_bytes()
-        whole = run(program, words, text)
-        fits(words, *whole)
+def try_refusals(program, libraries, most, jobs):
+    for words, text in REFUSED:
+        name = f"{' '.join(words)}, {text.strip()}"
+        file = TOP / "examples" / text
+        text = text.encode() if "\n" in text else file.read_bytes()
+        whole = server(program, libraries).run([program, *words], text)
+        fits(words, whole.code, whole.output, whole.said)
         with tempfile.NamedTemporaryFile(prefix="hostile-count-") as count:
-            run(program, words, text, {"LD_PRELOAD": library, "REFUSE_COUNT": count.name})
+            server(program, libraries).run([program, *words], text, [f"REFUSE_COUNT={count.name}"])
             asked = int(Path(count.name).read_text() or 0)
         if not asked:
             sys.exit("hostile: no allocation is counted: the program doesn't ask the C library for memory")
-        tries = [(number, later) for number in range(1, asked + 1, max(1, asked // most)) for later in ("0", "1")]
-        with concurrent.futures.ThreadPoolExecutor(jobs) as pool:
-            ends = pool.map(lambda it: refuse(program, library, words, text, *it), tries)
-            for (number, later), (code, output, said) in zip(tries, ends):
-                if (code, output) not in (whole[:2], (6, b"")) or (code != 6 and said):
-                    rest = "too" if later == "1" else "given"
-                    sys.exit(f"hostile: {name}: allocation {number} refused, later ones {rest}: exit code {code}, output {output[:200]!r}")
-        print(f"{name}: {len(tries)} runs with refused allocations, of {asked} that it asks for: no fault")
+        numbers = range(1, asked + 1, max(1, asked // most))
+        parts = [numbers[part::jobs] for part in range(jobs)]
+        with concurrent.futures.ProcessPoolExecutor(jobs) as pool:
+            ends = list(pool.map(functools.partial(refuse, program, libraries, words, text, whole), parts))
+        for fault in (fault for _, fault in ends if fault):
+            sys.exit(f"hostile: {name}: {fault}")
+        short = sum(codes[6] for codes, _ in ends)
+        print(f"{name}: {2 * len(numbers)} runs with refused allocations, of {asked} that it asks for: {short} end with 6, the others as without")
 
 
-def turns(command):
-    """A program that does the command 2,001 times, with a list in x."""
-    return f"proc main() {{\nx := [1];\nn := 0;\n{command}\nn := (n + 1);\nifgoto (n <= 2000) 2;\nreturn 0;\n}}\n"
+def refuse(program, libraries, words, text, whole, numbers):
+    """Refuses the allocations with these numbers, one in each run and then with all later ones. Returns how many runs ended with which
+    exit code, and what is wrong with one of them, if it is."""
+    codes = collections.Counter()
+    for number, later in itertools.product(numbers, "01"):
+        ended = server(program, libraries).run([program, *words], text, [f"REFUSE_FROM={number}", f"REFUSE_LATER={later}"])
+        codes[ended.code] += 1
+        if ended[:3] not in (whole[:3], (6, b"", f"gillian: {WANT}\n".encode()), (6, b"", b"")):
+            rest = "too" if later == "1" else "given"
+            return codes, f"allocation {number} refused, later ones {rest}: exit code {ended.code}, output {ended.output[:200]!r}"
+    return codes, None
+
+
+BOUND = ["--bound", "10000"]
+WALK = 'proc main(x) {\nifgoto (x = Null) 3;\nx := do lookup(x, "next");\nifgoto true 0;\nreturn 0;\n}\n'
+DEEPER = "proc main() {\nx := call @f([1]);\nreturn x;\n}\nproc f(a) {\nx := call @f([a]);\nreturn x;\n}\n"
+CALLS = "proc main() {\nx := call @main();\nreturn x;\n}\n"
+# What is said on standard error where nothing is written for want of memory.
+WANT = "out of memory, or past a limit of depth or size"
+
+
+def turns(number, before, commands, after=("return 0;",)):
+    """A program that does the commands so many times, behind some and before others."""
+    lines = [*before, "n := 0;", *commands, "n := (n + 1);", f"ifgoto (n < {number}) {len(before) + 1};", *after]
+    return "proc main() {\n" + "".join(it + "\n" for it in lines) + "}\n"
 
 
 def none_of(number):
@@ -400,29 +451,49 @@ def none_of(number):
     return f"vars x: int;\n(0 <= x); (x < {number});\n" + "".join(f"not((x = {it}));\n" for it in range(number))
 
 
-# What grows with each turn, each call or each split: what it is, the words, the text, and the exit code.
-GROWING = [
-    ("a list within a list", ["run", "gil-record", "--bound", "10000"], turns("x := [x];"), 6),
-    ("a list within a list", ["test", "gil-record", "--bound", "10000"], turns("x := [x];"), 6),
-    ("a list that is doubled", ["run", "gil-record", "--bound", "10000"], turns("x := (x ++ x);"), 6),
-    ("a list that is doubled", ["test", "gil-record", "--bound", "10000"], turns("x := (x ++ x);"), 6),
-    ("a list of itself twice", ["run", "gil-record", "--bound", "10000"], turns("x := [x, x];"), 6),
-    ("a list of itself twice", ["test", "gil-record", "--bound", "10000"], turns("x := [x, x];"), 6),
-    ("a call within a call", ["run", "gil-record", "--bound", "10000"], "proc main() {\nx := call @main();\nreturn x;\n}\n", 1),
-    ("a call within a call", ["test", "gil-record", "--bound", "10000"], "proc main() {\nx := call @main();\nreturn x;\n}\n", 0),
-    ("a split within a split", ["solve", "atoms"], none_of(400), 0),
-    ("a split within a split", ["solve", "atoms"], none_of(1000), 6),
-]
+def growing():
+    """What grows with each turn, each call or each split: what it is, the words, the text, and the exit code, or several
+    of these."""
+    record = ['r := do new(["v"]);', 'w := do mutate(r, "v", 1);']
+    for mode in ("run", "test", "infer"):
+        words = [mode, "gil-record", *BOUND]
+        yield "a list within a list", words, turns(2000, ["x := [1];"], ["x := [x];"]), 6
+        yield "a list that is doubled", words, turns(2000, ["x := [1];"], ["x := (x ++ x);"]), 6
+        yield "a list of itself twice", words, turns(2000, ["x := [1];"], ["x := [x, x];"]), 6
+        yield "a list within a list in the heap", words, turns(1900, record, ['x := do lookup(r, "v");', 'w := do mutate(r, "v", [x]);']), 6
+        yield "a list within a list of each call", words, DEEPER, 6
+        yield "a list of 990 that fails", words, turns(990, ["x := [1];"], ["x := [x];"], ["fail x;"]), 0 if mode == "infer" else 1
+        yield "a call within a call", words, CALLS, 0 if mode == "test" else 1
+    yield "a list of 990 as JSON", ["run", "gil-record", "--json", *BOUND], turns(990, ["x := [1];"], ["x := [x];"], ["return x;"]), 0
+    yield "a list of 990 that is returned", ["infer", "gil-record", *BOUND], turns(990, ["x := [1];"], ["x := [x];"], ["return x;"]), 0
+    guard = ["ifgoto (x < 5) 8;", "return 0;", "return 1;"]
+    for sign in "+*":
+        term = turns(990, ["y := isym int;", "x := y;"], [f"x := (x {sign} y);"], guard)
+        yield f"a term with 990 times {sign}", ["test", "gil-record", *BOUND], term, 1
+        yield f"a term with 990 times {sign} as JSON", ["test", "gil-record", "--json", *BOUND], term, 1
+    yield "a list of drawn texts", ["infer", "gil-record", *BOUND], turns(500, ["l := [];"], ["y := usym;", "l := (l ++ [y]);"], ["return l;"]), 0
+    yield "a walk along a list", ["infer", "gil-record", "--bound", "60"], WALK, 1
+    calls = CALLS.replace("@main", "@f") + CALLS.replace("main", "f") + "spec main() [] { emp } { emp }\n"
+    yield "a call within a call", ["check", "gil-record", *BOUND], calls, 1
+    yield "lists within lists in the words", ["run", "gil-record", "--inputs", "[" * 100_000], "proc main() { return 0; }", 2
+    yield "a long text in the words", ["run", "gil-record", "--inputs", '"' + "a" * 100_000 + '"'], "proc main() { x := isym str; return x; }", 0
+    for number, wanted in ((400, 0), (599, 0), (1000, (0, 6))):
+        for form in ([], ["--json"]):
+            yield f"{number} splits within splits", ["solve", "atoms", *form], none_of(number), wanted
 
 
-def try_growing(program):
-    for name, words, text, wanted in GROWING:
-        begun = time.monotonic()
-        code, output, said = run(program, words, text.encode())
-        fits(words, code, output, said)
-        if code != wanted:
-            sys.exit(f"hostile: {name}, {' '.join(words)}: exit code {code}, not {wanted}")
-        print(f"{name}, {' '.join(words)}: exit code {code}, {time.monotonic() - begun:.2f} s by the clock")
+def try_growing(program, reader, libraries):
+    for name, words, text, wanted in growing():
+        told = f"{name}, {' '.join(words)[:60]}"
+        ended = server(program, libraries).run([program, *words], text.encode())
+        fits(words, ended.code, ended.output, ended.said)
+        said = ended.said.decode().removeprefix("gillian: ").strip()
+        ends = wanted if isinstance(wanted, tuple) else (wanted,)
+        if ended.code not in ends:
+            sys.exit(f"hostile: {told}: exit code {ended.code}, not {wanted}, {said}")
+        if reader and is_report(ended.output) and read_back(reader, [ended.output]) is not None:
+            sys.exit(f"hostile: {told}: a report that isn't read back")
+        print(f"{told}: exit code {ended.code}, {said + ', ' * bool(said)}{ended.seconds:.2f} s of a processor, {ended.kilobytes // 1024} MiB")
 
 
 def built(name):
@@ -440,17 +511,18 @@ def main():
     words.add_argument("--no-growing", dest="growing", action="store_false", help="leaves out what grows")
     words.add_argument("--program", default=os.environ.get("GILLIAN_PROGRAM", built("gillian_cli")))
     words.add_argument("--reader", default=built("tests_read_back"), help="the program that reads reports back; none where this is empty")
-    words.add_argument("--library", required=True)
+    words.add_argument("--libraries", required=True, help="the folder of serve.so and refuse.so")
     given = words.parse_args()
     for program, maker in ((given.program, "./gillian --prove"), (given.reader, "rt run in crates/tests_read_back")):
         if program and not os.access(program, os.X_OK):
             sys.exit(f"hostile: {program} isn't built: {maker} makes it")
+    serve, both = f"{given.libraries}/serve.so", f"{given.libraries}/serve.so {given.libraries}/refuse.so"
     if given.refusals:
-        try_refusals(given.program, given.library, given.refusals, given.jobs)
+        try_refusals(given.program, both, given.refusals, given.jobs)
     if given.growing:
-        try_growing(given.program)
+        try_growing(given.program, given.reader, serve)
     if given.texts:
-        try_texts(given.program, given.reader, given.texts, given.first, given.seed, given.jobs, given.faults)
+        try_texts(given.program, serve, given.reader, given.texts, given.first, given.seed, given.jobs, given.faults)
 
 
 if __name__ == "__main__":

@@ -17,6 +17,12 @@ static void set(void) {
     is_set = 1;
 }
 
+/* Counts from here on, with the environment that there is then. */
+void refuse_anew(void) {
+    asked = 0;
+    is_set = 0;
+}
+
 static int is_refused(void) {
     if (!is_set) set();
     asked++;
