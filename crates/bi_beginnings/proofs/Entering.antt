@@ -1,5 +1,6 @@
 -- The states that the uses and conditions of a beginning give.
 use Rattle.std.proofs.Common.{◌≡◌, ◌⊎◌, ⊎_elim, inl, inr, ℕ, zero, suc, ◌<◌, List, [], ◌∷◌, ◌++◌, map, length, drop, slice_get, Bool, true, false, if◌then◌else◌, ◌&&◌, Option, Some, None, Result, Ok, Err, IfOk, IsSome, IsTrue, refl, sym, ap, subst, ◌∙◌, true≢false, arith}
+use Rattle.std.specs.FinMap.{empty}
 use Rattle.std.specs.List.{list_all, flat_map}
 use Rattle.std.specs.Str.{bytes_eq}
 use Rattle.std.proofs.lemmas.Bool.{and_parts}
@@ -14,7 +15,7 @@ use Rattle.gil_grammar.specs.Assertions.{may_be_item}
 use Rattle.mem_model.specs.declared.cores.Core.{Core}
 use Rattle.mem_model.specs.declared.keys.MemoryName.{MemoryName}
 use Rattle.mem_model.specs.Heaps.{Heap}
-use Rattle.assert_logic.specs.Adding.{IsAdding}
+use Rattle.assert_logic.specs.Adding.{added, IsAdding}
 use Rattle.assert_logic.specs.LogicStates.{LogicState, nothing}
 use Rattle.assertion_terms.specs.Named.{table_names, expr_of, equal, true_item, item_of, use_item, assertion_of}
 use Rattle.assertion_terms.proofs.Tables.{tables_are_named}
@@ -35,7 +36,7 @@ use Rattle.sym_states.specs.Meaning.{Stands, Serves, IsOverTable, AreFacts}
 use Rattle.sym_states.specs.Producing.{are_spelled, FitsCore, IsOfMemory, MayAdd, IsProduced, is_begun, is_added, IsStopped, added_conds}
 use Rattle.sym_states.specs.Pure.{PureFact, PureState}
 use Rattle.bi_beginnings.specs.Beginnings.{IsEntryTable, PureBeginning, IsBeginning}
-use Rattle.bi_beginnings.specs.Opening.{IsVariableOf, HasVariables, IsFirstState, IsEntryState, IsEnteredWith}
+use Rattle.bi_beginnings.specs.Opening.{IsVariableOf, HasVariables, IsFirstState, IsEntryState, IsBareState, IsEnteredWith}
 use Rattle.bi_beginnings.proofs.Tables.{over_variable}
 
 -- ---- items that may be added
@@ -171,10 +172,31 @@ pub one_of_each : {A : Type 0} (P Q R : A → Type 0) (xs : List A) → ((x : A)
 one_of_each P Q R [] f all one = absurd one
 one_of_each P Q R (x ∷ xs) f all one = ⊎_elim (λ here. inl (f x all.0 here)) (λ later. inr (one_of_each P Q R xs f all.1 later)) one
 
+some_there : {A : Type 0} (xs : List A) (x : A) (ys : List A) → ¬ (xs ++ x ∷ ys ≡ [])
+some_there [] x ys none = cc
+some_there (y ∷ xs) x ys none = cc
+
 module _ {S : Type 0} (stands : S → List PureValue → Heap → Type 0) (terms : S → StateTerms) (bs : PureStore) (s : PureState S) where
   same_table : (items : List PureItem) (r : PureState S) → IsProduced terms bs s items r → r.vars ≡ s.vars
   same_table items r (is_begun is same) = ap (λ (x : PureState S). x.vars) is
   same_table items r (is_added {items = xs} {q = q} before next) = ap (λ (x : PureState S). x.vars) next.same_else ∙ same_table xs q before
+
+  -- a state to which nothing was added
+  record IsUnchanged (r : PureState S) : Type 0 where
+    vars : r.vars ≡ s.vars
+    conds : r.conds ≡ s.conds
+    same_terms : terms r.memory ≡ terms s.memory
+
+  nothing_added : (items : List PureItem) (r : PureState S) → IsProduced terms bs s items r → items ≡ [] → IsUnchanged r
+  nothing_added items r (is_begun is same) none = record { vars = ap (λ (x : PureState S). x.vars) is; conds = ap (λ (x : PureState S). x.conds) is; same_terms = same }
+  nothing_added items r (is_added {items = xs} {item = item} before next) none = absurd (some_there xs item [] none)
+
+  unchanged : (items : List PureItem) (rs : List (PureState S)) → items ≡ [] → ComeFromItems stands terms bs items s rs → Each IsUnchanged rs
+  unchanged items [] none come = tt
+  unchanged items (r ∷ rs) none come = (
+    ⊎_elim (λ whole. nothing_added items r whole none) (λ (half : IsStopped stands terms bs s items r). absurd (some_there half.before half.item half.later (sym half.are ∙ none))) come.0,
+    unchanged items rs none come.1,
+  )
 
   still_table : (items : List PureItem) (rs : List (PureState S)) → ComeFromItems stands terms bs items s rs → Each (λ r. r.vars ≡ s.vars) rs
   still_table items [] come = tt
@@ -259,3 +281,31 @@ module _ {S : Type 0} (memory : MemoryName) (stands : S → List PureValue → H
         meets = record { proper = subst (λ (all : List Sort). IsProper all v) (sym right.0) proper; true_there = met };
         heap = ⊎_elim (λ needed. inl (subst (λ (cs : List PureAtom). IsTrue (has_open cs)) (all_new r) needed)) (λ (is : Stands stands r v m). inr is.memory) there;
       }
+
+  -- ---- where there is nothing
+
+  none_proper : vars ≡ [] → IsProper vars []
+  none_proper none = record {
+    one_each = ap length (sym none);
+    sorts = λ x sort w in_table at. not_none at;
+    fresh = λ x y n w in_table at less at_y. not_none at;
+  }
+
+  pub are_bare : vars ≡ [] → items ≡ [] → Each (IsBareState stands terms) rs
+  are_bare none no_item =
+      each_both (IsUnchanged stands terms bs s) _ (IsBareState stands terms) rs bare (unchanged stands terms bs s items rs no_item origin)
+      (exact [] (store_of_values [] bs) nothing (serves [] (none_proper none)))
+    where
+      bare : (r : PureState S) → IsUnchanged stands terms bs s r
+          → (IsTrue (all_true [] r.conds) → has_open (added_conds s r) ≡ false → (m : LogicState) × (IsAdding memory (store_of_values [] bs) items nothing m × Stands stands r [] m))
+          → IsBareState stands terms r
+      bare r same stands_so =
+          let no_condition : r.conds ≡ [] = same.conds ∙ first.conds in
+          let (m, (adding, there)) = stands_so (subst (λ (cs : List PureAtom). IsTrue (all_true [] cs)) (sym no_condition) refl) (ap has_open (all_new r ∙ no_condition)) in
+          let is : nothing ≡ m = same_some (subst (λ xs. added (store_of_values [] bs) xs nothing ≡ Some m) no_item adding.added_is) in
+          record {
+            no_variable = same.vars ∙ first.table ∙ none;
+            no_condition = no_condition;
+            no_key = subst (λ (l : LogicState). stands r.memory [] l.heap) (sym is) there.memory;
+            no_terms = same.same_terms ∙ first.no_terms;
+          }

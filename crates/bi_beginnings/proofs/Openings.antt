@@ -1,5 +1,5 @@
 -- The paths that begin in states in which a procedure may be entered.
-use Rattle.std.proofs.Common.{◌≡◌, ℕ, List, [], ◌++◌, length, Option, Some, None, IfSome, refl, sym, ap, subst, ◌∙◌, arith}
+use Rattle.std.proofs.Common.{◌≡◌, ◌⊎◌, ⊎_elim, inl, inr, ◌↔◌, ℕ, ◌≤◌, ◌^◌, ℤ, ◌≤ℤ◌, pos, neg_ℤ, List, [], ◌∷◌, ◌++◌, length, Option, Some, None, IfSome, IsSome, refl, sym, ap, subst, ◌∙◌, arith}
 use Rattle.std.specs.Bool.{⊤}
 use Rattle.std.specs.FinMap.{empty}
 use Rattle.std.specs.Option.{option_or}
@@ -8,10 +8,15 @@ use Rattle.gil_syntax.specs.Programs.{find_proc}
 use Rattle.gil_syntax.specs.Pure.{PureProc, PureParts}
 use Rattle.gil_syntax.specs.Valid.{IsValid}
 use Rattle.gil_machine.proofs.Placed.{starts_placed}
+use Rattle.mem_model.specs.declared.keys.MemoryName.{MemoryName}
 use Rattle.mem_model.specs.Heaps.{Heap}
-use Rattle.pure_terms.specs.Pure.{PureTerm}
+use Rattle.pure_terms.specs.declared.variables.Sort.{Sort}
+use Rattle.pure_terms.specs.Fragment.{InFragment}
+use Rattle.pure_terms.specs.Pure.{PureTerm, PureAtom}
 use Rattle.sym_asking.specs.Asking.{IsSolution}
+use Rattle.sym_model.specs.Laws.{IsPlainWithin, IsDecidedWithin}
 use Rattle.sym_model.specs.Lists.{Each}
+use Rattle.sym_model.specs.Plain.{IsPlainState}
 use Rattle.sym_model.specs.Terms.{StateTerms}
 use Rattle.sym_model.proofs.ListLaws.{not_none, each_append, each_to}
 use Rattle.sym_paths.specs.Beginning.{beginning, Begins}
@@ -19,8 +24,8 @@ use Rattle.sym_paths.specs.Pure.{PurePath}
 use Rattle.sym_paths.proofs.Beginning.{beginnings_stand}
 use Rattle.sym_states.specs.Pure.{PureState}
 use Rattle.sym_step.specs.Stepping.{AreAtCommands, MayStep}
-use Rattle.bi_beginnings.specs.Beginnings.{any_for_each, variables_from, IsOpening}
-use Rattle.bi_beginnings.specs.Opening.{IsEntryState}
+use Rattle.bi_beginnings.specs.Beginnings.{any_for_each, variables_from, IsOpening, BeginsBare, OpensBare}
+use Rattle.bi_beginnings.specs.Opening.{IsEntryState, IsBareState}
 use Rattle.bi_beginnings.proofs.Tables.{as_many_params, as_many_variables, params_over}
 
 -- as many variables as parameters
@@ -73,3 +78,45 @@ first_of_both {A = A} P o p after is first second = subst (λ r. IfSome r P) (sy
     by : (r : Option A) → IfSome r P → IfSome (option_or r p) P
     by (Some x) here = here
     by None here = second
+
+-- ---- where there is nothing
+
+no_params : (params : List (List ℕ)) (others : List Sort) → any_for_each params ++ others ≡ [] → params ≡ []
+no_params [] others none = refl
+no_params (x ∷ params) others none = cc
+
+-- no condition is in the fragment
+pub none_inside : (atoms : List PureAtom) → atoms ≡ [] → InFragment atoms
+none_inside atoms none = subst InFragment (sym none) (record { forms = refl; literals = refl; few_variables = omega arith })
+
+module _ {S : Type 0} (memory : MemoryName) (stands : S → List PureValue → Heap → Type 0) (terms : S → StateTerms) (kept : S → Type 0) (plain : S → ℤ → ℤ → Type 0)
+    (said : (m : S) (low high : ℤ) → plain m low high ↔ IsPlainState memory (terms m) low high) (q : PureProc) where
+  -- a path that begins in a bare state is bare
+  pub begins_bare : (s : PureState S) (ts : List PureTerm) (path : PurePath S) → IsEntryState stands terms kept q.params s → IsBareState stands terms s → ts ≡ variables_from 0 (any_for_each q.params)
+      → Begins q ts s.vars s.conds s.memory path → BeginsBare stands plain path
+  begins_bare s ts path entry bare are begins =
+      let none : q.params ≡ [] = no_params q.params entry.table.others (sym entry.table.table ∙ bare.no_variable) in
+      let no_args : ts ≡ [] = are ∙ ap (λ params. variables_from 0 (any_for_each params)) none in
+      let few : length s.vars ≡ 0 = ap length bare.no_variable in
+      record {
+        no_variable = ap (λ (x : PurePath S). x.vars) begins.is ∙ bare.no_variable;
+        no_condition = ap (λ (x : PurePath S). x.conds) begins.is ∙ bare.no_condition;
+        no_key = subst (λ m. stands m [] empty) (sym (ap (λ (x : PurePath S). x.memory) begins.is)) bare.no_key;
+        plain_path = (beginnings_stand stands terms plain).plain_path q ts s.vars s.conds s.memory path 0 begins
+            (subst (λ (us : List PureTerm). Each (IsPlainWithin (neg_ℤ (pos 0)) (pos 0)) us) (sym no_args) tt)
+            (subst (λ (cs : List PureAtom). Each (IsDecidedWithin (neg_ℤ (pos 0)) (pos 0)) cs) (sym bare.no_condition) tt)
+            (λ low high below above. (said s.memory low high).1 (subst (λ (us : StateTerms). IsPlainState memory us low high) (sym bare.no_terms) (record { plain = tt; described = tt })))
+            (omega (arith, few));
+      }
+
+-- one is left undecided only if the first list or the second one is
+of_either : {A : Type 0} (o p : Option A) → IsSome (option_or o p) → IsSome o ⊎ IsSome p
+of_either (Some x) p there = inl refl
+of_either None p there = inr there
+
+pub bare_further : {S A : Type 0} (stands : S → List PureValue → Heap → Type 0) (plain : S → ℤ → ℤ → Type 0) (o p after : Option A) (before more all : List (PurePath S))
+    → after ≡ option_or o p → all ≡ before ++ more → OpensBare stands plain (IsSome o) before → OpensBare stands plain (IsSome p) more → OpensBare stands plain (IsSome after) all
+bare_further stands plain o p after before more all is are first second = record {
+  decided = λ there. ⊎_elim first.decided second.decided (of_either o p (subst IsSome is there));
+  each_start = each_further (BeginsBare stands plain) before more all are first.each_start second.each_start;
+}

@@ -17,7 +17,7 @@ all_at f [] i x at all = not_none at
 all_at f (y ∷ ys) zero x at all = ap f (sym (same_some at)) ∙ (and_parts (f y) (list_all f ys) all).0
 all_at f (y ∷ ys) (suc i) x at all = all_at f ys i x at (and_parts (f y) (list_all f ys) all).1
 
-proc_at : (qs : List PureProc) (f : List ℕ) (q : PureProc) → find_proc qs f ≡ Some q → (i : ℕ) × (slice_get qs i ≡ Some q)
+pub proc_at : (qs : List PureProc) (f : List ℕ) (q : PureProc) → find_proc qs f ≡ Some q → (i : ℕ) × (slice_get qs i ≡ Some q)
 proc_at [] f q is = not_none is
 proc_at (r ∷ qs) f q is = by (bytes_eq r.name f) (proc_at qs f q) is
   where

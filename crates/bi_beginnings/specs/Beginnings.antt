@@ -1,7 +1,7 @@
 -- Where inference begins: the values with which a procedure is entered, of which nothing is known, and heaps that fix the keys which
 -- earlier paths missed. Bi-abduction is that of Calcagno, Distefano, O'Hearn, Yang, POPL 2009.
-use Rattle.std.specs.Prelude.{◌≡◌, ◌⊎◌, ℕ, suc, ◌+◌, ◌≤◌, List, [], ◌∷◌, ◌++◌, map, length, false, IsTrue}
-use Rattle.std.specs.FinMap.{entries}
+use Rattle.std.specs.Prelude.{◌≡◌, ◌⊎◌, ℕ, suc, ◌+◌, ◌≤◌, ℤ, List, [], ◌∷◌, ◌++◌, map, length, false, IsTrue}
+use Rattle.std.specs.FinMap.{empty, entries}
 use Rattle.std.specs.List.{list_all}
 use Rattle.gil_values.specs.declared.places.Place.{Place}
 use Rattle.gil_values.specs.Pure.{PureValue}
@@ -24,6 +24,7 @@ use Rattle.sym_model.specs.Terms.{StateTerms, AreEachOver}
 use Rattle.sym_paths.specs.Beginning.{Begins}
 use Rattle.sym_paths.specs.Meaning.{IsOverTable}
 use Rattle.sym_paths.specs.Pure.{PurePath}
+use Rattle.sym_paths.specs.Steps.{IsPlainPath}
 
 -- ---- tables
 
@@ -93,6 +94,27 @@ abbrev pub CoversBeginning : {S : Type 0} → MemoryName → (S → List PureVal
 CoversBeginning memory stands b undecided starts =
     (v : List PureValue) (own : Heap) → Satisfies b.vars v b.conds → AreUnion v b.uses own → IsHeapOf memory own
     → undecided ⊎ OneOf (BeginsWith stands b.vars v own) starts
+
+-- ---- where there is nothing
+
+-- the beginning has no variable, fixes nothing and assumes nothing
+pub record IsBare (b : PureBeginning) : Type 0 where
+  pub no_variable : b.vars ≡ []
+  pub no_use : b.uses ≡ []
+  pub no_condition : b.conds ≡ []
+
+-- The path has no variable and no condition, its memory has no key, and it is plain without numbers.
+pub record BeginsBare {S : Type 0} (stands : S → List PureValue → Heap → Type 0) (plain : S → ℤ → ℤ → Type 0) (path : PurePath S) : Type 0 where
+  pub no_variable : path.vars ≡ []
+  pub no_condition : path.conds ≡ []
+  pub no_key : stands path.memory [] empty
+  pub plain_path : IsPlainPath plain 0 path
+
+-- nothing is left undecided, and each path begins bare
+pub record OpensBare {S : Type 0} (stands : S → List PureValue → Heap → Type 0) (plain : S → ℤ → ℤ → Type 0) (undecided : Type 0)
+    (starts : List (PurePath S)) : Type 0 where
+  pub decided : ¬ undecided
+  pub each_start : Each (BeginsBare stands plain) starts
 
 -- ---- runs that are awaited
 

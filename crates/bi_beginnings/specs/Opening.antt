@@ -64,6 +64,13 @@ pub record IsEntryState {S : Type 0} (stands : S → List PureValue → Heap →
   pub has_heap : has_open s.conds ≡ false → (v : List PureValue) → Satisfies s.vars v s.conds → (h : Heap) × stands s.memory v h
   pub still_kept : kept s.memory
 
+-- the state has no variable, no condition, no key and no term
+pub record IsBareState {S : Type 0} (stands : S → List PureValue → Heap → Type 0) (terms : S → StateTerms) (s : PureState S) : Type 0 where
+  pub no_variable : s.vars ≡ []
+  pub no_condition : s.conds ≡ []
+  pub no_key : stands s.memory [] empty
+  pub no_terms : terms s.memory ≡ no_state_terms
+
 -- ---- cover
 
 -- The valuation meets the conditions of the state, and the memory has this heap, unless one of the conditions is that a literal form is

@@ -16,10 +16,11 @@ ghost use Rattle.sym_paths.specs.Steps.{place_of as pure_place};
 ghost use Rattle.sym_paths.specs.View.{path_view, paths_view};
 ghost use Rattle.sym_states.specs.View.{state_view, states_view};
 ghost use Rattle.sym_step.specs.Stepping.{MayStep};
-ghost use Rattle.bi_beginnings.specs.Beginnings.{any_for_each, variables_from, IsBeginning, IsOpening, CoversBeginning};
+ghost use Rattle.bi_beginnings.specs.Beginnings.{any_for_each, variables_from, IsBeginning, IsOpening, IsBare, OpensBare, CoversBeginning};
 ghost use Rattle.bi_beginnings.specs.Opening.{
   IsFirstState,
   IsEntryState,
+  IsBareState,
   HasVariables,
   IsNamedFurther,
   AreNamed,
@@ -133,6 +134,7 @@ fn entry_states<M: ListedMemory>(
     ensures entries { IfOk result (λ ss. Each (IsEntryState M.stands M.terms M.kept (proc_view proc.now).params) (states_view ss)) }
     ensures cover { IsTrue (list_all is_program_name (proc_view proc.now).params) → has_twice (proc_view proc.now).params ≡ false
         → IfOk result (λ ss. AreEntered M.Local.memory M.stands (beginning_view beginning.now) (states_view ss)) }
+    ensures bare { IsBare (beginning_view beginning.now) → IfOk result (λ ss. Each (IsBareState M.stands M.terms) (states_view ss)) }
 {
     let others = beginning.vars.len() - proc.params.len();
     let names = names_of_table(alloc, &proc.params, others)?;
@@ -211,6 +213,7 @@ fn enter<M: ListedMemory, D: Decider>(
     ensures starts { IfOk result (λ o. Each (IsOpening M.stands M.terms M.kept (proc_view proc.now)) (starts_of o)) }
     ensures cover { IfOk result (λ o. IsOpenedBy M.stands (state_view state) (IsSome (undecided_of o)) (starts_of o)) }
     ensures undecided { IfOk result (λ o. IfSome (undecided_of o) (λ q. ¬ InFragment (atoms_view q.query))) }
+    ensures bare { IsBareState M.stands M.terms (state_view state) → IfOk result (λ o. OpensBare M.stands M.plain (IsSome (undecided_of o)) (starts_of o)) }
 {
     match ask(alloc, decider, &state.vars, state.conds.atoms())? {
         Satisfiability::Satisfiable(_) => {
@@ -259,6 +262,8 @@ fn enter_each<M: ListedMemory, D: Decider>(
     ensures starts { IfOk result (λ o. Each (IsOpening M.stands M.terms M.kept (proc_view proc.now)) (paths_view o.starts)) }
     ensures cover { IfOk result (λ o. Each (λ s. IsOpenedBy M.stands s (IsSome o.undecided) (paths_view o.starts)) (states_view states)) }
     ensures undecided { IfOk result (λ o. IfSome o.undecided (λ q. ¬ InFragment (atoms_view q.query))) }
+    ensures bare { Each (IsBareState M.stands M.terms) (states_view states) → IfOk result (λ o. OpensBare M.stands M.plain (IsSome o.undecided)
+        (paths_view o.starts)) }
 {
     let mut opened = Opened {
         starts: Sequence::new(alloc),
@@ -288,6 +293,7 @@ pub fn begin<M: ListedMemory, D: Decider>(
     ensures cover { IfOk result (λ o. CoversBeginning M.Local.memory M.stands (beginning_view beginning.now) (IsSome o.undecided)
         (paths_view o.starts)) }
     ensures undecided { IfOk result (λ o. IfSome o.undecided (λ q. ¬ InFragment (atoms_view q.query))) }
+    ensures bare { IsBare (beginning_view beginning.now) → IfOk result (λ o. OpensBare M.stands M.plain (IsSome o.undecided) (paths_view o.starts)) }
 {
     let states = entry_states(alloc, proc, beginning)?;
     let args = entry_args(alloc, proc)?;

@@ -31,3 +31,6 @@ returns-clause-cover g c =
     ok_to c.enter_each.result _ (λ o. CoversBeginning g.M.Local.LocalMemory.memory stands b (IsSome o.undecided) (paths_view o.starts))
     (λ o opened. all_opened stands g.M.Local.LocalMemory.memory b ss (IsSome o.undecided) (paths_view o.starts) entered opened)
     c.enter_each.ensures.cover
+
+pub returns-clause-bare : goal.returns-clause-bare
+returns-clause-bare g c = λ bare. c.enter_each.ensures.bare (c.in_ok-states.ensures.bare bare)

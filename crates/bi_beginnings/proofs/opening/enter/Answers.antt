@@ -1,4 +1,4 @@
-use Rattle.std.proofs.Common.{sym, subst}
+use Rattle.std.proofs.Common.{sym, subst, ◌∙◌, true≢false}
 use Rattle.gil_values.specs.View.{values_view}
 use Rattle.gil_syntax.specs.View.{proc_view}
 use Rattle.pure_terms.specs.Meaning.{AreOver}
@@ -9,7 +9,7 @@ use Rattle.sym_asking.proofs.Fragments.{each_over_all}
 use Rattle.sym_model.specs.View.{path_view as conditions_view}
 use Rattle.sym_paths.specs.View.{path_view}
 use Rattle.sym_states.specs.View.{state_view}
-use Rattle.bi_beginnings.proofs.Openings.{as_many, opens}
+use Rattle.bi_beginnings.proofs.Openings.{as_many, opens, begins_bare, none_inside}
 use Rattle.bi_beginnings.proofs.opening.enter.Goals as goal
 
 pub ask-requires : goal.ask-requires
@@ -28,3 +28,21 @@ returns-in_ok-start_from-in-Satisfiable-clause-starts g c =
           (subst (λ atoms. IsSolution c.args.state.vars atoms v) c.atoms.ensures right),
       tt,
     )
+
+pub returns-in_ok-start_from-in-Satisfiable-clause-bare : goal.returns-in_ok-start_from-in-Satisfiable-clause-bare
+returns-in_ok-start_from-in-Satisfiable-clause-bare g c = λ bare. record {
+  decided = λ some. true≢false (sym some);
+  each_start = (
+    begins_bare g.M.Local.LocalMemory.memory g.M.SymMemory.stands g.M.SymMemory.terms g.M.SymMemory.kept g.M.SymMemory.plain g.met.M.SymMemory.plain_is_said (proc_view c.args.proc.now) (state_view c.args.state)
+        (terms_view c.args.args.now) (path_view c.in_ok-start_from-in-Satisfiable.field-0) c.requires.entry bare c.requires.args c.in_ok-start_from-in-Satisfiable.ensures,
+    tt,
+  );
+}
+
+pub returns-in-Unsatisfiable-clause-bare : goal.returns-in-Unsatisfiable-clause-bare
+returns-in-Unsatisfiable-clause-bare g c = λ bare. record { decided = λ some. true≢false (sym some); each_start = tt }
+
+pub returns-in_ok-query_of-in-Undecided-clause-bare : goal.returns-in_ok-query_of-in-Undecided-clause-bare
+returns-in_ok-query_of-in-Undecided-clause-bare g c = λ bare.
+    let right = subst (λ s. IsRightly c.args.state.vars (atoms_view c.atoms.result.now) (satisfiability_view s)) c.in-Undecided.is c.in_ok-ask.ensures in
+    absurd (right.outside (none_inside (atoms_view c.atoms.result.now) (c.atoms.ensures ∙ bare.no_condition)))

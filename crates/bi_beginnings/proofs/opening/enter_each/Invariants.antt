@@ -6,8 +6,8 @@ use Rattle.pure_terms.specs.View.{atoms_view}
 use Rattle.sym_model.specs.Lists.{Each}
 use Rattle.sym_paths.specs.View.{paths_view}
 use Rattle.sym_states.specs.View.{states_view}
-use Rattle.bi_beginnings.specs.Beginnings.{IsOpening}
-use Rattle.bi_beginnings.specs.Opening.{IsOpenedBy}
+use Rattle.bi_beginnings.specs.Beginnings.{IsOpening, OpensBare}
+use Rattle.bi_beginnings.specs.Opening.{IsBareState, IsOpenedBy}
 use Rattle.bi_beginnings.proofs.opening.enter_each.Given as goal
 
 abbrev pub invariant-loop-state : goal.invariant-loop-state
@@ -17,4 +17,5 @@ invariant-loop-state g l = record {
   starts : Each (IsOpening g.M.SymMemory.stands g.M.SymMemory.terms g.M.SymMemory.kept (proc_view l.proc)) (paths_view l.opened.starts);
   cover : Each (λ s. IsOpenedBy g.M.SymMemory.stands s (IsSome l.opened.undecided) (paths_view l.opened.starts)) (states_view l.yielded);
   undecided : IfSome l.opened.undecided (λ q. ¬ InFragment (atoms_view q.query));
+  bare : Each (IsBareState g.M.SymMemory.stands g.M.SymMemory.terms) (states_view l.fn.states) → OpensBare g.M.SymMemory.stands g.M.SymMemory.plain (IsSome l.opened.undecided) (paths_view l.opened.starts);
 }
