@@ -7,6 +7,7 @@ pub mod Naming
 pub mod Once
 pub mod PostStores
 pub mod RunsAlong
+pub mod Saying
 pub mod Telling
 pub mod TruePaths
 pub mod Unions

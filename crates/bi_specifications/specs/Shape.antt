@@ -11,6 +11,7 @@ use Rattle.checked_runs.specs.Specifications.{result_name}
 use Rattle.pure_terms.specs.declared.variables.Sort.{Sort}
 use Rattle.pure_terms.specs.Fragment.{has_fragment_form, names_sort}
 use Rattle.pure_terms.specs.Kinds.{same_sort}
+use Rattle.pure_terms.specs.Meaning.{IsOver}
 use Rattle.pure_terms.specs.Naming.{names_number, names_only_below}
 use Rattle.pure_terms.specs.Pure.{PureTerm, variable, binary_of, PureAtom, positive, term_of}
 use Rattle.sym_model.specs.Lists.{Each}
@@ -121,3 +122,12 @@ module _ {S : Type 0} (q : PureProc) (e : PureEntry) (path : PurePath S) where
     pub new_symbols : IsTrue (list_all (same_sort Sort.Fresh) (drop e.count path.vars))
     pub outs_named : (k : ℕ) → length q.params ≤ k → k < e.count → IsTrue (is_named_early k)
     pub late_forms : Each (λ a. IsTrue (has_fragment_form a) × IsTrue (names_sort Sort.Fresh (term_of a))) (late_conds e.count path.conds)
+
+  -- All of the path can be said: there is no parameter, and no variable at the beginning; and its conditions, each of which has a form of
+  -- the fragment, name only its variables, which are new symbols.
+  pub record MayBeSaid : Type 0 where
+    pub no_parameter : q.params ≡ []
+    pub no_variable : e.count ≡ 0
+    pub new_symbols : IsTrue (list_all (same_sort Sort.Fresh) path.vars)
+    pub over : Each (λ a. IsOver path.vars (term_of a)) path.conds
+    pub forms : Each (λ a. IsTrue (has_fragment_form a)) path.conds

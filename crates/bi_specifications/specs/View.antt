@@ -28,3 +28,9 @@ abbrev pub MatchTold : Told → (PureFound → Type 0) → Type 0 → Type 0
 MatchTold (Told.Found f) Holds Otherwise = Holds (found_view f)
 MatchTold (Told.Unsaid t) Holds Otherwise = ⊤
 MatchTold Told.Nothing Holds Otherwise = Otherwise
+
+-- the path has something that can't be said
+abbrev pub IsUnsaid : Told → Type 0
+IsUnsaid (Told.Found f) = ⊥
+IsUnsaid (Told.Unsaid t) = ⊤
+IsUnsaid Told.Nothing = ⊥

@@ -1,5 +1,5 @@
 //! The conditions of a path, by whether what they speak of was there at the beginning.
-ghost use Rattle.std.specs.Prelude.{◌≡◌, ◌++◌, ◌||◌, IfNone, IfOk, IsTrue};
+ghost use Rattle.std.specs.Prelude.{◌≡◌, ◌++◌, ◌||◌, IfNone, IfSome, IfOk, IsTrue};
 ghost use Rattle.std.specs.List.{list_any};
 ghost use Rattle.pure_terms.specs.declared.variables.Sort.{Sort as PureSort};
 ghost use Rattle.pure_terms.specs.Fragment.{has_fragment_form, names_sort};
@@ -52,7 +52,9 @@ pub(crate) fn late_conditions(
 
 /// The term of the first of these conditions that can't be said, since it has no form of the fragment or names no new symbol.
 pub(crate) fn first_unsaid(alloc: Global, late: &Atoms) -> Result<Option<Term>, AllocError>
-    ensures { IfOk result (λ o. IfNone o (Each (λ a. IsTrue (has_fragment_form a) × IsTrue (names_sort PureSort.Fresh (term_of a)))
+    ensures none { IfOk result (λ o. IfNone o (Each (λ a. IsTrue (has_fragment_form a) × IsTrue (names_sort PureSort.Fresh (term_of a)))
+        (atoms_view late.now))) }
+    ensures some { IfOk result (λ o. IfSome o (λ t. ¬ Each (λ a. IsTrue (has_fragment_form a) × IsTrue (names_sort PureSort.Fresh (term_of a)))
         (atoms_view late.now))) }
 {
     for condition in late.as_slice() {

@@ -1,5 +1,5 @@
 //! The specification of a path.
-ghost use Rattle.std.specs.Prelude.{◌≡◌, ◌↔◌, ℕ, ◌≤◌, ◌<◌, ◌||◌, List, [], ◌∷◌, ◌++◌, length, drop, map, IfNone, IfOk, IsTrue, Some};
+ghost use Rattle.std.specs.Prelude.{◌≡◌, ◌↔◌, ℕ, ◌≤◌, ◌<◌, ◌||◌, List, [], ◌∷◌, ◌++◌, length, drop, map, IfNone, IfSome, IfOk, IsTrue, Some};
 ghost use Rattle.std.specs.List.{list_all, list_any};
 ghost use Rattle.gil_syntax.specs.View.{proc_view, spec_view, assertion_view};
 ghost use Rattle.pure_terms.specs.declared.variables.Sort.{Sort as PureSort};
@@ -11,9 +11,9 @@ ghost use Rattle.sym_model.specs.Listing.{IsListing};
 ghost use Rattle.sym_model.specs.Pure.{PureUse};
 ghost use Rattle.sym_model.specs.View.{uses_view};
 ghost use Rattle.sym_paths.specs.View.{end_view, path_view};
-ghost use Rattle.bi_specifications.specs.Shape.{early_conds, late_conds, post_of, spec_of, HasGrown, MayBeTold};
+ghost use Rattle.bi_specifications.specs.Shape.{early_conds, late_conds, post_of, spec_of, HasGrown, MayBeTold, MayBeSaid};
 ghost use Rattle.bi_specifications.specs.Specified.{IsEntryOf, IsTrulyTold, IsMetAlong, TellsNothing};
-ghost use Rattle.bi_specifications.specs.View.{entry_view, found_view, IfTold, MatchTold};
+ghost use Rattle.bi_specifications.specs.View.{entry_view, found_view, IfTold, MatchTold, IsUnsaid};
 
 use crate::conditions::{early_conditions, first_unsaid, late_conditions, stands_in};
 use crate::wording::{
@@ -83,9 +83,10 @@ fn are_new_symbols(vars: &VarTable, first: usize) -> bool
 
 /// The first variable of the beginning that isn't a parameter and doesn't stand in the precondition, if there is one.
 fn unnamed_out(params: usize, entry: &Entry, early: &Atoms) -> Option<usize>
-    ensures { IfNone result ((k : ℕ) → params ≤ k → k < (entry_view entry.now).count
+    ensures none { IfNone result ((k : ℕ) → params ≤ k → k < (entry_view entry.now).count
         → IsTrue (list_any (λ u. list_any (names_number k) (u.ins ++ u.outs)) (entry_view entry.now).uses
         || list_any (λ a. names_number k (term_of a)) (atoms_view early.now))) }
+    ensures some { IfSome result (λ number. number < (entry_view entry.now).count) }
 {
     for number in params..entry.count {
         if !stands_in(&entry.uses, early, number as u64) {
@@ -182,6 +183,7 @@ fn tell<M: ListedMemory>(
     ensures cover { IfOk result (λ told. MatchTold told (IsMetAlong M.Local.memory M.Local.actions M.stands M.terms M.asked M.depends M.plain
         M.keeps_plain M.kept (proc_view proc.now) (entry_view entry.now) (path_view path.now)) (TellsNothing M.Local.memory M.Local.actions M.stands
         M.terms M.asked M.depends M.plain M.keeps_plain M.kept (proc_view proc.now) (entry_view entry.now) (path_view path.now))) }
+    ensures said { IfOk result (λ told. ¬ IsUnsaid told) }
 {
     match end {
         PathEnd::Returned(term) => {
@@ -211,7 +213,8 @@ fn tell<M: ListedMemory>(
 
 /// The specification that a path tells which returned, threw or was cut, and drew nothing. Its precondition has the memory with which the
 /// path began, and those of its conditions that name only what was there; its postcondition has the memory that it left, its result, and
-/// its conditions on new symbols. Each heap with which a run along the path begins meets the precondition.
+/// its conditions on new symbols. Each heap with which a run along the path begins meets the precondition. Where all of the path can be
+/// said, it isn't answered that something can't.
 pub fn specify<M: ListedMemory>(
     alloc: Global,
     proc: &Proc,
@@ -223,6 +226,7 @@ pub fn specify<M: ListedMemory>(
     ensures cover { IfOk result (λ told. MatchTold told (IsMetAlong M.Local.memory M.Local.actions M.stands M.terms M.asked M.depends M.plain
         M.keeps_plain M.kept (proc_view proc.now) (entry_view entry.now) (path_view path.now)) (TellsNothing M.Local.memory M.Local.actions M.stands
         M.terms M.asked M.depends M.plain M.keeps_plain M.kept (proc_view proc.now) (entry_view entry.now) (path_view path.now))) }
+    ensures said { MayBeSaid (proc_view proc.now) (entry_view entry.now) (path_view path.now) → IfOk result (λ told. ¬ IsUnsaid told) }
 {
     let Some(end) = &path.end else {
         return Ok(Told::Nothing);

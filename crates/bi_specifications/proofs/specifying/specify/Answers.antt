@@ -1,5 +1,5 @@
 use Rattle.std.proofs.Common.{◌≡◌, ◌≤◌, length, IsTrue, sym, ap, subst, ◌∙◌, true≢false, arith}
-use Rattle.std.specs.Prelude.{IfNone}
+use Rattle.std.specs.Prelude.{IfNone, IfSome}
 use Rattle.gil_syntax.specs.View.{proc_view}
 use Rattle.pure_terms.specs.declared.variables.Sort.{Sort}
 use Rattle.pure_terms.specs.Fragment.{has_fragment_form, names_sort}
@@ -9,6 +9,7 @@ use Rattle.sym_model.specs.Lists.{Each}
 use Rattle.sym_paths.specs.View.{path_view}
 use Rattle.bi_specifications.specs.Shape.{early_conds, late_conds}
 use Rattle.bi_specifications.specs.View.{entry_view}
+use Rattle.bi_specifications.proofs.Saying.{late_are_said}
 use Rattle.bi_specifications.proofs.Telling.{may_from, nothing_of_others, none_there}
 use Rattle.bi_specifications.proofs.specifying.specify.Goals as goal
 
@@ -22,12 +23,20 @@ tell-requires-clause-may g c =
     let late_is = c.in_ok-late.ensures ∙ ap (late_conds e.count) c.atoms-2.ensures in
     let none : length path.drawn ≡ 0 = omega (arith, c.len.ensures, c.if-len-gt0.false) in
     let grown = c.grew_by_symbols.ensures.0 grew in
-    may_from q e path (atoms_view c.in_ok-early.early) (atoms_view c.in_ok-late.late) c.in_default-result_parameter.ensures (none_there path.drawn none) grown.params_first grown.count_within grown.new_symbols early_is late_is
-    (λ k past within. c.in_default-unnamed_out.ensures k (subst (λ n. n ≤ k) (sym c.len-2.ensures) past) within)
-    (subst (λ o. IfNone o (Each (λ a. IsTrue (has_fragment_form a) × IsTrue (names_sort Sort.Fresh (term_of a))) (atoms_view c.in_ok-late.late))) c.in_default-2.is c.in_ok-term.ensures)
+    may_from q e path (atoms_view c.in_ok-early.early) (atoms_view c.in_ok-late.late) c.in_default-result_parameter.ensures.none (none_there path.drawn none) grown.params_first grown.count_within grown.new_symbols early_is late_is
+    (λ k past within. c.in_default-unnamed_out.ensures.none k (subst (λ n. n ≤ k) (sym c.len-2.ensures) past) within)
+    (subst (λ o. IfNone o (Each (λ a. IsTrue (has_fragment_form a) × IsTrue (names_sort Sort.Fresh (term_of a))) (atoms_view c.in_ok-late.late))) c.in_default-2.is c.in_ok-term.ensures.none)
 
 pub returns-then-not-grew_by_symbols-clause-cover : goal.returns-then-not-grew_by_symbols-clause-cover
 returns-then-not-grew_by_symbols-clause-cover g c =
     nothing_of_others g.M.Local.LocalMemory.memory g.M.Local.LocalMemory.actions g.M.SymMemory.stands g.M.SymMemory.terms g.M.SymMemory.asked g.M.SymMemory.depends g.M.SymMemory.plain g.M.SymMemory.keeps_plain
     g.M.SymMemory.kept (proc_view c.args.proc.now) (entry_view c.args.entry.now) (path_view c.args.path.now)
     (λ grown. true≢false (sym (c.grew_by_symbols.ensures.1 grown) ∙ c.if-not-grew_by_symbols.true))
+
+pub returns-in-Some-2-clause-said : goal.returns-in-Some-2-clause-said
+returns-in-Some-2-clause-said g c = λ may unsaid.
+    let e = entry_view c.args.entry.now in
+    let path = path_view c.args.path.now in
+    let late_is = c.in_ok-late.ensures ∙ ap (late_conds e.count) c.atoms-2.ensures ∙ ap (λ n. late_conds n path.conds) may.no_variable in
+    subst (λ o. IfSome o (λ t. ¬ Each (λ a. IsTrue (has_fragment_form a) × IsTrue (names_sort Sort.Fresh (term_of a))) (atoms_view c.in_ok-late.late))) c.in-Some-2.is c.in_ok-term.ensures.some
+    (subst (Each (λ a. IsTrue (has_fragment_form a) × IsTrue (names_sort Sort.Fresh (term_of a)))) (sym late_is) (late_are_said path.vars may.new_symbols path.conds may.over may.forms))
