@@ -1,3 +1,4 @@
 pub mod Covering
+pub mod Decided
 pub mod Sound
 pub mod View

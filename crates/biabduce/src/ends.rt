@@ -1,16 +1,18 @@
 //! What an ended path tells inference.
-ghost use Rattle.std.specs.Prelude.{◌≡◌, ◌↔◌, ℕ, [], IsTrue, OnOk};
+ghost use Rattle.std.specs.Prelude.{◌≡◌, ◌↔◌, ℕ, ◌≤◌, [], IsTrue, OnOk};
 ghost use Rattle.std.specs.Option.{option_map};
 ghost use Rattle.gil_syntax.specs.Pure.{PureProc, PureParts};
 ghost use Rattle.gil_syntax.specs.View.{proc_view};
 ghost use Rattle.pure_terms.specs.View.{atoms_view};
 ghost use Rattle.sym_model.specs.View.{key_view};
 ghost use Rattle.sym_paths.specs.View.{end_view, path_view};
-ghost use Rattle.bi_beginnings.specs.Beginnings.{PureBeginning, IsBeginning};
+ghost use Rattle.bi_beginnings.specs.Beginnings.{PureBeginning, IsBeginning, BeginsBare};
 ghost use Rattle.bi_beginnings.specs.View.{beginning_view};
+ghost use Rattle.bi_specifications.specs.Shape.{MayBeSaid};
 ghost use Rattle.bi_specifications.specs.Specified.{IsExplored};
 ghost use Rattle.bi_specifications.specs.View.{entry_view};
 ghost use Rattle.biabduce.specs.Covering.{Keeps, IsToldEnd, CoversMiss, CoversEnd, CoversPath};
+ghost use Rattle.biabduce.specs.Decided.{IsDecidable, StaysDecided, IsLeftOpen};
 ghost use Rattle.biabduce.specs.Sound.{IsSound, IsUndecidedIfUnknown};
 ghost use Rattle.biabduce.specs.View.{inference_view};
 
@@ -46,6 +48,8 @@ fn tell<M: ListedMemory>(
         → Keeps p M.Local.memory M.Local.actions (proc_view proc.now) n (inference_view inference.old) (inference_view inference.new)
         × CoversPath p M.Local.memory M.Local.actions (proc_view proc.now) n M.stands explored.start b (path_view path)
         (inference_view inference.new)) }
+    ensures decided { OnOk result (MayBeSaid (proc_view proc.now) (entry_view entry.now) (path_view path)
+        → StaysDecided (inference_view inference.old) (inference_view inference.new)) }
 {
     match specify(alloc, proc, entry, &path)? {
         Told::Found(found) => inference.find(found),
@@ -106,6 +110,7 @@ fn go_on<M: ListedMemory>(
         → Keeps p M.Local.memory M.Local.actions q bound (inference_view inference.old) (inference_view inference.new)
         × CoversEnd p M.Local.memory M.Local.actions q bound (beginning_view beginning.now) path.vars (atoms_view path.conds)
         (option_map end_view path.end) (inference_view inference.new)) }
+    ensures decided { OnOk result (¬ IsLeftOpen (option_map end_view path.end) → StaysDecided (inference_view inference.old) (inference_view inference.new)) }
 {
     let mut path = path;
     match replace(&mut path.end, None) {
@@ -152,6 +157,10 @@ pub(crate) fn take_end<M: ListedMemory>(
         → Keeps p M.Local.memory M.Local.actions (proc_view proc.now) bound (inference_view inference.old) (inference_view inference.new)
         × CoversPath p M.Local.memory M.Local.actions (proc_view proc.now) bound M.stands explored.start (beginning_view beginning.now)
         (path_view path) (inference_view inference.new)) }
+    ensures decided { OnOk result ((p : PureParts) → IsDecidable M.keeps_plain p M.Local.actions (proc_view proc.now).name bound → bound ≤ 10000
+        → (explored : IsExplored M.Local.memory M.Local.actions M.stands M.terms M.asked M.depends M.plain M.keeps_plain M.kept
+        (proc_view proc.now) (entry_view entry.now) (path_view path) p bound)
+        → BeginsBare M.stands M.plain explored.start → StaysDecided (inference_view inference.old) (inference_view inference.new)) }
 {
     if path.drawn.len() > 0 {
         return Ok(());

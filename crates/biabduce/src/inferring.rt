@@ -9,11 +9,12 @@ ghost use Rattle.pure_terms.specs.View.{atoms_view};
 ghost use Rattle.sym_model.specs.Lists.{Each};
 ghost use Rattle.sym_paths.specs.View.{path_view, paths_view};
 ghost use Rattle.sym_step.specs.Stepping.{MayStep};
-ghost use Rattle.bi_beginnings.specs.Beginnings.{IsBeginning, IsOpening};
+ghost use Rattle.bi_beginnings.specs.Beginnings.{IsBeginning, IsOpening, IsBare, BeginsBare};
 ghost use Rattle.bi_beginnings.specs.View.{beginning_view};
 ghost use Rattle.bi_specifications.specs.Specified.{IsTrulyFound};
 ghost use Rattle.bi_specifications.specs.View.{founds_view};
 ghost use Rattle.biabduce.specs.Covering.{Keeps, CoversStart, CoversAwaited, CoversAll};
+ghost use Rattle.biabduce.specs.Decided.{IsDecidable, IsDecided, StaysDecided};
 ghost use Rattle.biabduce.specs.Sound.{IsSound};
 ghost use Rattle.biabduce.specs.View.{inference_view};
 
@@ -62,6 +63,8 @@ fn explore_start<M: ListedMemory, D: Decider>(
         (inference_view inference.new)) }
     ensures cover { OnOk result (CoversStart (prog_view prog.now) M.Local.memory M.Local.actions (proc_view proc.now) bound M.stands
         (beginning_view beginning.now) (inference_view inference.new) (path_view start)) }
+    ensures decided { OnOk result (IsDecidable M.keeps_plain (prog_view prog.now) M.Local.actions (proc_view proc.now).name bound
+        → BeginsBare M.stands M.plain (path_view start) → StaysDecided (inference_view inference.old) (inference_view inference.new)) }
 {
     let entry = entry_of(alloc, &start)?;
     let mut exploration = Exploration::new(alloc, start)?;
@@ -97,6 +100,8 @@ fn explore_starts<M: ListedMemory, D: Decider>(
         (inference_view inference.new)) }
     ensures cover { OnOk result (Each (CoversStart (prog_view prog.now) M.Local.memory M.Local.actions (proc_view proc.now) bound M.stands
         (beginning_view beginning.now) (inference_view inference.new)) (paths_view starts)) }
+    ensures decided { OnOk result (IsDecidable M.keeps_plain (prog_view prog.now) M.Local.actions (proc_view proc.now).name bound
+        → Each (BeginsBare M.stands M.plain) (paths_view starts) → StaysDecided (inference_view inference.old) (inference_view inference.new)) }
 {
     for start in starts.into_vec() {
         explore_start(
@@ -126,6 +131,8 @@ fn follow<M: ListedMemory, D: Decider>(
         (inference_view inference.new)) }
     ensures cover { OnOk result (CoversAwaited (prog_view prog.now) M.Local.memory M.Local.actions (proc_view proc.now) bound
         (beginning_view beginning.now) (inference_view inference.new)) }
+    ensures decided { OnOk result (IsDecidable M.keeps_plain (prog_view prog.now) M.Local.actions (proc_view proc.now).name bound
+        → IsBare (beginning_view beginning.now) → StaysDecided (inference_view inference.old) (inference_view inference.new)) }
 {
     let opened = begin::<M, D>(alloc, prog, proc, beginning, decider)?;
     let Opened { starts, undecided } = opened;
@@ -148,6 +155,8 @@ fn follow_all<M: ListedMemory, D: Decider>(
     requires bounded { bound ≤ 10000 }
     ensures sound { IfOk result (λ i. IsSound (prog_view prog.now) M.Local.memory M.Local.actions (proc_view proc.now) bound (inference_view i)) }
     ensures cover { IfOk result (λ i. CoversAll (prog_view prog.now) M.Local.memory M.Local.actions (proc_view proc.now) bound (inference_view i)) }
+    ensures decided { IfOk result (λ i. IsDecidable M.keeps_plain (prog_view prog.now) M.Local.actions (proc_view proc.now).name bound
+        → IsDecided (inference_view i)) }
 {
     let mut inference = Inference::new(alloc, proc)?;
     for _turn in 0..u64::MAX {
@@ -170,7 +179,8 @@ fn follow_all<M: ListedMemory, D: Decider>(
 
 /// Specifications of a procedure, found from its code alone. Each of them holds of every run, its runs return or throw or are cut as it is
 /// marked, and it is exact. Where the conditions of a path can't be decided or said, that list of conditions is answered, and what is
-/// found elsewhere all the same. Where there is no such list, the specifications cover the runs of the procedure.
+/// found elsewhere all the same. Where there is no such list, the specifications cover the runs of the procedure. There is none of a simple
+/// program, over a memory that keeps the law of plain memories, where the procedure has no parameters and its run misses no key.
 pub fn infer<M: ListedMemory, D: Decider>(
     alloc: Global,
     prog: &Prog,
@@ -185,6 +195,7 @@ pub fn infer<M: ListedMemory, D: Decider>(
     ensures covers { IfOk result (λ i. i.unknown ≡ None → Covers (prog_view prog.now) M.Local.memory M.Local.actions name.now (founds_view i.founds)
         bound) }
     ensures unknown { IfOk result (λ i. IfSome i.unknown (λ q. ¬ InFragment (atoms_view q.query))) }
+    ensures decided { IsDecidable M.keeps_plain (prog_view prog.now) M.Local.actions name.now bound → IfOk result (λ i. i.unknown ≡ None) }
 {
     let proc = match prog.proc(name) {
         Some(proc) => proc,

@@ -8,6 +8,7 @@ use Rattle.sym_paths.specs.Pure.{missed, unknown}
 use Rattle.sym_paths.specs.View.{end_view}
 use Rattle.bi_beginnings.specs.View.{beginning_view}
 use Rattle.biabduce.specs.Covering.{Keeps, CoversEnd}
+use Rattle.biabduce.specs.Decided.{IsLeftOpen}
 use Rattle.biabduce.specs.View.{inference_view}
 use Rattle.biabduce.proofs.Keeping.{after_left}
 use Rattle.biabduce.proofs.Providing.{keeps_left, left_some}
@@ -35,3 +36,13 @@ returns-in-Some-Unknown-clause-cover g c = λ p q beginning.
     let j = inference_view c.leave.new.self in
     let atoms = atoms_view c.ask_conditions.result.query in
     subst (λ o. Keeps p g.M.Local.LocalMemory.memory g.M.Local.LocalMemory.actions q c.args.bound (inference_view c.args.inference.now) j × CoversEnd p g.M.Local.LocalMemory.memory g.M.Local.LocalMemory.actions q c.args.bound (beginning_view c.args.beginning.now) c.args.path.vars (atoms_view c.args.path.conds) o j) (sym end) (keeps_left p g.M.Local.LocalMemory.memory g.M.Local.LocalMemory.actions q c.args.bound i j atoms c.leave.ensures, left_some p g.M.Local.LocalMemory.memory g.M.Local.LocalMemory.actions q c.args.bound i j atoms c.leave.ensures)
+
+pub returns-in-Some-Missed-clause-decided : goal.returns-in-Some-Missed-clause-decided
+returns-in-Some-Missed-clause-decided g c =
+    let end : option_map end_view c.args.path.end ≡ Some (missed (key_view c.in-Some-Missed.key) c.in-Some-Missed.place) = search rules in
+    on_ok_weaker c.fix.result (λ tells closed. absurd (closed (subst IsLeftOpen (sym end) tt))) c.fix.ensures.sound
+
+pub returns-in-Some-Unknown-clause-decided : goal.returns-in-Some-Unknown-clause-decided
+returns-in-Some-Unknown-clause-decided g c = λ closed.
+    let end : option_map end_view c.args.path.end ≡ Some (unknown c.in-Some-Unknown.place c.in-Some-Unknown.reason) = search rules in
+    absurd (closed (subst IsLeftOpen (sym end) tt))

@@ -7,9 +7,11 @@ use Rattle.sym_paths.specs.View.{end_view, path_view}
 use Rattle.bi_beginnings.specs.View.{beginning_view}
 use Rattle.bi_specifications.specs.View.{entry_view}
 use Rattle.bi_specifications.proofs.Telling.{none_there}
+use Rattle.biabduce.specs.Decided.{IsLeftOpen}
 use Rattle.biabduce.specs.Sound.{IsUndecidedIfUnknown}
 use Rattle.biabduce.specs.View.{inference_view}
 use Rattle.biabduce.proofs.Accounted.{no_draw, covered_by_end}
+use Rattle.biabduce.proofs.Decided.{may_be_said, not_left_open}
 use Rattle.biabduce.proofs.Outside.{unknown_outside}
 use Rattle.biabduce.proofs.Providing.{end_same}
 use Rattle.biabduce.proofs.ends.take_end.Goals as goal
@@ -63,3 +65,27 @@ returns-clause-cover g c =
           (λ told. true≢false (sym (c.is_told.ensures.1 told) ∙ c.if-is_told.false)),
     ))
     c.go_on.ensures.cover
+
+pub returns-then-len-gt0-clause-decided : goal.returns-then-len-gt0-clause-decided
+returns-then-len-gt0-clause-decided g c = λ p decidable few explored bare decided. decided
+
+pub returns-then-is_told-clause-decided : goal.returns-then-is_told-clause-decided
+returns-then-is_told-clause-decided g c =
+    let none : length (path_view c.args.path).drawn ≡ 0 = omega (arith, c.len.ensures, c.if-len-gt0.false) in
+    let no_draw = none_there (path_view c.args.path).drawn none in
+    on_ok_weaker c.tell.result
+    (λ tells p decidable few explored bare.
+    tells (may_be_said p g.M.Local.LocalMemory.memory g.M.Local.LocalMemory.actions g.M.SymMemory.stands g.M.SymMemory.terms g.M.SymMemory.asked g.M.SymMemory.depends g.M.SymMemory.plain g.M.SymMemory.keeps_plain g.M.SymMemory.kept (proc_view c.args.proc.now)
+    (entry_view c.args.entry.now) (path_view c.args.path) c.args.bound explored decidable few bare no_draw))
+    c.tell.ensures.decided
+
+pub returns-clause-decided : goal.returns-clause-decided
+returns-clause-decided g c =
+    let none : length (path_view c.args.path).drawn ≡ 0 = omega (arith, c.len.ensures, c.if-len-gt0.false) in
+    let no_draw = none_there (path_view c.args.path).drawn none in
+    on_ok_weaker c.go_on.result
+    (λ tells p decidable few explored bare.
+    tells (λ open_so.
+    not_left_open p g.M.Local.LocalMemory.memory g.M.Local.LocalMemory.actions g.M.SymMemory.stands g.M.SymMemory.terms g.M.SymMemory.asked g.M.SymMemory.depends g.M.SymMemory.plain g.M.SymMemory.keeps_plain g.M.SymMemory.kept (proc_view c.args.proc.now)
+    (entry_view c.args.entry.now) (path_view c.args.path) c.args.bound explored decidable few bare no_draw (subst IsLeftOpen c.into_ended.ensures.end open_so)))
+    c.go_on.ensures.decided

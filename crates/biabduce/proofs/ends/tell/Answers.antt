@@ -5,9 +5,10 @@ use Rattle.pure_terms.specs.Fragment.{InFragment}
 use Rattle.pure_terms.specs.View.{atoms_view, term_view}
 use Rattle.sym_paths.specs.View.{path_view}
 use Rattle.bi_specifications.specs.Specified.{IsTrulyTold, IsMetAlong, TellsNothing}
-use Rattle.bi_specifications.specs.View.{entry_view, found_view, IfTold, MatchTold}
+use Rattle.bi_specifications.specs.View.{entry_view, found_view, IfTold, MatchTold, IsUnsaid}
 use Rattle.biabduce.specs.View.{inference_view}
 use Rattle.biabduce.proofs.Accounted.{told_there, covered_by_told}
+use Rattle.biabduce.proofs.Decided.{found_decided}
 use Rattle.biabduce.proofs.Keeping.{after_found, after_left}
 use Rattle.biabduce.proofs.Outside.{open_outside}
 use Rattle.biabduce.proofs.Providing.{keeps_found, found_covers, keeps_left, left_some}
@@ -57,3 +58,13 @@ returns-in-Nothing-clause-cover g c = λ p n b explored.
     let nothing = subst (λ t. MatchTold t (IsMetAlong g.M.Local.LocalMemory.memory g.M.Local.LocalMemory.actions g.M.SymMemory.stands g.M.SymMemory.terms g.M.SymMemory.asked g.M.SymMemory.depends g.M.SymMemory.plain g.M.SymMemory.keeps_plain g.M.SymMemory.kept q e path) (TellsNothing g.M.Local.LocalMemory.memory g.M.Local.LocalMemory.actions g.M.SymMemory.stands g.M.SymMemory.terms g.M.SymMemory.asked g.M.SymMemory.depends g.M.SymMemory.plain g.M.SymMemory.keeps_plain g.M.SymMemory.kept q e path)) c.in-Nothing.is c.in_ok-found.ensures.cover in
     let (how, (ends, told)) = told_there path.ending c.requires.told in
     (λ r provided. provided, λ r wanted a begins accounts. absurd (nothing p n how explored c.requires.no_draw ends told))
+
+pub returns-in-Found-clause-decided : goal.returns-in-Found-clause-decided
+returns-in-Found-clause-decided g c =
+    on_ok_weaker c.find.result (λ is may decided. found_decided (inference_view c.args.inference.now) (inference_view c.find.new.self) (found_view c.in-Found.found) is decided) c.find.ensures
+
+pub returns-in_ok-ask_form-in-Unsaid-clause-decided : goal.returns-in_ok-ask_form-in-Unsaid-clause-decided
+returns-in_ok-ask_form-in-Unsaid-clause-decided g c = λ may. absurd (subst (λ t. ¬ IsUnsaid t) c.in-Unsaid.is (c.in_ok-found.ensures.said may) tt)
+
+pub returns-in-Nothing-clause-decided : goal.returns-in-Nothing-clause-decided
+returns-in-Nothing-clause-decided g c = λ may decided. decided

@@ -31,6 +31,7 @@ loop-turn-init g c =
           inr
           (subst (OneOf (AccountsFor p m M.stands [] (start_state p (proc_view c.args.proc.now).name r.args a.own r.counter) start a.values)) (sym left)
           (inl (first_accounts p g.M.Local.LocalMemory.memory m g.met.M.Local.LocalMemory.laws M.stands M.terms M.asked M.kept (proc_view c.args.proc.now) c.args.bound (beginning_view c.args.beginning.now) r wanted a start c.requires.opening c.requires.found begins)));
+      decided = λ decidable bare decided. decided;
     }
 
 pub next_ended-requires-clause-placed : goal.next_ended-requires-clause-placed
@@ -56,6 +57,7 @@ returns-in-None g c =
           (λ one. absurd (subst (OneOf For) none (keep start [] a.values (start_state p q.name r.args a.own r.counter)
           (has_input p g.M.Local.LocalMemory.memory m g.met.M.Local.LocalMemory.laws M.stands M.terms M.asked M.kept q c.args.bound (beginning_view c.args.beginning.now) r wanted a c.args.prog.now.well_made) one)))
           (c.loop-turn.invariant.accounts r wanted a begins);
+      decided = c.loop-turn.invariant.decided;
     }
 
 pub loop-turn-preserved : goal.loop-turn-preserved
@@ -95,4 +97,5 @@ loop-turn-preserved g c =
           (keep start [] a.values (start_state p q.name r.args a.own r.counter)
           (has_input p g.M.Local.LocalMemory.memory m g.met.M.Local.LocalMemory.laws M.stands M.terms M.asked M.kept q c.args.bound b r wanted a c.args.prog.now.well_made) one))
           (c.loop-turn.invariant.accounts r wanted a begins);
+      decided = λ decidable bare decided. c.in_ok-take_end-in-Some.ensures.decided p decidable c.requires.bounded explored bare (c.loop-turn.invariant.decided decidable bare decided);
     }

@@ -7,9 +7,10 @@ use Rattle.sym_explore.specs.Runs.{AccountsFor}
 use Rattle.sym_explore.specs.View.{paths_left}
 use Rattle.sym_model.specs.Lists.{Each, OneOf}
 use Rattle.sym_paths.specs.View.{path_view}
-use Rattle.bi_beginnings.specs.Beginnings.{BeginsWith}
+use Rattle.bi_beginnings.specs.Beginnings.{BeginsWith, BeginsBare}
 use Rattle.bi_beginnings.specs.View.{beginning_view}
 use Rattle.biabduce.specs.Covering.{PureRun, IsWanted, IsAwaited, IsProvided, Keeps}
+use Rattle.biabduce.specs.Decided.{IsDecidable, StaysDecided}
 use Rattle.biabduce.specs.Sound.{IsSound}
 use Rattle.biabduce.specs.View.{inference_view}
 use Rattle.biabduce.proofs.inferring.explore_start.Given as goal
@@ -23,4 +24,6 @@ invariant-loop-turn g l = record {
   accounts : (r : PureRun) → IsWanted (prog_view l.prog) g.M.Local.LocalMemory.memory g.M.Local.LocalMemory.actions (proc_view l.proc) l.bound r → (a : IsAwaited (prog_view l.prog) g.M.Local.LocalMemory.memory g.M.Local.LocalMemory.actions (proc_view l.proc) l.bound r (beginning_view l.beginning)) → BeginsWith g.M.SymMemory.stands (beginning_view l.beginning).vars a.values a.own (path_view l.fn.start)
       → IsProvided (prog_view l.prog) g.M.Local.LocalMemory.memory g.M.Local.LocalMemory.actions (proc_view l.proc) l.bound (inference_view l.inference) r
       ⊎ OneOf (AccountsFor (prog_view l.prog) g.M.Local.LocalMemory.actions g.M.SymMemory.stands [] (start_state (prog_view l.prog) (proc_view l.proc).name r.args a.own r.counter) (path_view l.fn.start) a.values) (paths_left l.exploration);
+  decided : IsDecidable g.M.SymMemory.keeps_plain (prog_view l.prog) g.M.Local.LocalMemory.actions (proc_view l.proc).name l.bound → BeginsBare g.M.SymMemory.stands g.M.SymMemory.plain (path_view l.fn.start)
+      → StaysDecided (inference_view l.initial.inference) (inference_view l.inference);
 }

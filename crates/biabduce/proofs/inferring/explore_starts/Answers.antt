@@ -7,7 +7,7 @@ use Rattle.sym_engine.proofs.Settled.{rest_more}
 use Rattle.sym_model.specs.Lists.{Each}
 use Rattle.sym_paths.specs.View.{path_view, paths_view}
 use Rattle.sym_step.specs.Stepping.{MayStep}
-use Rattle.bi_beginnings.specs.Beginnings.{IsOpening}
+use Rattle.bi_beginnings.specs.Beginnings.{IsOpening, BeginsBare}
 use Rattle.bi_beginnings.specs.View.{beginning_view}
 use Rattle.bi_specifications.proofs.Telling.{none_there}
 use Rattle.biabduce.specs.Covering.{CoversStart}
@@ -17,7 +17,7 @@ use Rattle.biabduce.proofs.Providing.{still_started}
 use Rattle.biabduce.proofs.inferring.explore_starts.Goals as goal
 
 pub loop-start-init : goal.loop-start-init
-loop-start-init g c = record { counted = search rules; rest = search rules; sound = c.requires.sound; keeps = λ r provided. provided; cover = tt }
+loop-start-init g c = record { counted = search rules; rest = search rules; sound = c.requires.sound; keeps = λ r provided. provided; cover = tt; decided = λ decidable bare decided. decided }
 
 pub explore_start-requires-clause-opening : goal.explore_start-requires-clause-opening
 explore_start-requires-clause-opening g c =
@@ -53,6 +53,13 @@ loop-start-preserved g c =
           each_pushed (CoversStart p g.M.Local.LocalMemory.memory g.M.Local.LocalMemory.actions q c.args.bound g.M.SymMemory.stands b j) path_view c.loop-start.yielded c.in-Some.start
           (still_started p g.M.Local.LocalMemory.memory g.M.Local.LocalMemory.actions q c.args.bound g.M.SymMemory.stands b i j (paths_view c.loop-start.yielded) c.in_ok-explore_start.ensures.keeps c.loop-start.invariant.cover)
           c.in_ok-explore_start.ensures.cover;
+      decided = λ decidable bare decided.
+          let P = BeginsBare g.M.SymMemory.stands g.M.SymMemory.plain in
+          let is = c.loop-start.invariant.rest ∙ ap (λ xs. c.loop-start.yielded ++ xs) c.in-Some.ensures.steps.0 in
+          c.in_ok-explore_start.ensures.decided decidable
+          (each_middle P (paths_view c.loop-start.yielded) (path_view c.in-Some.start) (paths_view (into_iter_items c.next.new.self))
+          (subst (Each P) (ap paths_view is ∙ map-append path_view c.loop-start.yielded (c.in-Some.start ∷ into_iter_items c.next.new.self)) bare))
+          (c.loop-start.invariant.decided decidable bare decided);
     }
 
 pub returns-clause-sound : goal.returns-clause-sound
@@ -68,3 +75,6 @@ returns-clause-cover g c =
     let all : c.args.starts ≡ c.loop-start.yielded = c.loop-start.invariant.rest ∙ ap (λ xs. c.loop-start.yielded ++ xs) none ∙ append-nil c.loop-start.yielded in
     subst (λ xs. Each (CoversStart (prog_view c.args.prog.now) g.M.Local.LocalMemory.memory g.M.Local.LocalMemory.actions (proc_view c.args.proc.now) c.args.bound g.M.SymMemory.stands (beginning_view c.args.beginning.now) (inference_view c.loop-start.inference)) (paths_view xs)) (sym all)
     c.loop-start.invariant.cover
+
+pub returns-clause-decided : goal.returns-clause-decided
+returns-clause-decided g c = c.loop-start.invariant.decided

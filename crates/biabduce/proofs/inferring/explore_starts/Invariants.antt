@@ -4,8 +4,10 @@ use Rattle.gil_program.specs.Program.{prog_view}
 use Rattle.gil_syntax.specs.View.{proc_view}
 use Rattle.sym_model.specs.Lists.{Each}
 use Rattle.sym_paths.specs.View.{paths_view}
+use Rattle.bi_beginnings.specs.Beginnings.{BeginsBare}
 use Rattle.bi_beginnings.specs.View.{beginning_view}
 use Rattle.biabduce.specs.Covering.{Keeps, CoversStart}
+use Rattle.biabduce.specs.Decided.{IsDecidable, StaysDecided}
 use Rattle.biabduce.specs.Sound.{IsSound}
 use Rattle.biabduce.specs.View.{inference_view}
 use Rattle.biabduce.proofs.inferring.explore_starts.Given as goal
@@ -17,4 +19,6 @@ invariant-loop-start g l = record {
   sound : IsSound (prog_view l.prog) g.M.Local.LocalMemory.memory g.M.Local.LocalMemory.actions (proc_view l.proc) l.bound (inference_view l.inference);
   keeps : Keeps (prog_view l.prog) g.M.Local.LocalMemory.memory g.M.Local.LocalMemory.actions (proc_view l.proc) l.bound (inference_view l.initial.inference) (inference_view l.inference);
   cover : Each (CoversStart (prog_view l.prog) g.M.Local.LocalMemory.memory g.M.Local.LocalMemory.actions (proc_view l.proc) l.bound g.M.SymMemory.stands (beginning_view l.beginning) (inference_view l.inference)) (paths_view l.yielded);
+  decided : IsDecidable g.M.SymMemory.keeps_plain (prog_view l.prog) g.M.Local.LocalMemory.actions (proc_view l.proc).name l.bound → Each (BeginsBare g.M.SymMemory.stands g.M.SymMemory.plain) (paths_view l.fn.starts)
+      → StaysDecided (inference_view l.initial.inference) (inference_view l.inference);
 }

@@ -5,6 +5,7 @@ use Rattle.gil_syntax.specs.View.{proc_view}
 use Rattle.sym_paths.specs.View.{paths_view}
 use Rattle.bi_beginnings.specs.View.{beginning_view}
 use Rattle.biabduce.specs.View.{inference_view}
+use Rattle.biabduce.proofs.Decided.{any_decided}
 use Rattle.biabduce.proofs.Keeping.{after_any, on_ok_both}
 use Rattle.biabduce.proofs.Providing.{keeps_any, any_left, begun_covers}
 use Rattle.biabduce.proofs.inferring.follow.Goals as goal
@@ -32,3 +33,13 @@ returns-clause-cover g c =
     (λ keeps covers. begun_covers p g.M.Local.LocalMemory.memory g.M.Local.LocalMemory.actions q c.args.bound g.M.SymMemory.stands b (IsSome c.in_ok-opened.opened.undecided) after j (paths_view c.in_ok-opened.opened.starts) c.in_ok-opened.ensures.cover
     (any_left p g.M.Local.LocalMemory.memory g.M.Local.LocalMemory.actions q c.args.bound i after c.in_ok-opened.opened.undecided c.leave_any.ensures) keeps covers)
     c.explore_starts.ensures.keeps c.explore_starts.ensures.cover
+
+pub returns-clause-decided : goal.returns-clause-decided
+returns-clause-decided g c =
+    let i = inference_view c.args.inference.now in
+    let after = inference_view c.leave_any.new.self in
+    on_ok_weaker c.explore_starts.result
+    (λ stays decidable bare decided.
+    let opens = c.in_ok-opened.ensures.bare bare in
+    stays decidable opens.each_start (any_decided i after c.in_ok-opened.opened.undecided c.leave_any.ensures opens.decided decided))
+    c.explore_starts.ensures.decided

@@ -1,11 +1,16 @@
 use Rattle.std.proofs.Common.{◌≡◌, ◌-◌, take, [], ◌∷◌, sym, ap, subst, ◌∙◌}
 use Rattle.std.proofs.lemmas.List.{append-nil, map-append}
 use Rattle.gil_program.specs.Program.{prog_view}
+use Rattle.gil_syntax.specs.Pure.{PureProc}
 use Rattle.gil_syntax.specs.View.{proc_view}
+use Rattle.sym_model.specs.Lists.{Each}
+use Rattle.sym_model.proofs.ListLaws.{same_some}
+use Rattle.bi_beginnings.specs.Beginnings.{IsBare}
 use Rattle.bi_beginnings.specs.View.{beginning_view, beginnings_view}
 use Rattle.biabduce.specs.Sound.{IsSound}
 use Rattle.biabduce.specs.View.{inference_view}
 use Rattle.biabduce.specs.View.{inference_view}
+use Rattle.biabduce.proofs.Decided.{first_decided, taken_decided}
 use Rattle.biabduce.proofs.Keeping.{first_sound, over_sound, taken_sound}
 use Rattle.biabduce.proofs.Providing.{first_provided, followed, all_covered}
 use Rattle.biabduce.proofs.inferring.follow_all.Goals as goal
@@ -17,6 +22,10 @@ loop-turn-init g c =
     record {
       sound = subst (IsSound p g.M.Local.LocalMemory.memory g.M.Local.LocalMemory.actions q c.args.bound) (sym c.in_ok-inference.ensures) (first_sound p g.M.Local.LocalMemory.memory g.M.Local.LocalMemory.actions q c.args.bound);
       cover = first_provided p g.M.Local.LocalMemory.memory g.M.Local.LocalMemory.actions q c.args.bound c.requires.found (inference_view c.in_ok-inference.inference) c.in_ok-inference.ensures;
+      decided = λ decidable.
+          let (r, (found, none)) = decidable.entry in
+          let same : q ≡ r = same_some (sym c.requires.found ∙ found) in
+          first_decided q (inference_view c.in_ok-inference.inference) (ap (λ (x : PureProc). x.params) same ∙ none) c.in_ok-inference.ensures;
     }
 
 pub returns-in_default-clause-sound : goal.returns-in_default-clause-sound
@@ -54,4 +63,13 @@ loop-turn-preserved g c =
       cover = λ r wanted few.
           followed (prog_view c.args.prog.now) g.M.Local.LocalMemory.memory g.M.Local.LocalMemory.actions (proc_view c.args.proc.now) c.args.bound (inference_view c.loop-turn.inference) (beginnings_view c.pop.new.self.items) (beginning_view c.in-Some.beginning) (inference_view c.follow.new.inference) r is
           c.in_ok-follow.ensures.keeps c.in_ok-follow.ensures.cover wanted (c.loop-turn.invariant.cover r wanted few);
+      decided = λ decidable.
+          let (bare, rest) = taken_decided (inference_view c.loop-turn.inference) (beginnings_view c.pop.new.self.items) (beginning_view c.in-Some.beginning) is (c.loop-turn.invariant.decided decidable) in
+          c.in_ok-follow.ensures.decided decidable bare rest;
     }
+
+pub returns-in_default-clause-decided : goal.returns-in_default-clause-decided
+returns-in_default-clause-decided g c = λ decidable.
+    let is = ap beginnings_view (c.in_default.ensures.items ∙ append-nil c.pop.new.self.items) in
+    let decided = c.loop-turn.invariant.decided decidable in
+    record { left = subst (Each IsBare) is decided.left; decided = decided.decided }

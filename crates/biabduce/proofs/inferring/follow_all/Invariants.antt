@@ -3,6 +3,7 @@ use Rattle.std.specs.FinMap.{entries}
 use Rattle.gil_program.specs.Program.{prog_view}
 use Rattle.gil_syntax.specs.View.{proc_view}
 use Rattle.biabduce.specs.Covering.{PureRun, IsWanted, IsProvided}
+use Rattle.biabduce.specs.Decided.{IsDecidable, IsDecided}
 use Rattle.biabduce.specs.Sound.{IsSound}
 use Rattle.biabduce.specs.View.{inference_view}
 use Rattle.biabduce.proofs.inferring.follow_all.Given as goal
@@ -11,4 +12,5 @@ abbrev pub invariant-loop-turn : goal.invariant-loop-turn
 invariant-loop-turn g l = record {
   sound : IsSound (prog_view l.prog) g.M.Local.LocalMemory.memory g.M.Local.LocalMemory.actions (proc_view l.proc) l.bound (inference_view l.inference);
   cover : (r : PureRun) → IsWanted (prog_view l.prog) g.M.Local.LocalMemory.memory g.M.Local.LocalMemory.actions (proc_view l.proc) l.bound r → length (entries r.heap) ≤ l.bound → IsProvided (prog_view l.prog) g.M.Local.LocalMemory.memory g.M.Local.LocalMemory.actions (proc_view l.proc) l.bound (inference_view l.inference) r;
+  decided : IsDecidable g.M.SymMemory.keeps_plain (prog_view l.prog) g.M.Local.LocalMemory.actions (proc_view l.proc).name l.bound → IsDecided (inference_view l.inference);
 }

@@ -10,7 +10,9 @@ use Rattle.bi_specifications.specs.View.{founds_view}
 use Rattle.inferred_specs.specs.Inferred.{Covers}
 use Rattle.pure_terms.specs.declared.queries.Query.{Query}
 use Rattle.pure_terms.specs.View.{atoms_view}
+use Rattle.biabduce.specs.Decided.{IsDecidable}
 use Rattle.biabduce.specs.View.{inference_view}
+use Rattle.biabduce.proofs.Decided.{nothing_left}
 use Rattle.biabduce.proofs.Keeping.{seen_back}
 use Rattle.biabduce.proofs.Providing.{none_left, covers_so}
 use Rattle.biabduce.proofs.inferring.infer.Goals as goal
@@ -40,3 +42,12 @@ returns-clause-covers g c = λ none.
     let there : find_proc p.procs c.args.name.now ≡ Some q = sym c.proc.ensures ∙ ap (option_map (λ r. proc_view r.now)) c.in-Some.is in
     subst (λ f. Covers p g.M.Local.LocalMemory.memory g.M.Local.LocalMemory.actions f i.founds c.args.bound) (found_name p.procs c.args.name.now q there)
     (covers_so p g.M.Local.LocalMemory.memory g.M.Local.LocalMemory.actions q c.args.bound i (none_left (λ (x : Query). atoms_view x.query) c.in_ok-inference.inference.undecided none) c.in_ok-inference.ensures.cover)
+
+pub returns-clause-decided : goal.returns-clause-decided
+returns-clause-decided g c = λ decidable.
+    let p = prog_view c.args.prog.now in
+    let q = proc_view c.in-Some.proc.now in
+    let there : find_proc p.procs c.args.name.now ≡ Some q = sym c.proc.ensures ∙ ap (option_map (λ r. proc_view r.now)) c.in-Some.is in
+    nothing_left c.in_ok-inference.inference.undecided
+    (c.in_ok-inference.ensures.decided
+    (subst (λ f. IsDecidable g.M.SymMemory.keeps_plain p g.M.Local.LocalMemory.actions f c.args.bound) (sym (found_name p.procs c.args.name.now q there)) decidable)).decided
