@@ -1,12 +1,13 @@
 -- What a run leaves that goes along a path meets the postcondition, and nothing else does.
 use Rattle.std.proofs.Common.{◌≡◌, ◌⊎◌, ⊎_elim, inl, inr, ℕ, zero, suc, ◌+◌, ◌-◌, ◌<◌, List, [], ◌∷◌, ◌++◌, length, drop, slice_get, Bool, true, false, cond, not, ◌&&◌, ◌||◌, if◌then◌else◌, Some, length-append, refl, sym, ap, subst, ◌∙◌, true≢false, arith}
+use Rattle.std.specs.FinMap.{empty}
 use Rattle.std.specs.List.{list_all, filter}
 use Rattle.std.specs.Option.{option_and_then}
 use Rattle.std.specs.Result.{result_ok}
 use Rattle.std.specs.Str.{bytes_eq}
 use Rattle.std.proofs.lemmas.Bool.{and_parts}
 use Rattle.std.proofs.lemmas.Option.{slice_get_within}
-use Rattle.std.proofs.lemmas.List.Elements.{Contains-append_cases, Contains-push_cases}
+use Rattle.std.proofs.lemmas.List.Elements.{Contains-append_cases, Contains-append_left, Contains-push_cases}
 use Rattle.std.proofs.lemmas.Slice.Eq.{bytes_eq-Decides}
 use Rattle.gil_values.specs.declared.operators.BinOp.TheVariants.{Equal}
 use Rattle.gil_values.specs.Equality.{same_value}
@@ -22,6 +23,8 @@ use Rattle.mem_model.specs.declared.keys.MemoryName.{MemoryName}
 use Rattle.mem_model.specs.Actions.{Actions}
 use Rattle.mem_model.specs.Heaps.{Heap}
 use Rattle.assert_logic.specs.Meets.{Meets, HoldsSomewhere}
+use Rattle.assert_logic.specs.Unions.{IsUnion}
+use Rattle.assert_logic.proofs.UnionLaws.{union_after_none, only_second}
 use Rattle.assertion_terms.specs.Laws.{NamesValues, AreUsesOver, AreAtomsOver}
 use Rattle.assertion_terms.specs.Named.{numbered, numbered_from}
 use Rattle.assertion_terms.proofs.Forms.{named_forms_are_right}
@@ -30,6 +33,7 @@ use Rattle.checked_runs.proofs.Stores.{first_value, second_value}
 use Rattle.inferred_specs.specs.Inferred.{new_symbols, later_names, exact_store}
 use Rattle.pure_terms.specs.declared.variables.Sort.{Sort}
 use Rattle.pure_terms.specs.declared.variables.Var.{Var}
+use Rattle.pure_terms.specs.Fragment.{is_variable_of}
 use Rattle.pure_terms.specs.Laws.{AgreeOn}
 use Rattle.pure_terms.specs.Meaning.{value, all_true, truth, is_that_boolean, IsOver}
 use Rattle.pure_terms.specs.Pure.{PureTerm, variable, PureAtom, term_of, variables}
@@ -44,7 +48,7 @@ use Rattle.sym_paths.specs.Meaning.{IsOverTable}
 use Rattle.sym_paths.specs.Pure.{PureEnd, PurePath}
 use Rattle.sym_paths.proofs.Growing.{all_true-more}
 use Rattle.bi_beginnings.specs.Beginnings.{IsOpening}
-use Rattle.bi_specifications.specs.Shape.{late_conds, is_early, early_names, all_names, result_atom, post_of, spec_of, MayBeTold}
+use Rattle.bi_specifications.specs.Shape.{late_conds, is_early, early_names, all_names, result_atom, told_atom, ending_of, post_of, spec_of, MayBeTold}
 use Rattle.bi_specifications.specs.Specified.{PureEntry, IsEntryOf}
 use Rattle.bi_specifications.proofs.Naming.{numbered_length, numbered_at, at_left, at_right, at_either, symbols_at, symbol_there, no_symbol}
 use Rattle.bi_specifications.proofs.Once.{each_kept, kept_true}
@@ -298,16 +302,72 @@ module _ {S : Type 0} (p : PureParts) (memory : MemoryName) (m : Actions) (stand
     late_truth result = all_true-more path.vars whole (result ∷ []) whole_count (late_conds e.count path.conds) late_over
         ∙ kept_true whole (filter (λ a. not (is_early e.count a)) path.conds) (all_filtered whole (λ a. not (is_early e.count a)) path.conds along.meets)
 
-    -- what the run leaves meets it
-    pub post_met : (preds : List PurePredDef) → Meets (HoldsSomewhere preds) (exact w) (post_of q e path us t) left
-    post_met preds =
+    -- ---- the result, told first
+
+    abbrev names_end : List (List ℕ)
+    names_end = all_names q e path ++ result_name ∷ []
+
+    abbrev late : List PureAtom
+    late = late_conds e.count path.conds
+
+    told_over : AreAtomsOver vars_end (told_atom (length path.vars) t ∷ [])
+    told_over = (over, tt)
+      where
+        over : IsOver vars_end (term_of (told_atom (length path.vars) t))
+        over x has =
+            ⊎_elim (λ here. more t t_over x here)
+            (λ there. atoms_over.0 x (Contains-append_left (variables (variable (record { number = length path.vars; sort = Sort.Any }))) (variables t) x there))
+            (Contains-append_cases (variables t) (variables (variable (record { number = length path.vars; sort = Sort.Any }))) x has)
+
+    told_truth : (result : PureValue) → truth (whole ++ result ∷ []) (told_atom (length path.vars) t) ≡ same_value w result
+    told_truth result =
+        ap (λ o. is_that_boolean true (option_and_then (λ a. option_and_then (λ b. result_ok (binary Equal a b)) (slice_get (whole ++ result ∷ []) (length path.vars))) o)) (term_read result)
+        ∙ ap (λ o. is_that_boolean true (option_and_then (λ b. result_ok (binary Equal w b)) o)) (result_read result)
+
+    told_met : (preds : List PurePredDef) → Meets (HoldsSomewhere preds) (exact w) (ending_of names_end true us (length path.vars) t late) left
+    told_met preds =
+        let laws = named_forms_are_right vars_end names_end (whole ++ w ∷ []) (exact w) (named_at_end w) in
+        let (part, (rest, (union, (is, none)))) =
+        (laws.meets preds [] (told_atom (length path.vars) t ∷ []) empty tt told_over).1 (refl, ap (λ b. b && true) (told_truth w ∙ same_value-refl w)) in
+        (part, (left, (subst (λ g. IsUnion left g left) (sym is.1) (union_after_none left), (is, (laws.meets preds us late left uses_over atoms_over.1).1 (left_with w, late_truth w)))))
+
+    told_only : (preds : List PurePredDef) (result : PureValue) (h : Heap) → Meets (HoldsSomewhere preds) (exact result) (ending_of names_end true us (length path.vars) t late) h
+        → (result ≡ w) × (h ≡ left)
+    told_only preds result h (part, (rest, (union, (is, others)))) =
+        let laws = named_forms_are_right vars_end names_end (whole ++ result ∷ []) (exact result) (named_at_end result) in
+        let (none, one) =
+        (laws.meets preds [] (told_atom (length path.vars) t ∷ []) empty tt told_over).0 (part, (empty, (subst (λ g. IsUnion empty g empty) (sym is.1) (union_after_none empty), (is, refl)))) in
+        let first : truth (whole ++ result ∷ []) (told_atom (length path.vars) t) ≡ true = (and_parts (truth (whole ++ result ∷ []) (told_atom (length path.vars) t)) true one).0 in
+        let (held, all) = (laws.meets preds us late rest uses_over atoms_over.1).0 others in
+        (sym (same_value-same w result (sym (told_truth result) ∙ first)), only_second h part rest union is.1 ∙ one_heap (whole ++ result ∷ []) us rest left held (left_with result))
+
+    -- ---- the result, behind the uses
+
+    in_place_met : (preds : List PurePredDef) → Meets (HoldsSomewhere preds) (exact w) (ending_of names_end false us (length path.vars) t late) left
+    in_place_met preds =
         ((named_forms_are_right vars_end (all_names q e path ++ result_name ∷ []) (whole ++ w ∷ []) (exact w) (named_at_end w)).meets preds us (result_atom (length path.vars) t ∷ late_conds e.count path.conds) left uses_over atoms_over).1
         (left_with w, ap (λ b. b && all_true (whole ++ w ∷ []) (late_conds e.count path.conds)) (result_truth w ∙ same_value-refl w) ∙ late_truth w)
 
-    -- and what meets it is that
-    pub post_only : (preds : List PurePredDef) (result : PureValue) (h : Heap) → Meets (HoldsSomewhere preds) (exact result) (post_of q e path us t) h → (result ≡ w) × (h ≡ left)
-    post_only preds result h meets =
+    in_place_only : (preds : List PurePredDef) (result : PureValue) (h : Heap) → Meets (HoldsSomewhere preds) (exact result) (ending_of names_end false us (length path.vars) t late) h
+        → (result ≡ w) × (h ≡ left)
+    in_place_only preds result h meets =
         let (union, all) =
         ((named_forms_are_right vars_end (all_names q e path ++ result_name ∷ []) (whole ++ result ∷ []) (exact result) (named_at_end result)).meets preds us (result_atom (length path.vars) t ∷ late_conds e.count path.conds) h uses_over atoms_over).0 meets in
         let first : truth (whole ++ result ∷ []) (result_atom (length path.vars) t) ≡ true = (and_parts (truth (whole ++ result ∷ []) (result_atom (length path.vars) t)) (all_true (whole ++ result ∷ []) (late_conds e.count path.conds)) all).0 in
         (same_value-same result w (sym (result_truth result) ∙ first), one_heap (whole ++ result ∷ []) us h left union (left_with result))
+
+    -- what the run leaves meets it
+    pub post_met : (preds : List PurePredDef) → Meets (HoldsSomewhere preds) (exact w) (post_of q e path us t) left
+    post_met preds = by (is_variable_of Sort.Fresh t)
+      where
+        by : (b : Bool) → Meets (HoldsSomewhere preds) (exact w) (ending_of names_end b us (length path.vars) t late) left
+        by true = told_met preds
+        by false = in_place_met preds
+
+    -- and what meets it is that
+    pub post_only : (preds : List PurePredDef) (result : PureValue) (h : Heap) → Meets (HoldsSomewhere preds) (exact result) (post_of q e path us t) h → (result ≡ w) × (h ≡ left)
+    post_only preds result h meets = by (is_variable_of Sort.Fresh t) meets
+      where
+        by : (b : Bool) → Meets (HoldsSomewhere preds) (exact result) (ending_of names_end b us (length path.vars) t late) h → (result ≡ w) × (h ≡ left)
+        by true there = told_only preds result h there
+        by false there = in_place_only preds result h there

@@ -1,5 +1,5 @@
 -- The specification of an ended path: the text that is told.
-use Rattle.std.specs.Prelude.{◌≡◌, ℕ, suc, ◌-◌, ◌≤◌, ◌<◌, List, [], ◌∷◌, ◌++◌, map, length, drop, Bool, false, not, cond, ◌||◌, IsTrue}
+use Rattle.std.specs.Prelude.{◌≡◌, ℕ, suc, ◌-◌, ◌≤◌, ◌<◌, List, [], ◌∷◌, ◌++◌, map, length, drop, Bool, true, false, not, cond, ◌||◌, IsTrue}
 use Rattle.std.specs.List.{filter, list_all, list_any}
 use Rattle.gil_values.specs.declared.operators.BinOp.TheVariants.{Equal}
 use Rattle.gil_syntax.specs.declared.assertions.Param.{Param}
@@ -9,7 +9,7 @@ use Rattle.gil_syntax.specs.Valid.{is_among}
 use Rattle.assertion_terms.specs.Named.{numbered, table_names, assertion_of}
 use Rattle.checked_runs.specs.Specifications.{result_name}
 use Rattle.pure_terms.specs.declared.variables.Sort.{Sort}
-use Rattle.pure_terms.specs.Fragment.{has_fragment_form, names_sort}
+use Rattle.pure_terms.specs.Fragment.{is_variable_of, has_fragment_form, names_sort}
 use Rattle.pure_terms.specs.Kinds.{same_sort}
 use Rattle.pure_terms.specs.Meaning.{IsOver}
 use Rattle.pure_terms.specs.Naming.{names_number, names_only_below}
@@ -69,7 +69,17 @@ late_conds count conds = each_once (filter (λ a. not (is_early count a)) conds)
 abbrev pub result_atom : ℕ → PureTerm → PureAtom
 result_atom n t = positive (binary_of Equal (variable (record { number = n; sort = Sort.Any })) t)
 
+-- the same with the sides exchanged, which gives a name on the left its value
+abbrev pub told_atom : ℕ → PureTerm → PureAtom
+told_atom n t = positive (binary_of Equal t (variable (record { number = n; sort = Sort.Any })))
+
 -- ---- the text
+
+-- The uses, that the result is the value of the term, and the conditions. Where the term is a new symbol the result tells it first, since
+-- the others may read its name.
+abbrev pub ending_of : List (List ℕ) → Bool → List PureUse → ℕ → PureTerm → List PureAtom → List PureItem
+ending_of names true us n t conds = assertion_of names [] (told_atom n t ∷ []) ++ assertion_of names us conds
+ending_of names false us n t conds = assertion_of names us (result_atom n t ∷ conds)
 
 module _ {S : Type 0} (q : PureProc) (e : PureEntry) (path : PurePath S) where
   -- the names at the beginning, and at the end
@@ -86,7 +96,7 @@ module _ {S : Type 0} (q : PureProc) (e : PureEntry) (path : PurePath S) where
   -- the uses at the end, the result, and the conditions on new symbols
   abbrev pub post_of : List PureUse → PureTerm → List PureItem
   post_of us t =
-      assertion_of (all_names ++ result_name ∷ []) us (result_atom (length path.vars) t ∷ late_conds e.count path.conds)
+      ending_of (all_names ++ result_name ∷ []) (is_variable_of Sort.Fresh t) us (length path.vars) t (late_conds e.count path.conds)
 
   abbrev pub spec_of : List (List PureItem) → List (List PureItem) → PureSpec
   spec_of posts errors = record {

@@ -5,9 +5,12 @@ ghost use Rattle.assertion_terms.specs.Named.{table_names, assertion_of as pure_
 ghost use Rattle.checked_runs.specs.Specifications.{result_name as pure_result_name};
 ghost use Rattle.gil_syntax.specs.Valid.{is_among};
 ghost use Rattle.gil_syntax.specs.View.{assertion_view};
+ghost use Rattle.pure_terms.specs.declared.variables.Sort.{Sort as PureSort};
+ghost use Rattle.pure_terms.specs.Fragment.{is_variable_of};
+ghost use Rattle.pure_terms.specs.Kinds.{same_sort};
 ghost use Rattle.pure_terms.specs.View.{atom_view, atoms_view, term_view};
 ghost use Rattle.sym_model.specs.View.{uses_view};
-ghost use Rattle.bi_specifications.specs.Shape.{name_sort as pure_name_sort, any_params, numbered_params, result_atom as pure_result_atom};
+ghost use Rattle.bi_specifications.specs.Shape.{name_sort as pure_name_sort, any_params, numbered_params, result_atom as pure_result_atom, told_atom as pure_told_atom, ending_of};
 
 use assertion_terms::{assertion_of, names_of_table, numbered_name};
 use gil_syntax::{Assertion, Assertions, Param, Params, SpecSort, Texts};
@@ -130,7 +133,48 @@ pub(crate) fn precondition(
     assertion_of(alloc, &names, uses, early)
 }
 
-/// What is there at the end: the uses, the value of a term as the result, and the conditions.
+/// That a term is the variable with this number, which is the result.
+fn told_atom(alloc: Global, number: usize, term: &Term) -> Result<Atom, AllocError>
+    ensures { IfOk result (λ a. atom_view a ≡ pure_told_atom number (term_view term.now)) }
+{
+    let variable = Term::Var(Var {
+        number: number as u64,
+        sort: Sort::Any,
+    });
+    let left = Rc::new(alloc, term.copy(alloc)?)?;
+    let right = Rc::new(alloc, variable)?;
+    Ok(Atom::Holds(Term::Op2(BinOp::Equal, left, right)))
+}
+
+fn is_fresh(sort: Sort) -> bool
+    ensures { result ≡ same_sort sort PureSort.Fresh }
+{
+    matches!(sort, Sort::Fresh)
+}
+
+/// Whether a term is a new symbol.
+fn is_new_symbol(term: &Term) -> bool
+    ensures { result ≡ is_variable_of PureSort.Fresh (term_view term.now) }
+{
+    match term {
+        Term::Var(variable) => is_fresh(variable.sort),
+        _ => false,
+    }
+}
+
+/// The items of the one assertion, and behind them those of the other.
+fn joined(first: Assertion, others: Assertion) -> Result<Assertion, AllocError>
+    ensures { IfOk result (λ items. assertion_view items ≡ assertion_view first ++ assertion_view others) }
+{
+    let mut items = first;
+    for item in others.into_vec() {
+        items.push(item)?;
+    }
+    Ok(items)
+}
+
+/// What is there at the end: the uses, the value of a term as the result, and the conditions. Where the term is a new symbol the result
+/// tells it first.
 pub(crate) fn postcondition(
     alloc: Global,
     params: &Texts,
@@ -140,12 +184,18 @@ pub(crate) fn postcondition(
     late: &Atoms,
 ) -> Result<Assertion, AllocError>
     requires { length params.now ≤ count }
-    ensures { IfOk result (λ items. assertion_view items ≡ pure_assertion
-        (table_names params.now (count - length params.now) ++ pure_result_name ∷ []) (uses_view uses.now)
-        (pure_result_atom count (term_view term.now) ∷ atoms_view late.now)) }
+    ensures { IfOk result (λ items. assertion_view items ≡ ending_of
+        (table_names params.now (count - length params.now) ++ pure_result_name ∷ []) (is_variable_of PureSort.Fresh (term_view term.now))
+        (uses_view uses.now) count (term_view term.now) (atoms_view late.now)) }
 {
     let mut names = names_of_table(alloc, params, count - params.len())?;
     names.push(result_name(alloc)?)?;
+    if is_new_symbol(term) {
+        let told = with_others(alloc, told_atom(alloc, count, term)?, &Sequence::new(alloc))?;
+        let first = assertion_of(alloc, &names, &Sequence::new(alloc), &told)?;
+        let others = assertion_of(alloc, &names, uses, late)?;
+        return joined(first, others);
+    }
     let atoms = with_others(alloc, result_atom(alloc, count, term)?, late)?;
     assertion_of(alloc, &names, uses, &atoms)
 }
