@@ -8,16 +8,16 @@ use Rattle.gil_report.specs.declared.answers.Answer.{Answer}
 use Rattle.gil_report.specs.Pure.{PureAnswer, found, undecided}
 use Rattle.gil_report.specs.View.{answer_view}
 use Rattle.inferred_specs.specs.Inferred.{PureFound, Covers}
-use Rattle.mem_model.specs.declared.keys.MemoryName.{MemoryName}
-use Rattle.mem_model.specs.Actions.{Actions}
 use Rattle.gil_syntax.specs.Pure.{PureParts}
 use Rattle.bi_specifications.specs.Specified.{IsTrulyFound}
+use Rattle.biabduce.specs.Decided.{IsDecidable}
 use Rattle.pure_terms.specs.declared.queries.Query.{Query}
 use Rattle.pure_terms.specs.Fragment.{InFragment}
 use Rattle.pure_terms.specs.View.{atoms_view}
 use Rattle.sym_model.specs.Lists.{Each}
 use Rattle.sym_test.specs.View.{query_view}
 use Rattle.gillian_core.specs.Answers.{question_of}
+use Rattle.gillian_core.specs.Definitions.{Memory}
 use Rattle.gillian_core.specs.Inferred.{AreRightFounds, found_answers, question_answers}
 
 abbrev told_by : PureFound → PureAnswer
@@ -46,16 +46,17 @@ no_query None none = refl
 no_query (Some q) none = absurd (cc)
 
 -- what is found, with what isn't decided, is right
-pub right_founds : (p : PureParts) (memory : MemoryName) (m : Actions) (f : List ℕ) (n : ℕ) (told : List Found) (o : Option Query)
-    (answers : List Answer) (reported : List PureAnswer) → Each (IsTrulyFound p memory m f n) (founds_view told)
+pub right_founds : (m : Memory) (p : PureParts) (f : List ℕ) (n : ℕ) (told : List Found) (o : Option Query)
+    (answers : List Answer) (reported : List PureAnswer) → Each (IsTrulyFound p m.name m.actions f n) (founds_view told)
     → IfSome o (λ q. ¬ InFragment (atoms_view q.query)) → map answer_view answers ≡ found_answers (founds_view told)
-    → reported ≡ map answer_view answers ++ question_answers (option_map query_view o) → (o ≡ None → Covers p memory m f (founds_view told) n)
-    → AreRightFounds p memory m f n reported
-right_founds p memory m f n told o answers reported true_ones is_open before is covers = record {
+    → reported ≡ map answer_view answers ++ question_answers (option_map query_view o) → (o ≡ None → Covers p m.name m.actions f (founds_view told) n)
+    → (IsDecidable m.keeps_plain p m.actions f n → o ≡ None) → AreRightFounds m p f n reported
+right_founds m p f n told o answers reported true_ones is_open before is covers decided = record {
   founds = founds_view told;
   unknown = option_map query_view o;
   in_order = is ∙ ap (λ (xs : List PureAnswer). xs ++ question_answers (option_map query_view o)) before;
   truly_found = true_ones;
   undecided_one = undecided_query o is_open;
   covers = λ none. covers (no_query o none);
+  decided = λ decidable. ap (option_map query_view) (decided decidable);
 }

@@ -1,15 +1,15 @@
 -- What the answers of inference say.
 use Rattle.std.specs.Prelude.{◌≡◌, ℕ, List, [], ◌∷◌, ◌++◌, map, Option, Some, None, IfSome}
 use Rattle.gil_syntax.specs.Pure.{PureParts}
-use Rattle.mem_model.specs.declared.keys.MemoryName.{MemoryName}
-use Rattle.mem_model.specs.Actions.{Actions}
 use Rattle.inferred_specs.specs.Inferred.{PureFound, Covers}
 use Rattle.bi_specifications.specs.Specified.{IsTrulyFound}
+use Rattle.biabduce.specs.Decided.{IsDecidable}
 use Rattle.pure_terms.specs.Fragment.{InFragment}
 use Rattle.sym_model.specs.Lists.{Each}
 use Rattle.sym_test.specs.View.{PureQuery}
 use Rattle.gil_report.specs.Pure.{PureAnswer, found, undecided}
 use Rattle.gillian_core.specs.Answers.{question_of}
+use Rattle.gillian_core.specs.Definitions.{Memory}
 
 -- the answers that tell specifications, and what isn't decided
 abbrev pub found_answers : List PureFound → List PureAnswer
@@ -20,11 +20,13 @@ question_answers None = []
 question_answers (Some q) = undecided (question_of q) ∷ []
 
 -- The answers are specifications, each truly found of the procedure within the bound, and behind them at most one list of conditions that
--- isn't in the fragment. Where there is none, the specifications cover the runs of the procedure.
-pub record AreRightFounds (p : PureParts) (memory : MemoryName) (m : Actions) (f : List ℕ) (n : ℕ) (answers : List PureAnswer) : Type 0 where
+-- isn't in the fragment. Where there is none, the specifications cover the runs of the procedure. There is none where nothing needs to be
+-- left undecided.
+pub record AreRightFounds (m : Memory) (p : PureParts) (f : List ℕ) (n : ℕ) (answers : List PureAnswer) : Type 0 where
   pub founds : List PureFound
   pub unknown : Option PureQuery
   pub in_order : answers ≡ found_answers founds ++ question_answers unknown
-  pub truly_found : Each (IsTrulyFound p memory m f n) founds
+  pub truly_found : Each (IsTrulyFound p m.name m.actions f n) founds
   pub undecided_one : IfSome unknown (λ q. ¬ InFragment q.query)
-  pub covers : unknown ≡ None → Covers p memory m f founds n
+  pub covers : unknown ≡ None → Covers p m.name m.actions f founds n
+  pub decided : IsDecidable m.keeps_plain p m.actions f n → unknown ≡ None

@@ -94,7 +94,7 @@ pub record IsRightInference (d : Definition) (entry : List ℕ) (bound : ℕ) (b
   pub text : d.IsText bytes program
   pub keeps : d.KeepsEnds bytes program
   pub has : HasProc entry program
-  pub right : AreRightFounds program d.memory.name d.memory.actions entry bound answers
+  pub right : AreRightFounds d.memory program entry bound answers
 
 -- ---- solve
 

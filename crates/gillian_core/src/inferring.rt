@@ -7,6 +7,7 @@ ghost use Rattle.gil_report.specs.Pure.{found};
 ghost use Rattle.gil_report.specs.View.{answer_view};
 ghost use Rattle.gil_syntax.specs.Programs.{find_proc};
 ghost use Rattle.sym_test.specs.View.{query_view};
+ghost use Rattle.gillian_core.specs.Definitions.{memory_of};
 ghost use Rattle.gillian_core.specs.Inferred.{AreRightFounds, found_answers, question_answers};
 
 use crate::testing::question_of;
@@ -31,7 +32,8 @@ pub fn inferred<M: ListedMemory>(
     rules: &RuleBook,
 ) -> Result<Answers, AllocError>
     requires { IsSome (find_proc (prog_view prog.now).procs entry.now) }
-    ensures { IfOk result (λ answers. AreRightFounds (prog_view prog.now) M.Local.memory M.Local.actions entry.now bound.steps (map answer_view answers)) }
+    ensures { IfOk result (λ answers. AreRightFounds (memory_of M.Local.memory M.Local.actions M.stands M.terms M.asked M.depends M.keeps_plain)
+        (prog_view prog.now) entry.now bound.steps (map answer_view answers)) }
 {
     let mut decider = PathSolver::new(alloc);
     let inferred = infer::<M, PathSolver>(alloc, prog, entry, bound.steps, rules, &mut decider)?;

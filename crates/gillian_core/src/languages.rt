@@ -144,8 +144,8 @@ pub fn infer_in(
     rules: &RuleBook,
 ) -> Result<Answers, AllocError>
     requires { IsSome (find_proc (prog_view prog.now).procs entry.now) }
-    ensures { IfOk result (λ answers. AreRightFounds (prog_view prog.now) (definition_of language).memory.name (definition_of language).memory.actions
-        entry.now bound.steps (map answer_view answers)) }
+    ensures { IfOk result (λ answers. AreRightFounds (definition_of language).memory (prog_view prog.now) entry.now bound.steps
+        (map answer_view answers)) }
 {
     match language {
         Language::GilRecord => inferred::<RecordSym>(alloc, prog, entry, bound, rules),
