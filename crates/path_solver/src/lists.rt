@@ -26,6 +26,20 @@ pub(crate) fn copy_of_table(alloc: Global, vars: &VarTable) -> Result<VarTable, 
     Ok(table)
 }
 
+/// Whether two tables have the same sorts.
+pub(crate) fn are_same_tables(left: &VarTable, right: &VarTable) -> bool {
+    if left.len() != right.len() {
+        return false;
+    }
+    for (number, sort) in left.as_slice().iter().enumerate() {
+        match right.get(number) {
+            Some(other) if *other == *sort => {}
+            _ => return false,
+        }
+    }
+    true
+}
+
 /// Cuts a list back to its first atoms.
 pub(crate) fn cut_to(list: &mut Atoms, len: usize)
     requires { len ≤ length list.old }

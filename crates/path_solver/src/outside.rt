@@ -36,6 +36,21 @@ pub(crate) fn first_outside(atoms: &Atoms) -> Option<Reason>
     None
 }
 
+/// Whether the atoms from a place on are of the fragment by themselves.
+pub(crate) fn are_plain_since(atoms: &Atoms, first: usize) -> bool {
+    for place in first..atoms.len() {
+        match atoms.get(place) {
+            Some(atom) => {
+                if !is_plain(atom) {
+                    return false;
+                }
+            }
+            None => return false,
+        }
+    }
+    true
+}
+
 /// Atoms of the fragment that stand for those of a list, place by place: each that isn't of the fragment by itself is
 /// simplified, and where that doesn't help nothing is asked there.
 pub(crate) fn plain_list(

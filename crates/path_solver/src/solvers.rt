@@ -11,8 +11,8 @@ ghost use Rattle.path_solver.specs.Solving.{IsSolved, IsDecidedWhenSorted, solut
 ghost use Rattle.path_solver.specs.Standing.{table_of, list_of};
 
 use crate::deciding::{decide_on, decision_of};
-use crate::lists::{common, copy_of_table, cut_to};
-use crate::outside::first_outside;
+use crate::lists::{are_same_tables, common, copy_of_table, cut_to};
+use crate::outside::are_plain_since;
 use crate::searching::Found;
 use crate::solutions::Solution;
 use crate::solving::solve_on;
@@ -32,8 +32,12 @@ pub struct PathSolver {
     list: Atoms,
     /// The list that is searched.
     searched: Atoms,
-    /// What satisfied the last list that was satisfied.
+    /// What satisfied the last list that was satisfied, with a value for each variable of the table.
     values: Valuation,
+    /// How many first atoms these values satisfied. No answer rests on it.
+    held: usize,
+    /// How many first atoms were seen to be of the fragment. No answer rests on it.
+    seen: usize,
 }
 
 impl PathSolver {
@@ -47,6 +51,8 @@ impl PathSolver {
             list: Atoms::new(alloc),
             searched: Atoms::new(alloc),
             values: Valuation::new(alloc),
+            held: 0,
+            seen: 0,
         }
     }
 
@@ -56,7 +62,11 @@ impl PathSolver {
         ensures err { OnErr result (table_of self.new ≡ table_of self.old) }
         ensures list { list_of self.new ≡ list_of self.old }
     {
-        self.vars = copy_of_table(alloc, vars)?;
+        let table = copy_of_table(alloc, vars)?;
+        if !are_same_tables(&self.vars, vars) {
+            self.values = fitted(alloc, vars, &self.values)?;
+        }
+        self.vars = table;
         Ok(())
     }
 
@@ -78,6 +88,8 @@ impl PathSolver {
         ensures table { table_of self.new ≡ table_of self.old }
     {
         cut_to(&mut self.list, len);
+        self.held = self.held.min(len);
+        self.seen = self.seen.min(len);
     }
 
     /// Decides the list that stands.
@@ -88,7 +100,8 @@ impl PathSolver {
         ensures right { IfOk result (λ decision. IsRight (table_of self.old) (list_of self.old) (decision_view decision)) }
         ensures decided { IfOk result (λ decision. IsDecidedWhenSorted (table_of self.old) (list_of self.old) (decision_view decision)) }
     {
-        if first_outside(&self.list).is_none() {
+        if are_plain_since(&self.list, self.seen) {
+            self.seen = self.list.len();
             if let Some(found) = self.known(alloc)? {
                 self.keep(alloc, &found)?;
                 return Ok(decision_of(&self.vars, &self.list, found));
@@ -97,6 +110,7 @@ impl PathSolver {
         let decision = decide_on(alloc, &self.vars, &self.list, &mut self.searched)?;
         if let Decision::Sat(values) = &decision {
             self.values = values.copy(alloc)?;
+            self.held = self.list.len();
         }
         Ok(decision)
     }
@@ -107,23 +121,17 @@ impl PathSolver {
         ensures list { list_of self.new ≡ list_of self.old }
         ensures found { IfOk result (λ found. IfSome found (IsFound (table_of self.old) (list_of self.old))) }
     {
-        let values = fitted(alloc, &self.vars, &self.values)?;
-        if let Some(near) = near_values(alloc, &self.vars, &self.list, &values)? {
+        if let Some(near) = near_values(alloc, &self.vars, &self.list, &self.values, self.held)? {
             return Ok(Some(Found::Model(near)));
         }
-        match broken_part(alloc, &self.vars, &self.list, &values)? {
-            Some(part) => self.known_by_part(alloc, &values, &part),
+        match broken_part(alloc, &self.vars, &self.list, &self.values, self.held)? {
+            Some(part) => self.known_by_part(alloc, &part),
             None => Ok(None),
         }
     }
 
     /// What solving a part by itself shows of the list that stands.
-    fn known_by_part(
-        &mut self,
-        alloc: Global,
-        values: &Valuation,
-        part: &Part,
-    ) -> Result<Option<Found>, AllocError>
+    fn known_by_part(&mut self, alloc: Global, part: &Part) -> Result<Option<Found>, AllocError>
         requires { AreOver part.now.vars (atoms_view part.now.atoms) }
         ensures table { table_of self.new ≡ table_of self.old }
         ensures list { list_of self.new ≡ list_of self.old }
@@ -132,7 +140,7 @@ impl PathSolver {
         let none = RuleBook::new(alloc);
         match solve_on(alloc, &part.vars, &part.atoms, &none, &mut self.searched)? {
             Solution::Sat(found) => {
-                match part.values(alloc, &self.vars, &self.list, values, &found)? {
+                match part.values(alloc, &self.vars, &self.list, &self.values, &found)? {
                     Some(all) => Ok(Some(Found::Model(all))),
                     None => Ok(None),
                 }
@@ -154,6 +162,7 @@ impl PathSolver {
     {
         if let Found::Model(values) = found {
             self.values = values.copy(alloc)?;
+            self.held = self.list.len();
         }
         Ok(())
     }

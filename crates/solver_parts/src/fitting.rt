@@ -4,7 +4,7 @@ ghost use Rattle.gil_values.specs.View.{values_view};
 ghost use Rattle.pure_terms.specs.View.{atoms_view};
 ghost use Rattle.solver_guess.specs.Guesses.{IsModel};
 
-use crate::moving::{Side, moved};
+use crate::moving::{Side, is_broken_at, moved};
 use gil_values::{Kind, Text, Value};
 use pure_terms::{Atoms, Sort, Valuation, VarTable};
 use solver_guess::is_model;
@@ -60,20 +60,27 @@ fn empty_text(alloc: Global) -> Result<Value, AllocError> {
     }
 }
 
-/// Values that satisfy a list and are near to these: the same, or some of them moved.
+/// So many atoms before the new ones are gone over before the whole list is.
+const NEAR: usize = 32;
+
+/// Values that satisfy a list and are near to these: the same, or some of them moved. These values are taken to satisfy so many first
+/// atoms, which aren't gone over to find those that they break.
 pub fn near_values(
     alloc: Global,
     vars: &VarTable,
     atoms: &Atoms,
     values: &Valuation,
+    held: usize,
 ) -> Result<Option<Valuation>, AllocError>
     ensures { IfOk result (λ found. IfSome found (λ v. IsModel vars.now (atoms_view atoms.now) (values_view v))) }
 {
-    if is_model(alloc, vars, atoms, values)? {
-        return Ok(Some(values.copy(alloc)?));
+    let broken = broken_since(alloc, atoms, values, held)?;
+    if broken.len() == 0 {
+        let same = values.copy(alloc)?;
+        return tested(alloc, vars, atoms, same);
     }
     for side in SIDES.as_slice() {
-        let found = moved_values(alloc, vars, atoms, values, *side)?;
+        let found = moved_values(alloc, vars, atoms, values, broken.as_slice(), *side)?;
         if found.is_some() {
             return Ok(found);
         }
@@ -81,20 +88,61 @@ pub fn near_values(
     Ok(None)
 }
 
-/// Values that satisfy a list, of which such sides of comparisons were moved first.
+/// The places, from one on, of the atoms that values break.
+fn broken_since(
+    alloc: Global,
+    atoms: &Atoms,
+    values: &Valuation,
+    first: usize,
+) -> Result<Vec<usize>, AllocError> {
+    let mut broken: Vec<usize> = Vec::new(alloc);
+    for place in first..atoms.len() {
+        if is_broken_at(alloc, atoms, values, place)? {
+            broken.push(place)?;
+        }
+    }
+    Ok(broken)
+}
+
+/// Values that satisfy a list, of which such sides of the comparisons at these places were moved first.
 fn moved_values(
     alloc: Global,
     vars: &VarTable,
     atoms: &Atoms,
     values: &Valuation,
+    broken: &[usize],
     side: Side,
 ) -> Result<Option<Valuation>, AllocError>
     ensures { IfOk result (λ found. IfSome found (λ v. IsModel vars.now (atoms_view atoms.now) (values_view v))) }
 {
-    match moved(alloc, atoms, values, side)? {
-        Some(found) => tested(alloc, vars, atoms, found),
+    match moved(alloc, atoms, values, broken, side)? {
+        Some(found) => {
+            if breaks_near(alloc, atoms, &found, broken)? {
+                return Ok(None);
+            }
+            tested(alloc, vars, atoms, found)
+        }
         None => Ok(None),
     }
+}
+
+/// Whether values break an atom from shortly before the first of these places on.
+fn breaks_near(
+    alloc: Global,
+    atoms: &Atoms,
+    values: &Valuation,
+    broken: &[usize],
+) -> Result<bool, AllocError> {
+    let first = match broken.get(0) {
+        Some(place) => place.saturating_sub(NEAR),
+        None => 0,
+    };
+    for place in first..atoms.len() {
+        if is_broken_at(alloc, atoms, values, place)? {
+            return Ok(true);
+        }
+    }
+    Ok(false)
 }
 
 /// The values, if they satisfy a list.

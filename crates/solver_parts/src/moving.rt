@@ -25,23 +25,31 @@ struct Comparison<'a> {
     more: i128,
 }
 
-/// The values with each comparison that they break mended once, where each of these could be.
+/// The values with each comparison that they break mended once, where each of these could be. They stand at these places.
 pub(crate) fn moved(
     alloc: Global,
     atoms: &Atoms,
     values: &Valuation,
+    broken: &[usize],
     side: Side,
 ) -> Result<Option<Valuation>, AllocError> {
     let mut all: Vec<Value> = Vec::with_capacity(alloc, values.len())?;
     for value in values.as_slice() {
         all.push(value.copy(alloc)?)?;
     }
-    for atom in atoms.as_slice() {
-        if is_broken(alloc, atom, values)? && !move_atom(atom, side, all.as_mut_slice()) {
+    for place in broken {
+        if !move_at(atoms, *place, side, all.as_mut_slice()) {
             return Ok(None);
         }
     }
     Ok(Some(valuation_of(alloc, all)?))
+}
+
+fn move_at(atoms: &Atoms, place: usize, side: Side, values: &mut [Value]) -> bool {
+    match atoms.get(place) {
+        Some(atom) => move_atom(atom, side, values),
+        None => false,
+    }
 }
 
 fn valuation_of(alloc: Global, all: Vec<Value>) -> Result<Valuation, AllocError> {
@@ -53,15 +61,24 @@ fn valuation_of(alloc: Global, all: Vec<Value>) -> Result<Valuation, AllocError>
 }
 
 /// Whether an atom isn't surely true under values.
-pub(crate) fn is_broken(
-    alloc: Global,
-    atom: &Atom,
-    values: &Valuation,
-) -> Result<bool, AllocError> {
+fn is_broken(alloc: Global, atom: &Atom, values: &Valuation) -> Result<bool, AllocError> {
     match holds(alloc, atom, values) {
         Ok(truth) => Ok(!truth),
         Err(HoldsFault::Number) => Ok(true),
         Err(HoldsFault::Memory) => Err(AllocError),
+    }
+}
+
+/// Whether the atom at a place isn't surely true under values.
+pub(crate) fn is_broken_at(
+    alloc: Global,
+    atoms: &Atoms,
+    values: &Valuation,
+    place: usize,
+) -> Result<bool, AllocError> {
+    match atoms.get(place) {
+        Some(atom) => is_broken(alloc, atom, values),
+        None => Ok(false),
     }
 }
 

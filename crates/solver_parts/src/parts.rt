@@ -9,7 +9,7 @@ ghost use Rattle.solver_proof.specs.View.{proof_view};
 
 use crate::classes::{Classes, join_atoms};
 use crate::fitting::tested;
-use crate::moving::is_broken;
+use crate::moving::is_broken_at;
 use crate::patching::patched;
 use crate::proofs::whole_proof;
 use crate::renaming::renamed_atom;
@@ -42,16 +42,18 @@ struct Hanging {
     wanted: Vec<bool>,
 }
 
-/// The part of a list that hangs together with the atoms that values break, where it is at most half of the variables.
+/// The part of a list that hangs together with the atoms that values break, where it is at most half of the variables. The values are
+/// taken to satisfy so many first atoms.
 pub fn broken_part(
     alloc: Global,
     vars: &VarTable,
     atoms: &Atoms,
     values: &Valuation,
+    held: usize,
 ) -> Result<Option<Part>, AllocError>
     ensures { IfOk result (λ found. IfSome found (λ part. AreOver part.vars (atoms_view part.atoms))) }
 {
-    let mut hanging = hanging_of(alloc, vars, atoms, values)?;
+    let mut hanging = hanging_of(alloc, vars, atoms, values, held)?;
     let numbers = wanted_numbers(alloc, vars, &mut hanging)?;
     if numbers.len() > vars.len() / 2 {
         return Ok(None);
@@ -116,10 +118,11 @@ fn hanging_of(
     vars: &VarTable,
     atoms: &Atoms,
     values: &Valuation,
+    held: usize,
 ) -> Result<Hanging, AllocError> {
     let mut classes = Classes::new(alloc, vars.len())?;
     let firsts = join_atoms(alloc, &mut classes, atoms)?;
-    let broken = broken_atoms(alloc, atoms, values)?;
+    let broken = broken_atoms(alloc, atoms, values, held)?;
     let wanted = wanted_classes(
         alloc,
         vars.len(),
@@ -135,10 +138,16 @@ fn hanging_of(
     })
 }
 
-fn broken_atoms(alloc: Global, atoms: &Atoms, values: &Valuation) -> Result<Vec<bool>, AllocError> {
+/// Which atoms values break, of which the first ones are held.
+fn broken_atoms(
+    alloc: Global,
+    atoms: &Atoms,
+    values: &Valuation,
+    held: usize,
+) -> Result<Vec<bool>, AllocError> {
     let mut broken: Vec<bool> = Vec::with_capacity(alloc, atoms.len())?;
-    for atom in atoms.as_slice() {
-        broken.push(is_broken(alloc, atom, values)?)?;
+    for place in 0..atoms.len() {
+        broken.push(held <= place && is_broken_at(alloc, atoms, values, place)?)?;
     }
     Ok(broken)
 }
