@@ -1,4 +1,4 @@
--- Each heap that is what the uses of a beginning say is one with which some path begins.
+-- Each heap that is what the uses of a beginning say is one with which some path begins, and each path begins with exactly that.
 use Rattle.std.proofs.Common.{◌≡◌, ⊎_elim, inl, inr, ℕ, zero, suc, ◌+◌, ◌<◌, List, [], ◌∷◌, ◌++◌, length, slice_get, Bool, true, false, if◌then◌else◌, ◌||◌, Option, Some, None, is_some, IsSome, refl, sym, ap, subst, ◌∙◌, true≢false, arith}
 use Rattle.std.specs.FinMap.{empty}
 use Rattle.std.specs.List.{list_all}
@@ -41,8 +41,9 @@ use Rattle.sym_model.proofs.ListLaws.{same_some, not_none, each_to, one_with, on
 use Rattle.sym_paths.specs.Beginning.{beginning, Begins}
 use Rattle.sym_paths.specs.Pure.{PurePath}
 use Rattle.sym_states.specs.Pure.{PureState}
-use Rattle.bi_beginnings.specs.Beginnings.{PureBeginning, IsBeginning, BeginsWith, CoversBeginning}
-use Rattle.bi_beginnings.specs.Opening.{HasVariables, named_further, IsNamedFurther, AreNamed, IsEnteredWith, AreEntered, IsOpenedBy}
+use Rattle.bi_beginnings.specs.Beginnings.{PureBeginning, IsBeginning, BeginsWith, BeginsExactly, CoversBeginning}
+use Rattle.bi_beginnings.specs.Opening.{HasVariables, named_further, IsNamedFurther, AreNamed, IsEnteredWith, AreEntered, IsEnteredExactly, IsOpenedBy}
+use Rattle.bi_beginnings.proofs.Added.{uses_added}
 use Rattle.bi_beginnings.proofs.Entering.{store_of_values, variables_stand}
 
 -- ---- names that differ
@@ -148,6 +149,10 @@ module _ (memory : MemoryName) (params : List (List ℕ)) (b : PureBeginning) (i
   uses_over = each_to (λ u. TakesBoth memory u.core u.ins u.outs × AreEachOver b.vars (u.ins ++ u.outs)) (λ u. IsSome (core_of u.core) × AreEachOver b.vars (u.ins ++ u.outs)) b.uses
       (λ u both. (core_there (core_of u.core) both.0.core both.0.of_memory.named, both.1)) is.uses
 
+  -- what the items of the uses come to, added to nothing, has the heap that the uses say
+  pub adds_uses : (v : List PureValue) (m : LogicState) → IsProper b.vars v → IsAdding memory (store_of_values v bs) (assertion_of names b.uses []) nothing m → AreUnion v b.uses m.heap
+  adds_uses v m proper adding = uses_added b.vars names v (store_of_values v bs) (names_values v proper) [] b.uses nothing m uses_over refl adding.added_is
+
   -- a heap that is what the uses say is added to nothing
   pub is_added : (v : List PureValue) (own : Heap) → Satisfies b.vars v b.conds → AreUnion v b.uses own → IsHeapOf memory own
       → (m : LogicState) × (IsAdding memory (store_of_values v bs) (assertion_of names b.uses b.conds) nothing m × (m.heap ≡ own))
@@ -175,6 +180,17 @@ module _ {S : Type 0} (stands : S → List PureValue → Heap → Type 0) where
         heap = ⊎_elim (λ needed. absurd (true≢false (sym needed ∙ no_form))) (λ there. there) entered.heap;
       } in
       subst (BeginsWith stands vars v own) (sym begins.is) first
+
+  -- a path that begins in a state begins with exactly what that is entered with
+  pub begins_exactly : (q : PureProc) (args : List PureTerm) (b : PureBeginning) (s : PureState S) (path : PurePath S) → Begins q args s.vars s.conds s.memory path → has_open s.conds ≡ false
+      → IsEnteredExactly stands b s → BeginsExactly stands b path
+  begins_exactly q args b s path begins no_form exact =
+      let first : BeginsExactly stands b (beginning q begins.store s.vars s.conds s.memory) = record {
+        table = exact.table;
+        lists = λ v own meets. (exact.heaps no_form v own meets).0;
+        back = λ v own meets. (exact.heaps no_form v own meets).1;
+      } in
+      subst (BeginsExactly stands b) (sym begins.is) first
 
   pub opened_start : (q : PureProc) (args : List PureTerm) (s : PureState S) (path : PurePath S) (U : Type 0) → Begins q args s.vars s.conds s.memory path → has_open s.conds ≡ false
       → IsOpenedBy stands s U (path ∷ [])

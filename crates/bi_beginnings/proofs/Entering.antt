@@ -26,6 +26,8 @@ use Rattle.pure_terms.specs.Pure.{PureTerm, variable, PureAtom, positive, negati
 use Rattle.sym_evaluation.specs.Meaning.{AreSame, StandsFor, IsStoreOver}
 use Rattle.sym_evaluation.specs.Pure.{PureStore, term_at}
 use Rattle.sym_model.specs.Cores.{TakesBoth}
+use Rattle.sym_model.specs.Laws.{IsMeaning}
+use Rattle.sym_model.specs.Listing.{AreUnion}
 use Rattle.sym_model.specs.Lists.{Each, OneOf}
 use Rattle.sym_model.specs.Meaning.{has_open}
 use Rattle.sym_model.specs.Pure.{PureUse}
@@ -34,10 +36,12 @@ use Rattle.sym_model.proofs.ListLaws.{same_some, not_none, each_append, each_to}
 use Rattle.sym_states.specs.Laws.{CoversAddings, AreAddings, ComeFromItems, StayOverTable, AreKept}
 use Rattle.sym_states.specs.Meaning.{Stands, Serves, IsOverTable, AreFacts}
 use Rattle.sym_states.specs.Producing.{are_spelled, FitsCore, IsOfMemory, MayAdd, IsProduced, is_begun, is_added, IsStopped, added_conds}
-use Rattle.sym_states.specs.Pure.{PureFact, PureState}
+use Rattle.sym_states.specs.Pure.{PureFact, PureState, with_conditions}
+use Rattle.sym_states.proofs.Conditions.{met_parts, met_both, open_left, none_open}
 use Rattle.bi_beginnings.specs.Beginnings.{IsEntryTable, PureBeginning, IsBeginning}
-use Rattle.bi_beginnings.specs.Opening.{IsVariableOf, HasVariables, IsFirstState, IsEntryState, IsBareState, IsEnteredWith}
+use Rattle.bi_beginnings.specs.Opening.{IsVariableOf, HasVariables, IsFirstState, IsEntryState, IsBareState, IsEnteredWith, AreEntered, IsEnteredExactly, carrying, without_conditions}
 use Rattle.bi_beginnings.proofs.Tables.{over_variable}
+use Rattle.bi_beginnings.proofs.Unions.{one_heap}
 
 -- ---- items that may be added
 
@@ -97,6 +101,10 @@ module _ (memory : MemoryName) (b : PureBeginning) where
       may_add_each memory (assertion_of names b.uses b.conds)
       (subst (λ (xs : List (List ℕ)). is_well_made_assertion (assertion_of xs b.uses b.conds) ≡ true) (sym are) ((tables_are_named params others).well_made b.uses b.conds))
       (each_append (IsOfMemory memory) (map (use_item names) b.uses) (map (item_of names) b.conds) (uses_of_memory names b.uses is.uses) (atoms_of_memory memory names b.conds))
+
+-- a beginning that carries no condition
+pub without : (memory : MemoryName) (params : List (List ℕ)) (b : PureBeginning) → IsBeginning memory params b → IsBeginning memory params (without_conditions b)
+without memory params b is = record { table = is.table; uses = is.uses; conds = tt; named = is.named }
 
 -- ---- stores of variables
 
@@ -198,7 +206,7 @@ module _ {S : Type 0} (stands : S → List PureValue → Heap → Type 0) (terms
     unchanged items rs none come.1,
   )
 
-  still_table : (items : List PureItem) (rs : List (PureState S)) → ComeFromItems stands terms bs items s rs → Each (λ r. r.vars ≡ s.vars) rs
+  pub still_table : (items : List PureItem) (rs : List (PureState S)) → ComeFromItems stands terms bs items s rs → Each (λ r. r.vars ≡ s.vars) rs
   still_table items [] come = tt
   still_table items (r ∷ rs) come = (
     ⊎_elim (λ whole. same_table items r whole) (λ (half : IsStopped stands terms bs s items r). ap (λ (x : PureState S). x.vars) half.last.same_else ∙ same_table half.before half.at half.produced) come.0,
@@ -233,19 +241,24 @@ module _ {S : Type 0} (memory : MemoryName) (stands : S → List PureValue → H
     };
   }
 
-  abbrev HasHeap : List PureValue → PureState S → Type 0
-  HasHeap v r = (h : Heap) × stands r.memory v h
+  -- the memory has the heap of what the items come to, added to nothing
+  abbrev HasAdded : List PureValue → PureState S → Type 0
+  HasAdded v r = (m : LogicState) × (IsAdding memory (store_of_values v bs) items nothing m × stands r.memory v m.heap)
+
+  -- it has under each valuation that meets the conditions, unless one of them is that a literal form is needed
+  abbrev HasEachAdded : PureState S → Type 0
+  HasEachAdded r = (w : (v : List PureValue) × IsProper vars v) → IsTrue (all_true w.0 r.conds) → has_open r.conds ≡ false → HasAdded w.0 r
 
   all_new : (r : PureState S) → added_conds s r ≡ r.conds
   all_new r = ap (λ (cs : List PureAtom). drop (length cs) r.conds) first.conds
 
-  heap_of : (v : List PureValue) (r : PureState S) → (IsTrue (all_true v r.conds) → has_open (added_conds s r) ≡ false → (m : LogicState) × (IsAdding memory (store_of_values v bs) items nothing m × Stands stands r v m))
-      → IsTrue (all_true v r.conds) → has_open r.conds ≡ false → HasHeap v r
-  heap_of v r is met none = let (m, (adding, there)) = is met (ap has_open (all_new r) ∙ none) in (m.heap, there.memory)
+  added_of : (v : List PureValue) (r : PureState S) → (IsTrue (all_true v r.conds) → has_open (added_conds s r) ≡ false → (m : LogicState) × (IsAdding memory (store_of_values v bs) items nothing m × Stands stands r v m))
+      → IsTrue (all_true v r.conds) → has_open r.conds ≡ false → HasAdded v r
+  added_of v r is met none = let (m, (adding, there)) = is met (ap has_open (all_new r) ∙ none) in (m, (adding, there.memory))
 
-  heaps : Each (λ r. (w : (v : List PureValue) × IsProper vars v) → IsTrue (all_true w.0 r.conds) → has_open r.conds ≡ false → HasHeap w.0 r) rs
-  heaps = each_under (λ (w : (v : List PureValue) × IsProper vars v) r. IsTrue (all_true w.0 r.conds) → has_open r.conds ≡ false → HasHeap w.0 r) rs
-      (λ w. each_to _ (λ r. IsTrue (all_true w.0 r.conds) → has_open r.conds ≡ false → HasHeap w.0 r) rs (heap_of w.0) (exact w.0 (store_of_values w.0 bs) nothing (serves w.0 w.1)))
+  each_added : Each HasEachAdded rs
+  each_added = each_under (λ (w : (v : List PureValue) × IsProper vars v) r. IsTrue (all_true w.0 r.conds) → has_open r.conds ≡ false → HasAdded w.0 r) rs
+      (λ w. each_to _ (λ r. IsTrue (all_true w.0 r.conds) → has_open r.conds ≡ false → HasAdded w.0 r) rs (added_of w.0) (exact w.0 (store_of_values w.0 bs) nothing (serves w.0 w.1)))
 
   abbrev IsRight : PureState S → Type 0
   IsRight r = (r.vars ≡ vars) × IsOverTable terms r × kept r.memory
@@ -255,16 +268,38 @@ module _ {S : Type 0} (memory : MemoryName) (stands : S → List PureValue → H
       each_both (λ r. r.vars ≡ s.vars) (λ r. IsOverTable terms r × kept r.memory) IsRight rs (λ r same rest. (same ∙ first.table, rest.0, rest.1)) (still_table stands terms bs s items rs origin)
       (each_both (λ r. IsOverTable terms r) (λ r. kept r.memory) (λ r. IsOverTable terms r × kept r.memory) rs (λ r here there. (here, there)) (over is_over store_over) still_kept)
 
-  is_entry : (r : PureState S) → ((w : (v : List PureValue) × IsProper vars v) → IsTrue (all_true w.0 r.conds) → has_open r.conds ≡ false → HasHeap w.0 r) → IsRight r → IsEntryState stands terms kept params r
-  is_entry r heap right = record {
+  is_entry : (r : PureState S) → HasEachAdded r → IsRight r → IsEntryState stands terms kept params r
+  is_entry r has_added right = record {
     table = subst (IsEntryTable params) (sym right.0) table;
     over = right.1;
-    has_heap = λ none v meets. heap (v, subst (λ (all : List Sort). IsProper all v) right.0 meets.proper) meets.true_there none;
+    has_heap = λ none v meets. let (m, (adding, there)) = has_added (v, subst (λ (all : List Sort). IsProper all v) right.0 meets.proper) meets.true_there none in (m.heap, there);
     still_kept = right.2;
   }
 
+  pub same_tables : Each (λ r. r.vars ≡ vars) rs
+  same_tables = each_to (λ r. r.vars ≡ s.vars) (λ r. r.vars ≡ vars) rs (λ r same. same ∙ first.table) (still_table stands terms bs s items rs origin)
+
   pub are_entries : Each (IsEntryState stands terms kept params) rs
-  are_entries = each_both _ IsRight (IsEntryState stands terms kept params) rs is_entry heaps all_right
+  are_entries = each_both HasEachAdded IsRight (IsEntryState stands terms kept params) rs is_entry each_added all_right
+
+  -- ---- exactness
+
+  -- where what the items come to has the heap that the uses say, each state is entered with exactly that
+  pub are_exact : (b : PureBeginning) → b.vars ≡ vars → IsMeaning memory stands terms
+      → ((v : List PureValue) (m : LogicState) → IsProper vars v → IsAdding memory (store_of_values v bs) items nothing m → AreUnion v b.uses m.heap) → Each (IsEnteredExactly stands b) rs
+  are_exact b same meaning said = each_both HasEachAdded IsRight (IsEnteredExactly stands b) rs is_exact each_added all_right
+    where
+      is_exact : (r : PureState S) → HasEachAdded r → IsRight r → IsEnteredExactly stands b r
+      is_exact r has_added right = record {
+        table = right.0 ∙ sym same;
+        heaps = λ none v own meets.
+            let proper : IsProper vars v = subst (λ (all : List Sort). IsProper all v) right.0 meets.proper in
+            let (m, (adding, there)) = has_added (v, proper) meets.true_there none in
+            let union : AreUnion v b.uses m.heap = said v m proper adding in (
+              (λ (is : stands r.memory v own). subst (AreUnion v b.uses) (meaning.one_heap r.memory v m.heap own there is) union),
+              (λ (is : AreUnion v b.uses own). subst (stands r.memory v) (one_heap v b.uses m.heap own union is) there),
+            );
+      }
 
   -- ---- cover
 
@@ -309,3 +344,72 @@ module _ {S : Type 0} (memory : MemoryName) (stands : S → List PureValue → H
             no_key = subst (λ (l : LogicState). stands r.memory [] l.heap) (sym is) there.memory;
             no_terms = same.same_terms ∙ first.no_terms;
           }
+
+-- ---- with the conditions that are carried
+
+module _ {S : Type 0} (memory : MemoryName) (stands : S → List PureValue → Heap → Type 0) (terms : S → StateTerms) (kept : S → Type 0) (params : List (List ℕ)) (conds : List PureAtom) where
+  -- what holds of the state as it is, and with the conditions, holds of what is carried
+  pub of_carrying : (P : PureState S → Type 0) (s : PureState S) → P s → P (with_conditions conds s) → P (carrying conds s)
+  of_carrying P s here there = by (has_open s.conds)
+    where
+      by : (b : Bool) → P (if b then s else with_conditions conds s)
+      by true = here
+      by false = there
+
+  carried_entry : (s : PureState S) → Each (λ a. IsOver s.vars (term_of a)) conds → IsEntryState stands terms kept params s → IsEntryState stands terms kept params (carrying conds s)
+  carried_entry s over entry = of_carrying (IsEntryState stands terms kept params) s entry (record {
+    table = entry.table;
+    over = record {
+      conds = each_append (λ a. IsOver s.vars (term_of a)) s.conds conds entry.over.conds over;
+      given = entry.over.given;
+      memory = entry.over.memory;
+      facts = entry.over.facts;
+    };
+    has_heap = λ none v meets. entry.has_heap (none_open s.conds conds none).0 v (record { proper = meets.proper; true_there = (met_parts v s.conds conds meets.true_there).0 });
+    still_kept = entry.still_kept;
+  })
+
+  pub carried_entries : (vars : List Sort) → Each (λ a. IsOver vars (term_of a)) conds → (ss : List (PureState S)) → Each (λ s. s.vars ≡ vars) ss → Each (IsEntryState stands terms kept params) ss
+      → Each (IsEntryState stands terms kept params) (map (carrying conds) ss)
+  carried_entries vars over [] same all = tt
+  carried_entries vars over (s ∷ ss) same all = (carried_entry s (subst (λ (xs : List Sort). Each (λ a. IsOver xs (term_of a)) conds) (sym same.0) over) all.0, carried_entries vars over ss same.1 all.1)
+
+  carried_one : (vars : List Sort) (v : List PureValue) (own : Heap) → IsTrue (all_true v conds) → (ss : List (PureState S)) → OneOf (IsEnteredWith stands vars v own) ss
+      → OneOf (IsEnteredWith stands vars v own) (map (carrying conds) ss)
+  carried_one vars v own met [] one = absurd one
+  carried_one vars v own met (s ∷ ss) one =
+      ⊎_elim
+      (λ (here : IsEnteredWith stands vars v own s). inl (of_carrying (IsEnteredWith stands vars v own) s here (record {
+        table = here.table;
+        meets = record { proper = here.meets.proper; true_there = met_both v s.conds conds here.meets.true_there met };
+        heap = ⊎_elim (λ needed. inl (open_left s.conds conds needed)) (λ there. inr there) here.heap;
+      })))
+      (λ later. inr (carried_one vars v own met ss later)) one
+
+  carried_exact : (b : PureBeginning) (s : PureState S) → IsEnteredExactly stands b s → IsEnteredExactly stands b (carrying conds s)
+  carried_exact b s exact = of_carrying (IsEnteredExactly stands b) s exact (record {
+    table = exact.table;
+    heaps = λ none v own meets. exact.heaps (none_open s.conds conds none).0 v own (record { proper = meets.proper; true_there = (met_parts v s.conds conds meets.true_there).0 });
+  })
+
+  pub carried_all_exact : (b : PureBeginning) (ss : List (PureState S)) → Each (IsEnteredExactly stands b) ss → Each (IsEnteredExactly stands b) (map (carrying conds) ss)
+  carried_all_exact b [] all = tt
+  carried_all_exact b (s ∷ ss) all = (carried_exact b s all.0, carried_all_exact b ss all.1)
+
+  -- with no conditions the states are as they were
+  carried_bare : (s : PureState S) → conds ≡ [] → IsBareState stands terms s → IsBareState stands terms (carrying conds s)
+  carried_bare s none bare = of_carrying (IsBareState stands terms) s bare (record {
+    no_variable = bare.no_variable;
+    no_condition = (λ i. bare.no_condition i ++ none i);
+    no_key = bare.no_key;
+    no_terms = bare.no_terms;
+  })
+
+  pub carried_all_bare : conds ≡ [] → (ss : List (PureState S)) → Each (IsBareState stands terms) ss → Each (IsBareState stands terms) (map (carrying conds) ss)
+  carried_all_bare none [] all = tt
+  carried_all_bare none (s ∷ ss) all = (carried_bare s none all.0, carried_all_bare none ss all.1)
+
+pub carried_entered : {S : Type 0} (memory : MemoryName) (stands : S → List PureValue → Heap → Type 0) (terms : S → StateTerms) (kept : S → Type 0) (b : PureBeginning) (ss : List (PureState S))
+    → AreEntered memory stands (without_conditions b) ss → AreEntered memory stands b (map (carrying b.conds) ss)
+carried_entered memory stands terms kept b ss entered v own meets union is_heap =
+    carried_one memory stands terms kept [] b.conds b.vars v own meets.true_there ss (entered v own (record { proper = meets.proper; true_there = refl }) union is_heap)

@@ -1,6 +1,6 @@
 -- A run that misses a key, and doesn't beside the rest of its heap, is awaited by a beginning that fixes the key.
 use Rattle.std.proofs.Common.{◌≡◌, ⊎_elim, inl, inr, ℕ, zero, suc, ◌+◌, ◌-◌, ◌<◌, ◌≤◌, List, [], ◌∷◌, ◌++◌, map, length, slice_get, Bool, true, false, cond, Option, Some, None, refl, sym, ap, subst, ◌∙◌, true≢false, append_assoc, append-nil, arith}
-use Rattle.std.specs.FinMap.{empty, insert, remove, entries, len, len-entries, len-remove, empty_of_len, contains_key}
+use Rattle.std.specs.FinMap.{insert, remove, entries, len, len-entries, len-remove, empty_of_len, contains_key}
 use Rattle.std.specs.List.{list_all}
 use Rattle.std.proofs.lemmas.Bool.{cases_lt, and_parts, and_from}
 use Rattle.std.proofs.lemmas.List.{length-append}
@@ -10,29 +10,26 @@ use Rattle.gil_syntax.proofs.Symbols.{HoldsOfAll, each_of_all}
 use Rattle.mem_model.specs.declared.cores.Core.{Core}
 use Rattle.mem_model.specs.declared.keys.Key.{Key}
 use Rattle.mem_model.specs.declared.keys.MemoryName.{MemoryName}
-use Rattle.mem_model.specs.declared.keys.MemoryName.TheVariants.{Record}
 use Rattle.mem_model.specs.Actions.{Actions}
 use Rattle.mem_model.specs.CoreNames.{core_of}
 use Rattle.mem_model.specs.Cores.{entry_named, one_key}
-use Rattle.mem_model.specs.Heaps.{Heap, Holds, HasKey, IsDisjoint, joined}
-use Rattle.mem_model.specs.KeyOrder.{key_cmp-total, key_eq}
+use Rattle.mem_model.specs.Heaps.{Heap, Holds, HasKey, joined}
+use Rattle.mem_model.specs.KeyOrder.{key_cmp-total}
 use Rattle.mem_model.proofs.Compatible.{second_part}
 use Rattle.mem_model.proofs.CoreLaws.{one_key_more_is_union}
-use Rattle.mem_model.proofs.Holding.{held_inserted, held_removed, inserted_keeps, different_keys, remove-joined}
-use Rattle.mem_model.proofs.Joins.{has_key, value_at, join_holds_both}
+use Rattle.mem_model.proofs.Joins.{has_key, join_holds_both}
 use Rattle.mem_model.proofs.Parts.{no_key}
 use Rattle.assert_logic.specs.Unions.{IsUnion}
 use Rattle.assert_logic.proofs.InventionLaws.{entry_holds}
 use Rattle.assert_logic.proofs.SplitLaws.{key_splits}
 use Rattle.assert_logic.proofs.UnionLaws.{union_commutes, regrouped}
-use Rattle.assertion_terms.proofs.Keys.{key_first}
 use Rattle.fresh_atoms.specs.Laws.{is_any_or_list}
 use Rattle.pure_terms.specs.declared.variables.Sort.{Sort}
 use Rattle.pure_terms.specs.Meaning.{both, value, values, truth, all_true, IsProper, IsOver}
 use Rattle.pure_terms.specs.Pure.{PureTerm, from_list, PureAtom, term_of}
 use Rattle.pure_terms.proofs.VariableLaws.{slice_get-append, stay_when_tables_grow}
 use Rattle.sym_model.specs.Cores.{TakesBoth}
-use Rattle.sym_model.specs.Fixing.{HaveSorts, IsFixFor, FixLaw}
+use Rattle.sym_model.specs.Fixing.{HaveSorts, IsFixFor, IsFixOf, FixLaw}
 use Rattle.sym_model.specs.Listing.{IsUse, AreUnion}
 use Rattle.sym_model.specs.Lists.{Each, OneOf, IsAmong}
 use Rattle.sym_model.specs.Pure.{PureKey, PureFix, PureUse}
@@ -42,10 +39,11 @@ use Rattle.sym_paths.specs.Steps.{AreNext, IsNext, counter_after, draws_after}
 use Rattle.sym_paths.proofs.Valuations.{below_both, later_variables_are_proper}
 use Rattle.sym_states.proofs.Values.{values_append}
 use Rattle.bi_beginnings.specs.Beginnings.{any_for_each, variables_from, PureBeginning, IsBeginning, Awaits}
-use Rattle.bi_beginnings.specs.Fixing.{IsFixOver, IsAtNewSymbol, with_fix, IsCarried, Carries}
+use Rattle.bi_beginnings.specs.Fixing.{IsFixOver, IsAtNewSymbol, IsKeyAtNewSymbol, with_fix, IsCarried, Carries}
 use Rattle.bi_beginnings.specs.Missing.{IsMissed}
 use Rattle.bi_beginnings.proofs.Params.{all_at}
 use Rattle.bi_beginnings.proofs.Tables.{get_back, params_over, carrying, with_use}
+use Rattle.bi_beginnings.proofs.Unions.{union_with}
 
 -- ---- keys of heaps
 
@@ -64,35 +62,6 @@ not_empty h k w is = some_or_none (len h) (λ none. no_key k (subst (λ g. HasKe
 pub one_key_less : (h : Heap) (k : Key) (w : PureValue) → Holds h k w → length (entries (remove h k)) + 1 ≡ length (entries h)
 one_key_less h k w is =
     ap (λ n. n + 1) (sym (len-entries (remove h k))) ∙ counted (contains_key h k) (len h) (len (remove h k)) (has_key h k w is) (len-remove key_cmp-total h k) (not_empty h k w is) ∙ len-entries h
-
-apart_from : (h : Heap) (k : Key) (w : PureValue) → ¬ HasKey h k → IsDisjoint h (one_key k w)
-apart_from h k w lacks q has there =
-    let (u, at) = value_at (one_key k w) q there in
-    ⊎_elim (λ put. lacks (subst (HasKey h) put.0 has)) (λ (kept : (key_eq q k ≡ false) × Holds empty q u). no_key q (has_key empty q u kept.1)) (held_inserted empty k q w u at)
-
-with_key : (h : Heap) (k : Key) (w : PureValue) → ¬ HasKey h k → IsUnion (insert h k w) h (one_key k w)
-with_key h k w lacks = record { disjoint = apart_from h k w lacks; union = (one_key_more_is_union Record h k w).union lacks }
-
--- ---- uses with one more
-
-module _ (v : List PureValue) where
-  -- a heap with one key more is what the uses say, with one more for the key
-  union_with : (us : List PureUse) (u : PureUse) (h : Heap) (k : Key) (w : PureValue) → AreUnion v us h → ¬ HasKey h k → IsUse v u k w → AreUnion v (us ++ u ∷ []) (insert h k w)
-  union_with [] u h k w is lacks used =
-      let (holds, rest) = key_first (insert h k w) h k w (union_commutes (insert h k w) h (one_key k w) (with_key h k w lacks)) in
-      (k, (w, (used, holds, rest ∙ is)))
-  union_with (x ∷ us) u h k w (l, (y, (of_x, holds, rest))) lacks used =
-      let other : ¬ (l ≡ k) = λ same. lacks (subst (HasKey h) same (has_key h l y holds)) in
-      let lacks_there : ¬ HasKey (remove h l) k = λ has. lacks (still_there has) in
-      let same : insert (remove h l) k w ≡ remove (insert h k w) l =
-      (one_key_more_is_union Record (remove h l) k w).union lacks_there
-      ∙ sym (remove-joined h (one_key k w) l (λ has. apart_from h k w lacks l (has_key h l y holds) has))
-      ∙ ap (λ g. remove g l) (sym ((one_key_more_is_union Record h k w).union lacks))
-      in
-      (l, (y, (of_x, inserted_keeps h k l w y (different_keys l k other) holds, subst (AreUnion v (us ++ u ∷ [])) same (union_with us u (remove h l) k w rest lacks_there used))))
-    where
-      still_there : HasKey (remove h l) k → HasKey h k
-      still_there has = let (z, at) = value_at (remove h l) k has in has_key h k z (held_removed h l k z at).1
 
 -- ---- longer valuations
 
@@ -190,6 +159,17 @@ first_value None os ws w is at = not_none at
 right_holds : (P : ℕ → Type 0) (vs ws : List PureValue) → HoldsOfAll P (vs ++ ws) → HoldsOfAll P ws
 right_holds P [] ws all = all
 right_holds P (v ∷ vs) ws all = right_holds P vs ws all.1
+
+-- ---- keys at new symbols
+
+-- each fix of one is at the symbol
+pub each_at_new_symbol : (memory : MemoryName) (vars : List Sort) (key : PureKey) (fs : List PureFix) → IsKeyAtNewSymbol memory vars key → Each (IsFixOf memory key) fs → Each (IsAtNewSymbol vars) fs
+each_at_new_symbol memory vars key fs at all =
+    each_to (IsFixOf memory key) (IsAtNewSymbol vars) fs (λ f fix. (at.location, (fix.later_ins, (fix.loc_first ∙ ap (λ t. t ∷ fix.later_ins) at.is_location, at.taken)))) all
+
+-- so the key is at none where they aren't all at one
+pub not_at_new_symbol : (memory : MemoryName) (m : Actions) (vars : List Sort) (key : PureKey) (fs : List PureFix) → FixLaw memory m key fs → ¬ (Each (IsAtNewSymbol vars) fs) → ¬ IsKeyAtNewSymbol memory vars key
+not_at_new_symbol memory m vars key fs laws some at = some (each_at_new_symbol memory vars key fs at (laws.uses at.of_memory))
 
 -- ---- the key that is missed
 

@@ -1,6 +1,11 @@
+mod Added
 mod Covering
 mod Entering
 mod Fixed
+mod NarrowAgain
+mod Narrowness
 mod Openings
 pub mod Params
-mod Tables
+pub mod Tables
+pub mod Taken
+pub mod Unions

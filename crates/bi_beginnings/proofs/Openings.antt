@@ -110,7 +110,7 @@ module _ {S : Type 0} (memory : MemoryName) (stands : S → List PureValue → H
       }
 
 -- one is left undecided only if the first list or the second one is
-of_either : {A : Type 0} (o p : Option A) → IsSome (option_or o p) → IsSome o ⊎ IsSome p
+pub of_either : {A : Type 0} (o p : Option A) → IsSome (option_or o p) → IsSome o ⊎ IsSome p
 of_either (Some x) p there = inl refl
 of_either None p there = inr there
 

@@ -1,10 +1,10 @@
 -- Variables in turn, and tables of entries.
-use Rattle.std.proofs.Common.{◌≡◌, ⊎_elim, ℕ, zero, suc, ◌+◌, ◌≤◌, List, [], ◌∷◌, ◌++◌, map, length, slice_get, Some, IsTrue, refl, sym, ap, subst, ◌∙◌, append_assoc, arith, rules}
-use Rattle.std.specs.List.{list_all}
-use Rattle.std.proofs.lemmas.Bool.{and_from}
+use Rattle.std.proofs.Common.{◌≡◌, ⊎_elim, ℕ, nat_eq, zero, suc, ◌+◌, ◌<◌, ◌≤◌, List, [], ◌∷◌, ◌++◌, map, length, slice_get, true, false, ◌||◌, Some, IsTrue, refl, sym, ap, subst, ◌∙◌, append_assoc, arith, rules}
+use Rattle.std.specs.List.{list_all, list_any}
+use Rattle.std.proofs.lemmas.Bool.{cases_lt, and_from, or_left, or_right, eq-eqb}
 use Rattle.std.proofs.lemmas.List.{length-append, length-map}
 use Rattle.std.proofs.lemmas.List.Elements.{Contains-push_cases}
-use Rattle.std.proofs.lemmas.List.Folds.{list_all-append}
+use Rattle.std.proofs.lemmas.List.Folds.{list_all-append, list_any-append}
 use Rattle.std.proofs.lemmas.Option.{slice_get_within}
 use Rattle.gil_values.proofs.OperatorSymbols.{none_contained}
 use Rattle.fresh_atoms.specs.Laws.{is_any_or_list}
@@ -13,6 +13,7 @@ use Rattle.pure_terms.specs.declared.terms.Term.{Term, the_lemmas}
 use Rattle.pure_terms.specs.declared.variables.Sort.{Sort}
 use Rattle.pure_terms.specs.declared.variables.Var.{Var}
 use Rattle.pure_terms.specs.Meaning.{IsOver}
+use Rattle.pure_terms.specs.Naming.{names_number}
 use Rattle.pure_terms.specs.Pure.{PureTerm, variable, term_of}
 use Rattle.pure_terms.specs.View.{term_view}
 use Rattle.pure_terms.proofs.VariableLaws.{slice_get-append, stay_when_tables_grow}
@@ -21,7 +22,7 @@ use Rattle.sym_model.specs.Lists.{Each}
 use Rattle.sym_model.specs.Pure.{PureFix, PureUse}
 use Rattle.sym_model.specs.Terms.{AreEachOver}
 use Rattle.sym_model.proofs.ListLaws.{same_some, not_none, each_append, each_to}
-use Rattle.bi_beginnings.specs.Beginnings.{any_for_each, variables_from, IsEntryTable, PureBeginning, IsBeginning}
+use Rattle.bi_beginnings.specs.Beginnings.{any_for_each, variables_from, IsEntryTable, PureBeginning, is_named_by, IsBeginning}
 use Rattle.bi_beginnings.specs.Fixing.{IsFixOver}
 
 -- ---- lists
@@ -95,6 +96,25 @@ params_fit params vars table =
 pub params_over : (params : List (List ℕ)) (vars : List Sort) → IsEntryTable params vars → AreEachOver vars (variables_from 0 (any_for_each params))
 params_over params vars table = subst (λ (all : List Sort). AreEachOver all (variables_from 0 (any_for_each params))) (sym table.table) (first_over (any_for_each params) table.others)
 
+-- ---- numbers of variables
+
+-- each number of the variables from one on is named
+variables_named : (n : ℕ) (sorts : List Sort) (k : ℕ) → n ≤ k → k < n + length sorts → list_any (names_number k) (variables_from n sorts) ≡ true
+variables_named n [] k past within = absurd (omega (arith, past, within))
+variables_named n (s ∷ sorts) k past within =
+    let first = nat_eq k n || false in
+    let others = list_any (names_number k) (variables_from (suc n) sorts) in
+    ⊎_elim
+    (λ later. or_right first others (variables_named (suc n) sorts k (omega (arith, later)) (omega (arith, within))))
+    (λ before. or_left first others (or_left (nat_eq k n) false (eq-eqb k n (omega (arith, past, before)))))
+    (cases_lt n k)
+
+-- where the table has no variable but those of parameters, there is none to be named
+pub first_named : (params : List (List ℕ)) (us : List PureUse) (k : ℕ) → length params ≤ k → k < length (any_for_each params) → IsTrue (is_named_by us k)
+first_named params us k past within =
+    let many = as_many_params params in
+    absurd (omega (arith, past, within, many))
+
 -- ---- beginnings
 
 pub larger_table : (params : List (List ℕ)) (vars more : List Sort) → IsEntryTable params vars → IsTrue (list_all is_any_or_list more) → IsEntryTable params (vars ++ more)
@@ -111,6 +131,7 @@ module _ (memory : MemoryName) (params : List (List ℕ)) (b : PureBeginning) (i
     table = subst (IsEntryTable params) (sym vars) is.table;
     uses = subst (λ (us : List PureUse). Each (IsUse c.vars) us) (sym uses) (subst (λ (all : List Sort). Each (IsUse all) b.uses) (sym vars) is.uses);
     conds = subst (λ (all : List Sort). Each (λ a. IsOver all (term_of a)) c.conds) (sym vars) over;
+    named = λ k past within. subst (λ (us : List PureUse). IsTrue (is_named_by us k)) (sym uses) (is.named k past (subst (λ (all : List Sort). k < length all) vars within));
   }
     where
       IsUse : List Sort → PureUse → Type 0
@@ -134,6 +155,22 @@ module _ (memory : MemoryName) (params : List (List ℕ)) (b : PureBeginning) (i
       each_append (IsOver (b.vars ++ f.outs)) f.ins (variables_from (length b.vars) f.outs) (over_more b.vars f.outs f.ins fits.ins_over) (last_over b.vars f.outs),
     )
 
+    -- a variable of the larger table stands in an old use, or is an out of the new one
+    all_named : (k : ℕ) → length params ≤ k → k < length (b.vars ++ f.outs) → is_named_by (b.uses ++ new_use ∷ []) k ≡ true
+    all_named k past within =
+        let old = is_named_by b.uses k in
+        let new = is_named_by (new_use ∷ []) k in
+        list_any-append (λ u. list_any (names_number k) (u.ins ++ u.outs)) b.uses (new_use ∷ [])
+        ∙ ⊎_elim (λ before. or_left old new (is.named k past before)) (λ behind. or_right old new (out_named behind)) (cases_lt k (length b.vars))
+      where
+        out_named : length b.vars ≤ k → is_named_by (new_use ∷ []) k ≡ true
+        out_named behind =
+            let all : length (b.vars ++ f.outs) ≡ length b.vars + length f.outs = length-append b.vars f.outs in
+            let outs = variables_from (length b.vars) f.outs in
+            or_left (list_any (names_number k) (f.ins ++ outs)) false
+            (list_any-append (names_number k) f.ins outs
+            ∙ or_right (list_any (names_number k) f.ins) (list_any (names_number k) outs) (variables_named (length b.vars) f.outs k behind (omega (arith, within, all))))
+
     -- and a fix may have a use, with new variables for its outs
     pub with_use : (c : PureBeginning) → c.vars ≡ b.vars ++ f.outs → c.uses ≡ b.uses ++ record { core = f.core; ins = f.ins; outs = variables_from (length b.vars) f.outs } ∷ [] → c.conds ≡ b.conds → IsBeginning memory params c
     with_use c vars uses conds =
@@ -141,6 +178,7 @@ module _ (memory : MemoryName) (params : List (List ℕ)) (b : PureBeginning) (i
           table = larger_table params b.vars f.outs is.table fits.sorts;
           uses = each_append IsUse b.uses (new_use ∷ []) (each_to (λ u. TakesBoth memory u.core u.ins u.outs × AreEachOver b.vars (u.ins ++ u.outs)) IsUse b.uses (λ u old. (old.0, over_more b.vars f.outs (u.ins ++ u.outs) old.1)) is.uses) (new_is, tt);
           conds = each_to (λ a. IsOver b.vars (term_of a)) (λ a. IsOver (b.vars ++ f.outs) (term_of a)) b.conds (λ a over. stay_when_tables_grow.over (term_of a) b.vars f.outs over) is.conds;
+          named = all_named;
         } in
         subst (λ (d : PureBeginning). IsBeginning memory params d) (λ i. record { vars = sym vars i; uses = sym uses i; conds = sym conds i; place = c.place; choices = c.choices }) larger
 

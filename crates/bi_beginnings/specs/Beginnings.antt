@@ -1,8 +1,8 @@
 -- Where inference begins: the values with which a procedure is entered, of which nothing is known, and heaps that fix the keys which
 -- earlier paths missed. Bi-abduction is that of Calcagno, Distefano, O'Hearn, Yang, POPL 2009.
-use Rattle.std.specs.Prelude.{◌≡◌, ◌⊎◌, ℕ, suc, ◌+◌, ◌≤◌, ℤ, List, [], ◌∷◌, ◌++◌, map, length, false, IsTrue}
+use Rattle.std.specs.Prelude.{◌≡◌, ◌⊎◌, ℕ, suc, ◌+◌, ◌≤◌, ◌<◌, ℤ, List, [], ◌∷◌, ◌++◌, map, length, Bool, false, IsTrue}
 use Rattle.std.specs.FinMap.{empty, entries}
-use Rattle.std.specs.List.{list_all}
+use Rattle.std.specs.List.{list_all, list_any}
 use Rattle.gil_values.specs.declared.places.Place.{Place}
 use Rattle.gil_values.specs.Pure.{PureValue}
 use Rattle.gil_values.specs.Symbols.{AreBelow}
@@ -13,6 +13,7 @@ use Rattle.assert_logic.specs.Unions.{IsUnion}
 use Rattle.fresh_atoms.specs.Laws.{is_any_or_list}
 use Rattle.pure_terms.specs.declared.variables.Sort.{Sort}
 use Rattle.pure_terms.specs.Meaning.{IsOver, Satisfies}
+use Rattle.pure_terms.specs.Naming.{names_number}
 use Rattle.pure_terms.specs.Pure.{PureTerm, variable, PureAtom, term_of}
 use Rattle.sym_evaluation.specs.Meaning.{HaveValues}
 use Rattle.sym_model.specs.Cores.{TakesBoth}
@@ -59,12 +60,17 @@ abbrev pub first_beginning : PureProc → PureBeginning
 first_beginning q =
     record { vars = any_for_each q.params; uses = []; conds = []; place = record { proc = q.name; at = 0 }; choices = [] }
 
+-- one of the uses names the variable with the number
+abbrev pub is_named_by : List PureUse → ℕ → Bool
+is_named_by us k = list_any (λ u. list_any (names_number k) (u.ins ++ u.outs)) us
+
 -- The table is that of an entry, the uses are of core predicates of the memory with their numbers of ins and outs, and these and the
--- conditions name only variables of the table.
+-- conditions name only variables of the table. Each variable that isn't of a parameter stands in a use.
 pub record IsBeginning (memory : MemoryName) (params : List (List ℕ)) (b : PureBeginning) : Type 0 where
   pub table : IsEntryTable params b.vars
   pub uses : Each (λ u. TakesBoth memory u.core u.ins u.outs × AreEachOver b.vars (u.ins ++ u.outs)) b.uses
   pub conds : Each (λ a. IsOver b.vars (term_of a)) b.conds
+  pub named : (k : ℕ) → length params ≤ k → k < length b.vars → IsTrue (is_named_by b.uses k)
 
 -- ---- paths on which runs begin
 
@@ -86,6 +92,12 @@ pub record BeginsWith {S : Type 0} (stands : S → List PureValue → Heap → T
   pub table : path.vars ≡ vars
   pub meets : Satisfies path.vars v path.conds
   pub heap : stands path.memory v own
+
+-- The path has the table of the beginning, and where its conditions are true it begins with exactly the heap that the uses say.
+pub record BeginsExactly {S : Type 0} (stands : S → List PureValue → Heap → Type 0) (b : PureBeginning) (path : PurePath S) : Type 0 where
+  pub table : path.vars ≡ b.vars
+  pub lists : (v : List PureValue) (own : Heap) → Satisfies path.vars v path.conds → stands path.memory v own → AreUnion v b.uses own
+  pub back : (v : List PureValue) (own : Heap) → Satisfies path.vars v path.conds → AreUnion v b.uses own → stands path.memory v own
 
 -- Cover: where a heap is what the uses of the beginning say, and its conditions are true, one of the paths begins with it, if nothing is left
 -- undecided.

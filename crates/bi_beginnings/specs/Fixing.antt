@@ -9,9 +9,9 @@ use Rattle.pure_terms.specs.declared.variables.Sort.{Sort}
 use Rattle.pure_terms.specs.declared.variables.Var.{Var}
 use Rattle.pure_terms.specs.Meaning.{IsOver}
 use Rattle.pure_terms.specs.Pure.{PureTerm, variable, PureAtom, term_of}
-use Rattle.sym_model.specs.Cores.{IsCoreOf}
+use Rattle.sym_model.specs.Cores.{IsCoreOf, IsSubOf}
 use Rattle.sym_model.specs.Lists.{Each, IsAmong}
-use Rattle.sym_model.specs.Pure.{PureFix}
+use Rattle.sym_model.specs.Pure.{PureKey, PureFix}
 use Rattle.sym_model.specs.Terms.{AreEachOver}
 use Rattle.bi_beginnings.specs.Beginnings.{variables_from, PureBeginning}
 
@@ -32,6 +32,13 @@ pub record IsFixOver (memory : MemoryName) (vars : List Sort) (f : PureFix) : Ty
 abbrev pub IsAtNewSymbol : List Sort → PureFix → Type 0
 IsAtNewSymbol vars f =
     (x : Var) × ((later : List PureTerm) × ((f.ins ≡ variable x ∷ later) × (slice_get vars x.number ≡ Some Sort.Fresh)))
+
+-- the key is one of the memory, and its location is a symbol that the run took
+pub record IsKeyAtNewSymbol (memory : MemoryName) (vars : List Sort) (key : PureKey) : Type 0 where
+  pub of_memory : IsSubOf memory key.sub
+  pub location : Var
+  pub is_location : key.loc ≡ variable location
+  pub taken : slice_get vars location.number ≡ Some Sort.Fresh
 
 -- ---- beginnings that fix a key
 

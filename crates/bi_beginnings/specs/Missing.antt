@@ -40,3 +40,8 @@ AwaitsAgain memory m params n b vars conds key (Again.With bs) =
     (args : List PureValue) (whole : Heap) (counter : ℕ) → IsMissed memory m params n b vars conds key args whole counter
     → OneOf (Awaits params args whole counter n) (beginnings_view bs)
 AwaitsAgain memory m params n b vars conds key (Again.Late t) = ⊤
+
+-- there is no new beginning, and no term of which nothing is known
+abbrev pub LeavesNothing : Again → Type 0
+LeavesNothing (Again.With bs) = beginnings_view bs ≡ []
+LeavesNothing (Again.Late t) = ⊥

@@ -1,5 +1,5 @@
 -- The states in which a procedure may be entered, and what comes of them.
-use Rattle.std.specs.Prelude.{◌≡◌, ◌⊎◌, ℕ, ◌<◌, List, [], ◌∷◌, slice_get, false, if◌then◌else◌, Option, Some, None, IsTrue}
+use Rattle.std.specs.Prelude.{◌≡◌, ◌⊎◌, ◌↔◌, ℕ, ◌<◌, List, [], ◌∷◌, slice_get, false, if◌then◌else◌, Option, Some, None, IsTrue}
 use Rattle.std.specs.FinMap.{empty}
 use Rattle.std.specs.Str.{bytes_eq}
 use Rattle.gil_values.specs.Pure.{PureValue}
@@ -9,7 +9,7 @@ use Rattle.pure_terms.specs.declared.queries.Query.{Query}
 use Rattle.pure_terms.specs.declared.variables.Sort.{Sort}
 use Rattle.pure_terms.specs.declared.variables.Var.{Var}
 use Rattle.pure_terms.specs.Meaning.{Satisfies}
-use Rattle.pure_terms.specs.Pure.{PureTerm, variable}
+use Rattle.pure_terms.specs.Pure.{PureTerm, variable, PureAtom}
 use Rattle.sym_evaluation.specs.Pure.{PureStore, term_at}
 use Rattle.sym_model.specs.Listing.{AreUnion}
 use Rattle.sym_model.specs.Lists.{OneOf}
@@ -18,7 +18,7 @@ use Rattle.sym_model.specs.Terms.{StateTerms, no_state_terms}
 use Rattle.sym_paths.specs.Pure.{PurePath}
 use Rattle.sym_paths.specs.View.{path_view}
 use Rattle.sym_states.specs.Meaning.{IsOverTable}
-use Rattle.sym_states.specs.Pure.{PureState}
+use Rattle.sym_states.specs.Pure.{PureState, with_conditions}
 use Rattle.bi_beginnings.specs.declared.opening.Opening.{Opening}
 use Rattle.bi_beginnings.specs.Beginnings.{IsEntryTable, PureBeginning, BeginsWith}
 
@@ -86,6 +86,27 @@ abbrev pub AreEntered : {S : Type 0} → MemoryName → (S → List PureValue �
 AreEntered memory stands b ss =
     (v : List PureValue) (own : Heap) → Satisfies b.vars v b.conds → AreUnion v b.uses own → IsHeapOf memory own
     → OneOf (IsEnteredWith stands b.vars v own) ss
+
+-- ---- exactness
+
+-- The state has the table of the beginning. Under each valuation that meets its conditions the memory has exactly the heap that the uses
+-- say, unless one of the conditions is that a literal form is needed.
+pub record IsEnteredExactly {S : Type 0} (stands : S → List PureValue → Heap → Type 0) (b : PureBeginning) (s : PureState S) : Type 0 where
+  pub table : s.vars ≡ b.vars
+  pub heaps : has_open s.conds ≡ false → (v : List PureValue) (own : Heap) → Satisfies s.vars v s.conds
+      → stands s.memory v own ↔ AreUnion v b.uses own
+
+-- ---- conditions that are carried
+
+-- the state with the conditions behind its own, unless one of these is that a literal form is needed
+abbrev pub carrying : {S : Type 0} → List PureAtom → PureState S → PureState S
+carrying conds s = if has_open s.conds then s else with_conditions conds s
+
+-- the beginning that carries no condition
+abbrev pub without_conditions : PureBeginning → PureBeginning
+without_conditions b = record b { conds = [] }
+
+-- ---- paths that begin
 
 -- what the state is entered with, one of the paths begins with, if nothing is left undecided
 abbrev pub IsOpenedBy : {S : Type 0} → (S → List PureValue → Heap → Type 0) → PureState S → Type 0 → List (PurePath S) → Type 0

@@ -1,17 +1,19 @@
 //! Beginnings that fix a key which a path missed.
-ghost use Rattle.std.specs.Prelude.{◌≡◌, ℕ, List, map, IfOk, IsTrue};
+ghost use Rattle.std.specs.Prelude.{◌≡◌, ◌↔◌, ℕ, List, map, IfOk, IfSome, IsTrue};
 ghost use Rattle.std.specs.List.{list_all};
 ghost use Rattle.fresh_atoms.specs.Laws.{is_any_or_list as any_or_list};
 ghost use Rattle.pure_terms.specs.Meaning.{IsOver};
 ghost use Rattle.pure_terms.specs.Pure.{term_of};
-ghost use Rattle.pure_terms.specs.View.{terms_view, atom_view, atoms_view};
-ghost use Rattle.sym_model.specs.Lists.{Each};
+ghost use Rattle.pure_terms.specs.View.{term_view, terms_view, atom_view, atoms_view};
+ghost use Rattle.sym_model.specs.Lists.{Each, OneOf};
+ghost use Rattle.sym_model.specs.Pure.{sub_terms};
 ghost use Rattle.sym_model.specs.Terms.{AreEachOver};
-ghost use Rattle.sym_model.specs.View.{key_view, fix_view, fixes_view};
+ghost use Rattle.sym_model.specs.View.{key_view, sub_view, fix_view, fixes_view};
 ghost use Rattle.bi_beginnings.specs.Beginnings.{IsBeginning};
 ghost use Rattle.bi_beginnings.specs.Conditions.{same_atom, stands_among as is_among_conditions};
-ghost use Rattle.bi_beginnings.specs.Fixing.{IsFixOver, HasCoreNumbers, IsAtNewSymbol, with_fix, IsCarried, Carries};
-ghost use Rattle.bi_beginnings.specs.Missing.{AwaitsAgain};
+ghost use Rattle.bi_beginnings.specs.Fixing.{IsFixOver, HasCoreNumbers, IsAtNewSymbol, IsKeyAtNewSymbol, with_fix, IsCarried, Carries};
+ghost use Rattle.bi_beginnings.specs.Missing.{AwaitsAgain, LeavesNothing};
+ghost use Rattle.bi_beginnings.specs.Narrowly.{IsKeyOver, IsSymbolTaken, AgainStaysNarrow};
 ghost use Rattle.bi_beginnings.specs.View.{beginning_view, beginnings_view, again_view};
 
 use crate::beginnings::{Beginning, Beginnings, copy_choices, copy_table, copy_uses, extended};
@@ -107,7 +109,7 @@ fn carrying(
 
 /// Whether the terms name only variables of the table.
 fn are_over(vars: &VarTable, terms: &Terms) -> bool
-    ensures { IsTrue result → AreEachOver vars.now (terms_view terms.now) }
+    ensures { IsTrue result ↔ AreEachOver vars.now (terms_view terms.now) }
 {
     for term in terms.as_slice() {
         if !term.is_over(vars) {
@@ -131,7 +133,7 @@ fn are_any_or_list(sorts: &Sorts) -> bool
 
 /// Whether a fix is of a core predicate of the memory, with its numbers of ins and outs.
 fn has_core_numbers(memory: MemoryName, fix: &Fix) -> bool
-    ensures { IsTrue result → HasCoreNumbers memory (fix_view fix.now) }
+    ensures { IsTrue result ↔ HasCoreNumbers memory (fix_view fix.now) }
 {
     match Core::from_name(&fix.core) {
         Some(core) => {
@@ -143,14 +145,14 @@ fn has_core_numbers(memory: MemoryName, fix: &Fix) -> bool
 
 /// Whether a beginning with this table may have a use for the fix.
 fn is_fix_over(memory: MemoryName, vars: &VarTable, fix: &Fix) -> bool
-    ensures { IsTrue result → IsFixOver memory vars.now (fix_view fix.now) }
+    ensures { IsTrue result ↔ IsFixOver memory vars.now (fix_view fix.now) }
 {
     has_core_numbers(memory, fix) && are_over(vars, &fix.ins) && are_any_or_list(&fix.outs)
 }
 
 /// Whether a beginning with this table may have a use for each of the fixes.
 fn are_fixes_over(memory: MemoryName, vars: &VarTable, fixes: &Fixes) -> bool
-    ensures { IsTrue result → Each (IsFixOver memory vars.now) (fixes_view fixes.now) }
+    ensures { IsTrue result ↔ Each (IsFixOver memory vars.now) (fixes_view fixes.now) }
 {
     for fix in fixes.as_slice() {
         if !is_fix_over(memory, vars, fix) {
@@ -162,7 +164,7 @@ fn are_fixes_over(memory: MemoryName, vars: &VarTable, fixes: &Fixes) -> bool
 
 /// Whether the location of the key that the fix is for is a symbol that the run took.
 fn is_at_new_symbol(vars: &VarTable, fix: &Fix) -> bool
-    ensures { IsTrue result → IsAtNewSymbol vars.now (fix_view fix.now) }
+    ensures { IsTrue result ↔ IsAtNewSymbol vars.now (fix_view fix.now) }
 {
     match fix.ins.get(0) {
         Some(Term::Var(location)) => {
@@ -174,7 +176,7 @@ fn is_at_new_symbol(vars: &VarTable, fix: &Fix) -> bool
 
 /// Whether that is so of each of the fixes.
 fn are_at_new_symbols(vars: &VarTable, fixes: &Fixes) -> bool
-    ensures { IsTrue result → Each (IsAtNewSymbol vars.now) (fixes_view fixes.now) }
+    ensures { IsTrue result ↔ Each (IsAtNewSymbol vars.now) (fixes_view fixes.now) }
 {
     for fix in fixes.as_slice() {
         if !is_at_new_symbol(vars, fix) {
@@ -182,6 +184,26 @@ fn are_at_new_symbols(vars: &VarTable, fixes: &Fixes) -> bool
         }
     }
     true
+}
+
+/// Whether a term is a symbol that the run took.
+fn is_symbol_taken(vars: &VarTable, term: &Term) -> bool
+    ensures { IsTrue result ↔ IsSymbolTaken vars.now (term_view term.now) }
+{
+    match term {
+        Term::Var(symbol) => matches!(vars.get(symbol.number as usize), Some(Sort::Fresh)),
+        _ => false,
+    }
+}
+
+/// Whether what names the part of a key is one.
+fn is_named_by_symbol(vars: &VarTable, sub: &SymSub) -> bool
+    ensures { IsTrue result ↔ OneOf (IsSymbolTaken vars.now) (sub_terms (sub_view sub.now)) }
+{
+    match sub {
+        SymSub::Name(term) | SymSub::At(term) => is_symbol_taken(vars, term),
+        _ => false,
+    }
 }
 
 /// The beginning with a use more, whose outs are new variables.
@@ -223,7 +245,9 @@ fn with_each(alloc: Global, beginning: &Beginning, fixes: &Fixes) -> Result<Begi
 // ---- what comes of a path
 
 /// The first term of a key that names what isn't in the table.
-fn late_term<'a>(vars: &VarTable, key: &'a SymKey) -> Option<&'a Term> {
+fn late_term<'a>(vars: &VarTable, key: &'a SymKey) -> Option<&'a Term>
+    ensures { IfSome result (λ t. ¬ IsKeyOver vars.now (key_view key.now)) }
+{
     if !key.loc.is_over(vars) {
         return Some(&key.loc);
     }
@@ -237,7 +261,9 @@ fn late_term<'a>(vars: &VarTable, key: &'a SymKey) -> Option<&'a Term> {
 
 /// What comes of a path that missed a key, which came of a beginning. Each new beginning has one use more, for the key, and carries
 /// those conditions of the path which are in the fragment by themselves and name only variables of the beginning. A run along the path
-/// whose heap has what fixes the key beside what the beginning's uses say is awaited by one of them.
+/// whose heap has what fixes the key beside what the beginning's uses say is awaited by one of them. Nothing comes of a key of the memory
+/// whose location is a symbol that the run took, or whose part such a symbol names. What comes of a narrow beginning where the path missed a narrow name are narrow
+/// beginnings, and nothing is late.
 pub fn begin_again<M: ListedMemory>(
     alloc: Global,
     beginning: &Beginning,
@@ -251,9 +277,15 @@ pub fn begin_again<M: ListedMemory>(
     ensures cover { IfOk result (λ again. (params : List (List ℕ)) → IsBeginning M.Local.memory params (beginning_view beginning.now)
         → AwaitsAgain M.Local.memory M.Local.actions params bound (beginning_view beginning.now) path.now.vars (atoms_view path.now.conds)
         (key_view key.now) again) }
+    ensures narrow { M.keeps_narrow → IfOk result (λ again. AgainStaysNarrow M.Local.memory bound (beginning_view beginning.now) path.now.vars
+        (atoms_view path.now.conds) (key_view key.now) again) }
+    ensures nothing { IfOk result (λ again. IsKeyAtNewSymbol M.Local.memory path.now.vars (key_view key.now) → LeavesNothing again) }
 {
     let fixes = M::empty(alloc)?.fixes(alloc, key)?;
     if are_at_new_symbols(&path.vars, &fixes) {
+        return Ok(Again::With(Sequence::new(alloc)));
+    }
+    if is_named_by_symbol(&path.vars, &key.sub) {
         return Ok(Again::With(Sequence::new(alloc)));
     }
     if let Some(term) = late_term(&beginning.vars, key) {

@@ -1,6 +1,6 @@
 //! The paths on which the runs of a beginning begin.
-ghost use Rattle.std.specs.Prelude.{◌≡◌, ◌++◌, length, false, Some, IsSome, IfOk, IfSome, IsTrue};
-ghost use Rattle.std.specs.List.{list_all};
+ghost use Rattle.std.specs.Prelude.{◌≡◌, ◌++◌, ℕ, ◌≤◌, length, map, false, Some, IsSome, IfOk, IfSome, IsTrue};
+ghost use Rattle.std.specs.List.{list_all, list_any};
 ghost use Rattle.std.specs.Option.{option_or};
 ghost use Rattle.gil_program.specs.Program.{prog_view};
 ghost use Rattle.gil_syntax.specs.Programs.{find_proc};
@@ -8,15 +8,17 @@ ghost use Rattle.gil_syntax.specs.Valid.{has_twice};
 ghost use Rattle.gil_syntax.specs.View.{proc_view};
 ghost use Rattle.gil_syntax.specs.WellMade.{is_program_name};
 ghost use Rattle.pure_terms.specs.Fragment.{InFragment};
-ghost use Rattle.pure_terms.specs.View.{terms_view, atoms_view};
+ghost use Rattle.pure_terms.specs.View.{terms_view, atom_view, atoms_view};
 ghost use Rattle.sym_evaluation.specs.View.{store_view};
 ghost use Rattle.sym_model.specs.Lists.{Each};
 ghost use Rattle.sym_paths.specs.Beginning.{Begins};
-ghost use Rattle.sym_paths.specs.Steps.{place_of as pure_place};
+ghost use Rattle.sym_paths.specs.Steps.{narrow_bound, place_of as pure_place};
 ghost use Rattle.sym_paths.specs.View.{path_view, paths_view};
+ghost use Rattle.sym_model.specs.Meaning.{is_open};
 ghost use Rattle.sym_states.specs.View.{state_view, states_view};
 ghost use Rattle.sym_step.specs.Stepping.{MayStep};
-ghost use Rattle.bi_beginnings.specs.Beginnings.{any_for_each, variables_from, IsBeginning, IsOpening, IsBare, OpensBare, CoversBeginning};
+ghost use Rattle.bi_beginnings.specs.Beginnings.{any_for_each, variables_from, PureBeginning, IsBeginning, IsOpening, BeginsExactly, IsBare, OpensBare, CoversBeginning};
+ghost use Rattle.bi_beginnings.specs.Narrowly.{IsNarrowBeginning, IsNarrowStart, StartNarrow, OpensNarrow, begun_bound};
 ghost use Rattle.bi_beginnings.specs.Opening.{
   IsFirstState,
   IsEntryState,
@@ -25,9 +27,12 @@ ghost use Rattle.bi_beginnings.specs.Opening.{
   IsNamedFurther,
   AreNamed,
   AreEntered,
+  IsEnteredExactly,
   IsOpenedBy,
+  carrying,
   starts_of,
   undecided_of,
+  without_conditions,
 };
 ghost use Rattle.bi_beginnings.specs.View.{beginning_view};
 
@@ -36,7 +41,7 @@ use assertion_terms::{assertion_of, names_of_table};
 use gil_program::Prog;
 use gil_syntax::{Proc, Texts};
 use gil_values::Text;
-use pure_terms::{Decider, Query, Reason, Term, Terms, Var, VarTable};
+use pure_terms::{Atom, Atoms, Decider, Query, Reason, Term, Terms, Var, VarTable};
 use sequence::Sequence;
 use std::alloc::{AllocError, Global};
 use std::mem::replace;
@@ -123,6 +128,74 @@ fn first_state<M: ListedMemory>(
     })
 }
 
+/// The states in which a procedure may be entered, whatever conditions a beginning carries: with a variable for each parameter, and the
+/// heaps of the uses. No decider is asked.
+fn used_states<M: ListedMemory>(
+    alloc: Global,
+    proc: &Proc,
+    beginning: &Beginning,
+) -> Result<SymStates<M>, AllocError>
+    requires { IsBeginning M.Local.memory (proc_view proc.now).params (beginning_view beginning.now) }
+    ensures entries { IfOk result (λ ss. Each (IsEntryState M.stands M.terms M.kept (proc_view proc.now).params) (states_view ss)) }
+    ensures table { IfOk result (λ ss. Each (λ s. s.vars ≡ beginning.now.vars) (states_view ss)) }
+    ensures cover { IsTrue (list_all is_program_name (proc_view proc.now).params) → has_twice (proc_view proc.now).params ≡ false
+        → IfOk result (λ ss. AreEntered M.Local.memory M.stands (without_conditions (beginning_view beginning.now)) (states_view ss)) }
+    ensures exact { IsTrue (list_all is_program_name (proc_view proc.now).params) → has_twice (proc_view proc.now).params ≡ false
+        → IfOk result (λ ss. Each (IsEnteredExactly M.stands (beginning_view beginning.now)) (states_view ss)) }
+    ensures bare { IsBare (beginning_view beginning.now) → IfOk result (λ ss. Each (IsBareState M.stands M.terms) (states_view ss)) }
+    ensures narrow { M.keeps_narrow → IfOk result (λ ss. StartNarrow M.terms (beginning_view beginning.now) (states_view ss)) }
+{
+    let others = beginning.vars.len() - proc.params.len();
+    let names = names_of_table(alloc, &proc.params, others)?;
+    let items = assertion_of(alloc, &names, &beginning.uses, &Sequence::new(alloc))?;
+    let store = store_of(alloc, &names, &beginning.vars)?;
+    let state = first_state(alloc, beginning)?;
+    produce_items(alloc, state, &items, &store)
+}
+
+/// Whether a condition is that a literal form is needed.
+fn is_form_needed(condition: &Atom) -> bool
+    ensures { result ≡ is_open (atom_view condition.now) }
+{
+    matches!(condition, Atom::Open(_))
+}
+
+/// Whether one of the conditions is that a literal form is needed.
+fn needs_form(conds: &Atoms) -> bool
+    ensures { result ≡ list_any (λ a. is_open (atom_view a)) conds.now }
+{
+    conds.iter().any(|condition| is_form_needed(condition))
+}
+
+/// The state with the conditions behind its own, unless a literal form is needed there.
+fn carry<M: ListedMemory>(
+    alloc: Global,
+    state: SymState<M>,
+    conds: &Atoms,
+) -> Result<SymState<M>, AllocError>
+    ensures { IfOk result (λ s. state_view s ≡ carrying (atoms_view conds.now) (state_view state)) }
+{
+    if needs_form(state.conds.atoms()) {
+        return Ok(state);
+    }
+    state.under(alloc, conds)
+}
+
+/// Each state with the conditions behind its own, unless a literal form is needed there.
+fn carry_each<M: ListedMemory>(
+    alloc: Global,
+    states: SymStates<M>,
+    conds: &Atoms,
+) -> Result<SymStates<M>, AllocError>
+    ensures { IfOk result (λ ss. states_view ss ≡ map (carrying (atoms_view conds.now)) (states_view states)) }
+{
+    let mut carried = Sequence::new(alloc);
+    for state in states.into_vec() {
+        carried.push(carry(alloc, state, conds)?)?;
+    }
+    Ok(carried)
+}
+
 /// The states in which a procedure may be entered: with a variable for each parameter, the heaps of the uses and the conditions of a
 /// beginning. No decider is asked.
 fn entry_states<M: ListedMemory>(
@@ -134,14 +207,13 @@ fn entry_states<M: ListedMemory>(
     ensures entries { IfOk result (λ ss. Each (IsEntryState M.stands M.terms M.kept (proc_view proc.now).params) (states_view ss)) }
     ensures cover { IsTrue (list_all is_program_name (proc_view proc.now).params) → has_twice (proc_view proc.now).params ≡ false
         → IfOk result (λ ss. AreEntered M.Local.memory M.stands (beginning_view beginning.now) (states_view ss)) }
+    ensures exact { IsTrue (list_all is_program_name (proc_view proc.now).params) → has_twice (proc_view proc.now).params ≡ false
+        → IfOk result (λ ss. Each (IsEnteredExactly M.stands (beginning_view beginning.now)) (states_view ss)) }
     ensures bare { IsBare (beginning_view beginning.now) → IfOk result (λ ss. Each (IsBareState M.stands M.terms) (states_view ss)) }
+    ensures narrow { M.keeps_narrow → IfOk result (λ ss. StartNarrow M.terms (beginning_view beginning.now) (states_view ss)) }
 {
-    let others = beginning.vars.len() - proc.params.len();
-    let names = names_of_table(alloc, &proc.params, others)?;
-    let items = assertion_of(alloc, &names, &beginning.uses, &beginning.conds)?;
-    let store = store_of(alloc, &names, &beginning.vars)?;
-    let state = first_state(alloc, beginning)?;
-    produce_items(alloc, state, &items, &store)
+    let states = used_states(alloc, proc, beginning)?;
+    carry_each(alloc, states, &beginning.conds)
 }
 
 // ---- what comes of them
@@ -212,8 +284,11 @@ fn enter<M: ListedMemory, D: Decider>(
     requires entry { IsEntryState M.stands M.terms M.kept (proc_view proc.now).params (state_view state) }
     ensures starts { IfOk result (λ o. Each (IsOpening M.stands M.terms M.kept (proc_view proc.now)) (starts_of o)) }
     ensures cover { IfOk result (λ o. IsOpenedBy M.stands (state_view state) (IsSome (undecided_of o)) (starts_of o)) }
+    ensures exact { (b : PureBeginning) → IsEnteredExactly M.stands b (state_view state) → IfOk result (λ o. Each (BeginsExactly M.stands b) (starts_of o)) }
     ensures undecided { IfOk result (λ o. IfSome (undecided_of o) (λ q. ¬ InFragment (atoms_view q.query))) }
     ensures bare { IsBareState M.stands M.terms (state_view state) → IfOk result (λ o. OpensBare M.stands M.plain (IsSome (undecided_of o)) (starts_of o)) }
+    ensures narrow { (n : ℕ) → n ≤ narrow_bound → IsNarrowStart M.terms n (state_view state)
+        → IfOk result (λ o. OpensNarrow M.terms n (IsSome (undecided_of o)) (starts_of o)) }
 {
     match ask(alloc, decider, &state.vars, state.conds.atoms())? {
         Satisfiability::Satisfiable(_) => {
@@ -261,9 +336,13 @@ fn enter_each<M: ListedMemory, D: Decider>(
     requires entries { Each (IsEntryState M.stands M.terms M.kept (proc_view proc.now).params) (states_view states) }
     ensures starts { IfOk result (λ o. Each (IsOpening M.stands M.terms M.kept (proc_view proc.now)) (paths_view o.starts)) }
     ensures cover { IfOk result (λ o. Each (λ s. IsOpenedBy M.stands s (IsSome o.undecided) (paths_view o.starts)) (states_view states)) }
+    ensures exact { (b : PureBeginning) → Each (IsEnteredExactly M.stands b) (states_view states)
+        → IfOk result (λ o. Each (BeginsExactly M.stands b) (paths_view o.starts)) }
     ensures undecided { IfOk result (λ o. IfSome o.undecided (λ q. ¬ InFragment (atoms_view q.query))) }
     ensures bare { Each (IsBareState M.stands M.terms) (states_view states) → IfOk result (λ o. OpensBare M.stands M.plain (IsSome o.undecided)
         (paths_view o.starts)) }
+    ensures narrow { (n : ℕ) → n ≤ narrow_bound → Each (IsNarrowStart M.terms n) (states_view states)
+        → IfOk result (λ o. OpensNarrow M.terms n (IsSome o.undecided) (paths_view o.starts)) }
 {
     let mut opened = Opened {
         starts: Sequence::new(alloc),
@@ -278,7 +357,7 @@ fn enter_each<M: ListedMemory, D: Decider>(
 
 /// The paths on which the runs of a beginning begin: with any values, the heaps that its uses fix, and the conditions that it carries.
 /// Of one that no valuation meets there is no path, and of one that the decider doesn't know there is a query. Where there is none, each
-/// heap that the uses have is one with which a path begins.
+/// heap that the uses have is one with which a path begins. Each path begins with exactly the heap that the uses say.
 pub fn begin<M: ListedMemory, D: Decider>(
     alloc: Global,
     prog: &Prog,
@@ -290,10 +369,14 @@ pub fn begin<M: ListedMemory, D: Decider>(
     requires beginning { IsBeginning M.Local.memory (proc_view proc.now).params (beginning_view beginning.now) }
     ensures starts { IfOk result (λ o. Each (IsOpening M.stands M.terms M.kept (proc_view proc.now)) (paths_view o.starts)) }
     ensures step { IfOk result (λ o. Each (MayStep (prog_view prog.now) M.terms) (paths_view o.starts)) }
+    ensures exact { IfOk result (λ o. Each (BeginsExactly M.stands (beginning_view beginning.now)) (paths_view o.starts)) }
     ensures cover { IfOk result (λ o. CoversBeginning M.Local.memory M.stands (beginning_view beginning.now) (IsSome o.undecided)
         (paths_view o.starts)) }
     ensures undecided { IfOk result (λ o. IfSome o.undecided (λ q. ¬ InFragment (atoms_view q.query))) }
     ensures bare { IsBare (beginning_view beginning.now) → IfOk result (λ o. OpensBare M.stands M.plain (IsSome o.undecided) (paths_view o.starts)) }
+    ensures narrow { M.keeps_narrow → (n : ℕ) → IsNarrowBeginning n (beginning_view beginning.now)
+        → begun_bound n (beginning_view beginning.now) ≤ narrow_bound
+        → IfOk result (λ o. OpensNarrow M.terms (begun_bound n (beginning_view beginning.now)) (IsSome o.undecided) (paths_view o.starts)) }
 {
     let states = entry_states(alloc, proc, beginning)?;
     let args = entry_args(alloc, proc)?;

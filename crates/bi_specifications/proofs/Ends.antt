@@ -47,13 +47,13 @@ use Rattle.sym_model.proofs.ListLaws.{same_some, not_none, each_to}
 use Rattle.sym_paths.specs.Meaning.{IsOverTable}
 use Rattle.sym_paths.specs.Pure.{PureEnd, PurePath}
 use Rattle.sym_paths.proofs.Growing.{all_true-more}
-use Rattle.bi_beginnings.specs.Beginnings.{IsOpening}
+use Rattle.bi_beginnings.proofs.Unions.{one_heap}
 use Rattle.bi_specifications.specs.Shape.{late_conds, is_early, early_names, all_names, result_atom, told_atom, ending_of, post_of, spec_of, MayBeTold}
 use Rattle.bi_specifications.specs.Specified.{PureEntry, IsEntryOf}
 use Rattle.bi_specifications.proofs.Naming.{numbered_length, numbered_at, at_left, at_right, at_either, symbols_at, symbol_there, no_symbol}
 use Rattle.bi_specifications.proofs.Once.{each_kept, kept_true}
 use Rattle.bi_specifications.proofs.RunsAlong.{symbols_from, RunsAlong}
-use Rattle.bi_specifications.proofs.Unions.{one_heap, union_uses}
+use Rattle.bi_specifications.proofs.Unions.{union_uses}
 use Rattle.bi_specifications.proofs.Words.{early_length, names_split, whole_length, early_number, later_are, is_not, each_among, each_filtered}
 
 one_of_two : (a b : Bool) → (a || b) ≡ true → (a ≡ true) ⊎ (b ≡ true)
@@ -102,7 +102,7 @@ all_filtered v f (a ∷ conds) all =
 
 module _ {S : Type 0} (p : PureParts) (memory : MemoryName) (m : Actions) (stands : S → List PureValue → Heap → Type 0) (terms : S → StateTerms) (kept : S → Type 0)
     (meaning : IsMeaning memory stands terms) (q : PureProc) (e : PureEntry) (start path : PurePath S) (how : PureEnd) (n : ℕ) (posts errors : List (List PureItem))
-    (told : MayBeTold q e path) (opening : IsOpening stands terms kept q start) (entry : IsEntryOf memory stands terms kept start e)
+    (told : MayBeTold q e path) (entry : IsEntryOf memory stands q.params start e)
     (split : path.vars ≡ start.vars ++ drop e.count path.vars) (path_over : IsOverTable terms path) (programs : list_all is_program_name q.params ≡ true)
     (args : List PureValue) (variables_given : Store) (own : Heap) (counter : ℕ) (along : RunsAlong p memory m stands q e start path how n posts errors args variables_given own counter) where
   abbrev pub fresh : ℕ
@@ -118,16 +118,16 @@ module _ {S : Type 0} (p : PureParts) (memory : MemoryName) (m : Actions) (stand
   early_count = along.named.values_each ∙ sym entry.count
 
   names_count : length (early_names q e path) ≡ e.count
-  names_count = early_length memory stands terms kept q e start path told opening entry split path_over programs ∙ sym entry.count
+  names_count = early_length memory stands terms q e start path told entry split path_over programs ∙ sym entry.count
 
   names_are : all_names q e path ≡ early_names q e path ++ numbered_from e.count fresh
-  names_are = names_split memory stands terms kept q e start path told opening entry split path_over programs
+  names_are = names_split memory stands terms q e start path told entry split path_over programs
 
   later : later_names (spec_of q e path posts errors) ≡ numbered_from e.count fresh
-  later = later_are memory stands terms kept q e start path told opening entry split path_over programs posts errors
+  later = later_are memory stands terms q e start path told entry split path_over programs posts errors
 
   pub all_count : length path.vars ≡ e.count + fresh
-  all_count = whole_length memory stands terms kept q e start path told opening entry split path_over programs
+  all_count = whole_length memory stands terms q e start path told entry split path_over programs
 
   pub all_names_count : length (all_names q e path) ≡ length path.vars
   all_names_count =
@@ -146,7 +146,7 @@ module _ {S : Type 0} (p : PureParts) (memory : MemoryName) (m : Actions) (stand
   early_not_later : (i : ℕ) (x : List ℕ) → i < e.count → slice_get (early_names q e path) i ≡ Some x → is_among (numbered_from e.count fresh) x ≡ false
   early_not_later i x less at = is_not (is_among (numbered_from e.count fresh) x) (λ among.
       let (j, (within, is)) = numbered_among e.count fresh x among in
-      let (same, below) = early_number memory stands terms kept q e start path told opening entry split path_over programs i (e.count + j) (at ∙ ap Some is) in
+      let (same, below) = early_number memory stands terms q e start path told entry split path_over programs i (e.count + j) (at ∙ ap Some is) in
       absurd (omega (arith, same, less)))
 
   early_value : (i : ℕ) (x : List ℕ) (w : PureValue) → i < e.count → slice_get (early_names q e path) i ≡ Some x → slice_get along.early i ≡ Some w → value_of after_entry x ≡ Some w

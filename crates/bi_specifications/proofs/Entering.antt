@@ -128,7 +128,7 @@ true_of false c is holds = absurd (true≢false (sym is))
 -- ---- starts
 
 module _ {S : Type 0} (p : PureParts) (memory : MemoryName) (m : Actions) (stands : S → List PureValue → Heap → Type 0) (terms : S → StateTerms) (kept : S → Type 0) (q : PureProc)
-    (e : PureEntry) (start path : PurePath S) (told : MayBeTold q e path) (opening : IsOpening stands terms kept q start) (entry : IsEntryOf memory stands terms kept start e)
+    (e : PureEntry) (start path : PurePath S) (told : MayBeTold q e path) (opening : IsOpening stands terms kept q start) (entry : IsEntryOf memory stands q.params start e)
     (split : path.vars ≡ start.vars ++ drop e.count path.vars) (path_over : IsOverTable terms path) (programs : list_all is_program_name q.params ≡ true) (once : has_twice q.params ≡ false)
     (later : List PureAtom) (conds_split : path.conds ≡ start.conds ++ later) (posts errors : List (List PureItem)) where
   abbrev s : PureSpec
@@ -141,7 +141,7 @@ module _ {S : Type 0} (p : PureParts) (memory : MemoryName) (m : Actions) (stand
   names = early_names q e path
 
   names_each : length names ≡ length start.vars
-  names_each = early_length memory stands terms kept q e start path told opening entry split path_over programs
+  names_each = early_length memory stands terms q e start path told entry split path_over programs
 
   param_name : (i : ℕ) (x : List ℕ) → slice_get q.params i ≡ Some x → slice_get names i ≡ Some x
   param_name i x at = at_left q.params (numbered_from (length q.params) (e.count - length q.params)) i (slice_get_within q.params i x at) ∙ at
@@ -159,7 +159,7 @@ module _ {S : Type 0} (p : PureParts) (memory : MemoryName) (m : Actions) (stand
       let k : ℕ = i - length q.params in
       let is : length q.params + k ≡ i = omega (arith, past) in
       let same : numbered (length q.params + k) ≡ x = ap numbered is ∙ same_some (sym (other_name i past within) ∙ name) in
-      subst (λ y. named_by_items (pre_of q e path) y ≡ true) same (out_stands memory stands terms kept q e start path told opening entry split path_over programs k (omega (arith, past, within)))
+      subst (λ y. named_by_items (pre_of q e path) y ≡ true) same (out_stands memory stands terms q e start path told entry split path_over programs k (omega (arith, past, within)))
 
   module _ (args : List PureValue) (variables : Store) (own : Heap) (counter : ℕ) (starts : StartsAlone p memory m s args variables own counter) where
     abbrev store : Store
@@ -277,10 +277,7 @@ module _ {S : Type 0} (p : PureParts) (memory : MemoryName) (m : Actions) (stand
 
     is_met : AreUnion v e.uses own × (all_true v early ≡ true)
     is_met = ((named_forms_are_right start.vars names v store is_named).meets p.preds e.uses early own
-        (early_uses_over memory stands terms kept q e start path told opening entry split path_over programs) (early_atoms_over memory stands terms kept q e start path told opening entry split path_over programs)).0 starts.meets
-
-    own_is : stands start.memory v own
-    own_is = entry.listed.back opening.still_kept v own is_met.0 starts.proper.heap
+        (early_uses_over memory stands terms q e start path told entry split path_over programs) (early_atoms_over memory stands terms q e start path told entry split path_over programs)).0 starts.meets
 
     early_true : all_true v (early_conds (length start.vars) path.conds) ≡ true
     early_true = subst (λ k. all_true v (early_conds k path.conds) ≡ true) entry.count is_met.1
@@ -289,6 +286,9 @@ module _ {S : Type 0} (p : PureParts) (memory : MemoryName) (m : Actions) (stand
     start_true =
         first_true (length start.vars) v start.conds later (each_to (λ a. IsOver start.vars (term_of a)) (λ a. is_early (length start.vars) a ≡ true) start.conds (λ a. over_is_early start.vars a) opening.over.conds)
         (subst (λ conds. all_true v (early_conds (length start.vars) conds) ≡ true) conds_split early_true)
+
+    own_is : stands start.memory v own
+    own_is = entry.back v own (record { proper = proper; true_there = start_true }) is_met.0
 
     -- what is known of a start
     pub record Entered : Type 0 where

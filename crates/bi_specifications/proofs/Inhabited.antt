@@ -136,7 +136,7 @@ from_drop (suc k) (x ∷ xs) j = let next : suc k + j ≡ suc (k + j) = omega ar
 
 module _ {S : Type 0} (p : PureParts) (memory : MemoryName) (m : Actions) (stands : S → List PureValue → Heap → Type 0) (terms : S → StateTerms) (kept : S → Type 0)
     (meaning : IsMeaning memory stands terms) (q : PureProc) (e : PureEntry) (start path : PurePath S) (posts errors : List (List PureItem))
-    (told : MayBeTold q e path) (opening : IsOpening stands terms kept q start) (entry : IsEntryOf memory stands terms kept start e)
+    (told : MayBeTold q e path) (opening : IsOpening stands terms kept q start) (entry : IsEntryOf memory stands q.params start e)
     (split : path.vars ≡ start.vars ++ drop e.count path.vars) (path_over : IsOverTable terms path) (programs : list_all is_program_name q.params ≡ true)
     (distinct : has_twice q.params ≡ false) (found : find_proc p.procs q.name ≡ Some q)
     (later : List PureAtom) (conds_split : path.conds ≡ start.conds ++ later) (v : List PureValue) (met : Satisfies path.vars v path.conds) where
@@ -240,7 +240,7 @@ module _ {S : Type 0} (p : PureParts) (memory : MemoryName) (m : Actions) (stand
   only : (x : List ℕ) (w : PureValue) → value_of variables_met x ≡ Some w → IsTrue (is_variable_of (spec_of q e path posts errors) x)
   only x w is =
       let out = out_of x w is in
-      subst (λ y. is_variable_of (spec_of q e path posts errors) y ≡ true) out.named (out_stands memory stands terms kept q e start path told opening entry split path_over programs out.number out.less)
+      subst (λ y. is_variable_of (spec_of q e path posts errors) y ≡ true) out.named (out_stands memory stands terms q e start path told entry split path_over programs out.number out.less)
 
   sort_at : (i : ℕ) (sort : Sort) → slice_get (drop (length q.params) path.vars) i ≡ Some sort → slice_get path.vars (length q.params + i) ≡ Some sort
   sort_at i sort at = from_drop (length q.params) path.vars i ∙ at
@@ -262,17 +262,17 @@ module _ {S : Type 0} (p : PureParts) (memory : MemoryName) (m : Actions) (stand
 
   pub named : NamesValues start.vars (early_names q e path) early (entry_store (spec_of q e path posts errors) args variables_met)
   named = record {
-    names_each = early_length memory stands terms kept q e start path told opening entry split path_over programs;
+    names_each = early_length memory stands terms q e start path told entry split path_over programs;
     values_each = early_table;
     agrees = subst (λ s. Agrees s (early_names q e path) early) (sym entry_is) (args_agree (early_names q e path) early ((tables_are_named q.params out_count).distinct programs distinct));
   }
 
   meets : Meets (HoldsSomewhere p.preds) (entry_store (spec_of q e path posts errors) args variables_met) (pre_of q e path) own
   meets =
-      let uses = early_uses_over memory stands terms kept q e start path told opening entry split path_over programs in
-      let atoms = early_atoms_over memory stands terms kept q e start path told opening entry split path_over programs in
+      let uses = early_uses_over memory stands terms q e start path told entry split path_over programs in
+      let atoms = early_atoms_over memory stands terms q e start path told entry split path_over programs in
       ((named_forms_are_right start.vars (early_names q e path) early (entry_store (spec_of q e path posts errors) args variables_met) named).meets p.preds e.uses (early_conds e.count path.conds) own uses atoms).1
-      (entry.listed.lists early own own_is, sym (all_true-more start.vars early rest early_table (early_conds e.count path.conds) atoms) ∙ kept_true (early ++ rest) (filter (is_early e.count) path.conds) (all_filtered (early ++ rest) (is_early e.count) path.conds all_conds))
+      (entry.lists early own start_met own_is, sym (all_true-more start.vars early rest early_table (early_conds e.count path.conds) atoms) ∙ kept_true (early ++ rest) (filter (is_early e.count) path.conds) (all_filtered (early ++ rest) (is_early e.count) path.conds all_conds))
 
   pub is_met : IsMet p memory m (spec_of q e path posts errors)
   is_met = record {

@@ -23,7 +23,6 @@ use Rattle.sym_model.specs.Terms.{StateTerms}
 use Rattle.sym_model.proofs.ListLaws.{same_some, not_none}
 use Rattle.sym_paths.specs.Meaning.{IsOverTable}
 use Rattle.sym_paths.specs.Pure.{PureEnd, PurePath}
-use Rattle.bi_beginnings.specs.Beginnings.{IsOpening}
 use Rattle.bi_specifications.specs.Shape.{name_sort, any_params, numbered_params, early_names, all_names, pre_of, spec_of, MayBeTold}
 use Rattle.bi_specifications.specs.Specified.{PureEntry, IsEntryOf}
 use Rattle.bi_specifications.proofs.Ends.{whole, exact, exact_value, early_exact}
@@ -40,15 +39,15 @@ no_hash (y ∷ xs) (suc i) x all at = no_hash xs i x (and_parts (is_program_name
 
 module _ {S : Type 0} (p : PureParts) (memory : MemoryName) (m : Actions) (stands : S → List PureValue → Heap → Type 0) (terms : S → StateTerms) (kept : S → Type 0)
     (meaning : IsMeaning memory stands terms) (q : PureProc) (e : PureEntry) (start path : PurePath S) (how : PureEnd) (n : ℕ) (posts errors : List (List PureItem))
-    (told : MayBeTold q e path) (opening : IsOpening stands terms kept q start) (entry : IsEntryOf memory stands terms kept start e)
+    (told : MayBeTold q e path) (entry : IsEntryOf memory stands q.params start e)
     (split : path.vars ≡ start.vars ++ drop e.count path.vars) (path_over : IsOverTable terms path) (programs : list_all is_program_name q.params ≡ true)
     (args : List PureValue) (variables : Store) (own : Heap) (counter : ℕ) (along : RunsAlong p memory m stands q e start path how n posts errors args variables own counter)
     (distinct : has_twice q.params ≡ false) (entered : IsEntry (spec_of q e path posts errors) args variables) where
   abbrev pub values : List PureValue
-  values = whole p memory m stands terms kept meaning q e start path how n posts errors told opening entry split path_over programs args variables own counter along
+  values = whole p memory m stands terms kept meaning q e start path how n posts errors told entry split path_over programs args variables own counter along
 
   abbrev pub store : PureValue → Store
-  store result = exact p memory m stands terms kept meaning q e start path how n posts errors told opening entry split path_over programs args variables own counter along result
+  store result = exact p memory m stands terms kept meaning q e start path how n posts errors told entry split path_over programs args variables own counter along result
 
   entry_is : entry_store (spec_of q e path posts errors) args variables ≡ bind_all q.params args ++ variables
   entry_is = ap (λ xs. bind_all xs args ++ variables) (any_names q.params)
@@ -56,7 +55,7 @@ module _ {S : Type 0} (p : PureParts) (memory : MemoryName) (m : Actions) (stand
   early : (result : PureValue) (i : ℕ) (x : List ℕ) → i < e.count → slice_get (early_names q e path) i ≡ Some x
       → value_of (store result) x ≡ value_of (bind_all q.params args ++ variables) x
   early result i x less at =
-      early_exact p memory m stands terms kept meaning q e start path how n posts errors told opening entry split path_over programs args variables own counter along result i x less at
+      early_exact p memory m stands terms kept meaning q e start path how n posts errors told entry split path_over programs args variables own counter along result i x less at
       ∙ ap (λ s. value_of s x) entry_is
 
   params_agree : (result : PureValue) → Agrees (store result) q.params args
@@ -75,9 +74,9 @@ module _ {S : Type 0} (p : PureParts) (memory : MemoryName) (m : Actions) (stand
   variables_stay : (result : PureValue) (x : List ℕ) (w : PureValue) → value_of variables x ≡ Some w → value_of (store result) x ≡ Some w
   variables_stay result x w is =
       let (hash, stands_there) = and_parts (has_hash x) (named_by_items (pre_of q e path) x) (entered.only_variables x w is) in
-      let (i, at) = stands_at memory stands terms kept q e start path told opening entry split path_over programs x stands_there in
+      let (i, at) = stands_at memory stands terms q e start path told entry split path_over programs x stands_there in
       let within : i < length (early_names q e path) = slice_get_within (early_names q e path) i x at in
-      let many : length (early_names q e path) ≡ length start.vars = early_length memory stands terms kept q e start path told opening entry split path_over programs in
+      let many : length (early_names q e path) ≡ length start.vars = early_length memory stands terms q e start path told entry split path_over programs in
       let count : e.count ≡ length start.vars = entry.count in
       early result i x (omega (arith, within, many, count)) at
       ∙ second_value (bind_all q.params args) variables x (not_bound x hash (value_of (bind_all q.params args) x) refl) ∙ is
@@ -94,7 +93,7 @@ module _ {S : Type 0} (p : PureParts) (memory : MemoryName) (m : Actions) (stand
       let name_at : slice_get (all_names q e path) (length q.params + i) ≡ Some (numbered (length q.params + i)) =
       at_right q.params (numbered_from (length q.params) (length path.vars - length q.params)) i ∙ numbered_at (length q.params) (length path.vars - length q.params) i (omega (arith, within)) in
       let there : value_of (store result) (numbered (length q.params + i)) ≡ Some u =
-      exact_value p memory m stands terms kept meaning q e start path how n posts errors told opening entry split path_over programs args variables own counter along result
+      exact_value p memory m stands terms kept meaning q e start path how n posts errors told entry split path_over programs args variables own counter along result
       (length q.params + i) (numbered (length q.params + i)) u name_at value_at in
       let same : u ≡ w = same_some (sym there ∙ ap (value_of (store result)) named ∙ is) in
       subst (λ y. spec_has_sort (name_sort sort) y ≡ true) same (sort_kept sort u (along.proper.sorts (length q.params + i) sort u table_at value_at))))

@@ -1,6 +1,6 @@
 -- What is told of a path is truly found, whatever program and bound it was explored with.
-use Rattle.std.proofs.Common.{◌≡◌, ◌++◌, ◌||◌, ◌+◌, ◌<◌, ◌≤◌, ℕ, ℤ, List, [], ◌∷◌, drop, take, length, true, false, Some, None, IsTrue, refl, sym, ap, subst, ◌∙◌, arith}
-use Rattle.std.specs.List.{list_all, list_any}
+use Rattle.std.proofs.Common.{◌≡◌, ◌+◌, ◌<◌, ◌≤◌, ℕ, ℤ, List, [], ◌∷◌, drop, take, length, true, false, Some, None, IsTrue, refl, sym, ap, subst, ◌∙◌, arith}
+use Rattle.std.specs.List.{list_all}
 use Rattle.std.proofs.lemmas.List.{drop_at, length-append, length-map}
 use Rattle.gil_values.specs.declared.places.Place.{Place}
 use Rattle.gil_values.specs.Pure.{PureValue}
@@ -17,7 +17,6 @@ use Rattle.pure_terms.specs.declared.variables.Sort.{Sort}
 use Rattle.pure_terms.specs.Fragment.{has_fragment_form, names_sort}
 use Rattle.pure_terms.specs.Kinds.{same_sort}
 use Rattle.pure_terms.specs.Meaning.{Satisfies}
-use Rattle.pure_terms.specs.Naming.{names_number}
 use Rattle.pure_terms.specs.Pure.{PureTerm, PureAtom, term_of}
 use Rattle.sym_evaluation.specs.Meaning.{HaveValues}
 use Rattle.sym_model.specs.Laws.{IsMeaning}
@@ -28,8 +27,8 @@ use Rattle.sym_model.specs.Terms.{StateTerms, AreEachOver}
 use Rattle.sym_model.proofs.ListLaws.{same_some, not_none}
 use Rattle.sym_paths.specs.Meaning.{end_terms}
 use Rattle.sym_paths.specs.Pure.{PureEnd, returned, threw, cut, PurePath}
-use Rattle.bi_beginnings.specs.Beginnings.{any_for_each, variables_from}
-use Rattle.bi_specifications.specs.Shape.{early_conds, late_conds, post_of, spec_of, HasGrown, MayBeTold}
+use Rattle.bi_beginnings.specs.Beginnings.{any_for_each, variables_from, is_named_by}
+use Rattle.bi_specifications.specs.Shape.{late_conds, post_of, spec_of, HasGrown, MayBeTold}
 use Rattle.bi_specifications.specs.Specified.{PureEntry, IsTold, IsTrulyFound, IsExplored, IsTrulyTold, IsMarkedAs, IsMetAlong, TellsNothing}
 use Rattle.bi_specifications.proofs.Along.{grown, split, programs, once, each_runs_along}
 use Rattle.bi_specifications.proofs.Grown.{ended_drew, all_fresh}
@@ -38,18 +37,16 @@ use Rattle.bi_specifications.proofs.RunsAlong.{EachRunsAlong}
 use Rattle.bi_specifications.proofs.TruePaths.{returned_found, threw_found, cut_found}
 
 -- what the code tests
-pub may_from : {S : Type 0} (q : PureProc) (e : PureEntry) (path : PurePath S) (early late : List PureAtom) → is_among q.params result_name ≡ false → path.drawn ≡ [] → length q.params ≤ e.count → e.count ≤ length path.vars
-    → list_all (same_sort Sort.Fresh) (drop e.count path.vars) ≡ true → early ≡ early_conds e.count path.conds → late ≡ late_conds e.count path.conds
-    → ((k : ℕ) → length q.params ≤ k → k < e.count → IsTrue (list_any (λ u. list_any (names_number k) (u.ins ++ u.outs)) e.uses || list_any (λ a. names_number k (term_of a)) early))
+pub may_from : {S : Type 0} (q : PureProc) (e : PureEntry) (path : PurePath S) (late : List PureAtom) → is_among q.params result_name ≡ false → path.drawn ≡ [] → HasGrown q e path
+    → ((k : ℕ) → length q.params ≤ k → k < e.count → IsTrue (is_named_by e.uses k)) → late ≡ late_conds e.count path.conds
     → Each (λ a. IsTrue (has_fragment_form a) × IsTrue (names_sort Sort.Fresh (term_of a))) late → MayBeTold q e path
-may_from q e path early late no_result no_draw params_first count_within new_symbols early_is late_is outs forms = record {
+may_from q e path late no_result no_draw grown named late_is forms = record {
   no_result = no_result;
   no_draw = no_draw;
-  params_first = params_first;
-  count_within = count_within;
-  new_symbols = new_symbols;
-  outs_named = λ k past within.
-      subst (λ conds. IsTrue (list_any (λ u. list_any (names_number k) (u.ins ++ u.outs)) e.uses || list_any (λ a. names_number k (term_of a)) conds)) early_is (outs k past within);
+  params_first = grown.params_first;
+  count_within = grown.count_within;
+  new_symbols = grown.new_symbols;
+  outs_named = named;
   late_forms = subst (Each (λ a. IsTrue (has_fragment_form a) × IsTrue (names_sort Sort.Fresh (term_of a)))) late_is forms;
 }
 

@@ -10,7 +10,7 @@ use Rattle.gil_syntax.specs.Pure.{PureProc, PureSpec, PureParts}
 use Rattle.gil_syntax.specs.Valid.{has_twice}
 use Rattle.gil_syntax.specs.WellMade.{is_program_name, is_well_made}
 use Rattle.gil_machine.specs.Run.{run_of}
-use Rattle.gil_machine.specs.State.{End, Ending}
+use Rattle.gil_machine.specs.State.{End}
 use Rattle.gil_machine.specs.State as machine
 use Rattle.mem_model.specs.declared.keys.MemoryName.{MemoryName}
 use Rattle.mem_model.specs.Actions.{Actions, IsMemory}
@@ -56,7 +56,7 @@ not_returned w u place is = cc
 
 module _ {S : Type 0} (p : PureParts) (memory : MemoryName) (m : Actions) (is_memory : IsMemory memory m) (stands : S → List PureValue → Heap → Type 0) (terms : S → StateTerms)
     (kept : S → Type 0) (meaning : IsMeaning memory stands terms) (q : PureProc) (e : PureEntry) (start path : PurePath S) (n : ℕ)
-    (made : IsTrue (is_well_made p)) (told : MayBeTold q e path) (opening : IsOpening stands terms kept q start) (entry : IsEntryOf memory stands terms kept start e)
+    (made : IsTrue (is_well_made p)) (told : MayBeTold q e path) (opening : IsOpening stands terms kept q start) (entry : IsEntryOf memory stands q.params start e)
     (split : path.vars ≡ start.vars ++ drop e.count path.vars) (path_over : IsOverTable terms path) (programs : list_all is_program_name q.params ≡ true)
     (distinct : has_twice q.params ≡ false) (found : find_proc p.procs q.name ≡ Some q) (later : List PureAtom) (conds_split : path.conds ≡ start.conds ++ later)
     (v : List PureValue) (met : Satisfies path.vars v path.conds) where
@@ -82,7 +82,7 @@ module _ {S : Type 0} (p : PureParts) (memory : MemoryName) (m : Actions) (is_me
 
       meets_now : Meets (HoldsSomewhere p.preds) (exact_store spec args variables counter result) (post_of q e path us t) end.heap
       meets_now =
-          post_met p memory m stands terms kept meaning q e start path (returned t) n (post_of q e path us t ∷ []) [] told opening entry split path_over programs args variables own counter along
+          post_met p memory m stands terms kept meaning q e start path (returned t) n (post_of q e path us t ∷ []) [] told entry split path_over programs args variables own counter along
           us listed t t_over result (along.each_run inputs).ends.1.0 end.heap (along.each_run inputs).heap p.preds
 
       meets_post : IsMetBy p memory m spec spec.posts (exact_store spec args variables counter result) end.heap
@@ -105,7 +105,7 @@ module _ {S : Type 0} (p : PureParts) (memory : MemoryName) (m : Actions) (is_me
               post = post_of q e path us t;
               is_post = refl;
               store = exact_store spec args variables counter result;
-              is_store = post_store p memory m stands terms kept meaning q e start path (returned t) n (post_of q e path us t ∷ []) [] told opening entry split path_over programs args variables own counter along distinct starts.entered result;
+              is_store = post_store p memory m stands terms kept meaning q e start path (returned t) n (post_of q e path us t ∷ []) [] told entry split path_over programs args variables own counter along distinct starts.entered result;
               meets = meets_now;
             },
           ),
@@ -115,7 +115,7 @@ module _ {S : Type 0} (p : PureParts) (memory : MemoryName) (m : Actions) (is_me
       only_so : (w : PureValue) (h : Heap) → IsMetBy p memory m spec spec.posts (exact_store spec args variables counter w) h → ReturnsWith p memory m spec end w h
       only_so w h one =
           let (same, heap) =
-          post_only p memory m stands terms kept meaning q e start path (returned t) n (post_of q e path us t ∷ []) [] told opening entry split path_over programs args variables own counter along
+          post_only p memory m stands terms kept meaning q e start path (returned t) n (post_of q e path us t ∷ []) [] told entry split path_over programs args variables own counter along
           us listed t t_over result (along.each_run inputs).ends.1.0 end.heap (along.each_run inputs).heap p.preds w h
           (subst (λ post. Meets (HoldsSomewhere p.preds) (exact_store spec args variables counter w) post h) (sym (only_post (post_of q e path us t) one.post one.number one.is_post)) one.meets) in
           record { ending = ends_so ∙ ap machine.returned (sym same); heap = sym heap }
@@ -167,7 +167,7 @@ module _ {S : Type 0} (p : PureParts) (memory : MemoryName) (m : Actions) (is_me
 
       error_now : Meets (HoldsSomewhere p.preds) (exact_store thrown_spec args variables counter thrown) (post_of q e path us t) thrown_end.heap
       error_now =
-          post_met p memory m stands terms kept meaning q e start path (threw t place) n [] (post_of q e path us t ∷ []) told opening entry split path_over programs args variables own counter thrown_along
+          post_met p memory m stands terms kept meaning q e start path (threw t place) n [] (post_of q e path us t ∷ []) told entry split path_over programs args variables own counter thrown_along
           us listed t t_over thrown (thrown_along.each_run inputs).ends.1.0 thrown_end.heap (thrown_along.each_run inputs).heap p.preds
 
       meets_error : IsMetBy p memory m thrown_spec thrown_spec.errors (exact_store thrown_spec args variables counter thrown) thrown_end.heap
@@ -190,7 +190,7 @@ module _ {S : Type 0} (p : PureParts) (memory : MemoryName) (m : Actions) (is_me
               post = post_of q e path us t;
               is_post = refl;
               store = exact_store thrown_spec args variables counter thrown;
-              is_store = post_store p memory m stands terms kept meaning q e start path (threw t place) n [] (post_of q e path us t ∷ []) told opening entry split path_over programs args variables own counter thrown_along distinct starts.entered thrown;
+              is_store = post_store p memory m stands terms kept meaning q e start path (threw t place) n [] (post_of q e path us t ∷ []) told entry split path_over programs args variables own counter thrown_along distinct starts.entered thrown;
               meets = error_now;
             },
           ),
@@ -200,7 +200,7 @@ module _ {S : Type 0} (p : PureParts) (memory : MemoryName) (m : Actions) (is_me
       only_thrown : (w : PureValue) (h : Heap) → IsMetBy p memory m thrown_spec thrown_spec.errors (exact_store thrown_spec args variables counter w) h → ThrowsWith p memory m thrown_spec thrown_end w h
       only_thrown w h one =
           let (same, heap) =
-          post_only p memory m stands terms kept meaning q e start path (threw t place) n [] (post_of q e path us t ∷ []) told opening entry split path_over programs args variables own counter thrown_along
+          post_only p memory m stands terms kept meaning q e start path (threw t place) n [] (post_of q e path us t ∷ []) told entry split path_over programs args variables own counter thrown_along
           us listed t t_over thrown (thrown_along.each_run inputs).ends.1.0 thrown_end.heap (thrown_along.each_run inputs).heap p.preds w h
           (subst (λ post. Meets (HoldsSomewhere p.preds) (exact_store thrown_spec args variables counter w) post h) (sym (only_post (post_of q e path us t) one.post one.number one.is_post)) one.meets) in
           record { place = place; ending = throws_so ∙ ap (λ u. machine.threw u place) (sym same); heap = sym heap }

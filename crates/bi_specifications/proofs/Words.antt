@@ -24,14 +24,13 @@ use Rattle.pure_terms.specs.Naming.{names_number, names_only_below}
 use Rattle.pure_terms.specs.Pure.{PureTerm, term_of, variables}
 use Rattle.sym_model.specs.Cores.{TakesBoth}
 use Rattle.sym_model.specs.Lists.{Each, OneOf, IsAmong}
-use Rattle.sym_model.specs.Pure.{PureUse}
-use Rattle.sym_model.specs.Terms.{StateTerms, all_of, AreEachOver}
+use Rattle.sym_model.specs.Terms.{StateTerms, AreEachOver}
 use Rattle.sym_model.proofs.Asking.{below_all}
-use Rattle.sym_model.proofs.ListLaws.{same_some, not_none, one_with}
+use Rattle.sym_model.proofs.ListLaws.{same_some, not_none, each_to, one_with}
 use Rattle.sym_paths.specs.Meaning.{IsOverTable}
 use Rattle.sym_paths.specs.Pure.{PurePath}
-use Rattle.bi_beginnings.specs.Beginnings.{IsOpening}
-use Rattle.bi_specifications.specs.Shape.{early_conds, is_early, early_names, all_names, pre_of, spec_of, numbered_params, is_named_early, MayBeTold}
+use Rattle.bi_beginnings.specs.Beginnings.{is_named_by}
+use Rattle.bi_specifications.specs.Shape.{early_conds, is_early, early_names, all_names, pre_of, spec_of, numbered_params, MayBeTold}
 use Rattle.bi_specifications.specs.Specified.{PureEntry, IsEntryOf}
 use Rattle.bi_specifications.proofs.Naming.{same_number, numbered_length, numbered_at, numbered_split, numbered_names, at_left, at_right, at_either, filter_append, none_left, all_left}
 use Rattle.bi_specifications.proofs.Once.{each_kept}
@@ -81,9 +80,9 @@ is_not false isnt = refl
 core_known : {A : Type 0} (o : Option A) (x : A) → o ≡ Some x → IsSome o
 core_known o x is = ap is_some is
 
-module _ {S : Type 0} (memory : MemoryName) (stands : S → List PureValue → Heap → Type 0) (terms : S → StateTerms) (kept : S → Type 0)
-    (q : PureProc) (e : PureEntry) (start path : PurePath S) (told : MayBeTold q e path) (opening : IsOpening stands terms kept q start)
-    (entry : IsEntryOf memory stands terms kept start e) (split : path.vars ≡ start.vars ++ drop e.count path.vars) (path_over : IsOverTable terms path)
+module _ {S : Type 0} (memory : MemoryName) (stands : S → List PureValue → Heap → Type 0) (terms : S → StateTerms)
+    (q : PureProc) (e : PureEntry) (start path : PurePath S) (told : MayBeTold q e path) (entry : IsEntryOf memory stands q.params start e)
+    (split : path.vars ≡ start.vars ++ drop e.count path.vars) (path_over : IsOverTable terms path)
     (programs : list_all is_program_name q.params ≡ true) where
   -- ---- numbers
 
@@ -116,16 +115,10 @@ module _ {S : Type 0} (memory : MemoryName) (stands : S → List PureValue → H
 
   -- ---- over tables
 
-  use_over : (u : PureUse) → (Each (λ t. IsAmong t (all_of (terms start.memory))) (u.ins ++ u.outs)) → AreEachOver start.vars (u.ins ++ u.outs)
-  use_over u among = each_among (IsOver start.vars) (u.ins ++ u.outs) (all_of (terms start.memory)) opening.over.memory among
-
-  both_each : (us : List PureUse) → Each (λ u. TakesBoth memory u.core u.ins u.outs) us → Each (λ u. Each (λ t. IsAmong t (all_of (terms start.memory))) (u.ins ++ u.outs)) us
-      → AreUsesOver start.vars us
-  both_each [] takes among = tt
-  both_each (u ∷ us) takes among = ((core_known (core_of u.core) takes.0.core takes.0.of_memory.named, use_over u among.0), both_each us takes.1 among.1)
-
   pub early_uses_over : AreUsesOver start.vars e.uses
-  early_uses_over = both_each e.uses (entry.listed.uses opening.still_kept) entry.listed.among
+  early_uses_over =
+      each_to (λ u. TakesBoth memory u.core u.ins u.outs × AreEachOver start.vars (u.ins ++ u.outs)) (λ u. IsSome (core_of u.core) × AreEachOver start.vars (u.ins ++ u.outs)) e.uses
+      (λ u is. (core_known (core_of u.core) is.0.core is.0.of_memory.named, is.1)) entry.uses
 
   pub early_atoms_over : AreAtomsOver start.vars (early_conds e.count path.conds)
   early_atoms_over =
@@ -144,15 +137,11 @@ module _ {S : Type 0} (memory : MemoryName) (stands : S → List PureValue → H
   out_at : (i : ℕ) → i < out_count → slice_get (early_names q e path) (length q.params + i) ≡ Some (numbered (length q.params + i))
   out_at i less = at_right q.params (numbered_from (length q.params) out_count) i ∙ numbered_at (length q.params) out_count i less
 
-  named_among_early : (j : ℕ) → slice_get (early_names q e path) j ≡ Some (numbered j) → is_named_early q e path j ≡ true
+  named_among_early : (j : ℕ) → slice_get (early_names q e path) j ≡ Some (numbered j) → is_named_by e.uses j ≡ true
       → IsNameAmong (early_names q e path) (numbered j) e.uses (early_conds e.count path.conds)
   named_among_early j at named =
-      ⊎_elim
-      (λ in_uses. inl (any_one (λ u. list_any (names_number j) (u.ins ++ u.outs)) (λ u. OneOf (IsNameIn (early_names q e path) (numbered j)) (u.ins ++ u.outs)) e.uses in_uses
-      (λ u any. any_one (names_number j) (IsNameIn (early_names q e path) (numbered j)) (u.ins ++ u.outs) any (number_named j at))))
-      (λ in_conds. inr (any_one (λ a. names_number j (term_of a)) (λ a. IsNameIn (early_names q e path) (numbered j) (term_of a)) (early_conds e.count path.conds) in_conds
-      (λ a any. number_named j at (term_of a) any)))
-      (one_of_two (list_any (λ u. list_any (names_number j) (u.ins ++ u.outs)) e.uses) (list_any (λ a. names_number j (term_of a)) (early_conds e.count path.conds)) named)
+      inl (any_one (λ u. list_any (names_number j) (u.ins ++ u.outs)) (λ u. OneOf (IsNameIn (early_names q e path) (numbered j)) (u.ins ++ u.outs)) e.uses named
+      (λ u any. any_one (names_number j) (IsNameIn (early_names q e path) (numbered j)) (u.ins ++ u.outs) any (number_named j at)))
 
   stands_iff : (x : List ℕ) → (named_by_items (pre_of q e path) x ≡ true → IsNameAmong (early_names q e path) x e.uses (early_conds e.count path.conds))
       × (IsNameAmong (early_names q e path) x e.uses (early_conds e.count path.conds) → named_by_items (pre_of q e path) x ≡ true)

@@ -1,6 +1,6 @@
 -- The specification of an ended path: the text that is told.
-use Rattle.std.specs.Prelude.{◌≡◌, ℕ, suc, ◌-◌, ◌≤◌, ◌<◌, List, [], ◌∷◌, ◌++◌, map, length, drop, Bool, true, false, not, cond, ◌||◌, IsTrue}
-use Rattle.std.specs.List.{filter, list_all, list_any}
+use Rattle.std.specs.Prelude.{◌≡◌, ℕ, suc, ◌-◌, ◌≤◌, ◌<◌, List, [], ◌∷◌, ◌++◌, map, length, drop, Bool, true, false, not, cond, IsTrue}
+use Rattle.std.specs.List.{filter, list_all}
 use Rattle.gil_values.specs.declared.operators.BinOp.TheVariants.{Equal}
 use Rattle.gil_syntax.specs.declared.assertions.Param.{Param}
 use Rattle.gil_syntax.specs.declared.assertions.SpecSort.{SpecSort}
@@ -12,11 +12,12 @@ use Rattle.pure_terms.specs.declared.variables.Sort.{Sort}
 use Rattle.pure_terms.specs.Fragment.{is_variable_of, has_fragment_form, names_sort}
 use Rattle.pure_terms.specs.Kinds.{same_sort}
 use Rattle.pure_terms.specs.Meaning.{IsOver}
-use Rattle.pure_terms.specs.Naming.{names_number, names_only_below}
+use Rattle.pure_terms.specs.Naming.{names_only_below}
 use Rattle.pure_terms.specs.Pure.{PureTerm, variable, binary_of, PureAtom, positive, term_of}
 use Rattle.sym_model.specs.Lists.{Each}
 use Rattle.sym_model.specs.Pure.{PureUse}
 use Rattle.sym_paths.specs.Pure.{PurePath}
+use Rattle.bi_beginnings.specs.Beginnings.{is_named_by}
 use Rattle.bi_beginnings.specs.Conditions.{stands_among}
 use Rattle.bi_specifications.specs.Specified.{PureEntry}
 
@@ -110,11 +111,6 @@ module _ {S : Type 0} (q : PureProc) (e : PureEntry) (path : PurePath S) where
 
   -- ---- when it may be told
 
-  -- the variable stands in the precondition
-  abbrev pub is_named_early : ℕ → Bool
-  is_named_early k =
-      list_any (λ u. list_any (names_number k) (u.ins ++ u.outs)) e.uses || list_any (λ a. names_number k (term_of a)) (early_conds e.count path.conds)
-
   -- the variables are those of the beginning, of which the first are the parameters, and behind them new symbols
   pub record HasGrown : Type 0 where
     pub params_first : length q.params ≤ e.count
@@ -122,22 +118,20 @@ module _ {S : Type 0} (q : PureProc) (e : PureEntry) (path : PurePath S) where
     pub new_symbols : IsTrue (list_all (same_sort Sort.Fresh) (drop e.count path.vars))
 
   -- No parameter has the name of the result. The path drew nothing, and its variables are those of the beginning and behind them new
-  -- symbols. Each variable of the beginning that isn't a parameter stands in the precondition, and each condition that doesn't has a form
-  -- of the fragment and names a new symbol.
+  -- symbols. Each variable of the beginning that isn't a parameter stands in a use, and each condition that doesn't stand in the precondition
+  -- has a form of the fragment and names a new symbol.
   pub record MayBeTold : Type 0 where
     pub no_result : is_among q.params result_name ≡ false
     pub no_draw : path.drawn ≡ []
     pub params_first : length q.params ≤ e.count
     pub count_within : e.count ≤ length path.vars
     pub new_symbols : IsTrue (list_all (same_sort Sort.Fresh) (drop e.count path.vars))
-    pub outs_named : (k : ℕ) → length q.params ≤ k → k < e.count → IsTrue (is_named_early k)
+    pub outs_named : (k : ℕ) → length q.params ≤ k → k < e.count → IsTrue (is_named_by e.uses k)
     pub late_forms : Each (λ a. IsTrue (has_fragment_form a) × IsTrue (names_sort Sort.Fresh (term_of a))) (late_conds e.count path.conds)
 
-  -- All of the path can be said: there is no parameter, and no variable at the beginning; and its conditions, each of which has a form of
-  -- the fragment, name only its variables, which are new symbols.
+  -- All of the path can be said: no parameter has the name of the result; and its conditions, each of which has a form of the fragment, name
+  -- only its variables.
   pub record MayBeSaid : Type 0 where
-    pub no_parameter : q.params ≡ []
-    pub no_variable : e.count ≡ 0
-    pub new_symbols : IsTrue (list_all (same_sort Sort.Fresh) path.vars)
+    pub no_result : is_among q.params result_name ≡ false
     pub over : Each (λ a. IsOver path.vars (term_of a)) path.conds
     pub forms : Each (λ a. IsTrue (has_fragment_form a)) path.conds

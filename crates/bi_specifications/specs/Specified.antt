@@ -1,5 +1,5 @@
 -- Specifications of ended paths: what is told of one is true of all runs.
-use Rattle.std.specs.Prelude.{◌≡◌, ℕ, ℤ, List, [], length, take, Bool, true, false, Some, IsTrue, ⊤}
+use Rattle.std.specs.Prelude.{◌≡◌, ◌++◌, ◌<◌, ◌≤◌, ℕ, ℤ, List, [], length, take, Bool, true, false, Some, IsTrue, ⊤}
 use Rattle.gil_values.specs.Pure.{PureValue}
 use Rattle.gil_syntax.specs.Evaluation.{Store}
 use Rattle.gil_syntax.specs.Programs.{find_proc}
@@ -16,11 +16,13 @@ use Rattle.pure_terms.specs.Meaning.{Satisfies}
 use Rattle.pure_terms.specs.Pure.{PureTerm}
 use Rattle.sym_evaluation.specs.Meaning.{HaveValues}
 use Rattle.sym_explore.specs.Exploring.{IsEndedFrom}
-use Rattle.sym_model.specs.Listing.{IsListing}
+use Rattle.sym_model.specs.Cores.{TakesBoth}
+use Rattle.sym_model.specs.Listing.{AreUnion}
+use Rattle.sym_model.specs.Lists.{Each}
 use Rattle.sym_model.specs.Pure.{PureUse}
-use Rattle.sym_model.specs.Terms.{StateTerms}
+use Rattle.sym_model.specs.Terms.{StateTerms, AreEachOver}
 use Rattle.sym_paths.specs.Pure.{PureEnd, returned, failed, threw, missed, vanished, cut, unknown, PurePath}
-use Rattle.bi_beginnings.specs.Beginnings.{any_for_each, variables_from, IsOpening}
+use Rattle.bi_beginnings.specs.Beginnings.{any_for_each, variables_from, IsOpening, is_named_by}
 
 -- Of a specification that is marked cut: each of its runs is cut after n steps. Of one that isn't: it holds of each run, whatever else the
 -- heap has, and its runs return or throw within n steps, draw nothing, and end as its postconditions exactly say. Of both: some heap meets
@@ -53,15 +55,20 @@ IsMarkedAs how is_cut = is_cut ≡ false
 
 -- ---- what is known of the path
 
--- what is kept of a path on which runs begin: how many variables it has, and its memory as uses of core predicates
+-- what is told of where a path begins: how many variables it has, and its heap as uses of core predicates
 pub record PureEntry : Type 0 where
   pub count : ℕ
   pub uses : List PureUse
 
-pub record IsEntryOf (memory : MemoryName) {S : Type 0} (stands : S → List PureValue → Heap → Type 0) (terms : S → StateTerms)
-    (kept : S → Type 0) (start : PurePath S) (e : PureEntry) : Type 0 where
+-- The path has so many variables, and where its conditions are true it begins with exactly the heap that the uses say. They are of core
+-- predicates of the memory, name only its variables, and name each of them that isn't of a parameter.
+pub record IsEntryOf (memory : MemoryName) {S : Type 0} (stands : S → List PureValue → Heap → Type 0) (params : List (List ℕ))
+    (start : PurePath S) (e : PureEntry) : Type 0 where
   pub count : e.count ≡ length start.vars
-  pub listed : IsListing memory stands terms kept start.memory e.uses
+  pub uses : Each (λ u. TakesBoth memory u.core u.ins u.outs × AreEachOver start.vars (u.ins ++ u.outs)) e.uses
+  pub named : (k : ℕ) → length params ≤ k → k < e.count → IsTrue (is_named_by e.uses k)
+  pub lists : (v : List PureValue) (own : Heap) → Satisfies start.vars v start.conds → stands start.memory v own → AreUnion v e.uses own
+  pub back : (v : List PureValue) (own : Heap) → Satisfies start.vars v start.conds → AreUnion v e.uses own → stands start.memory v own
 
 module _ {S : Type 0} (memory : MemoryName) (m : Actions) (stands : S → List PureValue → Heap → Type 0) (terms : S → StateTerms)
     (asked : List ℕ → List PureTerm → List PureTerm × List PureTerm) (depends : S → List ℕ → List PureTerm → List PureValue → Heap → PureTerm → Type 0)
@@ -73,7 +80,7 @@ module _ {S : Type 0} (memory : MemoryName) (m : Actions) (stands : S → List P
     pub found : find_proc p.procs q.name ≡ Some q
     pub start : PurePath S
     pub opening : IsOpening stands terms kept q start
-    pub entry : IsEntryOf memory stands terms kept start e
+    pub entry : IsEntryOf memory stands q.params start e
     pub ended : IsEndedFrom p m stands terms asked depends plain keeps_plain n start path
 
   -- whatever program and bound it was explored with, the specification is truly found

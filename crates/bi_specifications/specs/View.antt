@@ -1,6 +1,6 @@
 -- The pure data of what is told.
-use Rattle.std.specs.Prelude.{List, map, ⊤}
-use Rattle.bi_specifications.specs.declared.specifying.Entry.{Entry}
+use Rattle.std.specs.Prelude.{List, map, length, ⊤}
+use Rattle.bi_beginnings.specs.declared.beginnings.Beginning.{Beginning}
 use Rattle.bi_specifications.specs.declared.specifying.Found.{Found}
 use Rattle.bi_specifications.specs.declared.specifying.Told.{Told}
 use Rattle.bi_specifications.specs.Specified.{PureEntry}
@@ -8,8 +8,9 @@ use Rattle.gil_syntax.specs.View.{spec_view}
 use Rattle.inferred_specs.specs.Inferred.{PureFound}
 use Rattle.sym_model.specs.View.{uses_view}
 
-abbrev pub entry_view : Entry → PureEntry
-entry_view e = record { count = e.count; uses = uses_view e.uses }
+-- what is told of where the paths of a beginning begin
+abbrev pub entry_view : Beginning → PureEntry
+entry_view b = record { count = length b.vars; uses = uses_view b.uses }
 
 abbrev pub found_view : Found → PureFound
 found_view f = record { spec = spec_view f.spec; cut = f.cut }

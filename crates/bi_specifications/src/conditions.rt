@@ -1,20 +1,16 @@
 //! The conditions of a path, by whether what they speak of was there at the beginning.
-ghost use Rattle.std.specs.Prelude.{◌≡◌, ◌++◌, ◌||◌, IfNone, IfSome, IfOk, IsTrue};
-ghost use Rattle.std.specs.List.{list_any};
+ghost use Rattle.std.specs.Prelude.{◌≡◌, ◌||◌, IfNone, IfSome, IfOk, IsTrue};
 ghost use Rattle.pure_terms.specs.declared.variables.Sort.{Sort as PureSort};
 ghost use Rattle.pure_terms.specs.Fragment.{has_fragment_form, names_sort};
-ghost use Rattle.pure_terms.specs.Naming.{names_number};
 ghost use Rattle.pure_terms.specs.Pure.{term_of};
-ghost use Rattle.pure_terms.specs.View.{atom_view, atoms_view, terms_view};
+ghost use Rattle.pure_terms.specs.View.{atoms_view};
 ghost use Rattle.sym_model.specs.Lists.{Each};
-ghost use Rattle.sym_model.specs.View.{use_view, uses_view};
 ghost use Rattle.bi_specifications.specs.Shape.{early_conds, late_conds};
 
 use bi_beginnings::stands_among;
-use pure_terms::{Atom, Atoms, Sort, Term, Terms};
+use pure_terms::{Atoms, Sort, Term};
 use sequence::Sequence;
 use std::alloc::{AllocError, Global};
-use sym_model::{CoreUse, CoreUses};
 
 /// The conditions that name only variables of the beginning, of which there were so many, each once.
 pub(crate) fn early_conditions(
@@ -63,52 +59,4 @@ pub(crate) fn first_unsaid(alloc: Global, late: &Atoms) -> Result<Option<Term>, 
         }
     }
     Ok(None)
-}
-
-/// Whether one of the terms names the variable with a number.
-fn some_term_names(terms: &Terms, number: u64) -> bool
-    ensures { result ≡ list_any (names_number number) (terms_view terms.now) }
-{
-    for term in terms.as_slice() {
-        if term.names(number) {
-            return true;
-        }
-    }
-    false
-}
-
-fn use_names(used: &CoreUse, number: u64) -> bool
-    ensures { result ≡ list_any (names_number number) ((use_view used.now).ins ++ (use_view used.now).outs) }
-{
-    some_term_names(&used.ins, number) || some_term_names(&used.outs, number)
-}
-
-fn some_use_names(uses: &CoreUses, number: u64) -> bool
-    ensures { result ≡ list_any (λ u. list_any (names_number number) (u.ins ++ u.outs)) (uses_view uses.now) }
-{
-    for used in uses.as_slice() {
-        if use_names(used, number) {
-            return true;
-        }
-    }
-    false
-}
-
-fn some_condition_names(conds: &Atoms, number: u64) -> bool
-    ensures { result ≡ list_any (λ a. names_number number (term_of a)) (atoms_view conds.now) }
-{
-    for condition in conds.as_slice() {
-        if condition.term().names(number) {
-            return true;
-        }
-    }
-    false
-}
-
-/// Whether the variable with a number stands in the uses or in the conditions.
-pub(crate) fn stands_in(uses: &CoreUses, conds: &Atoms, number: u64) -> bool
-    ensures { result ≡ (list_any (λ u. list_any (names_number number) (u.ins ++ u.outs)) (uses_view uses.now)
-        || list_any (λ a. names_number number (term_of a)) (atoms_view conds.now)) }
-{
-    some_use_names(uses, number) || some_condition_names(conds, number)
 }

@@ -1,39 +1,30 @@
 //! The specification of a path.
-ghost use Rattle.std.specs.Prelude.{◌≡◌, ◌↔◌, ℕ, ◌≤◌, ◌<◌, ◌||◌, List, [], ◌∷◌, ◌++◌, length, drop, map, IfNone, IfSome, IfOk, IsTrue, Some};
-ghost use Rattle.std.specs.List.{list_all, list_any};
+ghost use Rattle.std.specs.Prelude.{◌≡◌, ◌↔◌, ℕ, ◌≤◌, ◌<◌, ◌||◌, List, [], ◌∷◌, length, drop, map, IfOk, IsTrue, Some};
+ghost use Rattle.std.specs.List.{list_all};
 ghost use Rattle.gil_syntax.specs.View.{proc_view, spec_view, assertion_view};
 ghost use Rattle.pure_terms.specs.declared.variables.Sort.{Sort as PureSort};
 ghost use Rattle.pure_terms.specs.Kinds.{same_sort};
-ghost use Rattle.pure_terms.specs.Naming.{names_number};
-ghost use Rattle.pure_terms.specs.Pure.{term_of};
 ghost use Rattle.pure_terms.specs.View.{term_view, atoms_view};
 ghost use Rattle.sym_model.specs.Listing.{IsListing};
 ghost use Rattle.sym_model.specs.Pure.{PureUse};
-ghost use Rattle.sym_model.specs.View.{uses_view};
 ghost use Rattle.sym_paths.specs.View.{end_view, path_view};
+ghost use Rattle.bi_beginnings.specs.Beginnings.{IsBeginning};
+ghost use Rattle.bi_beginnings.specs.View.{beginning_view};
 ghost use Rattle.bi_specifications.specs.Shape.{early_conds, late_conds, post_of, spec_of, HasGrown, MayBeTold, MayBeSaid};
-ghost use Rattle.bi_specifications.specs.Specified.{IsEntryOf, IsTrulyTold, IsMetAlong, TellsNothing};
+ghost use Rattle.bi_specifications.specs.Specified.{IsTrulyTold, IsMetAlong, TellsNothing};
 ghost use Rattle.bi_specifications.specs.View.{entry_view, found_view, IfTold, MatchTold, IsUnsaid};
 
-use crate::conditions::{early_conditions, first_unsaid, late_conditions, stands_in};
+use crate::conditions::{early_conditions, first_unsaid, late_conditions};
 use crate::wording::{
     any_parameters, numbered_variables, only, postcondition, precondition, result_parameter,
 };
-use gil_syntax::{Assertion, Assertions, Proc, Spec};
+use bi_beginnings::Beginning;
+use gil_syntax::{Assertions, Proc, Spec};
 use pure_terms::{Atoms, Sort, Term, Var, VarTable};
 use sequence::Sequence;
 use std::alloc::{AllocError, Global};
-use sym_model::{CoreUses, ListedMemory};
+use sym_model::ListedMemory;
 use sym_paths::{Path, PathEnd};
-
-/// What is kept of a path on which runs begin. Contracts see it as its pure data, by `entry_view`.
-#[derive(Debug, Drop)]
-pub struct Entry {
-    /// How many variables it has.
-    pub count: usize,
-    /// Its memory.
-    pub uses: CoreUses,
-}
 
 /// A specification that is found: of runs that end, or of runs that a bound cuts. Contracts see it as its pure data, by `found_view`.
 #[derive(Debug, Drop)]
@@ -50,21 +41,10 @@ pub type Founds = Sequence<Found>;
 pub enum Told {
     Found(Found),
     /// What the path says of this term can't be said in a specification: it is of a condition that names a symbol that the run took; or it
-    /// is a parameter that is named as the result, or a variable of the beginning that doesn't stand in the precondition.
+    /// is a parameter that is named as the result.
     Unsaid(Term),
     /// No specification is found from it: it drew, failed, missed a key, vanished or is unknown.
     Nothing,
-}
-
-/// What is kept of a path on which runs begin.
-pub fn entry_of<M: ListedMemory>(alloc: Global, start: &Path<M>) -> Result<Entry, AllocError>
-    ensures { IfOk result (λ e. IsEntryOf M.Local.memory M.stands M.terms M.kept (path_view start.now) (entry_view e)) }
-{
-    let uses = start.memory.listing(alloc)?;
-    Ok(Entry {
-        count: start.vars.len(),
-        uses,
-    })
 }
 
 /// Whether each variable from a number on is a new symbol.
@@ -81,30 +61,15 @@ fn are_new_symbols(vars: &VarTable, first: usize) -> bool
     true
 }
 
-/// The first variable of the beginning that isn't a parameter and doesn't stand in the precondition, if there is one.
-fn unnamed_out(params: usize, entry: &Entry, early: &Atoms) -> Option<usize>
-    ensures none { IfNone result ((k : ℕ) → params ≤ k → k < (entry_view entry.now).count
-        → IsTrue (list_any (λ u. list_any (names_number k) (u.ins ++ u.outs)) (entry_view entry.now).uses
-        || list_any (λ a. names_number k (term_of a)) (atoms_view early.now))) }
-    ensures some { IfSome result (λ number. number < (entry_view entry.now).count) }
-{
-    for number in params..entry.count {
-        if !stands_in(&entry.uses, early, number as u64) {
-            return Some(number);
-        }
-    }
-    None
-}
-
 /// Whether the path has new symbols behind the variables of the beginning, of which the first are the parameters. One that drew nothing
 /// has.
-fn grew_by_symbols<M>(proc: &Proc, entry: &Entry, path: &Path<M>) -> bool
-    ensures { IsTrue result ↔ HasGrown (proc_view proc.now) (entry_view entry.now) (path_view path.now) }
+fn grew_by_symbols<M>(proc: &Proc, beginning: &Beginning, path: &Path<M>) -> bool
+    ensures { IsTrue result ↔ HasGrown (proc_view proc.now) (entry_view beginning.now) (path_view path.now) }
 {
-    if entry.count < proc.params.len() || path.vars.len() < entry.count {
+    if beginning.vars.len() < proc.params.len() || path.vars.len() < beginning.vars.len() {
         return false;
     }
-    are_new_symbols(&path.vars, entry.count)
+    are_new_symbols(&path.vars, beginning.vars.len())
 }
 
 /// The variable of a table with a number.
@@ -121,19 +86,25 @@ fn variable_at(vars: &VarTable, number: usize) -> Term {
 fn specification<M>(
     alloc: Global,
     proc: &Proc,
-    entry: &Entry,
+    beginning: &Beginning,
     path: &Path<M>,
     early: &Atoms,
     posts: Assertions,
     errors: Assertions,
 ) -> Result<Spec, AllocError>
-    requires params_first { length (proc_view proc.now).params ≤ (entry_view entry.now).count }
-    requires count_within { (entry_view entry.now).count ≤ length (path_view path.now).vars }
-    requires early { atoms_view early.now ≡ early_conds (entry_view entry.now).count (path_view path.now).conds }
-    ensures { IfOk result (λ s. spec_view s ≡ spec_of (proc_view proc.now) (entry_view entry.now) (path_view path.now)
+    requires params_first { length (proc_view proc.now).params ≤ (entry_view beginning.now).count }
+    requires count_within { (entry_view beginning.now).count ≤ length (path_view path.now).vars }
+    requires early { atoms_view early.now ≡ early_conds (entry_view beginning.now).count (path_view path.now).conds }
+    ensures { IfOk result (λ s. spec_view s ≡ spec_of (proc_view proc.now) (entry_view beginning.now) (path_view path.now)
         (map assertion_view posts) (map assertion_view errors)) }
 {
-    let pre = precondition(alloc, &proc.params, entry.count, &entry.uses, early)?;
+    let pre = precondition(
+        alloc,
+        &proc.params,
+        beginning.vars.len(),
+        &beginning.uses,
+        early,
+    )?;
     Ok(Spec {
         name: proc.name.copy(alloc)?,
         params: any_parameters(alloc, &proc.params)?,
@@ -168,40 +139,40 @@ fn left_with<M: ListedMemory>(
 fn tell<M: ListedMemory>(
     alloc: Global,
     proc: &Proc,
-    entry: &Entry,
+    beginning: &Beginning,
     path: &Path<M>,
     end: &PathEnd,
     early: &Atoms,
     late: &Atoms,
 ) -> Result<Told, AllocError>
     requires ends { (path_view path.now).ending ≡ Some (end_view end.now) }
-    requires may { MayBeTold (proc_view proc.now) (entry_view entry.now) (path_view path.now) }
-    requires early { atoms_view early.now ≡ early_conds (entry_view entry.now).count (path_view path.now).conds }
-    requires late { atoms_view late.now ≡ late_conds (entry_view entry.now).count (path_view path.now).conds }
+    requires may { MayBeTold (proc_view proc.now) (entry_view beginning.now) (path_view path.now) }
+    requires early { atoms_view early.now ≡ early_conds (entry_view beginning.now).count (path_view path.now).conds }
+    requires late { atoms_view late.now ≡ late_conds (entry_view beginning.now).count (path_view path.now).conds }
     ensures found { IfOk result (λ told. IfTold told (IsTrulyTold M.Local.memory M.Local.actions M.stands M.terms M.asked M.depends M.plain
-        M.keeps_plain M.kept (proc_view proc.now) (entry_view entry.now) (path_view path.now))) }
+        M.keeps_plain M.kept (proc_view proc.now) (entry_view beginning.now) (path_view path.now))) }
     ensures cover { IfOk result (λ told. MatchTold told (IsMetAlong M.Local.memory M.Local.actions M.stands M.terms M.asked M.depends M.plain
-        M.keeps_plain M.kept (proc_view proc.now) (entry_view entry.now) (path_view path.now)) (TellsNothing M.Local.memory M.Local.actions M.stands
-        M.terms M.asked M.depends M.plain M.keeps_plain M.kept (proc_view proc.now) (entry_view entry.now) (path_view path.now))) }
+        M.keeps_plain M.kept (proc_view proc.now) (entry_view beginning.now) (path_view path.now)) (TellsNothing M.Local.memory M.Local.actions M.stands
+        M.terms M.asked M.depends M.plain M.keeps_plain M.kept (proc_view proc.now) (entry_view beginning.now) (path_view path.now))) }
     ensures said { IfOk result (λ told. ¬ IsUnsaid told) }
 {
     match end {
         PathEnd::Returned(term) => {
             let posts = left_with(alloc, proc, path, term, late)?;
             let errors = Sequence::new(alloc);
-            let spec = specification(alloc, proc, entry, path, early, posts, errors)?;
+            let spec = specification(alloc, proc, beginning, path, early, posts, errors)?;
             Ok(Told::Found(Found { spec, cut: false }))
         }
         PathEnd::Threw(term, _) => {
             let errors = left_with(alloc, proc, path, term, late)?;
             let posts = Sequence::new(alloc);
-            let spec = specification(alloc, proc, entry, path, early, posts, errors)?;
+            let spec = specification(alloc, proc, beginning, path, early, posts, errors)?;
             Ok(Told::Found(Found { spec, cut: false }))
         }
         PathEnd::Cut => {
             let posts = Sequence::new(alloc);
             let errors = Sequence::new(alloc);
-            let spec = specification(alloc, proc, entry, path, early, posts, errors)?;
+            let spec = specification(alloc, proc, beginning, path, early, posts, errors)?;
             Ok(Told::Found(Found { spec, cut: true }))
         }
         PathEnd::Failed(_, _)
@@ -211,22 +182,23 @@ fn tell<M: ListedMemory>(
     }
 }
 
-/// The specification that a path tells which returned, threw or was cut, and drew nothing. Its precondition has the memory with which the
-/// path began, and those of its conditions that name only what was there; its postcondition has the memory that it left, its result, and
-/// its conditions on new symbols. Each heap with which a run along the path begins meets the precondition. Where all of the path can be
-/// said, it isn't answered that something can't.
+/// The specification that a path tells which returned, threw or was cut, and drew nothing. Its precondition has the uses of the beginning
+/// of which the path came, and those of its conditions that name only what was there; its postcondition has the memory that it left, its
+/// result, and its conditions on new symbols. Each heap with which a run along the path begins meets the precondition. Where all of the
+/// path can be said, it isn't answered that something can't.
 pub fn specify<M: ListedMemory>(
     alloc: Global,
     proc: &Proc,
-    entry: &Entry,
+    beginning: &Beginning,
     path: &Path<M>,
 ) -> Result<Told, AllocError>
+    requires { IsBeginning M.Local.memory (proc_view proc.now).params (beginning_view beginning.now) }
     ensures found { IfOk result (λ told. IfTold told (IsTrulyTold M.Local.memory M.Local.actions M.stands M.terms M.asked M.depends M.plain
-        M.keeps_plain M.kept (proc_view proc.now) (entry_view entry.now) (path_view path.now))) }
+        M.keeps_plain M.kept (proc_view proc.now) (entry_view beginning.now) (path_view path.now))) }
     ensures cover { IfOk result (λ told. MatchTold told (IsMetAlong M.Local.memory M.Local.actions M.stands M.terms M.asked M.depends M.plain
-        M.keeps_plain M.kept (proc_view proc.now) (entry_view entry.now) (path_view path.now)) (TellsNothing M.Local.memory M.Local.actions M.stands
-        M.terms M.asked M.depends M.plain M.keeps_plain M.kept (proc_view proc.now) (entry_view entry.now) (path_view path.now))) }
-    ensures said { MayBeSaid (proc_view proc.now) (entry_view entry.now) (path_view path.now) → IfOk result (λ told. ¬ IsUnsaid told) }
+        M.keeps_plain M.kept (proc_view proc.now) (entry_view beginning.now) (path_view path.now)) (TellsNothing M.Local.memory M.Local.actions M.stands
+        M.terms M.asked M.depends M.plain M.keeps_plain M.kept (proc_view proc.now) (entry_view beginning.now) (path_view path.now))) }
+    ensures said { MayBeSaid (proc_view proc.now) (entry_view beginning.now) (path_view path.now) → IfOk result (λ told. ¬ IsUnsaid told) }
 {
     let Some(end) = &path.end else {
         return Ok(Told::Nothing);
@@ -237,16 +209,13 @@ pub fn specify<M: ListedMemory>(
     if let Some(number) = result_parameter(&proc.params) {
         return Ok(Told::Unsaid(variable_at(&path.vars, number)));
     }
-    if !grew_by_symbols(proc, entry, path) {
+    if !grew_by_symbols(proc, beginning, path) {
         return Ok(Told::Nothing);
     }
-    let early = early_conditions(alloc, path.conds.atoms(), entry.count)?;
-    if let Some(number) = unnamed_out(proc.params.len(), entry, &early) {
-        return Ok(Told::Unsaid(variable_at(&path.vars, number)));
-    }
-    let late = late_conditions(alloc, path.conds.atoms(), entry.count)?;
+    let early = early_conditions(alloc, path.conds.atoms(), beginning.vars.len())?;
+    let late = late_conditions(alloc, path.conds.atoms(), beginning.vars.len())?;
     if let Some(term) = first_unsaid(alloc, &late)? {
         return Ok(Told::Unsaid(term));
     }
-    tell(alloc, proc, entry, path, end, &early, &late)
+    tell(alloc, proc, beginning, path, end, &early, &late)
 }

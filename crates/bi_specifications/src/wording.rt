@@ -1,6 +1,5 @@
 //! The text of a specification.
-ghost use Rattle.std.specs.Prelude.{◌≡◌, ◌≤◌, ◌<◌, ◌-◌, [], ◌∷◌, ◌++◌, length, drop, map, false, IfNone, IfSome, IfOk};
-ghost use Rattle.std.specs.Str.{bytes_eq};
+ghost use Rattle.std.specs.Prelude.{◌≡◌, ◌≤◌, ◌<◌, ◌-◌, [], ◌∷◌, ◌++◌, length, drop, map, true, false, IfNone, IfSome, IfOk};
 ghost use Rattle.assertion_terms.specs.Named.{table_names, assertion_of as pure_assertion};
 ghost use Rattle.checked_runs.specs.Specifications.{result_name as pure_result_name};
 ghost use Rattle.gil_syntax.specs.Valid.{is_among};
@@ -34,7 +33,7 @@ fn result_name(alloc: Global) -> Result<Text, AllocError>
 /// The number of the first of these names that is that of the result, if one is.
 pub(crate) fn result_parameter(names: &Texts) -> Option<usize>
     ensures none { IfNone result (is_among names.now pure_result_name ≡ false) }
-    ensures some { IfSome result (λ number. number < length names.now) }
+    ensures some { IfSome result (λ number. (number < length names.now) × (is_among names.now pure_result_name ≡ true)) }
 {
     let names = names.as_slice();
     for number in 0..names.len() {

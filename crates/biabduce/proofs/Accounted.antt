@@ -33,7 +33,9 @@ use Rattle.sym_explore.specs.Exploring.{IsFrom, cut_off, IsEndedFrom}
 use Rattle.sym_explore.specs.Laws.{IsBeside}
 use Rattle.sym_explore.specs.Runs.{EndsAfter, StandsAfter, AccountsFor}
 use Rattle.sym_explore.proofs.Exploring.{accounts_first}
-use Rattle.sym_explore.proofs.Kept.{trails_keep, trails_replay}
+use Rattle.sym_explore.specs.Narrow.{IsAtNarrow, IsNarrowEndedFrom}
+use Rattle.sym_explore.proofs.Kept.{trails_keep, trails_may_end_before, trails_replay}
+use Rattle.sym_model.specs.Lists.{Each}
 use Rattle.sym_model.specs.Meaning.{key_value}
 use Rattle.sym_model.specs.Pure.{PureKey}
 use Rattle.sym_model.specs.Terms.{StateTerms}
@@ -42,12 +44,16 @@ use Rattle.sym_paths.specs.Meaning.{Stands, IsEnding, StandsForEnd}
 use Rattle.sym_paths.specs.Pure.{PureEnd, returned, failed, threw, missed, vanished, cut, unknown, PurePath}
 use Rattle.sym_paths.specs.Steps.{AreNext, IsNext, counter_after, draws_after, drawn_from, IsUnknown, IsInputFault}
 use Rattle.sym_paths.proofs.Beginning.{beginnings_stand}
+use Rattle.sym_paths.proofs.Silent.{stands_at}
 use Rattle.bi_beginnings.specs.Beginnings.{any_for_each, variables_from, PureBeginning, IsOpening, BeginsWith, Awaits}
 use Rattle.bi_beginnings.specs.Missing.{IsMissed}
 use Rattle.bi_specifications.specs.Specified.{PureEntry, IsTold, IsMarkedAs, IsExplored, IsMetAlong}
 use Rattle.bi_specifications.proofs.Grown.{ended_drew}
 use Rattle.biabduce.specs.Covering.{PureRun, IsToldEnd, IsWanted, IsCovered, IsProvided, CoversEnd}
+use Rattle.biabduce.specs.Narrowly.{IsNarrowEntry, numbers_at, IsNarrowLeft, StartsNarrowly, IsNarrowlyClosed}
+use Rattle.biabduce.specs.NarrowRuns.{RunsNarrowly, IsProvidedNarrowly, CoversNarrowEnd}
 use Rattle.biabduce.specs.Sound.{PureInference}
+use Rattle.biabduce.proofs.NarrowPaths.{Along, known_end, narrowly_closed}
 use Rattle.biabduce.proofs.Beside.{EndsWell, well_sound, step_over, none_missed, comes_beside, ends_beside, misses_beside, cut_beside}
 
 -- ---- no draw without inputs
@@ -246,26 +252,111 @@ module _ {S : Type 0} (p : PureParts) (memory : MemoryName) (m : Actions) (is_me
       by (inl (from, some)) = absurd (true≢false (sym (subst IsSome none some)))
       by (inr (last, (from, goes, steps, is))) = not_none (sym none ∙ ap (λ (x : PurePath S). x.ending) is)
 
+  -- what follows where the path is unknown, and where it missed a key
+  by_end : (P : Type 0) (o : Option PureEnd) → path.ending ≡ o → (IsUnknown o → P)
+      → ((key : PureKey) (place : Place) → o ≡ Some (missed key place) → IsMissed memory m q.params n b path.vars path.conds key r.args r.heap r.counter → P) → ¬ IsToldEnd o
+      → StandsAfter p m stands [] s0 start path v path.steps o ⊎ (IsUnknown o × Satisfies path.vars v path.conds) → P
+  by_end P (Some (unknown place reason)) is left miss isnt what = left tt
+  by_end P (Some (returned t)) is left miss isnt what = absurd (isnt tt)
+  by_end P (Some (threw t place)) is left miss isnt what = absurd (isnt tt)
+  by_end P (Some cut) is left miss isnt what = absurd (isnt tt)
+  by_end P (Some vanished) is left miss isnt (inl (s, (x, (after, stands_so)))) = never_vanished s x after stands_so
+  by_end P (Some vanished) is left miss isnt (inr (unknown_so, met)) = absurd unknown_so
+  by_end P (Some (failed t place)) is left miss isnt (inl (s, (x, (after, stands_so)))) = never_failed t place s x after stands_so
+  by_end P (Some (failed t place)) is left miss isnt (inr (unknown_so, met)) = absurd unknown_so
+  by_end P (Some (missed key place)) is left miss isnt (inl (s, (x, (after, stands_so)))) = miss key place refl (is_missed key place s x after stands_so)
+  by_end P (Some (missed key place)) is left miss isnt (inr (unknown_so, met)) = absurd unknown_so
+  by_end P None is left miss isnt what = has_end is
+
   module _ (i : PureInference) where
     abbrev Provided : Type 0
     Provided = IsProvided p memory m q n i r
 
-    by_end : (o : Option PureEnd) → path.ending ≡ o → CoversEnd p memory m q n b path.vars path.conds o i → ¬ IsToldEnd o
-        → StandsAfter p m stands [] s0 start path v path.steps o ⊎ (IsUnknown o × Satisfies path.vars v path.conds) → Provided
-    by_end (Some (unknown place reason)) is covers isnt what = inl covers
-    by_end (Some (returned t)) is covers isnt what = absurd (isnt tt)
-    by_end (Some (threw t place)) is covers isnt what = absurd (isnt tt)
-    by_end (Some cut) is covers isnt what = absurd (isnt tt)
-    by_end (Some vanished) is covers isnt (inl (s, (x, (after, stands_so)))) = never_vanished s x after stands_so
-    by_end (Some vanished) is covers isnt (inr (unknown_so, met)) = absurd unknown_so
-    by_end (Some (failed t place)) is covers isnt (inl (s, (x, (after, stands_so)))) = never_failed t place s x after stands_so
-    by_end (Some (failed t place)) is covers isnt (inr (unknown_so, met)) = absurd unknown_so
-    by_end (Some (missed key place)) is covers isnt (inl (s, (x, (after, stands_so)))) = covers r (is_missed key place s x after stands_so)
-    by_end (Some (missed key place)) is covers isnt (inr (unknown_so, met)) = absurd unknown_so
-    by_end None is covers isnt what = has_end is
+    unknown_covered : (o : Option PureEnd) → CoversEnd p memory m q n b path.vars path.conds o i → IsUnknown o → IsSome i.undecided
+    unknown_covered (Some (unknown place reason)) covers unknown_so = covers
+    unknown_covered (Some (returned t)) covers unknown_so = absurd unknown_so
+    unknown_covered (Some (threw t place)) covers unknown_so = absurd unknown_so
+    unknown_covered (Some cut) covers unknown_so = absurd unknown_so
+    unknown_covered (Some vanished) covers unknown_so = absurd unknown_so
+    unknown_covered (Some (failed t place)) covers unknown_so = absurd unknown_so
+    unknown_covered (Some (missed key place)) covers unknown_so = absurd unknown_so
+    unknown_covered None covers unknown_so = absurd unknown_so
 
     pub covered_by_end : CoversEnd p memory m q n b path.vars path.conds path.ending i → ¬ IsToldEnd path.ending → Provided
-    covered_by_end covers isnt = by_end path.ending refl covers isnt accounts.1.1
+    covered_by_end covers isnt =
+        by_end Provided path.ending refl (λ unknown_so. inl (unknown_covered path.ending covers unknown_so))
+        (λ key place is missed_so. subst (λ o. CoversEnd p memory m q n b path.vars path.conds o i) is covers r missed_so) isnt accounts.1.1
+
+  -- ---- narrow runs
+
+  met_always : Satisfies path.vars v path.conds
+  met_always = by path.ending refl accounts.1.1
+    where
+      by : (o : Option PureEnd) → path.ending ≡ o → StandsAfter p m stands [] s0 start path v path.steps o ⊎ (IsUnknown o × Satisfies path.vars v path.conds) → Satisfies path.vars v path.conds
+      by (Some how) is (inl (s, (x, (after, stands_so)))) = met_at how s x stands_so
+      by (Some how) is (inr (unknown_so, met)) = met
+      by None is what = has_end is
+
+  counted : (x : PurePath S) (from : IsFrom p m stands terms asked depends plain keeps_plain n start x) → length from.earlier ≤ n
+  counted x from =
+      let all : x.steps ≡ start.steps + length from.earlier = (trails_keep p m stands terms asked).steps start x from.earlier from.trail in
+      let below : x.steps ≤ n = from.within in
+      let none : start.steps ≡ 0 = no_steps in
+      omega (arith, all, below, none)
+
+  module _ (commands : RunsNarrowly p memory m q.name n r.args r.heap r.counter) where
+    -- each command on the way is one at which the run stands
+    on_the_way : (x : PurePath S) (earlier : List (PurePath S)) (w : List PureValue) → length earlier ≤ n → IsBeside p m stands terms asked [] a.values w s0 start earlier x → Satisfies x.vars w x.conds
+        → Each (IsAtNarrow p) earlier
+    on_the_way x [] w few beside_x met = tt
+    on_the_way x (before ∷ earlier) w few beside_x met =
+        let fewer : suc (length earlier) ≤ n = few in
+        let (u, (beside_before, met_before)) = trails_may_end_before p m stands terms asked [] a.values w s0 start before x earlier beside_x met in
+        let next = beside_x.trail.0 in
+        let after = (trails_replay p m stands terms asked).stands_after [] a.values u s0 start earlier before beside_before met_before (λ unknown_so. subst IsUnknown next.going unknown_so) in
+        let (s, at) = subst (StandsAfter p m stands [] s0 start before u (length earlier)) next.going after in
+        let (c, command) = next.at_command in
+        let (there, below) = comes_beside p memory m explored.well_made is_memory [] a.rest s0 stands_beside (length earlier) s at.comes_to in
+        let in_whole : reached p m [] (length earlier) (start_state p q.name r.args r.heap r.counter) ≡ Some (beside a.rest s) =
+        subst (λ h. reached p m [] (length earlier) (start_state p q.name r.args h r.counter) ≡ Some (beside a.rest s)) (sym a.union.union) there in (
+          (c, (command, commands (length earlier) (beside a.rest s) c (omega (arith, fewer)) in_whole (sym (stands_at p u before.stack s at.stands_for.frames) ∙ command))),
+          on_the_way before earlier u (omega (arith, fewer)) beside_before met_before,
+        )
+
+    module _ (few : n ≤ 10000) (left : IsNarrowLeft q n b) (starts : StartsNarrowly terms b start) where
+      abbrev EndedFrom : Type 0
+      EndedFrom = IsNarrowEndedFrom p m stands terms asked depends plain keeps_plain n start path
+
+      pub narrow_along : (ended : EndedFrom) → Along p memory m stands terms asked depends plain keeps_plain kept q b start explored.opening n few left starts path ended
+      narrow_along (inl (come, some)) = on_the_way path come.from.earlier v (counted path come.from) (is_beside come.from) met_always
+      narrow_along (inr (before, (come, goes, steps, is))) =
+          on_the_way before come.from.earlier v (counted before come.from)
+          (record {
+            trail = come.from.trail;
+            going = going;
+            over = explored.opening.over;
+            stands_for = stands_first;
+            follows = record {
+              new_vars = accounts.1.0.new_vars;
+              new_values = accounts.1.0.new_values;
+              vars = sym (ap (λ (x : PurePath S). x.vars) is) ∙ accounts.1.0.vars;
+              values = accounts.1.0.values;
+              in_turn = accounts.1.0.in_turn;
+            };
+          })
+          (subst (λ (x : PurePath S). Satisfies x.vars v x.conds) is met_always)
+
+      -- so what is left of the path is covered
+      pub covered_narrowly : (i : PureInference) (ended : EndedFrom) (entry : IsNarrowEntry memory q) → CoversNarrowEnd p memory m q n b path.vars path.conds path.ending i → ¬ IsToldEnd path.ending
+          → IsProvidedNarrowly p memory m q n i r
+      covered_narrowly i ended entry covers isnt =
+          let closed = narrowly_closed p memory m stands terms asked depends plain keeps_plain kept q b start explored.opening n few left starts path ended (narrow_along ended) entry no_draw in
+          by_end (IsProvidedNarrowly p memory m q n i r) path.ending refl
+          (λ unknown_so. absurd (known_end p memory m stands terms asked depends plain keeps_plain kept q b start explored.opening n few left starts path ended (narrow_along ended) unknown_so))
+          (λ key place is missed_so.
+          subst (λ o. CoversNarrowEnd p memory m q n b path.vars path.conds o i) is covers r left
+          (subst (IsNarrowlyClosed memory (numbers_at (length b.uses + 1)) b path.vars path.conds) is closed) missed_so)
+          isnt accounts.1.1
 
   -- ---- ends of which one is told
 

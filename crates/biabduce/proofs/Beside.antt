@@ -68,7 +68,7 @@ none_missed p m inputs s e is sound = by (miss_at p m s) refl
 
 -- ---- an action that misses a key and is done beside the rest
 
-miss_is : (o : PureOutcome) (q : Key) → missed_key o ≡ Some q → o ≡ miss q
+pub miss_is : (o : PureOutcome) (q : Key) → missed_key o ≡ Some q → o ≡ miss q
 miss_is (done v) q is = absurd (cc)
 miss_is (action_failed v) q is = absurd (cc)
 miss_is (miss k) q is = cc

@@ -1,9 +1,9 @@
--- Along paths of a simple program that begin bare nothing is left undecided, where the run misses no key.
-use Rattle.std.proofs.Common.{◌≡◌, ⊎_elim, inl, inr, ℕ, suc, ◌+◌, ◌<◌, ◌≤◌, ℤ, pos, neg_ℤ, List, [], ◌∷◌, ◌++◌, length, true, Option, Some, None, IsSome, IsTrue, refl, sym, ap, subst, ◌∙◌, true≢false, arith}
+-- Along paths of a simple program that begin bare nothing is left undecided.
+use Rattle.std.proofs.Common.{◌≡◌, ⊎_elim, inl, inr, ℕ, ◌+◌, ◌<◌, ◌≤◌, nat_lt, ℤ, pos, neg_ℤ, List, [], ◌∷◌, ◌++◌, length, true, Option, Some, None, IsSome, IsTrue, refl, sym, ap, subst, ◌∙◌, arith}
 use Rattle.std.specs.FinMap.{empty}
 use Rattle.std.specs.List.{list_all}
 use Rattle.std.specs.Option.{option_map, option_or}
-use Rattle.std.proofs.lemmas.Bool.{and_parts, and_from}
+use Rattle.std.proofs.lemmas.Bool.{and_parts, and_from, ltb-true}
 use Rattle.gil_values.specs.declared.places.Place.{Place}
 use Rattle.gil_values.specs.Pure.{PureValue}
 use Rattle.gil_values.specs.Symbols.{AreBelow}
@@ -11,15 +11,17 @@ use Rattle.gil_values.proofs.OperatorSymbols.{none_contained}
 use Rattle.gil_syntax.specs.Programs.{find_proc}
 use Rattle.gil_syntax.specs.Pure.{PureProc, PureParts, PureNumberedCommand}
 use Rattle.gil_syntax.specs.Simple.{is_simple_command}
-use Rattle.gil_machine.specs.Choices.{miss_at}
-use Rattle.gil_machine.specs.Run.{start as start_state}
+use Rattle.gil_syntax.specs.Valid.{is_among}
+use Rattle.gil_machine.specs.Run.{reached, start as start_state}
 use Rattle.gil_machine.specs.State.{State, End}
-use Rattle.gil_machine.specs.State as machine
 use Rattle.gil_machine.specs.Step.{command_of}
+use Rattle.gil_machine.proofs.Entries.{tests_start_proper}
+use Rattle.gil_machine.proofs.Proper.{starts_proper}
 use Rattle.mem_model.specs.declared.keys.MemoryName.{MemoryName}
-use Rattle.mem_model.specs.Actions.{Actions}
+use Rattle.mem_model.specs.Actions.{Actions, IsMemory}
 use Rattle.mem_model.specs.Heaps.{Heap}
-use Rattle.inferred_specs.specs.Inferred.{PureFound}
+use Rattle.checked_runs.specs.Specifications.{result_name}
+use Rattle.checked_runs.proofs.Runs.{reached_proper}
 use Rattle.fresh_atoms.proofs.Atoms.{fresh_atoms_are_constant}
 use Rattle.pure_terms.specs.declared.queries.Query.{Query}
 use Rattle.pure_terms.specs.declared.variables.Sort.{Sort}
@@ -31,23 +33,24 @@ use Rattle.pure_terms.specs.Pure.{PureTerm, PureAtom, term_of, variables}
 use Rattle.pure_terms.specs.View.{atoms_view}
 use Rattle.pure_terms.proofs.VariableLaws.{stay_when_tables_grow}
 use Rattle.sym_evaluation.specs.Meaning.{HaveValues}
-use Rattle.sym_explore.specs.Exploring.{IsFrom, cut_off, IsEndedFrom}
+use Rattle.sym_explore.specs.Exploring.{IsFrom, IsEndedFrom}
 use Rattle.sym_explore.specs.Laws.{IsBeside}
 use Rattle.sym_explore.specs.Plain.{IsAtSimple, grown}
 use Rattle.sym_explore.specs.Runs.{EndsAfter, StandsAfter}
 use Rattle.sym_explore.specs.Trails.{IsTrail}
 use Rattle.sym_explore.proofs.Kept.{trails_keep, trails_replay}
 use Rattle.sym_explore.proofs.Plain.{trails_stay_plain}
-use Rattle.sym_model.specs.Laws.{IsDecidedWithin}
+use Rattle.sym_model.specs.Laws.{IsPlainWithin, IsDecidedWithin}
 use Rattle.sym_model.specs.Lists.{Each}
 use Rattle.sym_model.specs.Pure.{PureKey}
-use Rattle.sym_model.specs.Terms.{StateTerms}
+use Rattle.sym_model.specs.Terms.{StateTerms, AreEachOver}
 use Rattle.sym_model.proofs.ListLaws.{same_some, not_none, each_to, each_append, each_left, each_right}
-use Rattle.sym_paths.specs.Meaning.{Stands, StandsForEnd, command_of_frames, command_of_path}
+use Rattle.sym_paths.specs.Meaning.{Stands, command_of_frames, end_terms}
 use Rattle.sym_paths.specs.Pure.{PureFrame, PureEnd, returned, failed, threw, missed, vanished, cut, unknown, PurePath}
 use Rattle.sym_paths.specs.Steps.{IsUnknown, IsPlainPath, narrow_bound}
 use Rattle.sym_paths.proofs.Beginning.{beginnings_stand}
 use Rattle.bi_beginnings.specs.Beginnings.{any_for_each, variables_from, first_beginning, PureBeginning, IsBare, BeginsBare}
+use Rattle.bi_beginnings.specs.Fixing.{IsKeyAtNewSymbol}
 use Rattle.bi_beginnings.proofs.Params.{all_at, proc_at}
 use Rattle.bi_specifications.specs.Shape.{MayBeSaid}
 use Rattle.bi_specifications.specs.Specified.{PureEntry, IsExplored}
@@ -55,8 +58,10 @@ use Rattle.bi_specifications.proofs.Grown.{IsGrown, ended_grown, ended_drew, all
 use Rattle.bi_specifications.proofs.RunsAlong.{symbols_from}
 use Rattle.bi_specifications.proofs.Saying.{names_fresh}
 use Rattle.bi_specifications.proofs.Valuing.{symbols_are_next, symbols_proper, all_below}
-use Rattle.biabduce.specs.Decided.{IsDecidable, IsDecided, IsLeftOpen}
+use Rattle.biabduce.specs.Decided.{IsDecidable, IsDecided, IsClosed}
+use Rattle.biabduce.specs.Narrowly.{LeavesAlone}
 use Rattle.biabduce.specs.Sound.{PureInference}
+use Rattle.biabduce.proofs.Missed.{at_new_symbol, missed_own}
 
 -- ---- no value
 
@@ -76,11 +81,19 @@ module _ (vars : List Sort) (fresh : list_all (same_sort Sort.Fresh) vars ≡ tr
   same_without : (a : PureAtom) (u : List PureValue) → variables (term_of a) ≡ [] → truth u a ≡ truth [] a
   same_without a u none = stay_when_tables_grow.truths a [] [] u (subst (AreVariablesOf []) (sym none) (λ x has. absurd (none_contained x has))) refl
 
+  -- no variable has a number below 0
+  none_early : (xs : List Var) → list_all (λ (x : Var). nat_lt x.number 0) xs ≡ true → xs ≡ []
+  none_early [] early = refl
+  none_early (x ∷ xs) early =
+      let less : x.number < 0 = ltb-true x.number 0 (and_parts (nat_lt x.number 0) (list_all (λ (y : Var). nat_lt y.number 0) xs) early).0 in
+      absurd (omega (arith, less))
+
   -- each has one truth
   same_truth : (a : PureAtom) → IsOver vars (term_of a) → has_fragment_form a ≡ true → truth v a ≡ truth w a
   same_truth a over form =
-      ⊎_elim (λ names. fresh_atoms_are_constant [] vars a v w refl fresh over form names proper other) (λ none. same_without a v none ∙ sym (same_without a w none))
-      (names_fresh vars fresh (term_of a) over)
+      ⊎_elim (λ names. fresh_atoms_are_constant [] vars a v w refl fresh over form names proper other)
+      (λ early. let none = none_early (variables (term_of a)) early in same_without a v none ∙ sym (same_without a w none))
+      (names_fresh vars 0 fresh (term_of a) over)
 
   all_so : (conds : List PureAtom) → Each (λ a. IsOver vars (term_of a)) conds → Each (λ a. IsTrue (has_fragment_form a)) conds → all_true w conds ≡ true → all_true v conds ≡ true
   all_so [] over forms all = refl
@@ -114,7 +127,7 @@ module _ (p : PureParts) (simple : list_all (λ q. list_all (λ c. is_simple_com
 module _ {S : Type 0} (p : PureParts) (memory : MemoryName) (m : Actions) (stands : S → List PureValue → Heap → Type 0) (terms : S → StateTerms)
     (asked : List ℕ → List PureTerm → List PureTerm × List PureTerm) (depends : S → List ℕ → List PureTerm → List PureValue → Heap → PureTerm → Type 0) (plain : S → ℤ → ℤ → Type 0) (keeps_plain : Type 0)
     (kept : S → Type 0) (q : PureProc) (e : PureEntry) (path : PurePath S) (n : ℕ) (explored : IsExplored memory m stands terms asked depends plain keeps_plain kept q e path p n)
-    (decidable : IsDecidable keeps_plain p m q.name n) (few : n ≤ 10000) (bare : BeginsBare stands plain explored.start) where
+    (decidable : IsDecidable keeps_plain p memory m q.name) (few : n ≤ 10000) (bare : BeginsBare stands plain explored.start) where
   abbrev start : PurePath S
   start = explored.start
 
@@ -181,9 +194,7 @@ module _ {S : Type 0} (p : PureParts) (memory : MemoryName) (m : Actions) (stand
 
     pub may_be_said : MayBeSaid q e path
     may_be_said = record {
-      no_parameter = no_params;
-      no_variable = explored.entry.count ∙ ap length bare.no_variable;
-      new_symbols = new_symbols;
+      no_result = ap (λ xs. is_among xs result_name) no_params;
       over = has_grown.over.conds;
       forms = all_forms;
     }
@@ -230,41 +241,41 @@ module _ {S : Type 0} (p : PureParts) (memory : MemoryName) (m : Actions) (stand
       after : StandsAfter p m stands [] s0 start path symbols (length from.earlier) path.ending
       after = (trails_replay p m stands terms asked).stands_after [] [] symbols s0 start from.earlier path beside symbols_meet known_end
 
-      not_missed_at : (key : PureKey) (place : Place) (s : State) (x : End) → EndsAfter p m [] s0 (length from.earlier) s x → StandsForEnd p m stands path symbols s (missed key place) x → ⊥
-      not_missed_at key place s x (inl (k, (steps, at, last))) is =
-          let (missing, (named, misses, ends_so)) = is.ending in
-          let within : length from.earlier ≤ n = counted path from in
-          let less : k < n = omega (arith, steps, within) in
-          not_none (sym (decidable.no_miss k s less at) ∙ misses)
-      not_missed_at key place s x (inr (at, is_end)) is =
-          let (missing, (named, misses, ends_so)) = is.ending in
-          let no : machine.failed _ _ ≡ machine.cut = sym ends_so ∙ ap (λ (y : End). y.ending) is_end in
-          cc
+      come_to : (s : State) (x : End) → EndsAfter p m [] s0 (length from.earlier) s x → (k : ℕ) × (reached p m [] k s0 ≡ Some s)
+      come_to s x (inl (k, (steps, at, last))) = (k, at)
+      come_to s x (inr (at, is_end)) = (length from.earlier, at)
 
-      not_missed_along : (key : PureKey) (place : Place) → path.ending ≡ Some (missed key place) → ⊥
-      not_missed_along key place is =
+      -- a key that the path missed is at a symbol that the run took
+      missed_along : IsMemory memory m → (key : PureKey) (place : Place) → path.ending ≡ Some (missed key place) → IsKeyAtNewSymbol memory path.vars key
+      missed_along is_memory key place is =
           let (s, (x, (ends, stands_so))) = subst (StandsAfter p m stands [] s0 start path symbols (length from.earlier)) is after in
-          not_missed_at key place s x ends stands_so
+          let (missing, (named, misses, ends_so)) = stands_so.ending in
+          let (k, at) = come_to s x ends in
+          let plain_terms = subst (λ o. Each (IsPlainWithin (neg_ℤ (pos (grown (length from.earlier) 0))) (pos (grown (length from.earlier) 0))) (end_terms o)) is (is_plain path from).ending in
+          let over_terms = subst (λ o. AreEachOver path.vars (end_terms o)) is has_grown.over.ending in
+          let first_proper = starts_proper p memory q.name [] empty 0 (tests_start_proper p memory q.name q explored.found no_params) in
+          let proper = reached_proper p m [] memory explored.well_made is_memory k s0 s first_proper at in
+          at_new_symbol path.vars new_symbols symbols memory key missing plain_terms.0.0 over_terms.0 named (missed_own memory m decidable.own_keys p s proper missing explored.well_made misses)
 
-    not_missed : (key : PureKey) (place : Place) → path.ending ≡ Some (missed key place) → ⊥
-    not_missed key place is = by explored.ended
+    missed_there : IsMemory memory m → (key : PureKey) (place : Place) → path.ending ≡ Some (missed key place) → IsKeyAtNewSymbol memory path.vars key
+    missed_there is_memory key place is = by explored.ended
       where
-        by : IsEndedFrom p m stands terms asked depends plain keeps_plain n start path → ⊥
-        by (inl (from, some)) = not_missed_along from key place is
-        by (inr (last, (from, goes, steps, is_cut))) = let no : Some cut ≡ Some (missed key place) = sym (ap (λ (x : PurePath S). x.ending) is_cut) ∙ is in cc
+        by : IsEndedFrom p m stands terms asked depends plain keeps_plain n start path → IsKeyAtNewSymbol memory path.vars key
+        by (inl (from, some)) = missed_along from is_memory key place is
+        by (inr (last, (from, goes, steps, is_cut))) = let no : Some cut ≡ Some (missed key place) = sym (ap (λ (x : PurePath S). x.ending) is_cut) ∙ is in absurd (cc)
 
-    pub not_left_open : ¬ IsLeftOpen path.ending
-    not_left_open = by path.ending refl
+    pub closed : IsMemory memory m → IsClosed memory path.vars path.ending
+    closed is_memory = by path.ending refl
       where
-        by : (o : Option PureEnd) → path.ending ≡ o → ¬ IsLeftOpen o
-        by (Some (missed key place)) is open_so = not_missed key place is
-        by (Some (unknown place reason)) is open_so = known_end (subst IsUnknown (sym is) tt)
-        by (Some (returned t)) is open_so = open_so
-        by (Some (failed t place)) is open_so = open_so
-        by (Some (threw t place)) is open_so = open_so
-        by (Some vanished) is open_so = open_so
-        by (Some cut) is open_so = open_so
-        by None is open_so = open_so
+        by : (o : Option PureEnd) → path.ending ≡ o → IsClosed memory path.vars o
+        by (Some (missed key place)) is = missed_there is_memory key place is
+        by (Some (unknown place reason)) is = absurd (known_end (subst IsUnknown (sym is) tt))
+        by (Some (returned t)) is = tt
+        by (Some (failed t place)) is = tt
+        by (Some (threw t place)) is = tt
+        by (Some vanished) is = tt
+        by (Some cut) is = tt
+        by None is = tt
 
 -- ---- inference under way
 
@@ -272,10 +283,15 @@ pub first_decided : (q : PureProc) (i : PureInference) → q.params ≡ [] → i
 first_decided q i none is =
     subst IsDecided (sym is) (record { left = (record { no_variable = ap any_for_each none; no_use = refl; no_condition = refl }, tt); decided = refl })
 
-pub found_decided : (i j : PureInference) (found : PureFound) → j ≡ record i { founds = i.founds ++ found ∷ [] } → IsDecided i → IsDecided j
-found_decided i j found is decided = subst IsDecided (sym is) (record { left = decided.left; decided = decided.decided })
+pub alone_decided : (i j : PureInference) → LeavesAlone i j → IsDecided i → IsDecided j
+alone_decided i j alone decided = record { left = subst (Each IsBare) (sym alone.left) decided.left; decided = alone.undecided ∙ decided.decided }
 
-none_of : (o : Option Query) → ¬ (IsSome o) → option_map (λ (x : Query). atoms_view x.query) o ≡ None
+-- nothing was begun
+pub begun_decided : (i j : PureInference) (more : List PureBeginning) → j ≡ record i { left = i.left ++ more } → more ≡ [] → IsDecided i → IsDecided j
+begun_decided i j more is none decided =
+    subst IsDecided (sym is) (record { left = each_append IsBare i.left more decided.left (subst (Each IsBare) (sym none) tt); decided = decided.decided })
+
+pub none_of : (o : Option Query) → ¬ (IsSome o) → option_map (λ (x : Query). atoms_view x.query) o ≡ None
 none_of None none = refl
 none_of (Some x) none = absurd (none refl)
 

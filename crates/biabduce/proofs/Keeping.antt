@@ -1,18 +1,24 @@
 -- What inference keeps as it goes on.
-use Rattle.std.proofs.Common.{◌≡◌, ℕ, List, [], ◌∷◌, ◌++◌, map, Option, Some, None, Result, Ok, Err, OnOk, IfSome, refl, sym, subst}
+use Rattle.std.proofs.Common.{◌≡◌, ℕ, length, List, [], ◌∷◌, ◌++◌, map, Option, Some, None, Result, Ok, Err, OnOk, IfSome, refl, sym, ap, subst}
 use Rattle.std.specs.Option.{option_map, option_or}
 use Rattle.std.proofs.lemmas.List.{append-nil}
+use Rattle.gil_values.specs.Pure.{PureValue}
 use Rattle.gil_syntax.specs.Pure.{PureProc, PureParts}
 use Rattle.mem_model.specs.declared.keys.MemoryName.{MemoryName}
 use Rattle.mem_model.specs.Actions.{Actions}
+use Rattle.mem_model.specs.Heaps.{Heap}
 use Rattle.pure_terms.specs.declared.queries.Query.{Query}
 use Rattle.pure_terms.specs.Fragment.{InFragment}
 use Rattle.pure_terms.specs.Pure.{PureAtom}
 use Rattle.pure_terms.specs.View.{atoms_view}
+use Rattle.sym_model.specs.Cores.{TakesBoth}
 use Rattle.sym_model.specs.Lists.{Each}
+use Rattle.sym_model.specs.Terms.{AreEachOver}
 use Rattle.sym_model.proofs.ListLaws.{each_append}
-use Rattle.bi_beginnings.specs.Beginnings.{any_for_each, first_beginning, PureBeginning, IsBeginning}
-use Rattle.bi_specifications.specs.Specified.{IsTrulyFound}
+use Rattle.sym_paths.specs.Pure.{PurePath}
+use Rattle.bi_beginnings.specs.Beginnings.{any_for_each, first_beginning, PureBeginning, IsBeginning, BeginsExactly}
+use Rattle.bi_beginnings.proofs.Tables.{first_named}
+use Rattle.bi_specifications.specs.Specified.{IsTrulyFound, IsEntryOf}
 use Rattle.inferred_specs.specs.Inferred.{PureFound}
 use Rattle.biabduce.specs.Sound.{PureInference, IsSound, first_list}
 
@@ -43,6 +49,7 @@ module _ (p : PureParts) (memory : MemoryName) (m : Actions) (q : PureProc) (n :
     table = record { others = []; table = sym (append-nil (any_for_each q.params)); sorts = refl };
     uses = tt;
     conds = tt;
+    named = first_named q.params [];
   }
 
   pub first_sound : IsSound p memory m q n (record { left = first_beginning q ∷ []; founds = []; undecided = None })
@@ -119,3 +126,16 @@ module _ (p : PureParts) (memory : MemoryName) (m : Actions) (q : PureProc) (n :
     founds = sound.founds;
     undecided = any_outside i.undecided (option_map (λ (x : Query). atoms_view x.query) o) sound.undecided (seen_outside o outside);
   })
+
+-- ---- where paths begin
+
+-- what is told of where a path of a beginning begins
+pub entry_of_uses : {S : Type 0} (memory : MemoryName) (stands : S → List PureValue → Heap → Type 0) (params : List (List ℕ)) (b : PureBeginning) (start : PurePath S) → IsBeginning memory params b → BeginsExactly stands b start
+    → IsEntryOf memory stands params start (record { count = length b.vars; uses = b.uses })
+entry_of_uses memory stands params b start is exact = record {
+  count = sym (ap length exact.table);
+  uses = subst (λ xs. Each (λ u. TakesBoth memory u.core u.ins u.outs × AreEachOver xs (u.ins ++ u.outs)) b.uses) (sym exact.table) is.uses;
+  named = is.named;
+  lists = exact.lists;
+  back = exact.back;
+}

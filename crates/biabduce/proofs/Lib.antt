@@ -2,5 +2,8 @@ pub mod Accounted
 pub mod Beside
 pub mod Decided
 pub mod Keeping
+pub mod Missed
+pub mod NarrowPaths
 pub mod Outside
 pub mod Providing
+pub mod ProvidingNarrowly

@@ -46,7 +46,7 @@ module _ (p : PureParts) (memory : MemoryName) (m : Actions) (q : PureProc) (n :
     met = some.met;
   }
 
-  still_covered : (founds more : List PureFound) (r : PureRun) → IsCovered p memory m q n founds r → IsCovered p memory m q n (founds ++ more) r
+  pub still_covered : (founds more : List PureFound) (r : PureRun) → IsCovered p memory m q n founds r → IsCovered p memory m q n (founds ++ more) r
   still_covered founds more r covered = record {
     finished = λ finishes. still_met founds more false r.args r.heap (covered.finished finishes);
     cut_off = λ off. still_met founds more true r.args r.heap (covered.cut_off off);
@@ -125,7 +125,7 @@ module _ (p : PureParts) (memory : MemoryName) (m : Actions) (q : PureProc) (n :
   any_sort (x ∷ params) zero s at = sym (same_some at)
   any_sort (x ∷ params) (suc i) s at = any_sort params i s at
 
-  first_awaits : (found : find_proc p.procs q.name ≡ Some q) (r : PureRun) → IsWanted p memory m q n r → length (entries r.heap) ≤ n → IsAwaited p memory m q n r (first_beginning q)
+  pub first_awaits : (found : find_proc p.procs q.name ≡ Some q) (r : PureRun) → IsWanted p memory m q n r → length (entries r.heap) ≤ n → IsAwaited p memory m q n r (first_beginning q)
   first_awaits found r wanted few =
       let same : wanted.proper.procedure.0 ≡ q = same_some (sym wanted.proper.procedure.1.0 ∙ found) in
       let many : length q.params ≡ length r.args = ap (λ (x : PureProc). length x.params) (sym same) ∙ wanted.proper.procedure.1.1 in
@@ -183,7 +183,7 @@ module _ (p : PureParts) (memory : MemoryName) (m : Actions) (q : PureProc) (n :
 
   -- ---- the sentence
 
-  part_proper : (args : List PureValue) (h part : Heap) (counter : ℕ) → IsProperStart p memory q.name args h counter → IsPartOf part h → IsProperStart p memory q.name args part counter
+  pub part_proper : (args : List PureValue) (h part : Heap) (counter : ℕ) → IsProperStart p memory q.name args h counter → IsPartOf part h → IsProperStart p memory q.name args part counter
   part_proper args h part counter proper is = record {
     procedure = proper.procedure;
     heap = parts_are_heaps memory part h is proper.heap;
@@ -191,7 +191,7 @@ module _ (p : PureParts) (memory : MemoryName) (m : Actions) (q : PureProc) (n :
     heap_below = λ k w holds. proper.heap_below k w (is k w holds);
   }
 
-  met_in_whole : (founds : List PureFound) (is_cut : Bool) (args : List PureValue) (part h : Heap) → IsPartOf part h → SomeIsMet p memory m q.name founds is_cut args part → SomeIsMet p memory m q.name founds is_cut args h
+  pub met_in_whole : (founds : List PureFound) (is_cut : Bool) (args : List PureValue) (part h : Heap) → IsPartOf part h → SomeIsMet p memory m q.name founds is_cut args part → SomeIsMet p memory m q.name founds is_cut args h
   met_in_whole founds is_cut args part h is some = record {
     number = some.number;
     found = some.found;

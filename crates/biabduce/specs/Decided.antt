@@ -1,28 +1,24 @@
 -- Where inference leaves nothing undecided.
-use Rattle.std.specs.Prelude.{◌≡◌, ℕ, ◌<◌, [], List, Option, Some, None, IsTrue, ⊤}
-use Rattle.std.specs.FinMap.{empty}
+use Rattle.std.specs.Prelude.{◌≡◌, ℕ, List, Option, Some, None, IsTrue, ⊤}
 use Rattle.gil_syntax.specs.Pure.{PureParts}
 use Rattle.gil_syntax.specs.Simple.{is_simple}
-use Rattle.gil_machine.specs.Choices.{miss_at}
-use Rattle.gil_machine.specs.Run.{reached, start, IsEntry}
-use Rattle.gil_machine.specs.State.{State}
-use Rattle.mem_model.specs.Actions.{Actions}
+use Rattle.gil_machine.specs.Run.{IsEntry}
+use Rattle.mem_model.specs.declared.keys.MemoryName.{MemoryName}
+use Rattle.mem_model.specs.Actions.{Actions, MissesWhatLacks}
+use Rattle.pure_terms.specs.declared.variables.Sort.{Sort}
 use Rattle.sym_model.specs.Lists.{Each}
 use Rattle.sym_paths.specs.Pure.{PureEnd, returned, failed, threw, missed, vanished, cut, unknown}
 use Rattle.bi_beginnings.specs.Beginnings.{IsBare}
+use Rattle.bi_beginnings.specs.Fixing.{IsKeyAtNewSymbol}
 use Rattle.biabduce.specs.Sound.{PureInference}
 
--- in its first n steps the run of the procedure from the empty heap, on no inputs, misses no key
-abbrev pub MissesNothing : PureParts → Actions → List ℕ → ℕ → Type 0
-MissesNothing p m f n = (k : ℕ) (s : State) → k < n → reached p m [] k (start p f [] empty 0) ≡ Some s → miss_at p m s ≡ None
-
--- Nothing needs to be left undecided of a procedure without parameters: the memory keeps the law of plain memories, each command of the
--- program is of simple form, and the run of the procedure misses no key.
-pub record IsDecidable (keeps_plain : Type 0) (p : PureParts) (m : Actions) (f : List ℕ) (n : ℕ) : Type 0 where
+-- Nothing needs to be left undecided of a procedure without parameters: the memory keeps the law of plain memories, and misses only keys of
+-- its own that the heap lacks; and each command of the program is of simple form.
+pub record IsDecidable (keeps_plain : Type 0) (p : PureParts) (memory : MemoryName) (m : Actions) (f : List ℕ) : Type 0 where
   pub plain : keeps_plain
+  pub own_keys : MissesWhatLacks memory m
   pub simple : IsTrue (is_simple p)
   pub entry : IsEntry p f
-  pub no_miss : MissesNothing p m f n
 
 -- nothing was left undecided, and the beginnings that are left are bare
 pub record IsDecided (i : PureInference) : Type 0 where
@@ -32,13 +28,13 @@ pub record IsDecided (i : PureInference) : Type 0 where
 abbrev pub StaysDecided : PureInference → PureInference → Type 0
 StaysDecided i j = IsDecided i → IsDecided j
 
--- the path missed a key, or isn't decided
-abbrev pub IsLeftOpen : Option PureEnd → Type 0
-IsLeftOpen (Some (missed key place)) = ⊤
-IsLeftOpen (Some (unknown place reason)) = ⊤
-IsLeftOpen (Some (returned t)) = ⊥
-IsLeftOpen (Some (failed t place)) = ⊥
-IsLeftOpen (Some (threw t place)) = ⊥
-IsLeftOpen (Some vanished) = ⊥
-IsLeftOpen (Some cut) = ⊥
-IsLeftOpen None = ⊥
+-- the path is decided, and where it missed a key, that one is at a symbol that the run took
+abbrev pub IsClosed : MemoryName → List Sort → Option PureEnd → Type 0
+IsClosed memory vars (Some (missed key place)) = IsKeyAtNewSymbol memory vars key
+IsClosed memory vars (Some (unknown place reason)) = ⊥
+IsClosed memory vars (Some (returned t)) = ⊤
+IsClosed memory vars (Some (failed t place)) = ⊤
+IsClosed memory vars (Some (threw t place)) = ⊤
+IsClosed memory vars (Some vanished) = ⊤
+IsClosed memory vars (Some cut) = ⊤
+IsClosed memory vars None = ⊤

@@ -1,4 +1,6 @@
 pub mod Covering
 pub mod Decided
+pub mod Narrowly
+pub mod NarrowRuns
 pub mod Sound
 pub mod View

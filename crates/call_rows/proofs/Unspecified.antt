@@ -21,8 +21,10 @@ use Rattle.sym_paths.specs.Origins.{HandsOver, GoesOnFrom, Follows}
 use Rattle.sym_paths.specs.Pure.{PureEnd, PurePath}
 use Rattle.sym_states.specs.Pure.{PureFact}
 use Rattle.checked_paths.specs.Following.{IsAnswered, OfGoing}
+use Rattle.checked_paths.specs.Plainly.{OfNext}
 use Rattle.checked_paths.specs.Pure.{PureEntry, PurePassed, PureNext, further, over, caused}
 use Rattle.checked_paths.proofs.Going.{answer_goes}
+use Rattle.checked_paths.proofs.Plainness.{IsSurePath, answer_sure}
 use Rattle.call_rows.specs.Calling.{spec_there, called_by, name_of, CallsUnspecified, IsUnspecified, AnswersNext, IsCalled, EachIsCalled}
 use Rattle.call_rows.proofs.GatheringLaws.{each_gathered}
 
@@ -68,6 +70,23 @@ module _ {S : Type 0} (p : PureParts) (memory : MemoryName) (stands : S → List
 
   pub calls_go : (nexts : List (PurePath S)) (ks : List (PureNext S)) → EachIsCalled p memory stands terms kept e here facts passed nexts ks → Each (λ next. IsUnspecified p next × P next) nexts → Each (OfGoing P) ks
   calls_go nexts ks are holds = each_gathered (IsCalled p memory stands terms kept e here facts passed) (λ next. IsUnspecified p next × P next) (OfGoing P) nexts ks are one_goes holds
+
+  -- the same of paths that are plain, and of causes that are sure
+  one_sure : (next : PurePath S) (ks : List (PureNext S)) → IsCalled p memory stands terms kept e here facts passed next ks → IsUnspecified p next × IsSurePath P next → Each (OfNext P) ks
+  one_sure next ks (k, (answer, shows, answers)) (none, sure) =
+      by k (answer_sure P here stands terms facts passed next k answer shows sure) (subst (λ (o : Option PureSpec). AnswersNext p memory stands terms kept e here o k ks) none answers)
+    where
+      by : (k : PureNext S) → OfNext P k → AnswersNext p memory stands terms kept e here None k ks → Each (OfNext P) ks
+      by (further y) holds is = subst (Each (OfNext P)) (sym is) (holds, tt)
+      by over holds is = subst (Each (OfNext P)) (sym is) (tt, tt)
+      by (caused cause) holds is = subst (Each (OfNext P)) (sym is) (holds, tt)
+
+  pub calls_sure : (nexts : List (PurePath S)) (ks : List (PureNext S)) → EachIsCalled p memory stands terms kept e here facts passed nexts ks → Each (λ next. IsUnspecified p next × IsSurePath P next) nexts → Each (OfNext P) ks
+  calls_sure nexts ks are holds = each_gathered (IsCalled p memory stands terms kept e here facts passed) (λ next. IsUnspecified p next × IsSurePath P next) (OfNext P) nexts ks are one_sure holds
+
+pub each_both : {A : Type 0} (P Q : A → Type 0) (xs : List A) → Each P xs → Each Q xs → Each (λ x. P x × Q x) xs
+each_both P Q [] first second = tt
+each_both P Q (x ∷ xs) first second = ((first.0, second.0), each_both P Q xs first.1 second.1)
 
 -- ---- names
 

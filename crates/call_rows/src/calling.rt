@@ -5,6 +5,7 @@ ghost use Rattle.assert_logic.specs.Modes.{HasModes};
 ghost use Rattle.call_rows.specs.Calling.{AnswersFurther, AreNamed, CallsUnspecified, EachIsCalled, IsSpecOf, IsUnspecified, IsAtCall, IsCall, IsCalled, IsNextOver, called_by, name_of, spec_there};
 ghost use Rattle.checked_paths.specs.Following.{OfGoing};
 ghost use Rattle.checked_paths.specs.Meaning.{IsCheckedOver};
+ghost use Rattle.checked_paths.specs.Plainly.{LeadsPlainly};
 ghost use Rattle.checked_paths.specs.View.{checking_view, entry_view, next_view, nexts_view, passed_by_view};
 ghost use Rattle.checked_rows.specs.Rows.{AreRowOf, IsExactRowOf};
 ghost use Rattle.gil_program.specs.Program.{prog_view};
@@ -204,6 +205,8 @@ pub fn call_row<M: ListedMemory, D: Decider>(
     requires at { IsAtCall (prog_view prog.now) (path_view checking.path) }
     ensures unspecified { CallsUnspecified (prog_view prog.now) (path_view checking.path) → IfOk result (λ s. (s.uses ≡ [])
         × Each (OfGoing (Follows (prog_view prog.now) M.Local.actions M.terms (path_view checking.path))) (nexts_view s.nexts)) }
+    ensures plain { M.keeps_plain → CallsUnspecified (prog_view prog.now) (path_view checking.path)
+        → IfOk result (λ s. LeadsPlainly (prog_view prog.now) M.plain (path_view checking.path) (nexts_view s.nexts)) }
     ensures next { IfOk result (λ s. (command : PureCommand) → IsCall command → AreRowOf (prog_view prog.now) M.Local.memory M.Local.actions
         M.stands M.terms (entry_view spec.now entered.now) (checking_view checking) command s.uses (nexts_view s.nexts)) }
     ensures exact { IfOk result (λ s. (command : PureCommand) → IsCall command → IsExactRowOf (prog_view prog.now) M.Local.memory

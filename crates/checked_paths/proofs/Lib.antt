@@ -9,3 +9,4 @@ pub mod Accounting
 pub mod Above
 pub mod Machine
 pub mod Exact
+pub mod Plainness

@@ -1,3 +1,4 @@
+pub mod Plainly
 pub mod Pure
 pub mod Meaning
 pub mod Covering

@@ -6,6 +6,7 @@ ghost use Rattle.checked_paths.specs.Covering.{AreNexts};
 ghost use Rattle.checked_paths.specs.Exactness.{AddsOnly, AreExact};
 ghost use Rattle.checked_paths.specs.Following.{EachIsAnswered, IsAnswered, IsStop, IsAtMachineCommand, OfGoing, StaysInFrame};
 ghost use Rattle.checked_paths.specs.Meaning.{MayGoOn};
+ghost use Rattle.checked_paths.specs.Plainly.{LeadsPlainly};
 ghost use Rattle.checked_paths.specs.Pure.{PureEntry};
 ghost use Rattle.checked_paths.specs.View.{checking_view, next_view, nexts_view, passed_by_view};
 ghost use Rattle.gil_program.specs.Program.{prog_view};
@@ -147,6 +148,7 @@ pub fn step_machine<M: SymMemory, D: Decider>(
         (nexts_view ns)) }
     ensures own { IfOk result (λ ns. Each (AddsOnly (IsOwnAt M.stands M.terms M.asked M.Local.actions (prog_view prog.now)
         (path_view checking.path)) (checking_view checking)) (nexts_view ns)) }
+    ensures plain { M.keeps_plain → IfOk result (λ ns. LeadsPlainly (prog_view prog.now) M.plain (path_view checking.path) (nexts_view ns)) }
 {
     let (path, preds, passed) = checking.into_parts();
     let paths = step(alloc, prog, path, rules, decider)?;

@@ -16,3 +16,4 @@ pub mod UnfoldLaws
 pub mod NewValueLaws
 pub mod ArityLaws
 pub mod UnfoldExactLaws
+pub mod Plainness

@@ -3,6 +3,7 @@ pub mod Ending
 pub mod Folding
 pub mod Matching
 pub mod Names
+pub mod Plainly
 pub mod Reading
 pub mod Rows
 pub mod States

@@ -7,12 +7,14 @@ ghost use Rattle.checked_paths.specs.View.{checking_view, entry_view, next_view,
 ghost use Rattle.checked_rows.specs.Doubts.{IsToldThere};
 ghost use Rattle.checked_rows.specs.Ending.{AreEntryNames, DoubtsAResult, EachIsEnded, Finishes, HasNoOther, IsEnded};
 ghost use Rattle.checked_rows.specs.Ending.{EachIsExactlyEnded, FinishesExactly, IsExactlyEnded, IsLeaving, IsThere, MayEnd, at_end, finish_at};
+ghost use Rattle.checked_rows.specs.Plainly.{EachEndsSurely, EndsPlainly, EndsSurely, FinishesPlainly};
 ghost use Rattle.checked_rows.specs.Rows.{AreRowOf, IsExactRowOf};
 ghost use Rattle.checked_rows.specs.View.{doubt_view, finish_view};
 ghost use Rattle.gil_syntax.specs.Pure.{PureCommand};
 ghost use Rattle.sym_paths.specs.View.{end_view, path_view, paths_view};
 ghost use Rattle.sym_step.specs.Stepping.{MayStep};
 ghost use Rattle.checked_runs.specs.Specifications.{result_name as pure_result_name};
+ghost use Rattle.footprint.specs.Plainly.{IsPlainMemory};
 ghost use Rattle.footprint.specs.Consuming.{MayMatch, CasesMayMatch};
 ghost use Rattle.gil_program.specs.Program.{prog_view};
 ghost use Rattle.gil_syntax.specs.Valid.{param_names};
@@ -181,6 +183,8 @@ pub fn finish<M: ListedMemory, D: Decider>(
         (term_view term.now) (state_view state) (next_view n)) }
     ensures exact { IfOk result (λ n. FinishesExactly (prog_view prog.now) M.stands (entry_view spec.now entered.now)
         (map assertion_view posts.now) (term_view term.now) here.now (path_view path.now) (state_view state) (next_view n)) }
+    ensures plain { IfOk result (λ n. FinishesPlainly (IsPlainMemory M.Local.memory M.keeps_plain M.terms) (entry_view spec.now entered.now)
+        (map assertion_view posts.now) (term_view term.now) (state_view state) (next_view n)) }
 {
     let names = entry_names(alloc, proc, entered)?;
     let conds = state.conds.atoms();
@@ -264,6 +268,8 @@ fn finish_there<M: ListedMemory, D: Decider>(
     ensures exact { IfOk result (λ n. FinishesExactly (prog_view prog.now) M.stands (entry_view spec.now entered.now)
         (map assertion_view posts.now) (term_view term.now) here.now (path_view path.now) (at_end (state_view state.now) (path_view path.now))
         (next_view n)) }
+    ensures plain { IfOk result (λ n. FinishesPlainly (IsPlainMemory M.Local.memory M.keeps_plain M.terms) (entry_view spec.now entered.now)
+        (map assertion_view posts.now) (term_view term.now) (at_end (state_view state.now) (path_view path.now)) (next_view n)) }
 {
     let there = state_there(alloc, state, path)?;
     finish(
@@ -295,6 +301,8 @@ fn end_one<M: ListedMemory, D: Decider>(
         (facts_view preds.now) (passed_by_view passed.now) (path_view path) (next_view n)) }
     ensures exact { IfOk result (λ n. IsExactlyEnded (prog_view prog.now) M.stands M.terms (entry_view spec.now entered.now)
         (state_view state.now) (facts_view preds.now) (passed_by_view passed.now) here.now (path_view path) (next_view n)) }
+    ensures plain { IfOk result (λ n. EndsSurely M.plain (IsPlainMemory M.Local.memory M.keeps_plain M.terms) (state_view state.now)
+        (entry_view spec.now entered.now) (path_view path) (next_view n)) }
 {
     match finish_of(alloc, &path.end)? {
         Some(EntryEnd::Return(term)) => {
@@ -337,6 +345,8 @@ fn end_all<M: ListedMemory, D: Decider>(
         (facts_view preds.now) (passed_by_view passed.now) (paths_view paths) (nexts_view ns)) }
     ensures exact { IfOk result (λ ns. EachIsExactlyEnded (prog_view prog.now) M.stands M.terms (entry_view spec.now entered.now)
         (state_view state.now) (facts_view preds.now) (passed_by_view passed.now) here.now (paths_view paths) (nexts_view ns)) }
+    ensures plain { IfOk result (λ ns. EachEndsSurely M.plain (IsPlainMemory M.Local.memory M.keeps_plain M.terms) (state_view state.now)
+        (entry_view spec.now entered.now) (paths_view paths) (nexts_view ns)) }
 {
     let mut nexts = Sequence::new(alloc);
     for path in paths.into_vec() {
@@ -372,6 +382,8 @@ pub fn end_row<M: ListedMemory, D: Decider>(
         M.stands M.terms (entry_view spec.now entered.now) (checking_view checking) command [] (nexts_view ns)) }
     ensures exact { IfOk result (λ ns. (command : PureCommand) → IsLeaving command → IsExactRowOf (prog_view prog.now) M.Local.memory
         M.Local.actions M.stands M.terms (entry_view spec.now entered.now) (checking_view checking) command here.now (nexts_view ns)) }
+    ensures plain { M.keeps_plain → IfOk result (λ ns. EndsPlainly (prog_view prog.now) M.plain (entry_view spec.now entered.now)
+        (path_view checking.path) (nexts_view ns)) }
 {
     let state = state_of(alloc, &checking.path, &checking.preds, here)?;
     let (path, preds, passed) = checking.into_parts();

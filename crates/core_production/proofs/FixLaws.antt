@@ -99,6 +99,8 @@ fix_uses memory at has = record {
   ins = (numbers at.sub at.loc at.loc).0;
   outs = sorts_number at.sub;
   among = each_is_among (at.loc ∷ sub_terms at.sub);
+  later_ins = sub_terms at.sub;
+  loc_first = refl;
 }
 
 -- ---- what is missed
@@ -160,7 +162,7 @@ fix_law memory m lacks finds at = record {
 }
 
 narrow_by : (loc : PureTerm) (s : PureSub) → FixesNarrowly (record { loc = loc; sub = s }) (fix_of (record { loc = loc; sub = s }) ∷ [])
-narrow_by loc (named p) low high narrow = ((refl, (narrow.0, (narrow.1, tt))), tt)
+narrow_by loc (named p) low high narrow = ((refl, (narrow.0, (narrow.1, tt)), refl), tt)
 narrow_by loc (cell p) low high narrow = absurd narrow
 narrow_by loc shape low high narrow = absurd narrow
 narrow_by loc bound low high narrow = absurd narrow

@@ -398,7 +398,7 @@ module _ {S : Type 0} (stands : S → List PureValue → Heap → Type 0) (terms
 
       with_outs : (ts : List PureTerm) (leaves : PureLeaves S) → AreTermsAt m.store (param_names d.outs) (Some ts) → TermsStayOver m.store (Some ts) → SpreadsValues n scope u.outs bs m.state ts leaves
           → IsPart stands terms kept s Used Found Ends (λ v t l. IsTrue (all_true v m.state.conds)) leaves
-      with_outs ts leaves at names (x, (says, stays, leaves_are)) =
+      with_outs ts leaves at names (x, (says, stays, plainly, leaves_are)) =
           let ts_over : AreEachOver m.state.vars ts = names m.state.vars (subst (λ vars. IsStoreOver vars m.store) (sym table) is.store_over) in
           subst (IsPart stands terms kept s Used Found Ends (λ v t l. IsTrue (all_true v m.state.conds))) (sym leaves_are)
           (lifted stands terms kept s m.state Used (Holding stands terms m.state bs ts) Found (OutsGive scope u.outs ts) Ends (OutsStop n scope u.outs ts) is.later

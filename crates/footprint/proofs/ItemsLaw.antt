@@ -103,7 +103,7 @@ module _ {S : Type 0} (stands : S → List PureValue → Heap → Type 0) (terms
 -- ---- on terms
 
 module _ {S : Type 0} (stands : S → List PureValue → Heap → Type 0) (terms : S → StateTerms) (kept : S → Type 0) (cases : Cases) (scope : List Param) (s : PureState S) (If : Premise)
-    (items : List PureItem) (item : PureItem) (n : ℕ) (size : n ≡ length items) where
+    (Plain : ℕ → S → Type 0) (items : List PureItem) (item : PureItem) (n : ℕ) (size : n ≡ length items) where
   abbrev Gives : Giving
   Gives = ItemsGive cases scope items
 
@@ -129,7 +129,7 @@ module _ {S : Type 0} (stands : S → List PureValue → Heap → Type 0) (terms
   abbrev rest_of : PureLeaves S → PureLeaves S
   rest_of before = record { matched = []; stopped = before.stopped; undecided = before.undecided }
 
-  item_part : (m : PureMatch S) (leaves : PureLeaves S) → IsMatch stands terms kept s If Gives m → MatchesItem stands terms kept n cases scope item m leaves
+  item_part : (m : PureMatch S) (leaves : PureLeaves S) → IsMatch stands terms kept s If Gives m → MatchesItem stands terms kept Plain n cases scope item m leaves
       → IsPart stands terms kept s If More Ends (λ v t l. IsTrue (all_true v m.state.conds)) leaves
   item_part m leaves is matches =
       lifted stands terms kept s m.state If (Serves stands terms m.state m.store) More (ItemGives cases scope item) Ends (ItemStops n cases scope item) is.later
@@ -141,13 +141,13 @@ module _ {S : Type 0} (stands : S → List PureValue → Heap → Type 0) (terms
         premise = serves;
         gives = λ u k (last, here). (taken ++ last ∷ [], more_is t l ∙ ap (λ x. then_item cases scope item x n) found ∙ ap (λ o. with_match taken o n) here);
         stops = λ k (number, here). more_is t l ∙ ap (λ x. then_item cases scope item x n) found ∙ ap (λ o. with_match taken o n) here ∙ ap stops (sym number);
-      }) leaves matches
+      }) leaves matches.0
 
-  pub next_leaves : (before after : PureLeaves S) → AreLeaves stands terms kept s If Gives Stops before → NextMatched stands terms kept n cases scope item before after
+  pub next_leaves : (before after : PureLeaves S) → AreLeaves stands terms kept s If Gives Stops before → NextMatched stands terms kept Plain n cases scope item before after
       → AreLeaves stands terms kept s If More Ends after
   next_leaves before after are (next, (pruned, (gathers, prunes, is))) =
       let unpruned : IsPart stands terms kept s If More Ends (λ v t l. OneOf (λ m. IsTrue (all_true v m.state.conds)) before.matched) next =
-      gathered stands terms kept s If More Ends (MatchesItem stands terms kept n cases scope item) (IsMatch stands terms kept s If Gives) (λ m v t l. IsTrue (all_true v m.state.conds)) item_part before.matched next are.matched gathers in
+      gathered stands terms kept s If More Ends (MatchesItem stands terms kept Plain n cases scope item) (IsMatch stands terms kept s If Gives) (λ m v t l. IsTrue (all_true v m.state.conds)) item_part before.matched next are.matched gathers in
       let there : IsPart stands terms kept s If More Ends (λ v t l. OneOf (λ m. IsTrue (all_true v m.state.conds)) before.matched) pruned =
       pruned_part stands terms kept s If More Ends (λ v t l. OneOf (λ m. IsTrue (all_true v m.state.conds)) before.matched) next pruned unpruned prunes in
       let rest : IsPart stands terms kept s If More Ends (λ v t l. OneOf (λ c. IsTrue (all_true v c.conds)) before.stopped ⊎ OneOf (λ u. IsTrue (all_true v u.conds)) before.undecided) (rest_of before) = record {
@@ -196,13 +196,13 @@ module _ {S : Type 0} (stands : S → List PureValue → Heap → Type 0) (terms
   pub stops_in_each : (s : PureState S) (If : Premise) (Gives : Giving) (Stops : Stopping) (leaves : PureLeaves S) → AreLeaves stands terms kept s If Gives Stops leaves → Each (StopsIn s.vars) leaves.stopped
   stops_in_each s If Gives Stops leaves are = each_to (IsStop stands terms kept s If Stops) (StopsIn s.vars) leaves.stopped (λ c is. is.over) are.stopped
 
-  pub items_over : (n : ℕ) (cases : Cases) (scope : List Param) (item : PureItem) (ms : List (PureMatch S)) (leaves : PureLeaves S) → Gathers (MatchesItem stands terms kept n cases scope item) ms leaves
+  pub items_over : (Plain : ℕ → S → Type 0) (n : ℕ) (cases : Cases) (scope : List Param) (item : PureItem) (ms : List (PureMatch S)) (leaves : PureLeaves S) → Gathers (MatchesItem stands terms kept Plain n cases scope item) ms leaves
       → Each (λ m. AreOver m.state.vars m.state.conds) leaves.matched
-  items_over n cases scope item [] leaves is = subst (λ (x : PureLeaves S). Each (λ m. AreOver m.state.vars m.state.conds) x.matched) (sym is) tt
-  items_over n cases scope item (m ∷ ms) leaves (first, (rest, (here, later, is))) =
+  items_over Plain n cases scope item [] leaves is = subst (λ (x : PureLeaves S). Each (λ m. AreOver m.state.vars m.state.conds) x.matched) (sym is) tt
+  items_over Plain n cases scope item (m ∷ ms) leaves (first, (rest, (here, later, is))) =
       subst (λ (x : PureLeaves S). Each (λ m. AreOver m.state.vars m.state.conds) x.matched) (sym is)
       (each_append (λ (x : PureMatch S). AreOver x.state.vars x.state.conds) first.matched rest.matched
-      (conds_over_each m.state (Serves stands terms m.state m.store) (ItemGives cases scope item) (ItemStops n cases scope item) first here) (items_over n cases scope item ms rest later))
+      (conds_over_each m.state (Serves stands terms m.state m.store) (ItemGives cases scope item) (ItemStops n cases scope item) first here.0) (items_over Plain n cases scope item ms rest later))
 
   -- a pure item
   pub guard_item : (n : ℕ) (cases : Cases) (scope : List Param) (e : PureExpr) (s : PureState S) (bs : PureStore) (leaves : PureLeaves S) → IsOverTable terms s

@@ -8,6 +8,8 @@ pub mod ItemsLaw
 pub mod Loops
 pub mod Outs
 pub mod Parts
+pub mod PlainUses
+pub mod Plainness
 pub mod PureItems
 pub mod UseLaws
 pub mod WholeLaws

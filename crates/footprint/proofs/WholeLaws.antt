@@ -138,7 +138,7 @@ module _ {S : Type 0} (stands : S → List PureValue → Heap → Type 0) (terms
         part_leaves stands terms kept s PostIf (SomeGives cases scope []) (SomeStops cases scope []) (λ v t l. IsTrue (all_true v s.conds)) (all_stop 0 s)
         (all_stop_part stands terms kept 0 s PostIf (SomeStops cases scope []) over (SomeGives cases scope []) (λ v t l holds met. refl)) (λ v t l holds. holds.state.meets)
 
-    module _ (posts : List (List PureItem)) (items : List PureItem) where
+    module _ (Plain : ℕ → S → Type 0) (posts : List (List PureItem)) (items : List PureItem) where
       abbrev Old : Giving
       Old = SomeGives cases scope posts
 
@@ -219,7 +219,7 @@ module _ {S : Type 0} (stands : S → List PureValue → Heap → Type 0) (terms
               stops = λ k g. later ∙ g;
             }) leaves are)
 
-      pub posts_more : (before after : PureLeaves S) → AreLeaves stands terms kept s PostIf Old Ended before → NextWhole stands terms kept cases scope items s bs before after
+      pub posts_more : (before after : PureLeaves S) → AreLeaves stands terms kept s PostIf Old Ended before → NextWhole stands terms kept Plain cases scope items s bs before after
           → AreLeaves stands terms kept s PostIf More Ends after
       posts_more before after are (next, (gathers, is)) =
           subst (AreLeaves stands terms kept s PostIf More Ends) (sym is)
@@ -230,8 +230,8 @@ module _ {S : Type 0} (stands : S → List PureValue → Heap → Type 0) (terms
             stopped = tt;
             undecided = are.undecided;
           })
-          (gathered stands terms kept s PostIf More Ends (TriedAt stands terms kept cases scope items s bs) (IsStop stands terms kept s PostIf Ended) (λ c v t l. IsTrue (all_true v c.conds))
-          (λ c leaves stop (r, (renewed, (first, (are_first, ends)))). tried_part c stop r renewed leaves (whole_ended cases scope items r bs first leaves are_first ends)) before.stopped next are.stopped gathers))
+          (gathered stands terms kept s PostIf More Ends (TriedAt stands terms kept Plain cases scope items s bs) (IsStop stands terms kept s PostIf Ended) (λ c v t l. IsTrue (all_true v c.conds))
+          (λ c leaves stop (r, (renewed, (first, (are_first, ends)))). tried_part c stop r renewed leaves (whole_ended cases scope items r bs first leaves are_first.0 ends)) before.stopped next are.stopped gathers))
 
 -- ---- what is handed in
 

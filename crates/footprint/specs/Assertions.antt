@@ -21,6 +21,7 @@ use Rattle.sym_states.specs.Meaning.{Serves, IsOverTable}
 use Rattle.sym_states.specs.Pure.{PureState}
 use Rattle.footprint.specs.Items.{ItemGives, ItemStops}
 use Rattle.footprint.specs.Leaves.{Giving, Stopping, AreLeaves}
+use Rattle.footprint.specs.Plainly.{ItemStaysPlain}
 use Rattle.footprint.specs.Pure.{PureMatch, PureLeaves}
 use Rattle.footprint.specs.Spreading.{no_leaves, joined, Gathers}
 use Rattle.footprint.specs.Uses.{PureAsked, AskedValues, AreAsked, AsksUse}
@@ -45,10 +46,11 @@ pub record IsMatchable {S : Type 0} (terms : S → StateTerms) (m : PureMatch S)
   pub store_over : IsStoreOver m.state.vars m.store
 
 module _ {S : Type 0} (stands : S → List PureValue → Heap → Type 0) (terms : S → StateTerms) (kept : S → Type 0) where
-  -- the leaves of one item after a match
-  abbrev pub MatchesItem : ℕ → Cases → List Param → PureItem → PureMatch S → PureLeaves S → Type 0
-  MatchesItem n cases scope item m leaves =
+  -- the leaves of one item after a match; of the memories that are plain
+  abbrev pub MatchesItem : (ℕ → S → Type 0) → ℕ → Cases → List Param → PureItem → PureMatch S → PureLeaves S → Type 0
+  MatchesItem Plain n cases scope item m leaves =
       AreLeaves stands terms kept m.state (Serves stands terms m.state m.store) (ItemGives cases scope item) (ItemStops n cases scope item) leaves
+      × ItemStaysPlain Plain item m leaves
 
   -- what becomes of a match when a decider is asked of its conditions: it stays, no valuation meets them, or they aren't decided
   abbrev pub PrunesMatch : PureMatch S → PureLeaves S → Type 0
@@ -64,9 +66,9 @@ module _ {S : Type 0} (stands : S → List PureValue → Heap → Type 0) (terms
       × (after ≡ joined (record { matched = []; stopped = before.stopped; undecided = before.undecided }) pruned))
 
   -- what stopped or isn't decided stays, and each match goes on with the item
-  abbrev pub NextMatched : ℕ → Cases → List Param → PureItem → PureLeaves S → PureLeaves S → Type 0
-  NextMatched n cases scope item before after =
-      (next : PureLeaves S) × ((pruned : PureLeaves S) × (Gathers (MatchesItem n cases scope item) before.matched next
+  abbrev pub NextMatched : (ℕ → S → Type 0) → ℕ → Cases → List Param → PureItem → PureLeaves S → PureLeaves S → Type 0
+  NextMatched Plain n cases scope item before after =
+      (next : PureLeaves S) × ((pruned : PureLeaves S) × (Gathers (MatchesItem Plain n cases scope item) before.matched next
       × Prunes next pruned × (after ≡ joined (record { matched = []; stopped = before.stopped; undecided = before.undecided }) pruned)))
 
 -- ---- uses

@@ -5,6 +5,7 @@ pub mod Choosing
 pub mod Consuming
 pub mod Items
 pub mod Leaves
+pub mod Plainly
 pub mod Pure
 pub mod Spreading
 pub mod Uses

@@ -1,10 +1,10 @@
 -- Matching uses with facts, on values and on terms.
-use Rattle.std.specs.Prelude.{◌≡◌, ℕ, List, [], ◌∷◌, ◌++◌, length, remove, slice_get, Option, Some, None, Result, Ok, ⊤}
+use Rattle.std.specs.Prelude.{◌≡◌, ℕ, List, [], ◌∷◌, ◌++◌, ◌+◌, length, remove, slice_get, Option, Some, None, Result, Ok, ⊤}
 use Rattle.gil_values.specs.Operators.{Fault}
 use Rattle.gil_values.specs.Pure.{PureValue}
 use Rattle.gil_syntax.specs.declared.assertions.Param.{Param}
 use Rattle.gil_syntax.specs.Evaluation.{Store, Outcomes, evaluate_all}
-use Rattle.gil_syntax.specs.Pure.{PureExpr, PurePredUse}
+use Rattle.gil_syntax.specs.Pure.{PureExpr, PurePredUse, uses}
 use Rattle.mem_model.specs.Heaps.{Heap}
 use Rattle.assert_logic.specs.LogicStates.{LogicState}
 use Rattle.assert_logic.specs.Matching.{FoundFact, first_fact, fits_fact, known_outs, match_values}
@@ -12,8 +12,12 @@ use Rattle.pure_terms.specs.declared.variables.Sort.{Sort}
 use Rattle.pure_terms.specs.Meaning.{IsOver}
 use Rattle.pure_terms.specs.Pure.{PureTerm, PureAtom, term_of}
 use Rattle.sym_evaluation.specs.Meaning.{HaveValues, IsStoreOver, Serves as StoreServes}
+use Rattle.sym_evaluation.specs.Plainly.{IsPlain, text_bound}
 use Rattle.sym_evaluation.specs.Pure.{PureStore, PureGoodCase}
+use Rattle.plain_evaluation.specs.Laws.{IsPlainOver}
+use Rattle.plain_evaluation.specs.Plain.{IsPlainItem}
 use Rattle.sym_matching.specs.Meaning.{SaysSplit, AreOuts, AreOutsOver}
+use Rattle.sym_matching.specs.Plainly.{IsSplitDecided}
 use Rattle.sym_matching.specs.Pure.{PureSplit, PureOuts}
 use Rattle.sym_model.specs.Lists.{Each}
 use Rattle.sym_model.specs.Terms.{StateTerms, AreEachOver}
@@ -58,6 +62,12 @@ IsAskedOver vars (Some g) = Each (λ a. IsOver vars (term_of a)) g.conds × AreE
 abbrev pub UseStaysOver : PureStore → PureSplit PureAsked → Type 0
 UseStaysOver bs x =
     (vars : List Sort) → IsStoreOver vars bs → IsAskedOver vars x.found × Each (λ conds. Each (λ a. IsOver vars (term_of a)) conds) x.none
+
+-- Of a plain use in a plain store each condition is decided, and the terms of its ins are plain.
+abbrev pub UseStaysPlain : PureStore → PurePredUse → PureSplit PureAsked → Type 0
+UseStaysPlain bs u x =
+    (vars : List Sort) (b : ℕ) → IsPlainOver vars b bs → IsPlainItem (uses u)
+    → IsSplitDecided (λ a. Each (IsPlain (b + text_bound)) a.ins) (b + text_bound) x
 
 -- there are as many terms as ins
 abbrev pub HasAllIns : PurePredUse → Option (PureGoodCase PureAsked) → Type 0

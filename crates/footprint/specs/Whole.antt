@@ -1,5 +1,5 @@
 -- Consuming the first of several assertions that leaves nothing, on values and on terms.
-use Rattle.std.specs.Prelude.{◌≡◌, List, [], ◌∷◌, Bool, true, false}
+use Rattle.std.specs.Prelude.{◌≡◌, ℕ, List, [], ◌∷◌, Bool, true, false}
 use Rattle.std.specs.List.{list_any}
 use Rattle.gil_values.specs.Pure.{PureValue}
 use Rattle.gil_syntax.specs.declared.assertions.Param.{Param}
@@ -16,6 +16,7 @@ use Rattle.sym_states.specs.Meaning.{Stands, Serves}
 use Rattle.sym_states.specs.Pure.{PureState}
 use Rattle.footprint.specs.Assertions.{ItemsGive, ItemsStop}
 use Rattle.footprint.specs.Leaves.{Giving, Stopping, AreLeaves}
+use Rattle.footprint.specs.Plainly.{ItemsStayPlain}
 use Rattle.footprint.specs.Pure.{PureMatch, PureStop, PureLeaves}
 use Rattle.footprint.specs.Spreading.{joined, all_stop, Gathers, IsRenewed}
 
@@ -58,18 +59,19 @@ EndWhole {S} stands before after =
     × (after ≡ joined (record { matched = []; stopped = before.stopped; undecided = before.undecided }) next))
 
 module _ {S : Type 0} (stands : S → List PureValue → Heap → Type 0) (terms : S → StateTerms) (kept : S → Type 0) where
-  -- the assertion is tried in the state, under these conditions
-  abbrev pub WholeTried : Cases → List Param → List PureItem → PureState S → PureStore → List PureAtom → PureLeaves S → Type 0
-  WholeTried cases scope items s bs conds leaves =
+  -- the assertion is tried in the state, under these conditions; of the memories that are plain
+  abbrev pub WholeTried : (ℕ → S → Type 0) → Cases → List Param → List PureItem → PureState S → PureStore → List PureAtom → PureLeaves S → Type 0
+  WholeTried Plain cases scope items s bs conds leaves =
       (r : PureState S) × (IsRenewed stands terms kept s conds r × ((first : PureLeaves S)
-      × (AreLeaves stands terms kept r (Serves stands terms r bs) (ItemsGive cases scope items) (ItemsStop cases scope items) first
+      × ((AreLeaves stands terms kept r (Serves stands terms r bs) (ItemsGive cases scope items) (ItemsStop cases scope items) first
+      × ItemsStayPlain Plain items (record { state = r; store = bs }) first)
       × EndWhole stands first leaves)))
 
-  abbrev pub TriedAt : Cases → List Param → List PureItem → PureState S → PureStore → PureStop → PureLeaves S → Type 0
-  TriedAt cases scope items s bs c leaves = WholeTried cases scope items s bs c.conds leaves
+  abbrev pub TriedAt : (ℕ → S → Type 0) → Cases → List Param → List PureItem → PureState S → PureStore → PureStop → PureLeaves S → Type 0
+  TriedAt Plain cases scope items s bs c leaves = WholeTried Plain cases scope items s bs c.conds leaves
 
   -- where none before it is matched, it is tried
-  abbrev pub NextWhole : Cases → List Param → List PureItem → PureState S → PureStore → PureLeaves S → PureLeaves S → Type 0
-  NextWhole cases scope items s bs before after =
-      (next : PureLeaves S) × (Gathers (TriedAt cases scope items s bs) before.stopped next
+  abbrev pub NextWhole : (ℕ → S → Type 0) → Cases → List Param → List PureItem → PureState S → PureStore → PureLeaves S → PureLeaves S → Type 0
+  NextWhole Plain cases scope items s bs before after =
+      (next : PureLeaves S) × (Gathers (TriedAt Plain cases scope items s bs) before.stopped next
       × (after ≡ joined (record { matched = before.matched; stopped = []; undecided = before.undecided }) next))

@@ -1,6 +1,7 @@
 //! Matching items that ask neither facts nor cases.
 ghost use Rattle.std.specs.Prelude.{◌≡◌, [], IfOk, IsTrue};
 ghost use Rattle.std.specs.List.{list_all};
+ghost use Rattle.gil_syntax.specs.Pure.{pure};
 ghost use Rattle.gil_syntax.specs.Subexpressions.{literals_of};
 ghost use Rattle.gil_syntax.specs.View.{expr_view, exprs_view, pred_use_view};
 ghost use Rattle.gil_syntax.specs.WellMade.{is_spellable};
@@ -16,6 +17,7 @@ ghost use Rattle.sym_states.specs.Producing.{are_spelled};
 ghost use Rattle.sym_states.specs.View.{state_view};
 ghost use Rattle.footprint.specs.Items.{PureGives, PureStops, SpreadsValues, MatchesDone, MatchesResult, MatchesBranch, AsksIns, CoreGives, CoreStops};
 ghost use Rattle.footprint.specs.Leaves.{AreLeaves};
+ghost use Rattle.footprint.specs.Plainly.{IsPlainMemory, CoreStaysPlain, ItemStaysPlain};
 ghost use Rattle.footprint.specs.Spreading.{spread, all_stop, Gathers};
 ghost use Rattle.footprint.specs.View.{leaves_view};
 
@@ -87,7 +89,9 @@ pub(crate) fn match_guard<M: ListedMemory>(
     requires store_over { IsStoreOver (state_view state).vars (store_view store.now) }
     ensures { IfOk result (λ r. AreLeaves M.stands M.terms M.kept (state_view state)
         (Serves M.stands M.terms (state_view state) (store_view store.now)) (PureGives scope.now (expr_view expression.now))
-        (PureStops number scope.now (expr_view expression.now)) (leaves_view r)) }
+        (PureStops number scope.now (expr_view expression.now)) (leaves_view r)
+        × ItemStaysPlain (IsPlainMemory M.Local.memory M.keeps_plain M.terms) (pure (expr_view expression.now))
+        (record { state = state_view state; store = store_view store.now }) (leaves_view r)) }
 {
     let split = match_pure(alloc, scope, expression, store)?;
     spread_split(alloc, number, state, split)
@@ -197,7 +201,9 @@ pub(crate) fn match_core<M: ListedMemory>(
     ensures { IfOk result (λ r. AreLeaves M.stands M.terms M.kept (state_view state.now)
         (AsksIns M.stands M.terms (state_view state.now) (store_view store.now) (terms_view ins.now))
         (CoreGives scope.now (pred_use_view used.now) (terms_view ins.now))
-        (CoreStops number scope.now (pred_use_view used.now) (terms_view ins.now)) (leaves_view r)) }
+        (CoreStops number scope.now (pred_use_view used.now) (terms_view ins.now)) (leaves_view r)
+        × CoreStaysPlain (IsPlainMemory M.Local.memory M.keeps_plain M.terms) (pred_use_view used.now) (terms_view ins.now) (store_view store.now)
+        (state_view state.now) (leaves_view r)) }
 {
     let branches = state.memory.consume(alloc, &used.pred, ins)?;
     match_branches(alloc, number, state, scope, &used.outs, branches, store)

@@ -17,6 +17,7 @@ ghost use Rattle.footprint.specs.Cases.{PredMatched, PredTried, CasesGive, Cases
 ghost use Rattle.footprint.specs.Consuming.{MayMatch, CasesMayMatch};
 ghost use Rattle.footprint.specs.Items.{ItemGives, ItemStops};
 ghost use Rattle.footprint.specs.Leaves.{AreLeaves};
+ghost use Rattle.footprint.specs.Plainly.{IsPlainMemory, CoreStaysPlain, ItemStaysPlain, ItemsStayPlain};
 ghost use Rattle.footprint.specs.Spreading.{Gathers};
 ghost use Rattle.footprint.specs.Uses.{AsksUse};
 ghost use Rattle.footprint.specs.View.{match_view, asked_view, leaves_view};
@@ -57,7 +58,8 @@ pub(crate) fn match_items<M: ListedMemory, D: Decider>(
     ensures { IfOk result (λ r. AreLeaves M.stands M.terms M.kept (state_view start.state)
         (Serves M.stands M.terms (state_view start.state) (store_view start.store))
         (ItemsGive (cases_at (map pred_def_view preds.now) depth) scope.now (assertion_view items.now))
-        (ItemsStop (cases_at (map pred_def_view preds.now) depth) scope.now (assertion_view items.now)) (leaves_view r)) }
+        (ItemsStop (cases_at (map pred_def_view preds.now) depth) scope.now (assertion_view items.now)) (leaves_view r)
+        × ItemsStayPlain (IsPlainMemory M.Local.memory M.keeps_plain M.terms) (assertion_view items.now) (match_view start) (leaves_view r)) }
 {
     let mut leaves = Leaves::of_match(alloc, start)?;
     let items = items.as_slice();
@@ -91,8 +93,8 @@ fn match_next<M: ListedMemory, D: Decider>(
     requires each { Each (IsMatchable M.terms) (leaves_view leaves).matched }
     requires may { MayAdd M.Local.memory (item_view item.now) }
     requires cases { CasesMayMatch M.Local.memory (map pred_def_view preds.now) }
-    ensures { IfOk result (λ r. NextMatched M.stands M.terms M.kept number (cases_at (map pred_def_view preds.now) depth) scope.now (item_view item.now)
-        (leaves_view leaves) (leaves_view r)) }
+    ensures { IfOk result (λ r. NextMatched M.stands M.terms M.kept (IsPlainMemory M.Local.memory M.keeps_plain M.terms) number
+        (cases_at (map pred_def_view preds.now) depth) scope.now (item_view item.now) (leaves_view leaves) (leaves_view r)) }
 {
     let Leaves {
         matched,
@@ -131,7 +133,8 @@ fn match_item<M: ListedMemory, D: Decider>(
     ensures { IfOk result (λ r. AreLeaves M.stands M.terms M.kept (state_view found.state)
         (Serves M.stands M.terms (state_view found.state) (store_view found.store))
         (ItemGives (cases_at (map pred_def_view preds.now) depth) scope.now (item_view item.now))
-        (ItemStops number (cases_at (map pred_def_view preds.now) depth) scope.now (item_view item.now)) (leaves_view r)) }
+        (ItemStops number (cases_at (map pred_def_view preds.now) depth) scope.now (item_view item.now)) (leaves_view r)
+        × ItemStaysPlain (IsPlainMemory M.Local.memory M.keeps_plain M.terms) (item_view item.now) (match_view found) (leaves_view r)) }
 {
     let Match { state, store } = found;
     match item {
@@ -162,7 +165,9 @@ fn match_use<M: ListedMemory, D: Decider>(
     ensures { IfOk result (λ r. AreLeaves M.stands M.terms M.kept (state_view state)
         (Serves M.stands M.terms (state_view state) (store_view store.now))
         (ItemGives (cases_at (map pred_def_view preds.now) depth) scope.now (uses (pred_use_view used.now)))
-        (ItemStops number (cases_at (map pred_def_view preds.now) depth) scope.now (uses (pred_use_view used.now))) (leaves_view r)) }
+        (ItemStops number (cases_at (map pred_def_view preds.now) depth) scope.now (uses (pred_use_view used.now))) (leaves_view r)
+        × ItemStaysPlain (IsPlainMemory M.Local.memory M.keeps_plain M.terms) (uses (pred_use_view used.now))
+        (record { state = state_view state; store = store_view store.now }) (leaves_view r)) }
 {
     let Split { found, none } = ask_use(alloc, store, used)?;
     let stopped = stops(alloc, number, state.conds.atoms(), &none)?;
@@ -214,7 +219,9 @@ fn match_asked<M: ListedMemory, D: Decider>(
         (asked_view asked.now))
         (UseStops number (cases_at (map pred_def_view preds.now) depth) scope.now (core_of used.now.pred) (pred_use_view used.now)
         (asked_view asked.now))
-        (leaves_view r)) }
+        (leaves_view r)
+        × CoreStaysPlain (IsPlainMemory M.Local.memory M.keeps_plain M.terms) (pred_use_view used.now) (asked_view asked.now).ins
+        (store_view store.now) (state_view state.now) (leaves_view r)) }
 {
     match Core::from_name(&used.pred) {
         Some(_) => match_core(alloc, number, state, scope, used, &asked.ins, store),

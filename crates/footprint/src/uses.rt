@@ -9,7 +9,7 @@ ghost use Rattle.sym_matching.specs.View.{split_by, outs_view};
 ghost use Rattle.sym_states.specs.Producing.{are_spelled};
 ghost use Rattle.sym_states.specs.View.{facts_view, state_view, states_view};
 ghost use Rattle.footprint.specs.Spreading.{Gathers};
-ghost use Rattle.footprint.specs.Uses.{both_asked, SplitsUse, UseStaysOver, HasAllIns, IsWithoutFact, TakesFact, AreCopiesUnder};
+ghost use Rattle.footprint.specs.Uses.{both_asked, SplitsUse, UseStaysOver, UseStaysPlain, HasAllIns, IsWithoutFact, TakesFact, AreCopiesUnder};
 ghost use Rattle.footprint.specs.View.{asked_view, fact_case_view, fact_cases_view, leaves_view};
 
 use crate::choosing::{FactCase, FactCases};
@@ -17,6 +17,7 @@ use crate::items::match_outs;
 use crate::leaves::{Leaves, join};
 use crate::states::copy_under;
 use gil_syntax::{Exprs, Params, PredUse};
+use plain_evaluation::plain_expressions_ask_nothing;
 use pure_terms::Terms;
 use sequence::Sequence;
 use std::alloc::{AllocError, Global};
@@ -75,8 +76,10 @@ pub(crate) fn ask_use(
     requires outs { IsTrue (are_spelled (pred_use_view used.now).outs) }
     ensures says { IfOk result (λ x. SplitsUse (store_view store.now) (pred_use_view used.now) (split_by asked_view x)) }
     ensures names { IfOk result (λ x. UseStaysOver (store_view store.now) (split_by asked_view x)) }
+    ensures plain { IfOk result (λ x. UseStaysPlain (store_view store.now) (pred_use_view used.now) (split_by asked_view x)) }
     ensures ins_number { IfOk result (λ x. HasAllIns (pred_use_view used.now) (option_map (good_view asked_view) x.found)) }
 {
+    plain_expressions_ask_nothing();
     let ins = evaluate_all(alloc, store, &used.ins)?;
     let known = known_outs(alloc, store, &used.outs)?;
     let faults = conditions_of(alloc, ins.faults)?;

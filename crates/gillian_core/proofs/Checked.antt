@@ -20,12 +20,12 @@ use Rattle.spec_answers.specs.Holding.{AreTrue, is_verified, is_verified_name}
 use Rattle.spec_causes.specs.declared.meeting.Met.{Met}
 use Rattle.spec_causes.specs.Causes.{entry_for, IsCauseOf}
 use Rattle.spec_checker.specs.Answers.{AnswerEach, AreCauses, IsCauseIfUnproved, Shows}
-use Rattle.spec_checker.specs.Deciding.{IsDoubt, ShowsNoFault, AreDecided}
+use Rattle.spec_checker.specs.Deciding.{IsDoubt, ShowsNoFault, AreDecided, IsProved as IsVerdictProved, AreSettled}
 use Rattle.spec_checker.proofs.Found.{found_at}
 use Rattle.gil_report.specs.Pure.{PureAnswer, unproved, PureCause, fails, lacks, undecided_cause, depends}
 use Rattle.report_causes.specs.Telling.{TellsCause}
 use Rattle.report_causes.proofs.Right.{can_be_told, told_right, no_dependence_told}
-use Rattle.gillian_core.specs.Checked.{AreRightAnswers, CanEachBeTold, CanVerdictBeTold, IsLed, IsOwn, IsRightAnswer, IsReportOf, LeadsToCause, has_cause, depends_on, ReportsEach, TellsNoFault}
+use Rattle.gillian_core.specs.Checked.{IsProved, AreRightAnswers, CanEachBeTold, CanVerdictBeTold, IsLed, IsOwn, IsRightAnswer, IsReportOf, LeadsToCause, has_cause, depends_on, ReportsEach, TellsNoFault}
 
 some_not_none : {A : Type 0} {x : A} → Some x ≡ None → ⊥
 some_not_none is = cc
@@ -178,9 +178,9 @@ module _ (ss : List PureSpec) (answers : List (SpecAnswer Met)) (many : length a
 
 -- ---- what is reported is right
 
-module _ (memory : MemoryName) (m : Actions) (bound : ℕ) (p : PureParts) (valid : IsValid p) (answers : List (SpecAnswer Met))
+module _ (memory : MemoryName) (m : Actions) (keeps : Type 0) (bound : ℕ) (p : PureParts) (valid : IsValid p) (answers : List (SpecAnswer Met))
     (answered : AnswerEach p.specs answers) (true_ones : AreTrue p memory m answers) (causes : AreCauses p memory m bound answers)
-    (decided : AreDecided p memory m bound answers) where
+    (decided : AreDecided p memory m bound answers) (settled : keeps → AreSettled p memory m bound answers) where
   holds_at : (k : ℕ) (s : PureSpec) (x : SpecAnswer Met) → slice_get p.specs k ≡ Some s → slice_get answers k ≡ Some x → is_verified x.verdict ≡ true
       → SpecHolds p memory m s
   holds_at k s x at_s at_x is =
@@ -225,7 +225,13 @@ module _ (memory : MemoryName) (m : Actions) (bound : ℕ) (p : PureParts) (vali
         subst (λ (b : PureAnswer). NoFault s b) (sym is) (doubt_told s name (entry_for s met.entered) (cause_view met.cause) told shows cause tells)
     no_fault_by s name (Verdict.DependsOn g) a shows cause is = absurd shows
 
-    pub right_answers : AreRightAnswers memory m bound p reported
+    proved_by : (s : PureSpec) (name : List ℕ) (v : Verdict Met) (a : PureAnswer) → IsVerdictProved v → IsReportOf s name v a → IsProved a
+    proved_by s name Verdict.Verified a proved is = subst IsProved (sym is) tt
+    proved_by s name (Verdict.Vacuous proof) a proved is = subst IsProved (sym is) tt
+    proved_by s name (Verdict.Unproved met) a proved is = absurd proved
+    proved_by s name (Verdict.DependsOn g) a proved is = absurd proved
+
+    pub right_answers : AreRightAnswers memory m keeps bound p reported
     right_answers = record {
       as_many = reports.as_many;
       each_right = λ k s a at_s at_a.
@@ -236,4 +242,7 @@ module _ (memory : MemoryName) (m : Actions) (bound : ℕ) (p : PureParts) (vali
       contained = λ k s a at_s at_a contained alone.
           let (x, at_x) = at_place answers p.specs k s answered.as_many at_s in
           no_fault_by s x.name x.verdict a (decided.each_decided k s x at_s at_x contained alone) (causes.each_right k s x at_s at_x) (reports.each_reported k s x a at_s at_x at_a);
+      plain = λ kept k s a at_s at_a plain alone.
+          let (x, at_x) = at_place answers p.specs k s answered.as_many at_s in
+          proved_by s x.name x.verdict a ((settled kept).each_proved k s x at_s at_x plain alone) (reports.each_reported k s x a at_s at_x at_a);
     }

@@ -8,9 +8,13 @@ use Rattle.gil_report.specs.declared.answers.Answer.{Answer}
 use Rattle.gil_report.specs.Pure.{PureAnswer, found, undecided}
 use Rattle.gil_report.specs.View.{answer_view}
 use Rattle.inferred_specs.specs.Inferred.{PureFound, Covers}
-use Rattle.gil_syntax.specs.Pure.{PureParts}
+use Rattle.gil_syntax.specs.Programs.{find_proc}
+use Rattle.gil_syntax.specs.Pure.{PureProc, PureParts}
+use Rattle.mem_model.specs.Actions.{MissesWhatLacks}
 use Rattle.bi_specifications.specs.Specified.{IsTrulyFound}
 use Rattle.biabduce.specs.Decided.{IsDecidable}
+use Rattle.biabduce.specs.Narrowly.{IsNarrowlyDecidable}
+use Rattle.biabduce.specs.NarrowRuns.{CoversNarrowly}
 use Rattle.pure_terms.specs.declared.queries.Query.{Query}
 use Rattle.pure_terms.specs.Fragment.{InFragment}
 use Rattle.pure_terms.specs.View.{atoms_view}
@@ -50,13 +54,17 @@ pub right_founds : (m : Memory) (p : PureParts) (f : List ℕ) (n : ℕ) (told :
     (answers : List Answer) (reported : List PureAnswer) → Each (IsTrulyFound p m.name m.actions f n) (founds_view told)
     → IfSome o (λ q. ¬ InFragment (atoms_view q.query)) → map answer_view answers ≡ found_answers (founds_view told)
     → reported ≡ map answer_view answers ++ question_answers (option_map query_view o) → (o ≡ None → Covers p m.name m.actions f (founds_view told) n)
-    → (IsDecidable m.keeps_plain p m.actions f n → o ≡ None) → AreRightFounds m p f n reported
-right_founds m p f n told o answers reported true_ones is_open before is covers decided = record {
+    → MissesWhatLacks m.name m.actions → (IsDecidable m.keeps_plain p m.name m.actions f → o ≡ None)
+    → (m.keeps_narrow → (q : PureProc) → find_proc p.procs f ≡ Some q → IsNarrowlyDecidable p m.name q → o ≡ None)
+    → (m.keeps_narrow → CoversNarrowly p m.name m.actions f n (founds_view told)) → AreRightFounds m p f n reported
+right_founds m p f n told o answers reported true_ones is_open before is covers own_keys decided narrow narrow_cover = record {
   founds = founds_view told;
   unknown = option_map query_view o;
   in_order = is ∙ ap (λ (xs : List PureAnswer). xs ++ question_answers (option_map query_view o)) before;
   truly_found = true_ones;
   undecided_one = undecided_query o is_open;
   covers = λ none. covers (no_query o none);
-  decided = λ decidable. ap (option_map query_view) (decided decidable);
+  decided = λ keeps simple entry. ap (option_map query_view) (decided (record { plain = keeps; own_keys = own_keys; simple = simple; entry = entry }));
+  narrow = λ keeps q there decidable. ap (option_map query_view) (narrow keeps q there decidable);
+  narrow_cover = narrow_cover;
 }

@@ -18,6 +18,7 @@ use Rattle.gil_report.specs.Pure.{PureAnswer, PureCause, verified, vacuous, unpr
 use Rattle.report_causes.specs.Causes.{IsRightCause, IsLeftOpen}
 use Rattle.report_causes.specs.Names.{variable_names}
 use Rattle.report_causes.specs.Telling.{CanBeTold, TellsCause}
+use Rattle.spec_checker.specs.Deciding.{IsPlainSpec}
 use Rattle.report_names.specs.Named.{proof_of}
 
 -- ---- what depends on others
@@ -60,14 +61,23 @@ module _ (memory : MemoryName) (m : Actions) (bound : ℕ) (p : PureParts) (answ
   TellsNoFault s (unproved name (depends g)) = ⊥
   TellsNoFault s _ = ⊤
 
+-- verified, or vacuous
+abbrev pub IsProved : PureAnswer → Type 0
+IsProved (verified name) = ⊤
+IsProved (vacuous name proof) = ⊤
+IsProved _ = ⊥
+
 -- One right answer for each specification of the program, in order. Of a contained one whose runs, with nothing beside its precondition's
--- heap, end within the bound and as it tells, no fault is told.
-pub record AreRightAnswers (memory : MemoryName) (m : Actions) (bound : ℕ) (p : PureParts) (answers : List PureAnswer) : Type 0 where
+-- heap, end within the bound and as it tells, no fault is told. A plain one is then verified or vacuous, if the memory keeps the law of plain
+-- memories.
+pub record AreRightAnswers (memory : MemoryName) (m : Actions) (keeps : Type 0) (bound : ℕ) (p : PureParts) (answers : List PureAnswer) : Type 0 where
   pub as_many : length answers ≡ length p.specs
   pub each_right : (k : ℕ) (s : PureSpec) (a : PureAnswer) → slice_get p.specs k ≡ Some s → slice_get answers k ≡ Some a
       → IsRightAnswer memory m bound p answers s a
   pub contained : (k : ℕ) (s : PureSpec) (a : PureAnswer) → slice_get p.specs k ≡ Some s → slice_get answers k ≡ Some a
       → IsContained p s → RunsAlone p memory m s bound → TellsNoFault memory m bound p answers s a
+  pub plain : keeps → (k : ℕ) (s : PureSpec) (a : PureAnswer) → slice_get p.specs k ≡ Some s → slice_get answers k ≡ Some a
+      → IsPlainSpec p s → RunsAlone p memory m s bound → IsProved a
 
 -- ---- what is reported
 

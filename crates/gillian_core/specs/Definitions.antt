@@ -15,18 +15,20 @@ use Rattle.sym_test.specs.View.{PureQuery}
 use Rattle.gil_report.specs.Pure.{PureAnswer}
 
 -- A memory: its name; what its actions do to a heap; and, of tests over its symbolic states, where a bug comes from, what isn't decided, and
--- whether they keep the law of plain memories, by which a command of simple form is always decided.
+-- whether they keep the law of plain memories, by which a command of simple form is always decided, and the law of narrow memories, by which
+-- one of narrow form is, over values of which nothing is known too.
 pub record Memory : Type 1 where
   pub name : MemoryName
   pub actions : Actions
   pub FindsBug : PureParts → List ℕ → ℕ → Place → PureValue → List PureValue → Type 0
   pub LeavesOpen : PureParts → List ℕ → ℕ → PureQuery → Type 0
   pub keeps_plain : Type 0
+  pub keeps_narrow : Type 0
 
 -- the memory of this name, with these actions and symbolic states
 module _ {S : Type 0} (name : MemoryName) (actions : Actions) (stands : S → List PureValue → Heap → Type 0) (terms : S → StateTerms)
     (asked : List ℕ → List PureTerm → List PureTerm × List PureTerm) (depends : S → List ℕ → List PureTerm → List PureValue → Heap → PureTerm → Type 0)
-    (keeps_plain : Type 0) where
+    (keeps_plain keeps_narrow : Type 0) where
   abbrev pub memory_of : Memory
   memory_of = record {
     name = name;
@@ -34,6 +36,7 @@ module _ {S : Type 0} (name : MemoryName) (actions : Actions) (stands : S → Li
     FindsBug = λ p entry bound place value inputs. IsFound p actions stands terms asked depends entry bound place value inputs;
     LeavesOpen = λ p entry bound query. IsUndecided p actions stands terms asked depends keeps_plain entry bound query;
     keeps_plain = keeps_plain;
+    keeps_narrow = keeps_narrow;
   }
 
 pub record Definition : Type 1 where

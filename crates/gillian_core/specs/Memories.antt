@@ -10,10 +10,10 @@ use Rattle.record_sym.specs.Plain.{record_stands, record_terms, record_asked, re
 use Rattle.gillian_core.specs.Definitions.{Memory, memory_of}
 
 abbrev pub record_memory : Memory
-record_memory = memory_of Record record_actions record_stands record_terms record_asked record_depends ⊤
+record_memory = memory_of Record record_actions record_stands record_terms record_asked record_depends ⊤ ⊤
 
 abbrev pub block_memory : Memory
-block_memory = memory_of Block block_actions block_stands block_terms block_asked block_depends ⊤
+block_memory = memory_of Block block_actions block_stands block_terms block_asked block_depends ⊤ ⊥
 
 abbrev pub object_memory : Memory
-object_memory = memory_of Object object_actions object_stands object_terms object_asked object_depends ⊤
+object_memory = memory_of Object object_actions object_stands object_terms object_asked object_depends ⊤ ⊥

@@ -83,7 +83,7 @@ pub record IsRightCheck (d : Definition) (bound : ℕ) (bytes : List ℕ) (answe
   pub text : d.IsText bytes program
   pub keeps : d.KeepsEnds bytes program
   pub readable : HasModes program d.memory.name
-  pub right : AreRightAnswers d.memory.name d.memory.actions bound program answers
+  pub right : AreRightAnswers d.memory.name d.memory.actions d.memory.keeps_plain bound program answers
 
 -- ---- infer
 

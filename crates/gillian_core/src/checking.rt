@@ -29,7 +29,8 @@ pub fn checked<M: ListedMemory>(
     rules: &RuleBook,
 ) -> Result<Answers, AllocError>
     requires { HasModes (prog_view prog.now) M.Local.memory }
-    ensures { IfOk result (λ answers. AreRightAnswers M.Local.memory M.Local.actions bound.steps (prog_view prog.now) (map answer_view answers)) }
+    ensures { IfOk result (λ answers. AreRightAnswers M.Local.memory M.Local.actions M.keeps_plain bound.steps (prog_view prog.now)
+        (map answer_view answers)) }
 {
     let mut decider = PathSolver::new(alloc);
     let answers = check::<M, PathSolver>(alloc, prog, rules, bound.steps, &mut decider)?;

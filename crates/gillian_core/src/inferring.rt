@@ -6,6 +6,7 @@ ghost use Rattle.gil_program.specs.Program.{prog_view};
 ghost use Rattle.gil_report.specs.Pure.{found};
 ghost use Rattle.gil_report.specs.View.{answer_view};
 ghost use Rattle.gil_syntax.specs.Programs.{find_proc};
+ghost use Rattle.mem_model.specs.Actions.{MissesWhatLacks};
 ghost use Rattle.sym_test.specs.View.{query_view};
 ghost use Rattle.gillian_core.specs.Definitions.{memory_of};
 ghost use Rattle.gillian_core.specs.Inferred.{AreRightFounds, found_answers, question_answers};
@@ -31,8 +32,9 @@ pub fn inferred<M: ListedMemory>(
     bound: Bound,
     rules: &RuleBook,
 ) -> Result<Answers, AllocError>
-    requires { IsSome (find_proc (prog_view prog.now).procs entry.now) }
-    ensures { IfOk result (λ answers. AreRightFounds (memory_of M.Local.memory M.Local.actions M.stands M.terms M.asked M.depends M.keeps_plain)
+    requires entry { IsSome (find_proc (prog_view prog.now).procs entry.now) }
+    requires own_keys { MissesWhatLacks M.Local.memory M.Local.actions }
+    ensures { IfOk result (λ answers. AreRightFounds (memory_of M.Local.memory M.Local.actions M.stands M.terms M.asked M.depends M.keeps_plain M.keeps_narrow)
         (prog_view prog.now) entry.now bound.steps (map answer_view answers)) }
 {
     let mut decider = PathSolver::new(alloc);

@@ -122,7 +122,7 @@ pub fn check_in(
 ) -> Result<Answers, AllocError>
     requires { HasModes (prog_view prog.now) (definition_of language).memory.name }
     ensures { IfOk result (λ answers. AreRightAnswers (definition_of language).memory.name (definition_of language).memory.actions
-        bound.steps (prog_view prog.now) (map answer_view answers)) }
+        (definition_of language).memory.keeps_plain bound.steps (prog_view prog.now) (map answer_view answers)) }
 {
     match language {
         Language::GilRecord => checked::<RecordSym>(alloc, prog, bound, rules),

@@ -110,7 +110,15 @@ module _ (v : List PureValue) (at : PureKey) (k : Key) (h larger : Heap) (is : k
 
 beside_uses : (loc : PureTerm) (s : PureSub) → Each (IsFixOf Object (record { loc = loc; sub = s })) (names_beside loc s)
 beside_uses loc (named p) = (
-  record { core = Core.Dom; of_memory = record { named = (cores_stand_for_keys Core.Dom).named; has = refl }; ins = refl; outs = refl; among = (inl refl, tt) },
+  record {
+    core = Core.Dom;
+    of_memory = record { named = (cores_stand_for_keys Core.Dom).named; has = refl };
+    ins = refl;
+    outs = refl;
+    among = (inl refl, tt);
+    later_ins = [];
+    loc_first = refl;
+  },
   tt,
 )
 beside_uses loc (cell i) = tt

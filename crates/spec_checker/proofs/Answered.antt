@@ -15,8 +15,9 @@ use Rattle.spec_answers.specs.declared.answers.Verdict.{Verdict}
 use Rattle.spec_answers.specs.Holding.{Fits, AreFindings, AreTrue, AnswersAreRight}
 use Rattle.spec_causes.specs.declared.meeting.Met.{Met}
 use Rattle.spec_checker.specs.Answers.{Shows, AnswerEach, IsCauseIfUnproved, AreCauses}
-use Rattle.spec_checker.specs.Deciding.{IsOwn}
-use Rattle.spec_checker.specs.Examining.{ShowsProof, IsCauseIfCaused, IsExamined, AreExamined, UsesNone}
+use Rattle.spec_checker.specs.Deciding.{IsOwn, IsSureIfUnproved}
+use Rattle.spec_exploration.specs.Plain.{IsPlainSpec}
+use Rattle.spec_checker.specs.Examining.{ShowsProof, IsCauseIfCaused, IsSureIfCaused, IsExamined, AreExamined, UsesNone}
 use Rattle.spec_checker.proofs.Found.{found_at}
 
 at_place : {A B : Type 0} (xs : List A) (ys : List B) (k : ℕ) (y : B) → length xs ≡ length ys → slice_get ys k ≡ Some y → (x : A) × (slice_get xs k ≡ Some x)
@@ -61,7 +62,15 @@ own_by answers (Finding.Clean xs) (Verdict.DependsOn g) fits none = true≢false
 own_by answers (Finding.Vacuous proof) v fits none = subst (λ (w : Verdict Met). IsOwn w) (sym fits) tt
 own_by answers (Finding.Caused c) v fits none = subst (λ (w : Verdict Met). IsOwn w) (sym fits) tt
 
-module _ (p : PureParts) (memory : MemoryName) (m : Actions) (most : ℕ) (xs : List (Examined Met)) (examined : AreExamined p memory m most p.specs xs)
+surely_by : (answers : List (SpecAnswer Met)) (f : Finding Met) (v : Verdict Met) → Fits answers f v → IsSureIfCaused f → IsSureIfUnproved v
+surely_by answers (Finding.Clean xs) Verdict.Verified fits sure = tt
+surely_by answers (Finding.Clean xs) (Verdict.Vacuous proof) fits sure = tt
+surely_by answers (Finding.Clean xs) (Verdict.Unproved c) fits sure = absurd fits
+surely_by answers (Finding.Clean xs) (Verdict.DependsOn g) fits sure = tt
+surely_by answers (Finding.Vacuous proof) v fits sure = subst (λ (w : Verdict Met). IsSureIfUnproved w) (sym fits) tt
+surely_by answers (Finding.Caused c) v fits sure = subst (λ (w : Verdict Met). IsSureIfUnproved w) (sym fits) sure
+
+module _ (p : PureParts) (memory : MemoryName) (m : Actions) (keeps : Type 0) (most : ℕ) (xs : List (Examined Met)) (examined : AreExamined p memory m keeps most p.specs xs)
     (answers : List (SpecAnswer Met)) (right : AnswersAreRight xs answers) where
   pub answered_each : AnswerEach p.specs answers
   answered_each = record {
@@ -87,6 +96,12 @@ module _ (p : PureParts) (memory : MemoryName) (m : Actions) (most : ℕ) (xs : 
   answered_own k s a at_s at_a contained =
       let (x, at_x) = at_place xs p.specs k s examined.as_many at_s in
       own_by answers x.finding a.verdict (right.each_answers k x a at_x at_a).fits ((examined.each_examined k s x at_s at_x).found.contained contained)
+
+  -- a cause of a plain specification isn't that something isn't decided
+  pub answered_surely : keeps → (k : ℕ) (s : PureSpec) (a : SpecAnswer Met) → slice_get p.specs k ≡ Some s → slice_get answers k ≡ Some a → IsPlainSpec p s → IsSureIfUnproved a.verdict
+  answered_surely keeps k s a at_s at_a plain =
+      let (x, at_x) = at_place xs p.specs k s examined.as_many at_s in
+      surely_by answers x.finding a.verdict (right.each_answers k x a at_x at_a).fits ((examined.each_examined k s x at_s at_x).found.plain keeps plain)
 
   module _ (valid : IsValid p) where
     are_findings : AreFindings p memory m xs

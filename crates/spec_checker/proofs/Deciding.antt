@@ -20,7 +20,9 @@ use Rattle.spec_answers.specs.declared.answers.Verdict.{Verdict}
 use Rattle.spec_causes.specs.Causes.{MeetsAbove, IsCauseOf, entry_for}
 use Rattle.spec_causes.specs.declared.meeting.Met.{Met}
 use Rattle.spec_checker.specs.Answers.{IsCauseIfUnproved, AreCauses}
-use Rattle.spec_checker.specs.Deciding.{IsDoubt, IsOwn, ShowsNoFault, AreDecided}
+use Rattle.checked_paths.specs.Plainly.{IsSureCause}
+use Rattle.spec_exploration.specs.Plain.{IsPlainSpec}
+use Rattle.spec_checker.specs.Deciding.{IsDoubt, IsOwn, ShowsNoFault, AreDecided, IsSureIfUnproved, IsProved, AreSettled}
 use Rattle.spec_checker.proofs.Found.{found_at}
 
 module _ (p : PureParts) (memory : MemoryName) (m : Actions) (entry : Entry) where
@@ -75,4 +77,25 @@ answers_decided law p memory m most answers made valid modes causes own = record
   each_own = own;
   each_decided = λ k s a at_s at_a contained alone.
       shows_no_fault p memory m most s (law p memory m s most made valid modes (found_at p valid k s at_s) contained alone) a.verdict (own k s a at_s at_a contained) (causes.each_right k s a at_s at_a);
+}
+
+-- ---- plain specifications
+
+no_doubt : (cause : PureCause) → IsDoubt cause → IsSureCause cause → ⊥
+no_doubt (undecided reason shown) doubt sure = sure
+no_doubt (failure t shown) doubt sure = doubt
+no_doubt (fault kind shown) doubt sure = doubt
+no_doubt (bound shown) doubt sure = doubt
+
+proved_by : (v : Verdict Met) → ShowsNoFault v → IsSureIfUnproved v → IsProved v
+proved_by Verdict.Verified no_fault sure = tt
+proved_by (Verdict.Vacuous proof) no_fault sure = tt
+proved_by (Verdict.Unproved met) no_fault sure = no_doubt (cause_view met.cause) no_fault sure
+proved_by (Verdict.DependsOn g) no_fault sure = no_fault
+
+pub answers_settled : (p : PureParts) (memory : MemoryName) (m : Actions) (most : ℕ) (answers : List (SpecAnswer Met)) → AreDecided p memory m most answers
+    → ((k : ℕ) (s : PureSpec) (a : SpecAnswer Met) → slice_get p.specs k ≡ Some s → slice_get answers k ≡ Some a → IsPlainSpec p s → IsSureIfUnproved a.verdict) → AreSettled p memory m most answers
+answers_settled p memory m most answers decided surely = record {
+  each_sure = surely;
+  each_proved = λ k s a at_s at_a plain alone. proved_by a.verdict (decided.each_decided k s a at_s at_a plain.contained alone) (surely k s a at_s at_a plain);
 }

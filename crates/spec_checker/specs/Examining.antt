@@ -4,6 +4,7 @@ use Rattle.gil_syntax.specs.Pure.{PureSpec, PureParts}
 use Rattle.mem_model.specs.declared.keys.MemoryName.{MemoryName}
 use Rattle.mem_model.specs.Actions.{Actions}
 use Rattle.checked_paths.specs.Causes.{cause_view}
+use Rattle.checked_paths.specs.Plainly.{IsSureCause}
 use Rattle.plain_specs.specs.Contained.{IsContained}
 use Rattle.solver_proof.specs.Closing.{Closes}
 use Rattle.solver_proof.specs.View.{proof_view}
@@ -13,6 +14,7 @@ use Rattle.spec_answers.specs.Holding.{FindingHolds}
 use Rattle.spec_causes.specs.Causes.{IsCauseOf, entry_for}
 use Rattle.spec_causes.specs.declared.meeting.Met.{Met}
 use Rattle.spec_exploration.specs.declared.exploration.Explored.{Explored}
+use Rattle.spec_exploration.specs.Plain.{IsPlainSpec}
 use Rattle.spec_vacuity.specs.Translation.{precondition_table, precondition_atoms}
 
 abbrev pub finding_by : Option Met → List (List ℕ) → Finding Met
@@ -27,22 +29,29 @@ abbrev pub ShowsProof : PureSpec → Finding Met → Type 0
 ShowsProof s (Finding.Vacuous proof) = Closes (precondition_table s) (precondition_atoms s) (proof_view proof)
 ShowsProof s _ = ⊤
 
+-- a cause that was found isn't that something isn't decided
+abbrev pub IsSureIfCaused : Finding Met → Type 0
+IsSureIfCaused (Finding.Caused met) = IsSureCause (cause_view met.cause)
+IsSureIfCaused _ = ⊤
+
 -- what was found names no specification that is used
 abbrev pub UsesNone : Finding Met → Type 0
 UsesNone (Finding.Clean uses) = uses ≡ []
 UsesNone _ = ⊤
 
-module _ (p : PureParts) (memory : MemoryName) (m : Actions) (most : ℕ) where
-  -- the cause that was found is right
-  abbrev pub IsCauseIfCaused : PureSpec → Finding Met → Type 0
-  IsCauseIfCaused s (Finding.Caused met) = IsCauseOf p memory m s most (entry_for s met.entered) (cause_view met.cause)
-  IsCauseIfCaused s _ = ⊤
+-- the cause that was found is right
+abbrev pub IsCauseIfCaused : PureParts → MemoryName → Actions → ℕ → PureSpec → Finding Met → Type 0
+IsCauseIfCaused p memory m most s (Finding.Caused met) = IsCauseOf p memory m s most (entry_for s met.entered) (cause_view met.cause)
+IsCauseIfCaused p memory m most s _ = ⊤
 
+-- of a memory that may keep the law of plain memories
+module _ (p : PureParts) (memory : MemoryName) (m : Actions) (keeps : Type 0) (most : ℕ) where
   pub record IsFound (s : PureSpec) (finding : Finding Met) : Type 0 where
     pub holds : FindingHolds p memory m s finding
     pub shows : ShowsProof s finding
-    pub cause : IsCauseIfCaused s finding
+    pub cause : IsCauseIfCaused p memory m most s finding
     pub contained : IsContained p s → UsesNone finding
+    pub plain : keeps → IsPlainSpec p s → IsSureIfCaused finding
 
   pub record IsExamined (s : PureSpec) (x : Examined Met) : Type 0 where
     pub same_name : x.name ≡ s.name

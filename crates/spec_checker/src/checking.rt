@@ -4,7 +4,7 @@ ghost use Rattle.assert_logic.specs.Modes.{HasModes};
 ghost use Rattle.gil_program.specs.Program.{prog_view};
 ghost use Rattle.spec_answers.specs.Holding.{AreTrue};
 ghost use Rattle.spec_checker.specs.Answers.{AnswerEach, AreCauses};
-ghost use Rattle.spec_checker.specs.Deciding.{AreDecided};
+ghost use Rattle.spec_checker.specs.Deciding.{AreDecided, AreSettled};
 
 use crate::examining::examine_all;
 use gil_program::Prog;
@@ -33,6 +33,9 @@ pub fn check<M: ListedMemory, D: Refuter>(
 
     // A contained specification depends on no other one, and where its runs do as it tells, no fault of it is shown.
     ensures contained { IfOk result (AreDecided (prog_view prog.now) M.Local.memory M.Local.actions bound) }
+
+    // Nothing of a plain specification is left undecided, and it is verified or vacuous where its runs do as it tells.
+    ensures plain { M.keeps_plain → IfOk result (AreSettled (prog_view prog.now) M.Local.memory M.Local.actions bound) }
 {
     contained_specifications_are_decided();
     let examined = examine_all::<M, D>(alloc, prog, rules, bound, decider)?;

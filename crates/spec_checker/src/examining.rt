@@ -41,7 +41,7 @@ fn find<M: ListedMemory, D: Refuter>(
     requires bounded { bound ≤ 10000 }
     requires found { find_spec (prog_view prog.now).specs (spec_view spec.now).name ≡ Some (spec_view spec.now) }
     requires modes { HasModes (prog_view prog.now) M.Local.memory }
-    ensures { IfOk result (IsFound (prog_view prog.now) M.Local.memory M.Local.actions bound (spec_view spec.now)) }
+    ensures { IfOk result (IsFound (prog_view prog.now) M.Local.memory M.Local.actions M.keeps_plain bound (spec_view spec.now)) }
 {
     vacuous_specifications_have_no_run();
     match vacuous(alloc, spec, decider)? {
@@ -64,7 +64,7 @@ fn examine<M: ListedMemory, D: Refuter>(
     requires bounded { bound ≤ 10000 }
     requires found { find_spec (prog_view prog.now).specs (spec_view spec.now).name ≡ Some (spec_view spec.now) }
     requires modes { HasModes (prog_view prog.now) M.Local.memory }
-    ensures { IfOk result (IsExamined (prog_view prog.now) M.Local.memory M.Local.actions bound (spec_view spec.now)) }
+    ensures { IfOk result (IsExamined (prog_view prog.now) M.Local.memory M.Local.actions M.keeps_plain bound (spec_view spec.now)) }
 {
     let name = spec.name.copy(alloc)?;
     let finding = find::<M, D>(alloc, prog, rules, spec, bound, decider)?;
@@ -81,7 +81,7 @@ pub(crate) fn examine_all<M: ListedMemory, D: Refuter>(
 ) -> Result<Examinations<Met>, AllocError>
     requires bounded { bound ≤ 10000 }
     requires modes { HasModes (prog_view prog.now) M.Local.memory }
-    ensures { IfOk result (AreExamined (prog_view prog.now) M.Local.memory M.Local.actions bound (prog_view prog.now).specs) }
+    ensures { IfOk result (AreExamined (prog_view prog.now) M.Local.memory M.Local.actions M.keeps_plain bound (prog_view prog.now).specs) }
 {
     let mut examined = Sequence::new(alloc);
     let specs = prog.specs().as_slice();

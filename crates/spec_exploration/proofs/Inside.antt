@@ -86,7 +86,7 @@ module _ (p : PureParts) (s : PureSpec) where
   -- ---- commands
 
   -- the procedure that runs has the command
-  there : (fs : List PureFrame) (n : PureNumberedCommand) → command_of_frames p fs ≡ Some n → Each Runs fs → (f : List ℕ) × (MayRun p s.name f × HasCommand p f n.command)
+  pub there : (fs : List PureFrame) (n : PureNumberedCommand) → command_of_frames p fs ≡ Some n → Each Runs fs → (f : List ℕ) × (MayRun p s.name f × HasCommand p f n.command)
   there [] n at inside = not_none at
   there (f ∷ fs) n at inside = (f.procedure, (inside.0, record { index = f.next; numbered = n; there = at; command = refl }))
 

@@ -6,3 +6,4 @@ pub mod Placing
 pub mod Reaching
 pub mod Steps
 pub mod Taking
+pub mod Plainness

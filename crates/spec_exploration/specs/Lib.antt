@@ -1,3 +1,4 @@
 pub mod Beginning
 pub mod Exploring
 pub mod Inside
+pub mod Plain

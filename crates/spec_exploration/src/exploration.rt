@@ -4,6 +4,7 @@ ghost use Rattle.assert_logic.specs.Modes.{HasModes};
 ghost use Rattle.checked_paths.specs.Accounting.{CoversStarts};
 ghost use Rattle.checked_paths.specs.Causes.{cause_view, shown_in};
 ghost use Rattle.checked_paths.specs.Meaning.{MayGoOn};
+ghost use Rattle.checked_paths.specs.Plainly.{IsSureCause};
 ghost use Rattle.checked_paths.specs.View.{checking_view, entry_view, next_view, nexts_view};
 ghost use Rattle.checked_runs.specs.Checked.{HasNoFault, UsesOnly};
 ghost use Rattle.gil_program.specs.Program.{prog_view};
@@ -15,6 +16,7 @@ ghost use Rattle.spec_causes.specs.Causes.{IsCauseOf, entry_for};
 ghost use Rattle.spec_causes.specs.Reaching.{IsFoundCause, IsKnown};
 ghost use Rattle.spec_exploration.specs.Exploring.{ArePlaced, AreReached, AreTaken, IsCutAt, IsMetOf, IsNamed, IsReachedNext, IsReachedWithin, IsSettledBy, StartPlaced, exploration_view};
 ghost use Rattle.spec_exploration.specs.Inside.{IsInside, IsNextInside, StaysInside};
+ghost use Rattle.spec_exploration.specs.Plain.{HasPlainTerms, IsPlainAt, IsPlainNext, IsPlainSpec, StaysPlain};
 ghost use Rattle.sym_model.specs.Lists.{Each};
 
 use crate::beginning::{first_place, starts_of};
@@ -220,6 +222,11 @@ fn advance<M: ListedMemory, D: Decider>(
         → StaysInside (prog_view prog.now) (spec_view spec.now) (exploration_view exploration)
         → IsInside (prog_view prog.now) (spec_view spec.now) (checking_view checking).path
         → IfOk result (λ after. StaysInside (prog_view prog.now) (spec_view spec.now) (exploration_view after)) }
+    ensures plain { M.keeps_plain → IsPlainSpec (prog_view prog.now) (spec_view spec.now) → HasPlainTerms (entry_view spec.now entered.now)
+        → StaysPlain M.plain (spec_view spec.now) (exploration_view exploration)
+        → IsInside (prog_view prog.now) (spec_view spec.now) (checking_view checking).path
+        → IsPlainAt M.plain (spec_view spec.now) (checking_view checking).path
+        → IfOk result (λ after. StaysPlain M.plain (spec_view spec.now) (exploration_view after)) }
 {
     if checking.path.steps >= bound {
         let cause = cut(alloc, prog, spec, entered, &checking)?;
@@ -257,6 +264,10 @@ fn explore_from<M: ListedMemory, D: Decider>(
         → Each (IsNextInside (prog_view prog.now) (spec_view spec.now)) (nexts_view starts) → IfOk result (λ found. found.uses ≡ []) }
     ensures causes { IfOk result (λ found. IfSome found.cause (λ cause. IsFoundCause (prog_view prog.now) M.Local.memory M.Local.actions
         (entry_view spec.now entered.now) bound (cause_view cause))) }
+    ensures plain { M.keeps_plain → IsPlainSpec (prog_view prog.now) (spec_view spec.now) → HasPlainTerms (entry_view spec.now entered.now)
+        → Each (IsNextInside (prog_view prog.now) (spec_view spec.now)) (nexts_view starts)
+        → Each (IsPlainNext M.plain (spec_view spec.now)) (nexts_view starts)
+        → IfOk result (λ found. IfSome found.cause (λ cause. IsSureCause (cause_view cause))) }
 {
     let mut exploration = Exploration {
         left: Vec::new(alloc),
@@ -324,6 +335,10 @@ pub fn explore_specification<M: ListedMemory, D: Decider>(
     ensures causes { IfOk result (λ explored. IfSome explored.cause (λ met. IsCauseOf (prog_view prog.now) M.Local.memory M.Local.actions
         (spec_view spec.now) bound (entry_for (spec_view spec.now) met.entered) (cause_view met.cause))) }
     ensures contained { IsContained (prog_view prog.now) (spec_view spec.now) → IfOk result (λ explored. explored.uses ≡ []) }
+
+    // Nothing of a plain specification is left undecided: a cause of it is a failure, a fault or the bound.
+    ensures plain { M.keeps_plain → IsPlainSpec (prog_view prog.now) (spec_view spec.now)
+        → IfOk result (λ explored. IfSome explored.cause (λ met. IsSureCause (cause_view met.cause))) }
 {
     let Beginnings {
         vars: _,

@@ -8,6 +8,7 @@ ghost use Rattle.checked_paths.specs.Following.{OfGoing, is_of_machine as is_mac
 ghost use Rattle.checked_paths.specs.Meaning.{MayGoOn};
 ghost use Rattle.checked_paths.specs.View.{checking_view, entry_view, nexts_view};
 ghost use Rattle.checked_rows.specs.Ending.{IsLeaving};
+ghost use Rattle.checked_rows.specs.Plainly.{EndsPlainly};
 ghost use Rattle.checked_rows.specs.Rows.{AreRowOf, IsExactRowOf};
 ghost use Rattle.gil_program.specs.Program.{prog_view};
 ghost use Rattle.gil_syntax.specs.Programs.{find_spec};
@@ -15,6 +16,7 @@ ghost use Rattle.gil_syntax.specs.Pure.{PureCommand};
 ghost use Rattle.gil_syntax.specs.View.{command_view, numbered_command_view, spec_view};
 ghost use Rattle.plain_specs.specs.Contained.{IsContained};
 ghost use Rattle.spec_exploration.specs.Inside.{IsInside, IsNextInside};
+ghost use Rattle.spec_exploration.specs.Plain.{HasPlainTerms, IsPlainAt, IsPlainNext, IsPlainSpec, StepsPlainly};
 ghost use Rattle.spec_causes.specs.Reaching.{MayAskAt};
 ghost use Rattle.sym_engine.specs.Lawful.{MayAdvance};
 ghost use Rattle.sym_model.specs.Lists.{Each};
@@ -102,6 +104,8 @@ fn leave<M: ListedMemory, D: Decider>(
         M.stands M.terms (entry_view spec.now entered.now) (checking_view checking) command [] (nexts_view ns)) }
     ensures exact { IfOk result (λ ns. (command : PureCommand) → IsLeaving command → IsExactRowOf (prog_view prog.now) M.Local.memory
         M.Local.actions M.stands M.terms (entry_view spec.now entered.now) (checking_view checking) command here.now (nexts_view ns)) }
+    ensures plain { M.keeps_plain → IfOk result (λ ns. EndsPlainly (prog_view prog.now) M.plain (entry_view spec.now entered.now)
+        (path_view checking.path) (nexts_view ns)) }
 {
     let Some(proc) = prog.proc(&spec.name) else {
         unreachable!();
@@ -137,6 +141,9 @@ fn step_at<M: ListedMemory, D: Decider>(
         (entry_view spec.now entered.now) (checking_view checking) (nexts_view ns)) }
     ensures asked { IfOk result (λ ns. Each (AddsOnly (MayAskAt (prog_view prog.now) (checking_view checking)) (checking_view checking))
         (nexts_view ns)) }
+    ensures plain { M.keeps_plain → IsPlainSpec (prog_view prog.now) (spec_view spec.now) → HasPlainTerms (entry_view spec.now entered.now)
+        → IsInside (prog_view prog.now) (spec_view spec.now) (path_view checking.path)
+        → IfOk result (λ ns. StepsPlainly M.plain (spec_view spec.now) (path_view checking.path) (nexts_view ns)) }
 {
     let here = place_of(alloc, &checking.path.stack, numbered)?;
     if is_leaving(&numbered.command) {
@@ -197,6 +204,9 @@ fn step_call<M: ListedMemory, D: Decider>(
         (entry_view spec.now entered.now) (checking_view checking) (nexts_view s.nexts)) }
     ensures asked { IfOk result (λ s. Each (AddsOnly (MayAskAt (prog_view prog.now) (checking_view checking)) (checking_view checking))
         (nexts_view s.nexts)) }
+    ensures plain { M.keeps_plain → IsPlainSpec (prog_view prog.now) (spec_view spec.now)
+        → IsInside (prog_view prog.now) (spec_view spec.now) (path_view checking.path)
+        → IfOk result (λ s. StepsPlainly M.plain (spec_view spec.now) (path_view checking.path) (nexts_view s.nexts)) }
 {
     let here = place_of(alloc, &checking.path.stack, numbered)?;
     call_row(alloc, prog, rules, spec, entered, checking, &here, decider)
@@ -225,6 +235,10 @@ pub(crate) fn check_step<M: ListedMemory, D: Decider>(
         (entry_view spec.now entered.now) (checking_view checking) (nexts_view s.nexts)) }
     ensures asked { IfOk result (λ s. Each (AddsOnly (MayAskAt (prog_view prog.now) (checking_view checking)) (checking_view checking))
         (nexts_view s.nexts)) }
+    ensures plain { M.keeps_plain → IsPlainSpec (prog_view prog.now) (spec_view spec.now) → HasPlainTerms (entry_view spec.now entered.now)
+        → IsInside (prog_view prog.now) (spec_view spec.now) (path_view checking.path)
+        → IsPlainAt M.plain (spec_view spec.now) (path_view checking.path)
+        → IfOk result (λ s. Each (IsPlainNext M.plain (spec_view spec.now)) (nexts_view s.nexts)) }
 {
     let numbered = match command_of(prog, &checking.path.stack) {
         Some(numbered) => numbered,

@@ -1,43 +1,25 @@
 -- What a decider leaves of plain candidates is plain, and none of it is unknown: their conditions are in the fragment.
-use Rattle.std.proofs.Common.{◌≡◌, inl, inr, ℕ, ◌+◌, ◌<◌, ◌≤◌, ◌^◌, ℤ, pos, neg_ℤ, List, [], ◌∷◌, length, true, Some, IsTrue, refl, sym, ap, subst, ◌∙◌, arith}
-use Rattle.std.specs.List.{list_all}
-use Rattle.std.proofs.lemmas.Bool.{and_from}
+use Rattle.std.proofs.Common.{◌≡◌, inl, inr, ℕ, ◌+◌, ◌<◌, ◌≤◌, ◌^◌, ℤ, List, [], ◌∷◌, length, Some, IsTrue, sym, ap, subst, ◌∙◌, arith}
 use Rattle.gil_values.specs.Pure.{PureValue}
 use Rattle.gil_syntax.specs.Pure.{PureParts, PureCommand, PureNumberedCommand}
 use Rattle.gil_syntax.specs.Simple.{is_simple_command}
 use Rattle.gil_syntax.specs.Valid.{IsValid}
 use Rattle.mem_model.specs.Actions.{Actions}
 use Rattle.mem_model.specs.Heaps.{Heap}
-use Rattle.pure_terms.specs.Fragment.{has_fragment_form, has_narrow_literals, variable_count, InFragment}
+use Rattle.pure_terms.specs.Fragment.{variable_count, InFragment}
 use Rattle.pure_terms.specs.Meaning.{AreOver}
-use Rattle.pure_terms.specs.Pure.{PureAtom, term_of}
+use Rattle.pure_terms.specs.Pure.{PureAtom}
 use Rattle.pure_terms.proofs.NamingLaws.{count_bound}
 use Rattle.sym_engine.specs.Plain.{AreAllPlain, StayPlainIn}
 use Rattle.sym_engine.proofs.Fragments.{each_over_all}
-use Rattle.sym_model.specs.Laws.{IsDecidedWithin}
 use Rattle.sym_model.specs.Lists.{Each, IsAmong}
 use Rattle.sym_model.specs.Terms.{StateTerms}
 use Rattle.sym_model.proofs.ListLaws.{same_some}
+use Rattle.sym_model.proofs.Fragments.{all_forms, all_narrow}
 use Rattle.sym_paths.specs.Meaning.{command_of_path}
 use Rattle.sym_paths.specs.Pure.{PurePath}
 use Rattle.sym_paths.specs.Settling.{Candidate, Stays, AreSettled, AreCandidates}
 use Rattle.sym_paths.specs.Steps.{Grows, IsUnknown, IsPlainPath, StaysWithin, step_growth, narrow_bound}
-use Rattle.sym_model.proofs.Wider.{term_wider, lower_bound, higher_bound}
-
-module _ (b : ℕ) (narrow : b ≤ narrow_bound) where
-  abbrev Decided : PureAtom → Type 0
-  Decided a = IsDecidedWithin (neg_ℤ (pos b)) (pos b) a
-
-  all_forms : (atoms : List PureAtom) → Each Decided atoms → list_all has_fragment_form atoms ≡ true
-  all_forms [] decided = refl
-  all_forms (a ∷ atoms) decided = and_from (has_fragment_form a) (list_all has_fragment_form atoms) decided.0.0 (all_forms atoms decided.1)
-
-  narrow_literals : (a : PureAtom) → Decided a → has_narrow_literals a ≡ true
-  narrow_literals a is = term_wider (neg_ℤ (pos b)) (pos b) (neg_ℤ (pos narrow_bound)) (pos narrow_bound) (lower_bound b narrow_bound narrow) (higher_bound b narrow_bound narrow) (term_of a) is.1
-
-  all_narrow : (atoms : List PureAtom) → Each Decided atoms → list_all has_narrow_literals atoms ≡ true
-  all_narrow [] decided = refl
-  all_narrow (a ∷ atoms) decided = and_from (has_narrow_literals a) (list_all has_narrow_literals atoms) (narrow_literals a decided.0) (all_narrow atoms decided.1)
 
 module _ {S : Type 0} (plain : S → ℤ → ℤ → Type 0) where
   -- The conditions of a plain path are in the fragment, as long as it has made fewer than 2^39 steps.

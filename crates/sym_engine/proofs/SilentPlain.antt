@@ -28,7 +28,7 @@ drawn_plain Kind.List sort is n = not_none is
 drawn_plain Kind.Undef sort is n = not_none is
 drawn_plain Kind.Null sort is n = not_none is
 
-no_end_is_known : (o : Option PureEnd) → o ≡ None → ¬ IsUnknown o
+pub no_end_is_known : (o : Option PureEnd) → o ≡ None → ¬ IsUnknown o
 no_end_is_known o is unknown = subst IsUnknown is unknown
 
 module _ {S : Type 0} (plain : S → ℤ → ℤ → Type 0) (b : ℕ) (path : PurePath S) (from : IsPlainPath plain b path) where

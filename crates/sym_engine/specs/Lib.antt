@@ -1,5 +1,6 @@
 pub mod Forms
 pub mod Lawful
+pub mod Narrow
 pub mod Placed
 pub mod Plain
 pub mod Settles

@@ -8,6 +8,7 @@ ghost use Rattle.gil_syntax.specs.WellMade.{is_spellable};
 ghost use Rattle.pure_terms.specs.View.{term_view, terms_view, atoms_view};
 ghost use Rattle.sym_engine.specs.Forms.{NeedWhatMatters};
 ghost use Rattle.sym_engine.specs.Lawful.{AreLawful, MayAdvance};
+ghost use Rattle.sym_engine.specs.Narrow.{StayNarrow};
 ghost use Rattle.sym_engine.specs.Plain.{StayPlain};
 ghost use Rattle.sym_engine.specs.View.{candidate_view, candidates_view};
 ghost use Rattle.sym_evaluation.specs.Pure.{PureStore};
@@ -247,6 +248,7 @@ pub fn act_candidates<M: SymMemory>(
         (pure_act name.now action.now (exprs_view arguments.now)) (candidates_view cs)) }
     ensures plain { M.keeps_plain → IfOk result (λ cs. StayPlain M.plain (path_view path)
         (pure_act name.now action.now (exprs_view arguments.now)) (candidates_view cs)) }
+    ensures narrow { M.keeps_narrow → IfOk result (λ cs. StayNarrow M.terms (path_view path) (pure_act name.now action.now (exprs_view arguments.now)) (candidates_view cs)) }
 {
     let Cases { faults, good } = evaluate_all_in(alloc, &path.stack, arguments)?;
     let candidates = fail_each(alloc, &path, here, &faults)?;

@@ -14,6 +14,7 @@ ghost use Rattle.pure_terms.specs.Kinds.{allows, known_kind};
 ghost use Rattle.pure_terms.specs.Pure.{opening};
 ghost use Rattle.pure_terms.specs.View.{term_view, terms_view, atoms_view};
 ghost use Rattle.sym_engine.specs.Lawful.{AreLawfulIn, MayAdvance};
+ghost use Rattle.sym_engine.specs.Narrow.{StayNarrowIn};
 ghost use Rattle.sym_engine.specs.Plain.{StayPlainIn};
 ghost use Rattle.sym_engine.specs.View.{called_view, candidate_view, candidates_view};
 ghost use Rattle.sym_evaluation.specs.Plainly.{AllAnswerPlainly};
@@ -322,6 +323,8 @@ pub fn call_candidates<M: SymMemory>(
     ensures lawful { IfOk result (λ cs. AreLawfulIn M.stands M.terms M.asked M.Local.actions (prog_view prog.now) (path_view path)
         here.now (pure_call name.now (expr_view callee.now) (exprs_view arguments.now) handler) (candidates_view cs)) }
     ensures plain { M.keeps_plain → IfOk result (λ cs. StayPlainIn M.plain (prog_view prog.now) (path_view path)
+        (pure_call name.now (expr_view callee.now) (exprs_view arguments.now) handler) (candidates_view cs)) }
+    ensures narrow { IfOk result (λ cs. StayNarrowIn M.terms (prog_view prog.now) (path_view path)
         (pure_call name.now (expr_view callee.now) (exprs_view arguments.now) handler) (candidates_view cs)) }
 {
     let callee = evaluate_in(alloc, &path.stack, callee)?;

@@ -11,6 +11,7 @@ ghost use Rattle.pure_terms.specs.Kinds.{allows, known_kind};
 ghost use Rattle.pure_terms.specs.Rewriting.{Replaces};
 ghost use Rattle.pure_terms.specs.View.{term_view, atoms_view};
 ghost use Rattle.sym_engine.specs.Lawful.{AddsCopies, AreLawful, MayAdvance};
+ghost use Rattle.sym_engine.specs.Narrow.{StayNarrow};
 ghost use Rattle.sym_engine.specs.Plain.{StayPlain};
 ghost use Rattle.sym_engine.specs.View.{candidate_view, candidates_view};
 ghost use Rattle.sym_evaluation.specs.Questions.{connects, negates, stands_as_it_is, MayStandForGuard};
@@ -343,6 +344,7 @@ pub fn guard_candidates<M: SymMemory>(
         (pure_ifgoto (expr_view expression.now) label.now) (candidates_view cs)) }
     ensures plain { M.keeps_plain → IfOk result (λ cs. StayPlain M.plain (path_view path)
         (pure_ifgoto (expr_view expression.now) label.now) (candidates_view cs)) }
+    ensures narrow { IfOk result (λ cs. StayNarrow M.terms (path_view path) (pure_ifgoto (expr_view expression.now) label.now) (candidates_view cs)) }
 {
     let Cases { faults, good } = evaluate_in(alloc, &path.stack, expression)?;
     let candidates = fail_each(alloc, &path, here, &faults)?;

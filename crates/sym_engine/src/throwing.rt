@@ -9,6 +9,7 @@ ghost use Rattle.pure_terms.specs.View.{term_view};
 ghost use Rattle.sym_candidates.specs.Returns.{Resumes, resuming};
 ghost use Rattle.sym_candidates.specs.Throws.{Throws, handling, throwing};
 ghost use Rattle.sym_engine.specs.Lawful.{AreLawful, MayAdvance};
+ghost use Rattle.sym_engine.specs.Narrow.{StayNarrow};
 ghost use Rattle.sym_engine.specs.Plain.{StayPlain};
 ghost use Rattle.sym_engine.specs.View.{candidate_view, candidates_view};
 ghost use Rattle.sym_evaluation.specs.View.{good_view};
@@ -129,6 +130,7 @@ pub fn throw_candidates<M: SymMemory>(
         (pure_throw (expr_view expression.now)) (candidates_view cs)) }
     ensures plain { M.keeps_plain → IfOk result (λ cs. StayPlain M.plain (path_view path) (pure_throw (expr_view expression.now))
         (candidates_view cs)) }
+    ensures narrow { IfOk result (λ cs. StayNarrow M.terms (path_view path) (pure_throw (expr_view expression.now)) (candidates_view cs)) }
 {
     let Cases { faults, good } = evaluate_in(alloc, &path.stack, expression)?;
     let mut candidates = fail_each(alloc, &path, here, &faults)?;

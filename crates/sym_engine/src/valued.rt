@@ -7,6 +7,7 @@ ghost use Rattle.gil_syntax.specs.View.{expr_view};
 ghost use Rattle.gil_syntax.specs.WellMade.{is_spellable};
 ghost use Rattle.pure_terms.specs.View.{term_view};
 ghost use Rattle.sym_engine.specs.Lawful.{AreLawful, MayAdvance};
+ghost use Rattle.sym_engine.specs.Narrow.{StayNarrow};
 ghost use Rattle.sym_engine.specs.Plain.{StayPlain};
 ghost use Rattle.sym_engine.specs.View.{candidate_view, candidates_view};
 ghost use Rattle.sym_evaluation.specs.Plainly.{AnswersPlainly, GuardsPlainly};
@@ -96,6 +97,7 @@ pub fn assign_candidates<M: SymMemory>(
         (pure_assign name.now (expr_view expression.now)) (candidates_view cs)) }
     ensures plain { M.keeps_plain → IfOk result (λ cs. StayPlain M.plain (path_view path) (pure_assign name.now (expr_view expression.now))
         (candidates_view cs)) }
+    ensures narrow { IfOk result (λ cs. StayNarrow M.terms (path_view path) (pure_assign name.now (expr_view expression.now)) (candidates_view cs)) }
 {
     let Cases { faults, good } = evaluate_in(alloc, &path.stack, expression)?;
     let mut candidates = fail_each(alloc, &path, here, &faults)?;
@@ -135,6 +137,7 @@ pub fn fail_candidates<M: SymMemory>(
         (pure_fail (expr_view expression.now)) (candidates_view cs)) }
     ensures plain { M.keeps_plain → IfOk result (λ cs. StayPlain M.plain (path_view path) (pure_fail (expr_view expression.now))
         (candidates_view cs)) }
+    ensures narrow { IfOk result (λ cs. StayNarrow M.terms (path_view path) (pure_fail (expr_view expression.now)) (candidates_view cs)) }
 {
     let Cases { faults, good } = evaluate_in(alloc, &path.stack, expression)?;
     let mut candidates = fail_each(alloc, &path, here, &faults)?;
@@ -222,6 +225,7 @@ pub fn return_candidates<M: SymMemory>(
         (pure_return (expr_view expression.now)) (candidates_view cs)) }
     ensures plain { M.keeps_plain → IfOk result (λ cs. StayPlain M.plain (path_view path) (pure_return (expr_view expression.now))
         (candidates_view cs)) }
+    ensures narrow { IfOk result (λ cs. StayNarrow M.terms (path_view path) (pure_return (expr_view expression.now)) (candidates_view cs)) }
 {
     let Cases { faults, good } = evaluate_in(alloc, &path.stack, expression)?;
     let mut candidates = fail_each(alloc, &path, here, &faults)?;

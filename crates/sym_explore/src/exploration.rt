@@ -3,6 +3,7 @@ ghost use Rattle.std.specs.Prelude.{◌≡◌, ◌≤◌, [], ◌∷◌, ◌++�
 ghost use Rattle.std.specs.Option.{option_map};
 ghost use Rattle.gil_program.specs.Program.{prog_view};
 ghost use Rattle.sym_explore.specs.Exploring.{CoverRuns, cut_off as pure_cut_off, IsEndedFrom, KeepAccounts, KeepTrails, MayGoOn, or_none};
+ghost use Rattle.sym_explore.specs.Narrow.{IsNarrowEndedFrom, KeepNarrowTrails};
 ghost use Rattle.sym_explore.specs.View.{paths_left};
 ghost use Rattle.sym_model.specs.Lists.{Each};
 ghost use Rattle.sym_paths.specs.View.{path_view, paths_view};
@@ -47,6 +48,8 @@ impl<M: SymMemory> Exploration<M> {
         ensures placed { IfOk result (λ ended. Each (MayGoOn (prog_view prog.now) M.terms) (paths_left self.new)) }
         ensures trails { IfOk result (λ ended. KeepTrails (prog_view prog.now) M.Local.actions M.stands M.terms M.asked M.depends M.plain M.keeps_plain bound
             (paths_left self.old) (or_none (option_map path_view ended)) (paths_left self.new)) }
+        ensures narrow { M.keeps_narrow → IfOk result (λ ended. KeepNarrowTrails (prog_view prog.now) M.Local.actions M.stands M.terms M.asked M.depends M.plain
+            M.keeps_plain bound (paths_left self.old) (or_none (option_map path_view ended)) (paths_left self.new)) }
         ensures cover { IfOk result (λ ended. KeepAccounts (prog_view prog.now) M.Local.actions M.stands bound (paths_left self.old)
             (or_none (option_map path_view ended) ++ paths_left self.new)) }
         ensures last { IfOk result (λ ended. IfNone ended (paths_left self.new ≡ [])) }
@@ -93,6 +96,8 @@ pub fn explore<M: SymMemory, D: Decider>(
     ensures cover { IfOk result (λ ps. CoverRuns (prog_view prog.now) M.Local.actions M.stands bound (path_view start) (paths_view ps)) }
     ensures trails { IfOk result (λ ps. Each (IsEndedFrom (prog_view prog.now) M.Local.actions M.stands M.terms M.asked M.depends M.plain M.keeps_plain bound
         (path_view start)) (paths_view ps)) }
+    ensures narrow { M.keeps_narrow → IfOk result (λ ps. Each (IsNarrowEndedFrom (prog_view prog.now) M.Local.actions M.stands M.terms M.asked M.depends
+        M.plain M.keeps_plain bound (path_view start)) (paths_view ps)) }
 {
     let mut exploration = Exploration::new(alloc, start)?;
     let mut ended = Sequence::new(alloc);

@@ -1,6 +1,7 @@
 //! What holds of every path with a trail: laws of the definitions, which no code is needed for.
 ghost use Rattle.gil_syntax.specs.Pure.{PureParts};
 ghost use Rattle.sym_explore.specs.Laws.{EndsAreOfRuns, TrailsHoldAlong, TrailsKeep, TrailsMayEndBefore, TrailsReplay};
+ghost use Rattle.sym_explore.specs.Narrow.{TrailsStayNarrow};
 ghost use Rattle.sym_explore.specs.Plain.{TrailsStayPlain};
 
 use sym_model::SymMemory;
@@ -33,4 +34,9 @@ pub fn trails_keep<M: SymMemory>()
 /// A path that began plain stays plain where the commands on its way have simple forms, and isn't unknown within 10,000 steps.
 pub fn trails_stay_plain<M: SymMemory>()
     ensures { (p : PureParts) → TrailsStayPlain p M.Local.actions M.stands M.terms M.asked M.plain }
+{}
+
+/// A path that began narrow stays narrow where the commands on its way have narrow forms, and isn't unknown.
+pub fn trails_stay_narrow<M: SymMemory>()
+    ensures { (p : PureParts) → TrailsStayNarrow p M.Local.actions M.stands M.terms M.asked }
 {}

@@ -7,5 +7,5 @@ mod laws;
 pub use exploration::{Exploration, explore};
 pub use laws::{
     ends_are_of_runs, trails_hold_along, trails_keep, trails_may_end_before, trails_replay,
-    trails_stay_plain,
+    trails_stay_narrow, trails_stay_plain,
 };

@@ -15,6 +15,7 @@ use Rattle.pure_terms.specs.Pure.{PureTerm}
 use Rattle.sym_conditions.specs.Alternatives.{always}
 use Rattle.sym_conditions.specs.Laws.{HaveBoth}
 use Rattle.sym_evaluation.specs.Meaning.{AreSame, HasValue, StandsFor, IsStoreOver, Serves}
+use Rattle.sym_evaluation.specs.Plainly.{IsPlain, IsPlainStore}
 use Rattle.sym_evaluation.specs.Pure.{PureStore, term_at}
 use Rattle.sym_model.proofs.ListLaws.{same_some}
 use Rattle.sym_matching.specs.Meaning.{SaysTest, IsTestOver, SaysSplit, IsSplitOver}
@@ -22,6 +23,7 @@ use Rattle.sym_matching.specs.Parts.{IsTestOf, AreStores, ByTerm, GivesTerm, Bin
 use Rattle.sym_matching.specs.Pure.{PureTest, PureSplit}
 use Rattle.sym_matching.specs.Splitting.{passed, also, equal_test, out_test, nothing, where_met}
 use Rattle.sym_matching.proofs.Conditions.{also_says, also_over, passed_says, passed_over}
+use Rattle.sym_matching.proofs.Deciding.{plain_guard, never_decided, met_decided}
 use Rattle.sym_matching.proofs.SplitLaws.{never_says, met_says, never_over, met_over}
 use Rattle.sym_matching.proofs.TestLaws.{equal_says, equal_over}
 
@@ -42,6 +44,13 @@ module _ (x : List ℕ) (t : PureTerm) (bs cs : PureStore) (is : IsGiven x t bs 
   over_if vars true o u over others at = subst (IsOver vars) (same_some at) over
   over_if vars false o u over others at = others u at
 
+  plain_if : (b : ℕ) (c : Bool) (o : Option PureTerm) (u : PureTerm) → IsPlain b t → ((r : PureTerm) → o ≡ Some r → IsPlain b r) → (if c then Some t else o) ≡ Some u → IsPlain b u
+  plain_if b true o u plain others at = subst (IsPlain b) (same_some at) plain
+  plain_if b false o u plain others at = others u at
+
+  pub given_plain : (b : ℕ) → IsPlain b t → IsPlainStore b bs → IsPlainStore b cs
+  given_plain b plain others y u at = plain_if b (bytes_eq x y) (term_at bs y) u plain (λ r there. others y r there) (sym (is y) ∙ at)
+
   pub given_over : (vars : List Sort) → IsOver vars t → IsStoreOver vars bs → IsStoreOver vars cs
   given_over vars over others y u at = over_if vars (bytes_eq x y) (term_at bs y) u over (λ r there. others y r there) (sym (is y) ∙ at)
 
@@ -49,16 +58,22 @@ module _ (x : List ℕ) (t : PureTerm) (bs cs : PureStore) (is : IsGiven x t bs 
 module _ (scope : List Param) (x : List ℕ) (t : PureTerm) (bs : PureStore) where
   pub undeclared : is_among (param_names scope) x ≡ false → GivesTerm scope x t bs (nothing always)
   undeclared none = record {
-    says = λ vars v s w serves over has. subst (λ b. SaysSplit v (StandsFor v) (nothing always) (if b && fits_sorts scope x w then Some (bind x w s) else None)) (sym none) (never_says v (StandsFor v));
-    over = λ vars store over. never_over vars (IsStoreOver vars);
+    gives = record {
+      says = λ vars v s w serves over has. subst (λ b. SaysSplit v (StandsFor v) (nothing always) (if b && fits_sorts scope x w then Some (bind x w s) else None)) (sym none) (never_says v (StandsFor v));
+      over = λ vars store over. never_over vars (IsStoreOver vars);
+    };
+    plain = λ b store plain. never_decided (IsPlainStore b) b;
   }
 
   pub gives_term : (cs : PureStore) (test : PureTest) → is_among (param_names scope) x ≡ true → IsTestOf (fits_sorts scope x) t test → IsGiven x t bs cs → GivesTerm scope x t bs (where_met test cs)
   gives_term cs test declared tests is = record {
-    says = λ vars v s w serves over has.
-        subst (λ b. SaysSplit v (StandsFor v) (where_met test cs) (if b && fits_sorts scope x w then Some (bind x w s) else None)) (sym declared)
-        (met_says v (StandsFor v) test (fits_sorts scope x w) cs (bind x w s) (tests.says vars v w serves.proper over has) (given_stands x t bs cs is v s w has serves.stands));
-    over = λ vars store over. met_over vars (IsStoreOver vars) test cs (tests.over vars over) (given_over x t bs cs is vars over store);
+    gives = record {
+      says = λ vars v s w serves over has.
+          subst (λ b. SaysSplit v (StandsFor v) (where_met test cs) (if b && fits_sorts scope x w then Some (bind x w s) else None)) (sym declared)
+          (met_says v (StandsFor v) test (fits_sorts scope x w) cs (bind x w s) (tests.says vars v w serves.proper over has) (given_stands x t bs cs is v s w has serves.stands));
+      over = λ vars store over. met_over vars (IsStoreOver vars) test cs (tests.over vars over) (given_over x t bs cs is vars over store);
+    };
+    plain = λ b store plain. met_decided (IsPlainStore b) b test cs (tests.decided b (plain_guard b t plain)) (given_plain x t bs cs is b plain store);
   }
 
 -- ---- a parameter that may have a term

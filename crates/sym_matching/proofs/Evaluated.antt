@@ -1,23 +1,31 @@
 -- What the cases of an expression say, as a split.
-use Rattle.std.proofs.Common.{◌≡◌, ◌⊎◌, ⊎_elim, inl, inr, List, [], ◌∷◌, map, false, Option, Some, None, Result, Ok, Err, IsTrue, refl, sym, ap, subst, ◌∙◌, true≢false}
+use Rattle.std.proofs.Common.{◌≡◌, ◌⊎◌, ⊎_elim, inl, inr, ℕ, ◌+◌, pos, neg_ℤ, List, [], ◌∷◌, map, false, Option, Some, None, Result, Ok, Err, IsTrue, refl, sym, ap, subst, ◌∙◌, true≢false}
+use Rattle.std.specs.List.{list_all}
 use Rattle.std.specs.Result.{result_ok}
 use Rattle.gil_values.specs.Operators.{Fault}
 use Rattle.gil_values.specs.Pure.{PureValue}
 use Rattle.gil_syntax.specs.Evaluation.{evaluate}
 use Rattle.gil_syntax.specs.Pure.{PureExpr}
+use Rattle.gil_syntax.specs.Subexpressions.{literals_of}
+use Rattle.gil_syntax.specs.WellMade.{is_spellable}
 use Rattle.pure_terms.specs.declared.variables.Sort.{Sort}
 use Rattle.pure_terms.specs.Meaning.{all_true, IsOver}
 use Rattle.pure_terms.specs.Pure.{PureTerm, PureAtom, term_of}
 use Rattle.sym_conditions.specs.Alternatives.{Alternatives, Hold}
 use Rattle.sym_evaluation.specs.Meaning.{IsTaken, IsClosed, IsGood, SayOutcome, HasValue, AreCasesOf, IsStoreOver}
+use Rattle.sym_evaluation.specs.Plainly.{IsPlain, IsPlainGuard, text_bound}
 use Rattle.sym_evaluation.specs.Pure.{PureStore, PureFaultCase, PureGoodCase, PureCases}
 use Rattle.sym_evaluation.specs.Questions.{IsAsked, OnConditions, OnResult, EachCondition, ComesFrom, NameNoOthers}
 use Rattle.sym_evaluation.proofs.AskedAtoms.{asked_closed}
+use Rattle.sym_model.specs.Laws.{IsDecidedWithin}
 use Rattle.sym_model.specs.Lists.{Each, OneOf}
 use Rattle.sym_model.specs.Meaning.{is_open}
 use Rattle.sym_model.proofs.ListLaws.{not_none, each_map, each_to, one_map, one_mapped, one_with}
+use Rattle.plain_evaluation.specs.Laws.{PlainExpressionsAskNothing}
+use Rattle.plain_evaluation.specs.Plain.{AsksNothing}
 use Rattle.sym_matching.specs.Meaning.{IsReached, Gives, SaysSplit, IsCondition, AreConditions, IsFoundOver, IsSplitOver}
 use Rattle.sym_matching.specs.Parts.{AreValues}
+use Rattle.sym_matching.specs.Plainly.{AreDecided, IsFoundDecided, IsSplitDecided}
 use Rattle.sym_matching.specs.Pure.{PureSplit}
 
 abbrev pub conds_of : PureFaultCase → List PureAtom
@@ -75,8 +83,33 @@ module _ (bs : PureStore) (e : PureExpr) (vars : List Sort) where
   good_over None over asked result = tt
   good_over (Some g) over asked result = (conditions g.conds over asked, result)
 
-pub values_from : (bs : PureStore) (e : PureExpr) (cases : PureCases PureTerm) → AreCasesOf bs e cases → ComesFrom bs e cases → NameNoOthers IsOver bs cases → AreValues bs e (without_faults cases)
-values_from bs e cases says from names = record {
+-- ---- what asks nothing
+
+module _ (P : PureTerm → Type 0) (b : ℕ) where
+  none_decided : (conds : List PureAtom) → Each (λ a. ⊥) conds → AreDecided b conds
+  none_decided conds none = each_to (λ a. ⊥) (IsDecidedWithin (neg_ℤ (pos b)) (pos b)) conds (λ a never. absurd never) none
+
+  faults_decided : (faults : List PureFaultCase) → Each (λ c. Each (λ a. ⊥) c.conds) faults → Each (AreDecided b) (map conds_of faults)
+  faults_decided [] none = tt
+  faults_decided (c ∷ faults) none = (none_decided c.conds none.0, faults_decided faults none.1)
+
+  good_decided : (o : Option (PureGoodCase PureTerm)) → OnConditions (λ a. ⊥) o → OnResult P o → IsFoundDecided P b o
+  good_decided None none holds = tt
+  good_decided (Some g) none holds = (none_decided g.conds none, holds)
+
+  pub values_decided : (cases : PureCases PureTerm) → AsksNothing P cases → IsSplitDecided P b (without_faults cases)
+  values_decided cases (none, holds) = record {
+    found = good_decided cases.good none.1 holds;
+    none = faults_decided cases.faults none.0;
+  }
+
+-- ---- all of it
+
+pub values_from : PlainExpressionsAskNothing → (bs : PureStore) (e : PureExpr) (cases : PureCases PureTerm) → IsTrue (list_all is_spellable (literals_of e)) → AreCasesOf bs e cases → ComesFrom bs e cases → NameNoOthers IsOver bs cases
+    → AreValues bs e (without_faults cases)
+values_from laws bs e cases spelled says from names = record {
+  argument = λ vars b over plain numbers. values_decided (IsPlain (b + text_bound)) (b + text_bound) cases (laws.argument bs e cases vars b says from over plain numbers spelled);
+  form = λ vars b over plain numbers. values_decided (IsPlainGuard (b + text_bound)) (b + text_bound) cases (laws.form bs e cases vars b says from over plain numbers spelled);
   says = λ vars v s serves. outcome_says v (HasValue v) (evaluate e s) cases.good cases.faults (says vars v s serves);
   over = λ vars over. let named = names vars over in record {
     found = good_over bs e vars cases.good named.0.1 from.0.1 named.1;

@@ -1,8 +1,11 @@
 -- The outs that are known, one after another, and the terms of names.
-use Rattle.std.proofs.Common.{◌≡◌, ⊎_elim, inl, inr, ℕ, List, [], ◌∷◌, ◌++◌, Bool, true, false, ◌&&◌, if◌then◌else◌, Option, Some, None, is_some, Ok, Err, IsTrue, refl, sym, ap, subst, ◌∙◌}
+use Rattle.std.proofs.Common.{◌≡◌, ⊎_elim, inl, inr, ℕ, ◌+◌, List, [], ◌∷◌, ◌++◌, Bool, true, false, ◌&&◌, if◌then◌else◌, Option, Some, None, is_some, Ok, Err, IsTrue, refl, sym, ap, subst, ◌∙◌}
+use Rattle.std.specs.Prelude.{⊤}
 use Rattle.std.specs.List.{list_all}
 use Rattle.std.specs.Option.{option_map, option_and_then}
 use Rattle.std.specs.Result.{result_ok}
+use Rattle.std.proofs.lemmas.Bool.{and_parts}
+use Rattle.std.proofs.lemmas.List.Folds.{list_all-append}
 use Rattle.gil_values.specs.Operators.{Outcome}
 use Rattle.gil_values.specs.Pure.{PureValue}
 use Rattle.gil_syntax.specs.Evaluation.{Store, value_of, evaluate}
@@ -15,14 +18,18 @@ use Rattle.pure_terms.specs.Meaning.{both, value, values, IsOver}
 use Rattle.pure_terms.specs.Pure.{PureTerm, from_list}
 use Rattle.sym_conditions.specs.Alternatives.{Hold}
 use Rattle.sym_evaluation.specs.Meaning.{AreSame, HasValue, HaveValues, StandsFor, Serves, IsStoreOver}
+use Rattle.sym_evaluation.specs.Plainly.{IsPlain, text_bound, has_text_numbers}
 use Rattle.sym_evaluation.specs.Pure.{PureStore, term_at, PureGoodCase}
 use Rattle.sym_model.specs.Lists.{Each}
 use Rattle.sym_model.proofs.ListLaws.{each_append, same_some}
 use Rattle.sym_states.proofs.Values.{values_append}
 use Rattle.sym_matching.specs.Meaning.{IsReached, Gives, SaysSplit, IsCondition, AreConditions, IsFoundOver, IsSplitOver, AreOuts, IsOutOver, AreOutsOver, AreTermsOfAll, AreEachOverIfAny}
+use Rattle.plain_evaluation.specs.Plain.{is_plain_argument}
 use Rattle.sym_matching.specs.Parts.{AreValues, one_out, AddsOut, Continues}
+use Rattle.sym_matching.specs.Plainly.{IsFoundDecided, OutsStayDecided}
 use Rattle.sym_matching.specs.Pure.{PureSplit, PureOuts}
 use Rattle.sym_matching.specs.Splitting.{sure, has_term, known_with, with_known, terms_with}
+use Rattle.sym_matching.proofs.Deciding.{continues_decided, sure_decided}
 use Rattle.sym_matching.proofs.Lists.{outs_more, known_more, names_more}
 use Rattle.sym_matching.proofs.SplitLaws.{continues_says, continues_over, sure_says, sure_over}
 use Rattle.sym_matching.proofs.ValueLaws.{known_same}
@@ -63,6 +70,10 @@ module _ (vars : List Sort) (outs : PureOuts) (over : AreOutsOver vars outs) whe
   known_over_by None is = tt
   known_over_by (Some g) is = (is.0, each_append (IsOutOver vars) outs (Some g.result ∷ []) over (is.1, tt))
 
+known_decided_by : (b : ℕ) (outs : PureOuts) (o : Option (PureGoodCase PureTerm)) → IsFoundDecided (IsPlain b) b o → IsFoundDecided {X = PureOuts} (λ more. ⊤) b (option_map (known_with outs) o)
+known_decided_by b outs None is = tt
+known_decided_by b outs (Some g) is = (is.0, tt)
+
 module _ (bs : PureStore) (e : PureExpr) (outs : PureOuts) where
   pub adds_known : knows_all (has_term bs) e ≡ true → (values : PureSplit PureTerm) → AreValues bs e values → AddsOut bs e outs (with_known outs values)
   adds_known knows values are = record {
@@ -70,6 +81,7 @@ module _ (bs : PureStore) (e : PureExpr) (outs : PureOuts) where
         subst (λ b. SaysSplit v (AreOuts v) (with_known outs values) (option_map (λ o. os ++ o ∷ []) (if b then option_map Some (result_ok (evaluate e s)) else Some None)))
         (sym knows ∙ known_alike v bs s serves.stands e) (known_says v outs os same values (result_ok (evaluate e s)) (are.says vars v s serves));
     over = λ vars store over. record { found = known_over_by vars outs over values.found (are.over vars store).found; none = (are.over vars store).none };
+    decided = λ vars b from plain numbers. let is = are.argument vars b from plain numbers in record { found = known_decided_by (b + text_bound) outs values.found is.found; none = is.none };
   }
 
   pub adds_unknown : knows_all (has_term bs) e ≡ false → AddsOut bs e outs (sure (outs ++ None ∷ []))
@@ -78,19 +90,25 @@ module _ (bs : PureStore) (e : PureExpr) (outs : PureOuts) where
         subst (λ b. SaysSplit v (AreOuts v) (sure (outs ++ None ∷ [])) (option_map (λ o. os ++ o ∷ []) (if b then option_map Some (result_ok (evaluate e s)) else Some None)))
         (sym unknown ∙ known_alike v bs s serves.stands e) (sure_says v (AreOuts v) (outs ++ None ∷ []) (os ++ None ∷ []) (outs_more v outs None os None same tt));
     over = λ vars store over. sure_over vars (AreOutsOver vars) (outs ++ None ∷ []) (each_append (IsOutOver vars) outs (None ∷ []) over (tt, tt));
+    decided = λ vars b from plain numbers. sure_decided (λ more. ⊤) (b + text_bound) (outs ++ None ∷ []) tt;
   }
 
 -- the outs that are known, as a split
 pub record AreKnown (bs : PureStore) (es : List PureExpr) (split : PureSplit PureOuts) : Type 0 where
   pub says : (vars : List Sort) (v : List PureValue) (s : Store) → Serves vars v bs s → SaysSplit v (AreOuts v) split (result_ok (known_outs s es))
   pub over : (vars : List Sort) → IsStoreOver vars bs → IsSplitOver (AreOutsOver vars) vars split
+  pub plain : OutsStayDecided bs es split
 
 module _ (bs : PureStore) where
   pub known_begin : AreKnown bs [] (sure [])
   known_begin = record {
     says = λ vars v s serves. sure_says v (AreOuts v) [] [] tt;
     over = λ vars store. sure_over vars (AreOutsOver vars) [] tt;
+    plain = λ vars b from arguments numbers. sure_decided (λ more. ⊤) (b + text_bound) [] tt;
   }
+
+  last_of_all : (f : PureExpr → Bool) (es : List PureExpr) (e : PureExpr) → list_all f (es ++ e ∷ []) ≡ true → (list_all f es ≡ true) × (f e ≡ true)
+  last_of_all f es e all = let parts = and_parts (list_all f es) (f e && true) (sym (list_all-append f es (e ∷ [])) ∙ all) in (parts.0, (and_parts (f e) true parts.1).0)
 
   pub known_step : (es : List PureExpr) (e : PureExpr) (split whole : PureSplit PureOuts) → AreKnown bs es split → Continues (AddsOut bs e) split.found split.none whole → AreKnown bs (es ++ e ∷ []) whole
   known_step es e split whole are is = record {
@@ -99,6 +117,11 @@ module _ (bs : PureStore) where
         (continues_says v (AreOuts v) (AreOuts v) (AddsOut bs e) (result_ok (known_outs s es)) (λ os. option_map (λ o. os ++ o ∷ []) (one_out s e)) split whole (are.says vars v s serves) is
         (λ g next os there cont same. cont.says vars v s os serves same));
     over = λ vars store. continues_over vars (AreOutsOver vars) (AreOutsOver vars) (AddsOut bs e) split whole (are.over vars store) is (λ g next there cont over. cont.over vars store over);
+    plain = λ vars b from arguments numbers.
+        let (argument, argument_e) = last_of_all is_plain_argument es e arguments in
+        let (number, number_e) = last_of_all has_text_numbers es e numbers in
+        continues_decided (λ outs. ⊤) (λ outs. ⊤) (b + text_bound) (AddsOut bs e) split whole (are.plain vars b from argument number) is
+        (λ g next there cont holds. cont.decided vars b from argument_e number_e);
   }
 
 -- ---- the terms of names

@@ -1,6 +1,7 @@
 pub mod Binding
 pub mod CaseLaws
 pub mod Conditions
+pub mod Deciding
 pub mod Evaluated
 pub mod KnownLaws
 pub mod Lists

@@ -1,6 +1,9 @@
 -- Stores one after another: expressions with terms, and parameters with terms.
-use Rattle.std.proofs.Common.{◌≡◌, ℕ, List, [], ◌∷◌, ◌++◌, length, Bool, Option, Some, None, refl, sym, ap, subst, ◌∙◌}
+use Rattle.std.proofs.Common.{◌≡◌, ℕ, ◌+◌, List, [], ◌∷◌, ◌++◌, length, Bool, true, ◌&&◌, Option, Some, None, refl, sym, ap, subst, ◌∙◌}
+use Rattle.std.specs.List.{list_all}
 use Rattle.std.specs.Option.{option_map, option_and_then}
+use Rattle.std.proofs.lemmas.Bool.{and_parts}
+use Rattle.std.proofs.lemmas.List.Folds.{list_all-append}
 use Rattle.gil_values.specs.Pure.{PureValue}
 use Rattle.gil_syntax.specs.declared.assertions.Param.{Param}
 use Rattle.gil_syntax.specs.Evaluation.{Store}
@@ -9,16 +12,20 @@ use Rattle.assert_logic.specs.Matching.{match_value, match_values, bound_to}
 use Rattle.pure_terms.specs.declared.variables.Sort.{Sort}
 use Rattle.pure_terms.specs.Meaning.{IsOver}
 use Rattle.pure_terms.specs.Pure.{PureTerm}
-use Rattle.sym_conditions.specs.Alternatives.{always}
+use Rattle.sym_conditions.specs.Alternatives.{Alternatives, always}
 use Rattle.sym_evaluation.specs.Meaning.{AreSame, HasValue, HaveValues, StandsFor, Serves, IsStoreOver}
+use Rattle.sym_evaluation.specs.Plainly.{IsPlain, IsPlainStore, text_bound, has_text_numbers}
 use Rattle.sym_evaluation.specs.Pure.{PureStore, PureGoodCase}
 use Rattle.sym_evaluation.specs.Questions.{AreEachOver}
 use Rattle.sym_model.specs.Lists.{Each}
 use Rattle.sym_model.proofs.ListLaws.{same_some}
 use Rattle.sym_matching.specs.Meaning.{SaysSplit, IsFoundOver, IsSplitOver, AreOuts, IsOutOver, AreOutsOver}
-use Rattle.sym_matching.specs.Parts.{AreStores, MatchesTerm, BindsParam, BindsParams, Continues}
+use Rattle.plain_evaluation.specs.Plain.{is_plain_argument}
+use Rattle.sym_matching.specs.Parts.{AreStores, ByTerm, MatchesTerm, BindsParam, BindsParams, Continues}
+use Rattle.sym_matching.specs.Plainly.{TermsStayPlain}
 use Rattle.sym_matching.specs.Pure.{PureSplit, PureOuts}
 use Rattle.sym_matching.specs.Splitting.{sure, nothing}
+use Rattle.sym_matching.proofs.Deciding.{continues_decided, never_decided, sure_decided}
 use Rattle.sym_matching.proofs.Lists.{each_last, values_last, values_count, values_more, values_differ, outs_last, outs_count, bound_more, bound_differs}
 use Rattle.sym_matching.proofs.SplitLaws.{continues_says, continues_over, never_says, never_over, sure_says, sure_over}
 
@@ -51,34 +58,63 @@ module _ {A B C : Type 0} (Over : List Sort → Type 0) (Has : List PureValue �
 
 -- ---- expressions and terms
 
-abbrev pub MatchesTerms : List Param → List PureExpr → List PureTerm → PureStore → PureSplit PureStore → Type 0
-MatchesTerms scope es ts bs split = AreStores (λ vars. AreEachOver vars ts) (λ v ws. HaveValues v ts ws) (match_values scope es) bs split
+pub record MatchesTerms (scope : List Param) (es : List PureExpr) (ts : List PureTerm) (bs : PureStore) (split : PureSplit PureStore) : Type 0 where
+  pub stores : AreStores (λ vars. AreEachOver vars ts) (λ v ws. HaveValues v ts ws) (match_values scope es) bs split
+  pub plain : TermsStayPlain es ts bs split
+
+continues_to : {X Y : Type 0} (P Q : X → PureSplit Y → Type 0) → ((x : X) (y : PureSplit Y) → P x y → Q x y) → (o : Option (PureGoodCase X)) (none : Alternatives) (whole : PureSplit Y) → Continues P o none whole → Continues Q o none whole
+continues_to P Q to None none whole is = is
+continues_to P Q to (Some g) none whole (next, (cont, is)) = (next, (to g.result next cont, is))
 
 module _ (scope : List Param) (bs : PureStore) where
   pub terms_begin : MatchesTerms scope [] [] bs (sure bs)
   terms_begin = record {
-    says = λ vars v s ws serves over has. subst (λ us. SaysSplit v (StandsFor v) (sure bs) (match_values scope [] us s)) (same_some has) (sure_says v (StandsFor v) bs s serves.stands);
-    over = λ vars store over. sure_over vars (IsStoreOver vars) bs store;
+    stores = record {
+      says = λ vars v s ws serves over has. subst (λ us. SaysSplit v (StandsFor v) (sure bs) (match_values scope [] us s)) (same_some has) (sure_says v (StandsFor v) bs s serves.stands);
+      over = λ vars store over. sure_over vars (IsStoreOver vars) bs store;
+    };
+    plain = λ vars b from over plain arguments numbers. sure_decided (IsPlainStore b) (b + text_bound) bs from.plain;
   }
+
+  module _ (es : List PureExpr) (ts : List PureTerm) (e : PureExpr) (t : PureTerm) (split whole : PureSplit PureStore) (are : MatchesTerms scope es ts bs split) (is : Continues (MatchesTerm scope e t) split.found split.none whole) where
+    last_of_all : (f : PureExpr → Bool) → list_all f (es ++ e ∷ []) ≡ true → (list_all f es ≡ true) × (f e ≡ true)
+    last_of_all f all = let parts = and_parts (list_all f es) (f e && true) (sym (list_all-append f es (e ∷ [])) ∙ all) in (parts.0, (and_parts (f e) true parts.1).0)
+
+    terms_plain : TermsStayPlain (es ++ e ∷ []) (ts ++ t ∷ []) bs whole
+    terms_plain vars b from over plain arguments numbers =
+        let (overs, over_t) = each_last (IsOver vars) ts t over in
+        let (plains, plain_t) = each_last (IsPlain b) ts t plain in
+        let (argument, argument_e) = last_of_all is_plain_argument arguments in
+        let (number, number_e) = last_of_all has_text_numbers numbers in
+        let first_over = are.stores.over vars from.over overs in
+        continues_decided (IsPlainStore b) (IsPlainStore b) (b + text_bound) (MatchesTerm scope e t) split whole (are.plain vars b from overs plains argument number) is
+        (λ g next there cont store. cont.1 vars b
+        (record { over = (subst (λ (o : Option (PureGoodCase PureStore)). IsFoundOver (IsStoreOver vars) vars o) there first_over.found).1; plain = store; small = from.small }) plain_t argument_e number_e)
 
   pub terms_step : (es : List PureExpr) (ts : List PureTerm) (e : PureExpr) (t : PureTerm) (split whole : PureSplit PureStore) → length es ≡ length ts → MatchesTerms scope es ts bs split
       → Continues (MatchesTerm scope e t) split.found split.none whole → MatchesTerms scope (es ++ e ∷ []) (ts ++ t ∷ []) bs whole
-  terms_step es ts e t split whole same are is =
-      stores_chained (λ vars. AreEachOver vars ts) (λ v ws. HaveValues v ts ws) (match_values scope es) (λ vars. IsOver vars t) (λ v w. HasValue v t w) (match_value scope e)
-      (λ vars. AreEachOver vars (ts ++ t ∷ [])) (λ v ws. HaveValues v (ts ++ t ∷ []) ws) (match_values scope (es ++ e ∷ [])) bs split whole are is
-      (λ vars over. each_last (IsOver vars) ts t over)
-      (λ v ws has. let (us, (w, (before, last, joined))) = values_last v ts t ws has in record {
-        first = us;
-        second = w;
-        has = before;
-        later = last;
-        gives = λ s. ap (λ zs. match_values scope (es ++ e ∷ []) zs s) joined ∙ values_more scope es us e w s (same ∙ sym (values_count v ts us before));
-      })
+  terms_step es ts e t split whole same are is = record {
+    plain = terms_plain es ts e t split whole are is;
+    stores = stores_chained (λ vars. AreEachOver vars ts) (λ v ws. HaveValues v ts ws) (match_values scope es) (λ vars. IsOver vars t) (λ v w. HasValue v t w) (match_value scope e)
+        (λ vars. AreEachOver vars (ts ++ t ∷ [])) (λ v ws. HaveValues v (ts ++ t ∷ []) ws) (match_values scope (es ++ e ∷ [])) bs split whole are.stores
+        (continues_to (MatchesTerm scope e t) (ByTerm t (match_value scope e)) (λ x y cont. cont.0) split.found split.none whole is)
+        (λ vars over. each_last (IsOver vars) ts t over)
+        (λ v ws has. let (us, (w, (before, last, joined))) = values_last v ts t ws has in record {
+          first = us;
+          second = w;
+          has = before;
+          later = last;
+          gives = λ s. ap (λ zs. match_values scope (es ++ e ∷ []) zs s) joined ∙ values_more scope es us e w s (same ∙ sym (values_count v ts us before));
+        });
+  }
 
   pub terms_differ : (es : List PureExpr) (ts : List PureTerm) → ¬ (length es ≡ length ts) → MatchesTerms scope es ts bs (nothing always)
   terms_differ es ts differ = record {
-    says = λ vars v s ws serves over has. subst (λ (o : Option Store). SaysSplit v (StandsFor v) (nothing always) o) (sym (values_differ scope es ws s (λ same. differ (same ∙ values_count v ts ws has)))) (never_says v (StandsFor v));
-    over = λ vars store over. never_over vars (IsStoreOver vars);
+    stores = record {
+      says = λ vars v s ws serves over has. subst (λ (o : Option Store). SaysSplit v (StandsFor v) (nothing always) o) (sym (values_differ scope es ws s (λ same. differ (same ∙ values_count v ts ws has)))) (never_says v (StandsFor v));
+      over = λ vars store over. never_over vars (IsStoreOver vars);
+    };
+    plain = λ vars b from over plain arguments numbers. never_decided (IsPlainStore b) (b + text_bound);
   }
 
   -- ---- parameters

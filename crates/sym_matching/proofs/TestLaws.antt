@@ -25,6 +25,7 @@ use Rattle.sym_conditions.proofs.Telling.{same_tells, other_tells, of_kind_tells
 use Rattle.sym_candidates.proofs.Naming.{guard_over}
 use Rattle.sym_evaluation.specs.Checks.{is_of_kind}
 use Rattle.sym_evaluation.specs.Meaning.{AreSidesOf, IsSideWhere, is_true, is_false, is_no_boolean}
+use Rattle.sym_evaluation.specs.Plainly.{AreDecided}
 use Rattle.sym_evaluation.specs.Pure.{PureSides}
 use Rattle.sym_evaluation.specs.Questions.{IsAbout, IsCompared, OnSide, SaysPart, AsksBoolean, IsGuardCondition, SidesComeFrom, boolean_parts}
 use Rattle.sym_evaluation.proofs.AskedAtoms.{joined, no_variables, boolean_closed}
@@ -37,6 +38,7 @@ use Rattle.sym_matching.specs.Parts.{IsTestOf}
 use Rattle.sym_matching.specs.Pure.{PureTest}
 use Rattle.sym_matching.specs.Splitting.{last_of, passed, also, equal_test, kind_test, sort_test, out_test, side_alternatives}
 use Rattle.sym_matching.proofs.Conditions.{also_says, also_over, passed_says, passed_over}
+use Rattle.sym_matching.proofs.Deciding.{guard_decided}
 
 -- ---- alternatives of which there is one at most
 
@@ -205,11 +207,6 @@ module _ (vars : List Sort) where
   sort_over SpecSort.List t over = kind_over t Kind.List over
   sort_over SpecSort.Any t over = passed_over vars
 
--- ---- the sorts of a name
-
-no_sorts : (x : List ℕ) (t : PureTerm) → IsTestOf (fits_sorts [] x) t passed
-no_sorts x t = record { says = λ vars v w proper over is. passed_says v; over = λ vars over. passed_over vars }
-
 -- ---- guards
 
 about_closed : (u : PureTerm) (a : PureAtom) → IsAbout u a → is_open a ≡ false
@@ -314,9 +311,10 @@ module _ (v : List PureValue) where
         (one_parts (λ conds. IsTrue (all_true v conds)) (side_alternatives sides.when_false) (side_alternatives sides.when_no_boolean) holds));
   }
 
-pub guard_is_test : (t : PureTerm) (sides : PureSides) → AreSidesOf t sides → SidesComeFrom t sides
+pub guard_is_test : (t : PureTerm) (sides : PureSides) → AreSidesOf t sides → SidesComeFrom t sides → AreDecided t sides
     → IsTestOf (λ w. same_value w (boolean true)) t (record { when = sides.when_true; otherwise = side_alternatives sides.when_false ++ side_alternatives sides.when_no_boolean })
-guard_is_test t sides are come = record {
+guard_is_test t sides are come decides = record {
+  decided = λ b guard. guard_decided b sides (decides.conditions b guard);
   says = λ vars v w proper over is. subst (SaysTest v (guard_test v sides)) (is_the_true v w) (guard_says v sides w (are vars v w proper over is));
   over = λ vars over. record {
     when = side_over vars t over sides.when_true come.0;

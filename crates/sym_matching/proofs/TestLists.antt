@@ -18,10 +18,12 @@ use Rattle.sym_model.proofs.ListLaws.{same_some}
 use Rattle.sym_matching.specs.Matching.{TestsElements, TestsOuts, ElementsStayOver, AgreementStaysOver}
 use Rattle.sym_matching.specs.Meaning.{SaysTest, IsTestOver, AreOuts, IsOutOver, AreOutsOver}
 use Rattle.sym_matching.specs.Parts.{IsTestOf}
+use Rattle.sym_matching.specs.Plainly.{IsTestDecided}
 use Rattle.sym_matching.specs.Pure.{PureTest, PureOuts}
 use Rattle.sym_matching.specs.Splitting.{passed, failed, also, equal_test, sort_test, with_sort, out_test}
 use Rattle.sym_matching.proofs.Binding.{out_says, out_over}
 use Rattle.sym_matching.proofs.Conditions.{also_says, also_over, passed_says, passed_over, failed_says, failed_over}
+use Rattle.sym_matching.proofs.Deciding.{also_decided, passed_decided, sort_decided}
 use Rattle.sym_matching.proofs.Lists.{each_last, values_last, values_count, outs_last, outs_count, elements_more, elements_differ, agreement_more, agreement_differs}
 use Rattle.sym_matching.proofs.TestLaws.{equal_says, equal_over, sort_says, sort_over}
 
@@ -29,7 +31,7 @@ use Rattle.sym_matching.proofs.TestLaws.{equal_says, equal_over, sort_says, sort
 
 module _ (x : List ℕ) (t : PureTerm) where
   pub sorts_begin : IsTestOf (fits_sorts [] x) t passed
-  sorts_begin = record { says = λ vars v w proper over is. passed_says v; over = λ vars over. passed_over vars }
+  sorts_begin = record { says = λ vars v w proper over is. passed_says v; over = λ vars over. passed_over vars; decided = λ b guard. passed_decided b }
 
   and_over : (b c : Bool) → (b && (c && true)) ≡ (b && c)
   and_over true true = refl
@@ -48,6 +50,7 @@ module _ (x : List ℕ) (t : PureTerm) where
         (subst (λ c. SaysTest v c (fits_sorts ps x w && has_sort q.sort w)) (sym is)
         (also_says v test (sort_test q.sort t) (fits_sorts ps x w) (has_sort q.sort w) (tests.says vars v w proper over has) (sort_says vars v t w proper over has q.sort)));
     over = λ vars over. subst (IsTestOver vars) (sym is) (also_over vars test (sort_test q.sort t) (tests.over vars over) (sort_over vars q.sort t over));
+    decided = λ b guard. subst (IsTestDecided b) (sym is) (also_decided b test (sort_test q.sort t) (tests.decided b guard) (sort_decided q.sort t b guard));
   }
 
   and_true : (b : Bool) → (b && true) ≡ b
@@ -60,6 +63,7 @@ module _ (x : List ℕ) (t : PureTerm) where
         subst (λ b. SaysTest v test b) (sym (sorts_more ps q w ∙ ap (λ b. fits_sorts ps x w && (not b || has_sort q.sort w)) other ∙ and_true (fits_sorts ps x w)))
         (tests.says vars v w proper over has);
     over = tests.over;
+    decided = tests.decided;
   }
 
   pub sorts_next : (ps : List Param) (q : Param) (test whole : PureTest) → IsTestOf (fits_sorts ps x) t test → whole ≡ with_sort test q x t → IsTestOf (fits_sorts (ps ++ q ∷ []) x) t whole

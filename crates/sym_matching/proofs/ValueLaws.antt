@@ -1,5 +1,5 @@
 -- What comes of matching an expression with a term, and of a pure item.
-use Rattle.std.proofs.Common.{◌≡◌, ℕ, List, [], ◌∷◌, Bool, true, false, if◌then◌else◌, Option, Some, None, is_some, Ok, Err, refl, sym, ap, subst, ◌∙◌, true≢false}
+use Rattle.std.proofs.Common.{◌≡◌, ℕ, ◌+◌, List, [], ◌∷◌, Bool, true, false, if◌then◌else◌, Option, Some, None, is_some, Ok, Err, refl, sym, ap, subst, ◌∙◌, true≢false}
 use Rattle.std.specs.Option.{option_map, option_and_then}
 use Rattle.std.specs.Result.{result_ok}
 use Rattle.gil_values.specs.declared.operators.BinOp.{BinOp}
@@ -14,12 +14,15 @@ use Rattle.pure_terms.specs.declared.variables.Sort.{Sort}
 use Rattle.pure_terms.specs.Meaning.{IsOver}
 use Rattle.pure_terms.specs.Pure.{PureTerm}
 use Rattle.sym_evaluation.specs.Meaning.{AreSame, HasValue, StandsFor, Serves, IsStoreOver}
-use Rattle.sym_evaluation.specs.Plainly.{is_equal}
+use Rattle.sym_evaluation.specs.Plainly.{IsPlain, IsPlainStore, IsPlainGuard, text_bound, is_equal}
 use Rattle.sym_evaluation.specs.Pure.{PureStore, term_at, PureGoodCase}
 use Rattle.sym_matching.specs.Meaning.{SaysSplit, IsFoundOver, IsSplitOver}
-use Rattle.sym_matching.specs.Parts.{IsTestOf, AreValues, AreStores, Alone, ByTerm, GivesTerm, MatchesTerm, Continues}
+use Rattle.sym_matching.specs.Parts.{IsTestOf, AreValues, AreStores, Alone, ByTerm, GivesTerm, DefinesPlainly, MatchesTerm, Continues}
+use Rattle.sym_matching.specs.Plainly.{IsSplitDecided, PureStaysPlain, TermStaysPlain}
 use Rattle.sym_matching.specs.Pure.{PureTest, PureSplit}
 use Rattle.sym_matching.specs.Splitting.{equal_test, where_met, unless_term, name_without}
+use Rattle.sym_states.proofs.Plainness.{plain_up}
+use Rattle.sym_matching.proofs.Deciding.{equal_decided, continues_decided, met_decided, split_up, store_up, wider, numbers_of}
 use Rattle.sym_matching.proofs.SplitLaws.{continues_says, continues_over, met_says, met_over}
 use Rattle.sym_matching.proofs.TestLaws.{equal_says, equal_over}
 
@@ -54,6 +57,15 @@ module _ (bs : PureStore) (e : PureExpr) (values : PureSplit PureTerm) (are : Ar
         (λ g next there cont over_r. subst (IsSplitOver (IsStoreOver vars) vars) (sym cont) (met_over vars (IsStoreOver vars) (equal_test g.result t) bs (equal_over vars g.result t over_r over) store));
   }
 
+  pub matches_known_plainly : (t : PureTerm) (whole : PureSplit PureStore) → Continues (SameAs t) values.found values.none whole → TermStaysPlain e t bs whole
+  matches_known_plainly t whole is vars b over plain argument numbers =
+      continues_decided (IsPlain (b + text_bound)) (IsPlainStore b) (b + text_bound) (SameAs t) values whole (are.argument vars b over argument numbers) is
+      (λ g next there cont term. subst (IsSplitDecided (IsPlainStore b) (b + text_bound)) (sym cont)
+      (met_decided (IsPlainStore b) (b + text_bound) (equal_test g.result t) bs (equal_decided (b + text_bound) g.result t term (plain_up b (b + text_bound) (wider b) t plain)) over.plain))
+
+  pub both_known : (t : PureTerm) (whole : PureSplit PureStore) → Continues (SameAs t) values.found values.none whole → ByTerm t (λ w s. where_same (evaluate e s) w s) bs whole × TermStaysPlain e t bs whole
+  both_known t whole is = (matches_known t whole is, matches_known_plainly t whole is)
+
   abbrev pub WhereTrue : PureTerm → PureSplit PureStore → Type 0
   WhereTrue r next = (test : PureTest) × (IsTestOf (λ w. same_value w (boolean true)) r test × (next ≡ where_met test bs))
 
@@ -71,6 +83,12 @@ module _ (bs : PureStore) (e : PureExpr) (values : PureSplit PureTerm) (are : Ar
         subst (IsSplitOver (IsStoreOver vars) vars) (sym is_next) (met_over vars (IsStoreOver vars) test bs (tests.over vars over_r) store));
   }
 
+  pub assumes_plainly : (whole : PureSplit PureStore) → Continues WhereTrue values.found values.none whole → PureStaysPlain e bs whole
+  assumes_plainly whole is vars b over item =
+      continues_decided (IsPlainGuard (b + text_bound)) (IsPlainStore (b + text_bound)) (b + text_bound) WhereTrue values whole (are.form vars b over item.form (numbers_of e item)) is
+      (λ g next there (test, (tests, is_next)) guard. subst (IsSplitDecided (IsPlainStore (b + text_bound)) (b + text_bound)) (sym is_next)
+      (met_decided (IsPlainStore (b + text_bound)) (b + text_bound) test bs (tests.decided (b + text_bound) guard) (store_up b (b + text_bound) (wider b) bs over.plain)))
+
   abbrev pub Given : List Param → List ℕ → PureTerm → PureSplit PureStore → Type 0
   Given scope x r next = GivesTerm scope x r bs next
 
@@ -79,10 +97,22 @@ module _ (bs : PureStore) (e : PureExpr) (values : PureSplit PureTerm) (are : Ar
     says = λ vars v s serves.
         subst (SaysSplit v (StandsFor v) whole) (sym (given_then scope x (evaluate e s) s))
         (continues_says v (HasValue v) (StandsFor v) (Given scope x) (result_ok (evaluate e s)) (λ a. given scope x a s) values whole (are.says vars v s serves) is
-        (λ g next a there cont has_a. cont.says vars v s a serves (term_over vars g there serves.over) has_a));
+        (λ g next a there cont has_a. cont.gives.says vars v s a serves (term_over vars g there serves.over) has_a));
     over = λ vars store.
-        continues_over vars (IsOver vars) (IsStoreOver vars) (Given scope x) values whole (are.over vars store) is (λ g next there cont over_r. cont.over vars store over_r);
+        continues_over vars (IsOver vars) (IsStoreOver vars) (Given scope x) values whole (are.over vars store) is (λ g next there cont over_r. cont.gives.over vars store over_r);
   }
+
+  pub defines_plainly : (scope : List Param) (x : List ℕ) (whole : PureSplit PureStore) → Continues (Given scope x) values.found values.none whole → DefinesPlainly e bs whole
+  defines_plainly scope x whole is vars b over plain numbers =
+      continues_decided (IsPlain (b + text_bound)) (IsPlainStore (b + text_bound)) (b + text_bound) (Given scope x) values whole (are.argument vars b over plain numbers) is
+      (λ g next there cont term. cont.plain (b + text_bound) (store_up b (b + text_bound) (wider b) bs over.plain) term)
+
+  pub both_assumed : (whole : PureSplit PureStore) → Continues WhereTrue values.found values.none whole → Alone (λ s. where_same (evaluate e s) (boolean true) s) bs whole × PureStaysPlain e bs whole
+  both_assumed whole is = (assumes whole is, assumes_plainly whole is)
+
+  pub both_defined : (scope : List Param) (x : List ℕ) (whole : PureSplit PureStore) → Continues (Given scope x) values.found values.none whole
+      → Alone (λ s. given_outcome scope x (evaluate e s) s) bs whole × DefinesPlainly e bs whole
+  both_defined scope x whole is = (defines scope x whole is, defines_plainly scope x whole is)
 
 -- ---- unknown names
 
@@ -109,18 +139,24 @@ module _ (v : List PureValue) (bs : PureStore) (s : Store) (stands : StandsFor v
 
 module _ (scope : List Param) (bs : PureStore) (split : PureSplit PureStore) where
   pub matches_name : (e : PureExpr) (t : PureTerm) (x : List ℕ) → name_without bs e ≡ Some x → GivesTerm scope x t bs split → MatchesTerm scope e t bs split
-  matches_name e t x named gives = record {
-    says = λ vars v s w serves over has.
-        subst (λ (o : Option (List ℕ)). SaysSplit v (StandsFor v) split (match_known_or o scope e w s)) (sym named ∙ unknown_same v bs s serves.stands e) (gives.says vars v s w serves over has);
-    over = gives.over;
-  }
+  matches_name e t x named gives = (
+    record {
+      says = λ vars v s w serves over has.
+          subst (λ (o : Option (List ℕ)). SaysSplit v (StandsFor v) split (match_known_or o scope e w s)) (sym named ∙ unknown_same v bs s serves.stands e) (gives.gives.says vars v s w serves over has);
+      over = gives.gives.over;
+    },
+    λ vars b over plain argument numbers. split_up (IsPlainStore b) b (b + text_bound) (wider b) split (gives.plain b over.plain plain),
+  )
 
-  pub matches_other : (e : PureExpr) (t : PureTerm) → name_without bs e ≡ None → ByTerm t (λ w s. where_same (evaluate e s) w s) bs split → MatchesTerm scope e t bs split
-  matches_other e t none same = record {
-    says = λ vars v s w serves over has.
-        subst (λ (o : Option (List ℕ)). SaysSplit v (StandsFor v) split (match_known_or o scope e w s)) (sym none ∙ unknown_same v bs s serves.stands e) (same.says vars v s w serves over has);
-    over = same.over;
-  }
+  pub matches_other : (e : PureExpr) (t : PureTerm) → name_without bs e ≡ None → ByTerm t (λ w s. where_same (evaluate e s) w s) bs split × TermStaysPlain e t bs split → MatchesTerm scope e t bs split
+  matches_other e t none (same, plain) = (
+    record {
+      says = λ vars v s w serves over has.
+          subst (λ (o : Option (List ℕ)). SaysSplit v (StandsFor v) split (match_known_or o scope e w s)) (sym none ∙ unknown_same v bs s serves.stands e) (same.says vars v s w serves over has);
+      over = same.over;
+    },
+    plain,
+  )
 
   -- ---- pure items
 

@@ -1,5 +1,5 @@
 -- What the parts of matching answer.
-use Rattle.std.specs.Prelude.{◌≡◌, ℕ, List, [], ◌∷◌, ◌++◌, Bool, ◌&&◌, if◌then◌else◌, Option, Some, None}
+use Rattle.std.specs.Prelude.{◌≡◌, ℕ, ◌+◌, List, [], ◌∷◌, ◌++◌, Bool, ◌&&◌, if◌then◌else◌, Option, Some, None, IsTrue, ⊤}
 use Rattle.std.specs.Option.{option_map}
 use Rattle.std.specs.Result.{result_ok}
 use Rattle.gil_values.specs.Pure.{PureValue}
@@ -13,9 +13,13 @@ use Rattle.pure_terms.specs.Meaning.{IsProper, IsOver}
 use Rattle.pure_terms.specs.Pure.{PureTerm}
 use Rattle.sym_conditions.specs.Alternatives.{Alternatives}
 use Rattle.sym_evaluation.specs.Meaning.{AreSame, HasValue, StandsFor, Serves, IsStoreOver}
+use Rattle.sym_evaluation.specs.Plainly.{IsPlain, IsPlainStore, IsPlainGuard, text_bound, has_text_numbers}
 use Rattle.sym_evaluation.specs.Pure.{PureStore, PureGoodCase}
+use Rattle.plain_evaluation.specs.Laws.{IsPlainOver}
+use Rattle.plain_evaluation.specs.Plain.{is_plain_argument, is_plain_form}
 use Rattle.sym_matching.specs.Matching.{TestsTerm, TermStaysOver}
 use Rattle.sym_matching.specs.Meaning.{SaysSplit, IsSplitOver, AreOuts, IsOutOver, AreOutsOver}
+use Rattle.sym_matching.specs.Plainly.{IsSplitDecided, TermStaysDecided, TermStaysPlain}
 use Rattle.sym_matching.specs.Pure.{PureTest, PureSplit, PureOuts}
 use Rattle.sym_matching.specs.Splitting.{nothing, behind}
 
@@ -23,11 +27,16 @@ use Rattle.sym_matching.specs.Splitting.{nothing, behind}
 pub record IsTestOf (f : PureValue → Bool) (t : PureTerm) (test : PureTest) : Type 0 where
   pub says : TestsTerm f t test
   pub over : TermStaysOver t test
+  pub decided : TermStaysDecided t test
 
 -- the value of an expression
 pub record AreValues (bs : PureStore) (e : PureExpr) (split : PureSplit PureTerm) : Type 0 where
   pub says : (vars : List Sort) (v : List PureValue) (s : Store) → Serves vars v bs s → SaysSplit v (HasValue v) split (result_ok (evaluate e s))
   pub over : (vars : List Sort) → IsStoreOver vars bs → IsSplitOver (IsOver vars) vars split
+  pub argument : (vars : List Sort) (b : ℕ) → IsPlainOver vars b bs → IsTrue (is_plain_argument e) → IsTrue (has_text_numbers e)
+      → IsSplitDecided (IsPlain (b + text_bound)) (b + text_bound) split
+  pub form : (vars : List Sort) (b : ℕ) → IsPlainOver vars b bs → IsTrue (is_plain_form e) → IsTrue (has_text_numbers e)
+      → IsSplitDecided (IsPlainGuard (b + text_bound)) (b + text_bound) split
 
 -- The stores that f gives from a store and what terms stand for.
 pub record AreStores {A : Type 0} (Over : List Sort → Type 0) (Has : List PureValue → A → Type 0) (f : A → Store → Option Store)
@@ -39,13 +48,14 @@ pub record AreStores {A : Type 0} (Over : List Sort → Type 0) (Has : List Pure
 abbrev pub ByTerm : PureTerm → (PureValue → Store → Option Store) → PureStore → PureSplit PureStore → Type 0
 ByTerm t f bs split = AreStores (λ vars. IsOver vars t) (λ v w. HasValue v t w) f bs split
 
--- a name that may become known gets the term
-abbrev pub GivesTerm : List Param → List ℕ → PureTerm → PureStore → PureSplit PureStore → Type 0
-GivesTerm scope x t bs split = ByTerm t (given scope x) bs split
+-- A name that may become known gets the term. Where store and term are plain, so is the store that is found, and each condition is decided.
+pub record GivesTerm (scope : List Param) (x : List ℕ) (t : PureTerm) (bs : PureStore) (split : PureSplit PureStore) : Type 0 where
+  pub gives : ByTerm t (given scope x) bs split
+  pub plain : (b : ℕ) → IsPlainStore b bs → IsPlain b t → IsSplitDecided (IsPlainStore b) b split
 
 -- an expression is matched with a term
 abbrev pub MatchesTerm : List Param → PureExpr → PureTerm → PureStore → PureSplit PureStore → Type 0
-MatchesTerm scope e t bs split = ByTerm t (match_value scope e) bs split
+MatchesTerm scope e t bs split = ByTerm t (match_value scope e) bs split × TermStaysPlain e t bs split
 
 -- a parameter gets a term, where there is one
 abbrev pub BindsParam : List Param → Param → Option PureTerm → PureStore → PureSplit PureStore → Type 0
@@ -77,8 +87,16 @@ pub record AddsOut (bs : PureStore) (e : PureExpr) (outs : PureOuts) (split : Pu
   pub says : (vars : List Sort) (v : List PureValue) (s : Store) (os : List (Option PureValue)) → Serves vars v bs s → AreOuts v outs os
       → SaysSplit v (AreOuts v) split (option_map (λ o. os ++ o ∷ []) (one_out s e))
   pub over : (vars : List Sort) → IsStoreOver vars bs → AreOutsOver vars outs → IsSplitOver (AreOutsOver vars) vars split
+  pub decided : (vars : List Sort) (b : ℕ) → IsPlainOver vars b bs → IsTrue (is_plain_argument e) → IsTrue (has_text_numbers e)
+      → IsSplitDecided (λ more. ⊤) (b + text_bound) split
 
 -- the stores that f gives from a store alone
 pub record Alone (f : Store → Option Store) (bs : PureStore) (split : PureSplit PureStore) : Type 0 where
   pub says : (vars : List Sort) (v : List PureValue) (s : Store) → Serves vars v bs s → SaysSplit v (StandsFor v) split (f s)
   pub over : (vars : List Sort) → IsStoreOver vars bs → IsSplitOver (IsStoreOver vars) vars split
+
+-- A name gets the term of a plain argument: each condition is decided, and the store that is found is plain.
+abbrev pub DefinesPlainly : PureExpr → PureStore → PureSplit PureStore → Type 0
+DefinesPlainly e bs split =
+    (vars : List Sort) (b : ℕ) → IsPlainOver vars b bs → IsTrue (is_plain_argument e) → IsTrue (has_text_numbers e)
+    → IsSplitDecided (IsPlainStore (b + text_bound)) (b + text_bound) split

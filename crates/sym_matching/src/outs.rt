@@ -8,6 +8,7 @@ ghost use Rattle.pure_terms.specs.View.{term_view};
 ghost use Rattle.sym_evaluation.specs.View.{store_view};
 ghost use Rattle.sym_matching.specs.Matching.{SplitsOuts, OutsStayOver};
 ghost use Rattle.sym_matching.specs.Parts.{AddsOut, Continues};
+ghost use Rattle.sym_matching.specs.Plainly.{OutsStayDecided};
 ghost use Rattle.sym_matching.specs.Splitting.{with_known};
 ghost use Rattle.sym_matching.specs.View.{known_view, outs_view, split_by};
 
@@ -94,6 +95,7 @@ pub fn known_outs(alloc: Global, store: &SymStore, outs: &Exprs) -> Result<Known
     requires { IsTrue (list_all (λ e. list_all is_spellable (literals_of e)) (exprs_view outs.now)) }
     ensures says { IfOk result (λ x. SplitsOuts (store_view store.now) (exprs_view outs.now) (known_view x)) }
     ensures names { IfOk result (λ x. OutsStayOver (store_view store.now) (known_view x)) }
+    ensures plain { IfOk result (λ x. OutsStayDecided (store_view store.now) (exprs_view outs.now) (known_view x)) }
 {
     let mut split = Split {
         found: Some(GoodCase {

@@ -7,6 +7,7 @@ ghost use Rattle.pure_terms.specs.View.{term_view, terms_view, atoms_view};
 ghost use Rattle.sym_conditions.specs.Alternatives.{alternatives_view};
 ghost use Rattle.sym_matching.specs.Matching.{TestsSorts, TestsElements, TestsOuts, TermStaysOver, ElementsStayOver, AgreementStaysOver};
 ghost use Rattle.sym_matching.specs.Parts.{IsTestOf};
+ghost use Rattle.sym_matching.specs.Plainly.{TermStaysDecided};
 ghost use Rattle.sym_matching.specs.Splitting.{equal_test, kind_test, sort_test, with_sort, out_test, side_alternatives};
 ghost use Rattle.sym_matching.specs.View.{test_view, outs_view};
 
@@ -106,6 +107,7 @@ pub fn fits_sorts(
 ) -> Result<Test, AllocError>
     ensures says { IfOk result (λ x. TestsSorts scope.now name.now (term_view term.now) (test_view x)) }
     ensures names { IfOk result (λ x. TermStaysOver (term_view term.now) (test_view x)) }
+    ensures plain { IfOk result (λ x. TermStaysDecided (term_view term.now) (test_view x)) }
 {
     let mut test = passed(alloc);
     for param in scope.as_slice() {

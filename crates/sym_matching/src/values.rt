@@ -13,6 +13,7 @@ ghost use Rattle.sym_conditions.specs.Alternatives.{alternatives_view};
 ghost use Rattle.sym_evaluation.specs.View.{store_view, faults_view};
 ghost use Rattle.sym_matching.specs.Matching.{SplitsValues, StoresStayOver};
 ghost use Rattle.sym_matching.specs.Parts.{AreValues, ByTerm, GivesTerm, MatchesTerm, Continues};
+ghost use Rattle.sym_matching.specs.Plainly.{TermStaysPlain, TermsStayPlain};
 ghost use Rattle.sym_matching.specs.Splitting.{unless_term, name_without};
 ghost use Rattle.sym_matching.specs.View.{stores_view, split_by};
 
@@ -20,6 +21,7 @@ use crate::splits::{Split, StoreSplit, behind, no_store, sure_store, where_met};
 use crate::tests::{ask_equal, fits_sorts};
 use gil_syntax::{Expr, Exprs, Params};
 use gil_values::Text;
+use plain_evaluation::plain_expressions_ask_nothing;
 use pure_terms::{Term, Terms};
 use std::alloc::{AllocError, Global};
 use sym_conditions::{Alternatives, never};
@@ -45,6 +47,7 @@ pub(crate) fn value_of(
     requires { IsTrue (list_all is_spellable (literals_of (expr_view expression.now))) }
     ensures { IfOk result (λ x. AreValues (store_view store.now) (expr_view expression.now) (split_by term_view x)) }
 {
+    plain_expressions_ask_nothing();
     let Cases { faults, good } = evaluate(alloc, store, expression)?;
     Ok(Split {
         found: good,
@@ -113,7 +116,8 @@ fn match_known(
 ) -> Result<StoreSplit, AllocError>
     requires { IsTrue (list_all is_spellable (literals_of (expr_view expression.now))) }
     ensures { IfOk result
-        (λ x. ByTerm (term_view term.now) (λ w s. where_same (evaluate (expr_view expression.now) s) w s) (store_view store.now) (stores_view x)) }
+        (λ x. ByTerm (term_view term.now) (λ w s. where_same (evaluate (expr_view expression.now) s) w s) (store_view store.now) (stores_view x)
+        × TermStaysPlain (expr_view expression.now) (term_view term.now) (store_view store.now) (stores_view x)) }
 {
     let Split { found, none } = value_of(alloc, store, expression)?;
     match found {
@@ -180,6 +184,8 @@ pub fn match_terms(
     ensures says { IfOk result
         (λ x. SplitsValues scope.now (exprs_view expressions.now) (terms_view terms.now) (store_view store.now) (stores_view x)) }
     ensures names { IfOk result (λ x. StoresStayOver (store_view store.now) (terms_view terms.now) (stores_view x)) }
+    ensures plain { IfOk result
+        (λ x. TermsStayPlain (exprs_view expressions.now) (terms_view terms.now) (store_view store.now) (stores_view x)) }
 {
     if expressions.len() != terms.len() {
         return no_store(alloc);

@@ -1,6 +1,7 @@
 pub mod Asking
 pub mod ChunkLists
 pub mod ChunkMeaning
+pub mod Fragments
 pub mod Listed
 pub mod ListLaws
 pub mod MadeLaws

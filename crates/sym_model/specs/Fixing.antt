@@ -51,13 +51,15 @@ pub record MissesAndIsDone (memory : MemoryName) (m : Actions) (h larger : Heap)
   pub misses : (m.act action fresh args h).outcome ≡ miss k
   pub is_done : IsDone (m.act action fresh args larger).outcome
 
--- the fix is of a core predicate of the memory with its numbers, and its ins are terms of the key
+-- the fix is of a core predicate of the memory with its numbers, and its ins are terms of the key, of which the first is the location
 pub record IsFixOf (memory : MemoryName) (key : PureKey) (f : PureFix) : Type 0 where
   pub core : Core
   pub of_memory : IsCoreOf memory f.core core
   pub ins : length f.ins ≡ ins_of core
   pub outs : length f.outs ≡ outs_of core
   pub among : Each (λ t. IsAmong t (key.loc ∷ sub_terms key.sub)) f.ins
+  pub later_ins : List PureTerm
+  pub loc_first : f.ins ≡ key.loc ∷ later_ins
 
 -- The laws of fixes of a key: where an action misses it and is done on a larger heap, one of them stands for what the larger heap has
 -- and the heap lacks. Those of a key of the memory are of its core predicates.
@@ -66,8 +68,8 @@ pub record FixLaw (memory : MemoryName) (m : Actions) (key : PureKey) (fs : List
       → MissesAndIsDone memory m h larger k → OneOf (IsFixFor v h larger) fs
   pub uses : IsSubOf memory key.sub → Each (IsFixOf memory key) fs
 
--- Narrow: a key of a narrow name has fixes of `prop` alone, with narrow ins.
+-- Narrow: a key of a narrow name has fixes of `prop` alone, with narrow ins and an out of sort any.
 abbrev pub FixesNarrowly : PureKey → List PureFix → Type 0
 FixesNarrowly key fs =
     (low high : ℤ) → IsNarrowKey low high key.loc key.sub
-    → Each (λ f. IsTrue (bytes_eq f.core (codes "prop")) × Each (IsNarrowWithin low high) f.ins) fs
+    → Each (λ f. IsTrue (bytes_eq f.core (codes "prop")) × Each (IsNarrowWithin low high) f.ins × (f.outs ≡ Sort.Any ∷ [])) fs

@@ -1,7 +1,9 @@
 -- What producing a core predicate gives.
-use Rattle.std.proofs.Common.{◌≡◌, ◌⊎◌, ⊎_elim, inl, inr, ℕ, ◌+◌, ◌≤◌, ℤ, pos, neg_ℤ, ◌-ℤ◌, ◌+ℤ◌, List, [], ◌∷◌, ◌++◌, Bool, true, false, if◌then◌else◌, Option, Some, None, IsTrue, refl, sym, ap, subst, ◌∙◌, true≢false}
+use Rattle.std.proofs.Common.{◌≡◌, ◌⊎◌, ⊎_elim, inl, inr, ℕ, ◌+◌, ◌≤◌, ℤ, pos, neg_ℤ, ◌-ℤ◌, ◌+ℤ◌, ◌≤ℤ◌, List, [], ◌∷◌, ◌++◌, Bool, true, false, if◌then◌else◌, Option, Some, None, IsTrue, refl, sym, ap, subst, ◌∙◌, true≢false}
 use Rattle.std.specs.FinMap.{insert}
 use Rattle.std.specs.List.{flat_map}
+use Rattle.std.specs.Prelude.{codes}
+use Rattle.std.specs.Str.{bytes_eq}
 use Rattle.std.proofs.lemmas.Grind.{flat_map-append}
 use Rattle.std.proofs.lemmas.List.{append-nil}
 use Rattle.gil_values.specs.Pure.{PureValue}
@@ -22,29 +24,31 @@ use Rattle.sym_evaluation.specs.Meaning.{HaveValues, IsStoreOver}
 use Rattle.sym_evaluation.specs.Plainly.{IsPlain, text_bound}
 use Rattle.sym_evaluation.specs.Pure.{PureStore}
 use Rattle.sym_evaluation.proofs.AskedAtoms.{one_asked_closed}
-use Rattle.sym_model.specs.CoreLaws.{ProduceLaw, ProducesWhatMatters, MayBeAdded, IsAdded, ArePlainUses}
+use Rattle.sym_model.specs.CoreLaws.{ProduceLaw, ProducesWhatMatters, ProducesNarrowly, MayBeAdded, IsAdded, ArePlainUses}
 use Rattle.sym_model.specs.Cores.{produce_asks, produce_depends}
 use Rattle.sym_model.specs.Forms.{OpensOnly}
 use Rattle.sym_model.specs.Laws.{Serves as MemoryServes, EachTerm, IsDecidedWithin, growth}
 use Rattle.sym_model.specs.Lists.{Each, OneOf}
 use Rattle.sym_model.specs.Meaning.{is_open, has_open}
-use Rattle.sym_model.specs.Plain.{IsPlainState}
+use Rattle.sym_model.specs.Plain.{IsPlainState, IsNarrowWithin, IsNarrowState}
 use Rattle.sym_model.specs.Pure.{PureBranch}
 use Rattle.sym_model.specs.Terms.{StateTerms, all_of, asked_of, IsOwnCondition, IsMadeOf, AreEachOver}
 use Rattle.sym_model.proofs.ListLaws.{each_append, each_to, each_flat, each_by_place, each_at, one_left, one_right}
 use Rattle.plain_evaluation.specs.Laws.{IsPlainOver}
 use Rattle.plain_evaluation.specs.Plain.{IsPlainItem}
 use Rattle.sym_states.specs.Meaning.{Stands, Serves, IsOverTable}
+use Rattle.sym_states.specs.Narrowly.{IsNarrowWith, IsNarrowUse, StaysNarrow}
 use Rattle.sym_states.specs.Plainly.{IsPlainWith, ProducesPlainStates, StaysPlain, item_growth}
 use Rattle.sym_states.specs.Producing.{IsAskedAmong, AreArguments, IsOwnTo, IsUseAdded, IsNext, IsAfter, DependsOn, NeedsForm, IsCovered, AddsToEach, added_conds, branch_state, unless_open, where_open, PureProduction, placed, divided}
 use Rattle.sym_states.specs.Pure.{PureState, PureArguments}
 use Rattle.sym_states.proofs.Additions.{use_parts, use_is, IsKeyAdded, key_parts, key_is}
 use Rattle.sym_states.proofs.Conditions.{met_parts, met_both, open_right, none_open, added_is}
+use Rattle.sym_states.proofs.Narrowness.{narrow_state_up, BranchIsNarrow, narrow_branches, branch_up, none_asked, narrow_arguments}
 use Rattle.sym_states.proofs.Plainness.{plain_up, state_up, lower_more, higher_more, below_zero, above_zero}
 use Rattle.sym_states.proofs.PureItems.{store_serves, grows}
 use Rattle.sym_states.proofs.Values.{only, values_append}
 
-module _ {S : Type 0} (memory : MemoryName) (stands : S → List PureValue → Heap → Type 0) (terms : S → StateTerms) (kept : S → Type 0) (keeps : Type 0) (bs : PureStore) (u : PurePredUse) (s : PureState S)
+module _ {S : Type 0} (memory : MemoryName) (stands : S → List PureValue → Heap → Type 0) (terms : S → StateTerms) (kept : S → Type 0) (keeps narrows : Type 0) (bs : PureStore) (u : PurePredUse) (s : PureState S)
     (core : Core) (named : core_of u.pred ≡ Some core) (a : PureArguments) (are : AreArguments bs u a) where
   abbrev arguments : List PureTerm
   arguments = a.ins ++ a.outs
@@ -68,6 +72,12 @@ module _ {S : Type 0} (memory : MemoryName) (stands : S → List PureValue → H
       (low high : ℤ) → IsPlainState memory (terms s.memory) low high → ArePlainUses u.pred a.ins a.outs low high
       → Each (IsDecidedWithin (low -ℤ growth) (high +ℤ growth)) b.conds × IsPlainState memory (terms b.state) (low -ℤ growth) (high +ℤ growth)
 
+  -- from a narrow memory and narrow arguments the branch is narrow
+  abbrev BranchStaysNarrow : PureBranch S → Type 0
+  BranchStaysNarrow b =
+      (low high : ℤ) → IsTrue (bytes_eq u.pred (codes "prop")) → (low ≤ℤ pos 0) × (pos 0 ≤ℤ high) → IsNarrowState (terms s.memory) low high → Each (IsNarrowWithin low high) arguments
+      → BranchIsNarrow terms (low -ℤ growth) (high +ℤ growth) b
+
   -- what the laws of production say of one branch
   record IsLawful (b : PureBranch S) : Type 0 where
     own : Each (IsOwnCondition (asked_of (produce_asks u.pred a.ins a.outs) (terms s.memory))) b.conds
@@ -75,6 +85,7 @@ module _ {S : Type 0} (memory : MemoryName) (stands : S → List PureValue → H
     over : (vars : List Sort) → AreEachOver vars (arguments ++ all_of (terms s.memory)) → Each (λ c. IsOver vars (term_of c)) b.conds × AreEachOver vars (all_of (terms b.state))
     still_kept : kept s.memory → kept b.state
     still_plain : keeps → BranchStaysPlain b
+    still_narrow : narrows → BranchStaysNarrow b
     exact : (vars : List Sort) (v ws : List PureValue) (h : Heap) → MemoryServes stands terms vars v None arguments s.memory ws h → IsTrue (all_true v b.conds) → has_open b.conds ≡ false
         → IsAdded memory stands terms u.pred v ws h b.state
     matters : (vars : List Sort) (v ws : List PureValue) (h : Heap) → MemoryServes stands terms vars v None arguments s.memory ws h → IsTrue (all_true v b.conds)
@@ -154,8 +165,19 @@ module _ {S : Type 0} (memory : MemoryName) (stands : S → List PureValue → H
         no_facts = is.no_facts;
       }
 
-  branch_after : (b : PureBranch S) → IsLawful b → IsAfter memory stands terms kept keeps bs (uses u) s (branch_state s a b)
-  branch_after b law = record { next = branch_next b law; over = branch_over b law; still_kept = law.still_kept; still_plain = λ keep. branch_plain b law keep; exact = branch_exact b law }
+  branch_narrow : (b : PureBranch S) → IsLawful b → narrows → StaysNarrow terms bs (uses u) s (branch_state s a b)
+  branch_narrow br law keep b item is =
+      let wide : ℕ = b + item_growth in
+      let wider : IsNarrowWith terms wide s = narrow_state_up terms b wide (grows b) s is in
+      let there : BranchIsNarrow terms (neg_ℤ (pos wide)) (pos wide) br =
+      branch_up terms b br (law.still_narrow keep (neg_ℤ (pos b)) (pos b) item.of_name (below_zero b, above_zero b) is.narrow_memory (narrow_arguments bs b u a item are)) in
+      record {
+        decided = each_append (Decided wide) s.conds (a.conds ++ br.conds) wider.decided (each_append (Decided wide) a.conds br.conds (none_asked (Decided wide) bs b u a item are) there.decided);
+        narrow_memory = there.memory;
+      }
+
+  branch_after : (b : PureBranch S) → IsLawful b → IsAfter memory stands terms kept keeps narrows bs (uses u) s (branch_state s a b)
+  branch_after b law = record { next = branch_next b law; over = branch_over b law; still_kept = law.still_kept; still_plain = λ keep. branch_plain b law keep; still_narrow = λ keep. branch_narrow b law keep; exact = branch_exact b law }
 
   branch_needs : (b : PureBranch S) → IsLawful b → has_open b.conds ≡ true → NeedsForm stands terms bs (uses u) s (branch_state s a b)
   branch_needs b law needs =
@@ -178,10 +200,10 @@ module _ {S : Type 0} (memory : MemoryName) (stands : S → List PureValue → H
   -- ---- all branches
 
   abbrev Whole : PureState S → Type 0
-  Whole r = OneOf (λ q. IsAfter memory stands terms kept keeps bs (uses u) q r) (s ∷ [])
+  Whole r = OneOf (λ q. IsAfter memory stands terms kept keeps narrows bs (uses u) q r) (s ∷ [])
 
   abbrev Stopped : PureState S → Type 0
-  Stopped r = OneOf (λ q. IsAfter memory stands terms kept keeps bs (uses u) q r × NeedsForm stands terms bs (uses u) q r) (s ∷ [])
+  Stopped r = OneOf (λ q. IsAfter memory stands terms kept keeps narrows bs (uses u) q r × NeedsForm stands terms bs (uses u) q r) (s ∷ [])
 
   whole_there : (b : PureBranch S) → IsLawful b → Each Whole (unless_open s a b)
   whole_there b law = by (has_open b.conds)
@@ -244,8 +266,8 @@ module _ {S : Type 0} (memory : MemoryName) (stands : S → List PureValue → H
 
   -- the states of the branches
   pub adds_key : (brs : List (PureBranch S)) → ProduceLaw memory stands terms u.pred a.ins a.outs s.memory brs → ProducesWhatMatters memory stands terms u.pred a.ins a.outs s.memory brs
-      → (kept s.memory → Each (λ b. kept b.state) brs) → (keeps → ProducesPlainStates memory terms u.pred a s.memory brs) → AddsToEach memory stands terms kept keeps bs (uses u) (s ∷ []) (divided s a brs)
-  adds_key brs law forms stays plainly =
+      → (kept s.memory → Each (λ b. kept b.state) brs) → (keeps → ProducesPlainStates memory terms u.pred a s.memory brs) → (narrows → ProducesNarrowly terms u.pred a.ins a.outs s.memory brs) → AddsToEach memory stands terms kept keeps narrows bs (uses u) (s ∷ []) (divided s a brs)
+  adds_key brs law forms stays plainly narrowly =
       let lawful : Each IsLawful brs = each_by_place IsLawful brs (λ i b at. record {
         own = each_at (λ (c : PureBranch S). Each (IsOwnCondition (asked_of (produce_asks u.pred a.ins a.outs) (terms s.memory))) c.conds) brs i b law.own at;
         made = (each_at (EachTerm terms (IsMadeOf (arguments ++ all_of (terms s.memory)) None)) brs i b law.made at).0;
@@ -253,6 +275,8 @@ module _ {S : Type 0} (memory : MemoryName) (stands : S → List PureValue → H
         still_kept = λ is. each_at (λ (c : PureBranch S). kept c.state) brs i b (stays is) at;
         still_plain = λ keep low high is uses.
             each_at (λ (c : PureBranch S). Each (IsDecidedWithin (low -ℤ growth) (high +ℤ growth)) c.conds × IsPlainState memory (terms c.state) (low -ℤ growth) (high +ℤ growth)) brs i b (plainly keep low high is uses) at;
+        still_narrow = λ keep low high prop around is uses.
+            each_at (BranchIsNarrow terms (low -ℤ growth) (high +ℤ growth)) brs i b (narrow_branches terms low high brs (narrowly keep low high prop around is uses)) at;
         exact = λ vars v ws h serves. each_at (λ (c : PureBranch S). IsTrue (all_true v c.conds) → has_open c.conds ≡ false → IsAdded memory stands terms u.pred v ws h c.state) brs i b (law.exact vars v ws h serves) at;
         matters = λ vars v ws h serves. each_at (λ (c : PureBranch S). IsTrue (all_true v c.conds) → Each (OpensOnly (produce_depends u.pred a.ins a.outs (terms s.memory) v h)) c.conds) brs i b (forms vars v ws h serves) at;
       }) in
@@ -268,7 +292,7 @@ module _ {S : Type 0} (memory : MemoryName) (stands : S → List PureValue → H
               is_heap = subst (λ (x : LogicState). IsHeapOf memory x.heap) key.is heap;
             } in
             let taken = law.cover s.vars v (ws ++ us) l.heap key.k key.w (memory_serves v t l ws us serves have.1 have.2) may in
-            subst (λ (x : LogicState). IsCovered memory stands terms kept keeps bs (uses u) v x (divided s a brs)) (sym key.is) (covered v l key.k key.w serves.state have.0 brs taken);
+            subst (λ (x : LogicState). IsCovered memory stands terms kept keeps narrows bs (uses u) v x (divided s a brs)) (sym key.is) (covered v l key.k key.w serves.state have.0 brs taken);
         whole = each_whole brs lawful;
         stopped = each_stopped brs lawful;
       }

@@ -1,5 +1,5 @@
 -- What adding a fact gives, and uses whose arguments have no values.
-use Rattle.std.proofs.Common.{◌≡◌, inl, List, [], ◌∷◌, ◌++◌, Option, Some, None, Ok, IsSome, IsTrue, refl, sym, ap, subst, ◌∙◌, true≢false}
+use Rattle.std.proofs.Common.{◌≡◌, inl, ℕ, ◌+◌, pos, neg_ℤ, List, [], ◌∷◌, ◌++◌, Option, Some, None, Ok, IsSome, IsTrue, refl, sym, ap, subst, ◌∙◌, true≢false}
 use Rattle.gil_values.specs.Pure.{PureValue}
 use Rattle.gil_syntax.specs.Evaluation.{Store, evaluate_all}
 use Rattle.gil_syntax.specs.Pure.{PurePredUse, uses}
@@ -13,20 +13,24 @@ use Rattle.pure_terms.specs.Meaning.{all_true, IsOver}
 use Rattle.pure_terms.specs.Pure.{term_of}
 use Rattle.sym_evaluation.specs.Meaning.{IsStoreOver}
 use Rattle.sym_evaluation.specs.Pure.{PureStore}
+use Rattle.sym_model.specs.Laws.{IsDecidedWithin}
 use Rattle.sym_model.specs.Terms.{StateTerms, AreEachOver}
 use Rattle.sym_model.proofs.ListLaws.{same_some, each_append, each_to}
 use Rattle.plain_evaluation.specs.Plain.{IsPlainItem}
 use Rattle.sym_states.specs.Meaning.{Stands, Serves, IsOverTable}
+use Rattle.sym_states.specs.Narrowly.{IsNarrowWith, StaysNarrow}
+use Rattle.sym_states.specs.Plainly.{item_growth}
 use Rattle.sym_states.specs.Producing.{IsAskedAmong, AreArguments, HaveNoValues, IsOwnTo, IsUseAdded, IsNext, AddsToEach, no_states, added_fact}
 use Rattle.sym_states.specs.Pure.{PureFact, PureState, PureArguments}
 use Rattle.sym_states.proofs.Additions.{use_parts, use_is}
 use Rattle.sym_states.proofs.Conditions.{met_parts, met_both}
-use Rattle.sym_states.proofs.PureItems.{store_serves}
+use Rattle.sym_states.proofs.Narrowness.{narrow_state_up, none_asked}
+use Rattle.sym_states.proofs.PureItems.{store_serves, grows}
 use Rattle.sym_states.proofs.Values.{only, facts_more}
 
-module _ {S : Type 0} (memory : MemoryName) (stands : S → List PureValue → Heap → Type 0) (terms : S → StateTerms) (kept : S → Type 0) (keeps : Type 0) (bs : PureStore) (u : PurePredUse) (s : PureState S) where
+module _ {S : Type 0} (memory : MemoryName) (stands : S → List PureValue → Heap → Type 0) (terms : S → StateTerms) (kept : S → Type 0) (keeps narrows : Type 0) (bs : PureStore) (u : PurePredUse) (s : PureState S) where
   -- some argument has surely no value
-  pub never_valued : HaveNoValues bs u → AddsToEach memory stands terms kept keeps bs (uses u) (s ∷ []) no_states
+  pub never_valued : HaveNoValues bs u → AddsToEach memory stands terms kept keeps narrows bs (uses u) (s ∷ []) no_states
   never_valued none = record {
     cover = λ v t l m here is heap.
         let serves : Serves stands terms s bs v t l = only (λ q. Serves stands terms q bs v t l) s here in
@@ -86,8 +90,18 @@ module _ {S : Type 0} (memory : MemoryName) (stands : S → List PureValue → H
     no_core : ¬ IsPlainItem (uses u)
     no_core item = subst (λ (o : Option Core). ¬ IsSome o) (sym named) (λ some. true≢false (sym some)) item.form.core
 
+    -- a fact changes nothing of the memory
+    narrow_still : StaysNarrow terms bs (uses u) s with_fact
+    narrow_still b item is =
+        let wide : ℕ = b + item_growth in
+        let wider : IsNarrowWith terms wide s = narrow_state_up terms b wide (grows b) s is in
+        record {
+          decided = each_append (IsDecidedWithin (neg_ℤ (pos wide)) (pos wide)) s.conds a.conds wider.decided (none_asked (IsDecidedWithin (neg_ℤ (pos wide)) (pos wide)) bs b u a item are);
+          narrow_memory = wider.narrow_memory;
+        }
+
     -- the state with one fact more
-    pub adds_fact : AddsToEach memory stands terms kept keeps bs (uses u) (s ∷ []) (added_fact s u.pred a)
+    pub adds_fact : AddsToEach memory stands terms kept keeps narrows bs (uses u) (s ∷ []) (added_fact s u.pred a)
     adds_fact = record {
       cover = λ v t l m here is heap.
           let serves : Serves stands terms s bs v t l = only (λ q. Serves stands terms q bs v t l) s here in
@@ -95,6 +109,6 @@ module _ {S : Type 0} (memory : MemoryName) (stands : S → List PureValue → H
           let have = are.have s.vars v t ws us (store_serves stands terms s bs v t l serves) ins outs in
           let (k, (found, is_there)) = fact_exact v t l serves (met_both v s.conds a.conds serves.state.meets have.0) in
           inl (inl (subst (λ (x : LogicState). Stands stands with_fact v x) (same_some (sym found ∙ is)) is_there));
-      whole = (inl (record { next = fact_next; over = fact_over; still_kept = λ k. k; still_plain = λ k b c item over below is. absurd (no_core item); exact = λ v t l serves met none. fact_exact v t l serves met }), tt);
+      whole = (inl (record { next = fact_next; over = fact_over; still_kept = λ k. k; still_plain = λ k b c item over below is. absurd (no_core item); still_narrow = λ k. narrow_still; exact = λ v t l serves met none. fact_exact v t l serves met }), tt);
       stopped = tt;
     }

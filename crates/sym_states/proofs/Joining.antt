@@ -14,24 +14,24 @@ use Rattle.sym_states.specs.Meaning.{Stands, Serves}
 use Rattle.sym_states.specs.Producing.{PureProduction, joined, IsAfter, NeedsForm, IsCovered, AddsToEach, no_states}
 use Rattle.sym_states.specs.Pure.{PureState}
 
-module _ {S : Type 0} (memory : MemoryName) (stands : S → List PureValue → Heap → Type 0) (terms : S → StateTerms) (kept : S → Type 0) (keeps : Type 0) (bs : PureStore) (item : PureItem) where
+module _ {S : Type 0} (memory : MemoryName) (stands : S → List PureValue → Heap → Type 0) (terms : S → StateTerms) (kept : S → Type 0) (keeps narrows : Type 0) (bs : PureStore) (item : PureItem) where
   abbrev After : PureState S → PureState S → Type 0
-  After = IsAfter memory stands terms kept keeps bs item
+  After = IsAfter memory stands terms kept keeps narrows bs item
 
   -- no state gives none
-  pub adds_to_none : AddsToEach memory stands terms kept keeps bs item [] no_states
+  pub adds_to_none : AddsToEach memory stands terms kept keeps narrows bs item [] no_states
   adds_to_none = record { cover = λ v t l m none is heap. absurd none; whole = tt; stopped = tt }
 
-  covered_first : (v : List PureValue) (m : LogicState) (p q : PureProduction S) → IsCovered memory stands terms kept keeps bs item v m p → IsCovered memory stands terms kept keeps bs item v m (joined p q)
+  covered_first : (v : List PureValue) (m : LogicState) (p q : PureProduction S) → IsCovered memory stands terms kept keeps narrows bs item v m p → IsCovered memory stands terms kept keeps narrows bs item v m (joined p q)
   covered_first v m p q one =
       ⊎_elim (λ is. inl (one_left (λ r. Stands stands r v m) p.whole q.whole is)) (λ is. inr (one_left (λ (r : PureState S). IsTrue (all_true v r.conds)) p.stopped q.stopped is)) one
 
-  covered_second : (v : List PureValue) (m : LogicState) (p q : PureProduction S) → IsCovered memory stands terms kept keeps bs item v m q → IsCovered memory stands terms kept keeps bs item v m (joined p q)
+  covered_second : (v : List PureValue) (m : LogicState) (p q : PureProduction S) → IsCovered memory stands terms kept keeps narrows bs item v m q → IsCovered memory stands terms kept keeps narrows bs item v m (joined p q)
   covered_second v m p q one =
       ⊎_elim (λ is. inl (one_right (λ r. Stands stands r v m) p.whole q.whole is)) (λ is. inr (one_right (λ (r : PureState S). IsTrue (all_true v r.conds)) p.stopped q.stopped is)) one
 
-  pub adds_to_both : (ss more : List (PureState S)) (p q : PureProduction S) → AddsToEach memory stands terms kept keeps bs item ss p → AddsToEach memory stands terms kept keeps bs item more q
-      → AddsToEach memory stands terms kept keeps bs item (ss ++ more) (joined p q)
+  pub adds_to_both : (ss more : List (PureState S)) (p q : PureProduction S) → AddsToEach memory stands terms kept keeps narrows bs item ss p → AddsToEach memory stands terms kept keeps narrows bs item more q
+      → AddsToEach memory stands terms kept keeps narrows bs item (ss ++ more) (joined p q)
   adds_to_both ss more p q first second = record {
     cover = λ v t l m serves is heap.
         ⊎_elim (λ one. covered_first v m p q (first.cover v t l m one is heap)) (λ one. covered_second v m p q (second.cover v t l m one is heap))

@@ -4,6 +4,7 @@ pub mod Conditions
 pub mod CoreItems
 pub mod FactItems
 pub mod Joining
+pub mod Narrowness
 pub mod Plainness
 pub mod Produced
 pub mod PureItems

@@ -26,11 +26,13 @@ use Rattle.plain_evaluation.specs.Laws.{IsPlainOver}
 use Rattle.plain_evaluation.specs.Plain.{IsPlainItem}
 use Rattle.sym_states.specs.Laws.{CoversAddings, AreAddings, ComeFromItems, StayOverTable}
 use Rattle.sym_states.specs.Meaning.{Stands, Serves, IsOverTable}
+use Rattle.sym_states.specs.Narrowly.{IsNarrowWith, IsNarrowItem, StayNarrow}
 use Rattle.sym_states.specs.Plainly.{IsPlainWith, StayPlain, item_growth}
 use Rattle.sym_states.specs.Producing.{IsProduced, is_begun, is_added, IsStopped, added_conds, PureProduction, IsAfter, NeedsForm, AddsToEach, AddsNext}
 use Rattle.sym_states.specs.Pure.{PureState}
 use Rattle.sym_states.proofs.Additions.{item_heap, added_more, item_after}
 use Rattle.sym_states.proofs.Conditions.{met_parts, open_right, none_open, added_is, grown}
+use Rattle.sym_states.proofs.Narrowness.{narrow_state_up, item_up}
 use Rattle.sym_states.proofs.Plainness.{state_up, one_more, no_less, reaches_more}
 use Rattle.sym_states.proofs.PureItems.{grows}
 
@@ -49,7 +51,7 @@ both_of : {A : Type 0} (P Q : A → Type 0) (xs : List A) → Each P xs → OneO
 both_of P Q [] all one = absurd one
 both_of P Q (x ∷ xs) all one = ⊎_elim (λ here. inl (all.0, here)) (λ later. inr (both_of P Q xs all.1 later)) one
 
-module _ {S : Type 0} (memory : MemoryName) (stands : S → List PureValue → Heap → Type 0) (terms : S → StateTerms) (kept : S → Type 0) (keeps : Type 0) (meaning : IsMeaning memory stands terms) (bs : PureStore)
+module _ {S : Type 0} (memory : MemoryName) (stands : S → List PureValue → Heap → Type 0) (terms : S → StateTerms) (kept : S → Type 0) (keeps narrows : Type 0) (meaning : IsMeaning memory stands terms) (bs : PureStore)
     (s : PureState S) where
   -- ---- what stays, and what grows
 
@@ -75,12 +77,17 @@ module _ {S : Type 0} (memory : MemoryName) (stands : S → List PureValue → H
   PlainAfter items r =
       (b c : ℕ) → Each IsPlainItem items → IsPlainOver s.vars c bs → c + text_bound ≤ b → IsPlainWith memory terms b s → IsPlainWith memory terms (b + length items * item_growth) r
 
+  -- from a narrow state and narrow items, the state is narrow
+  abbrev NarrowAfter : List PureItem → PureState S → Type 0
+  NarrowAfter items r = (b : ℕ) → Each (IsNarrowItem bs b) items → IsNarrowWith terms b s → IsNarrowWith terms (b + length items * item_growth) r
+
   -- a state to which the items were added
   pub record IsWhole (items : List PureItem) (r : PureState S) : Type 0 where
     pub produced : IsProduced terms bs s items r
     pub over : IsOverTable terms s → IsStoreOver s.vars bs → IsOverTable terms r
     pub still_kept : kept s.memory → kept r.memory
     pub still_plain : keeps → PlainAfter items r
+    pub still_narrow : narrows → NarrowAfter items r
     pub exact : IsExact items r
 
   -- a state at which a literal form is needed
@@ -90,6 +97,7 @@ module _ {S : Type 0} (memory : MemoryName) (stands : S → List PureValue → H
     pub over : IsOverTable terms s → IsStoreOver s.vars bs → IsOverTable terms r
     pub still_kept : kept s.memory → kept r.memory
     pub still_plain : keeps → PlainAfter items r
+    pub still_narrow : narrows → NarrowAfter items r
 
   pub record Produces (items : List PureItem) (p : PureProduction S) : Type 0 where
     pub cover : (v : List PureValue) (t : Store) (l m : LogicState) → Serves stands terms s bs v t l → added t items l ≡ Some m → IsHeapOf memory m.heap
@@ -102,7 +110,7 @@ module _ {S : Type 0} (memory : MemoryName) (stands : S → List PureValue → H
   pub nothing_produced : Produces [] (record { whole = s ∷ []; stopped = [] })
   nothing_produced = record {
     cover = λ v t l m serves is heap. inl (inl (subst (λ (x : LogicState). Stands stands s v x) (same_some is) serves.state));
-    whole = (record { produced = is_begun refl refl; over = λ over store. over; still_kept = λ is. is; still_plain = λ keep b c all over below is. state_up memory terms b (b + 0 * item_growth) (no_less b 0) s is; exact = λ v t l serves met none. (l, (refl, serves.state)) }, tt);
+    whole = (record { produced = is_begun refl refl; over = λ over store. over; still_kept = λ is. is; still_plain = λ keep b c all over below is. state_up memory terms b (b + 0 * item_growth) (no_less b 0) s is; still_narrow = λ keep b all is. narrow_state_up terms b (b + 0 * item_growth) (no_less b 0) s is; exact = λ v t l serves met none. (l, (refl, serves.state)) }, tt);
     stopped = tt;
   }
 
@@ -110,7 +118,7 @@ module _ {S : Type 0} (memory : MemoryName) (stands : S → List PureValue → H
 
   module _ (items : List PureItem) (item : PureItem) where
     abbrev After : PureState S → PureState S → Type 0
-    After = IsAfter memory stands terms kept keeps bs item
+    After = IsAfter memory stands terms kept keeps narrows bs item
 
     store_still_over : (q : PureState S) → IsWhole items q → IsStoreOver s.vars bs → IsStoreOver q.vars bs
     store_still_over q w over = subst (λ (vars : List Sort). IsStoreOver vars bs) (sym (same_table items q w.produced)) over
@@ -140,12 +148,28 @@ module _ {S : Type 0} (memory : MemoryName) (stands : S → List PureValue → H
         subst (λ (m : ℕ). IsPlainWith memory terms m r) (one_more b n ∙ ap (λ m. b + m * item_growth) (sym (length-append items (item ∷ []))))
         (state_up memory terms (b + n * item_growth) ((b + n * item_growth) + item_growth) (grows (b + n * item_growth)) r there)
 
+    narrow_next : (q r : PureState S) → IsWhole items q → After q r → narrows → NarrowAfter (items ++ item ∷ []) r
+    narrow_next q r w after keep b all is =
+        let first = each_left (IsNarrowItem bs b) items (item ∷ []) all in
+        let last = (each_right (IsNarrowItem bs b) items (item ∷ []) all).0 in
+        let n : ℕ = length items in
+        let there = after.still_narrow keep (b + n * item_growth) (item_up bs b (b + n * item_growth) (no_less b n) item last) (w.still_narrow keep b first is) in
+        subst (λ (m : ℕ). IsNarrowWith terms m r) (one_more b n ∙ ap (λ m. b + m * item_growth) (sym (length-append items (item ∷ [])))) there
+
+    narrow_still : (r : PureState S) → IsHalf items r → narrows → NarrowAfter (items ++ item ∷ []) r
+    narrow_still r half keep b all is =
+        let first = each_left (IsNarrowItem bs b) items (item ∷ []) all in
+        let n : ℕ = length items in
+        subst (λ (m : ℕ). IsNarrowWith terms m r) (one_more b n ∙ ap (λ m. b + m * item_growth) (sym (length-append items (item ∷ []))))
+        (narrow_state_up terms (b + n * item_growth) ((b + n * item_growth) + item_growth) (grows (b + n * item_growth)) r (half.still_narrow keep b first is))
+
     whole_next : (q r : PureState S) → IsWhole items q → After q r → IsWhole (items ++ item ∷ []) r
     whole_next q r w after = record {
       produced = is_added w.produced after.next;
       over = λ over store. after.over (w.over over store) (store_still_over q w store);
       still_kept = λ is. after.still_kept (w.still_kept is);
       still_plain = plain_next q r w after;
+      still_narrow = narrow_next q r w after;
       exact = λ v t l serves met none.
           let more = after.next.more in
           let (first, grew) = conds_grow items q w.produced in
@@ -171,6 +195,7 @@ module _ {S : Type 0} (memory : MemoryName) (stands : S → List PureValue → H
           over = λ over store. after.over (w.over over store) (store_still_over q w store);
           still_kept = λ is. after.still_kept (w.still_kept is);
           still_plain = plain_next q r w after;
+          still_narrow = narrow_next q r w after;
         }
 
     half_stays : (r : PureState S) → IsHalf items r → IsHalf (items ++ item ∷ []) r
@@ -191,9 +216,10 @@ module _ {S : Type 0} (memory : MemoryName) (stands : S → List PureValue → H
           over = half.over;
           still_kept = half.still_kept;
           still_plain = plain_still r half;
+          still_narrow = narrow_still r half;
         }
 
-    module _ (p d : PureProduction S) (so_far : Produces items p) (adds : AddsToEach memory stands terms kept keeps bs item p.whole d) where
+    module _ (p d : PureProduction S) (so_far : Produces items p) (adds : AddsToEach memory stands terms kept keeps narrows bs item p.whole d) where
       abbrev Met : List PureValue → PureState S → Type 0
       Met v r = IsTrue (all_true v r.conds)
 
@@ -220,7 +246,7 @@ module _ {S : Type 0} (memory : MemoryName) (stands : S → List PureValue → H
             (λ r one. one_with (IsWhole items) (λ q. After q r × NeedsForm stands terms bs item q r) p.whole so_far.whole one (λ q w both. half_next q r w both.0 both.1)) adds.stopped);
       }
 
-    pub produces_more : (p q : PureProduction S) → Produces items p → AddsNext memory stands terms kept keeps bs item p q → Produces (items ++ item ∷ []) q
+    pub produces_more : (p q : PureProduction S) → Produces items p → AddsNext memory stands terms kept keeps narrows bs item p q → Produces (items ++ item ∷ []) q
     produces_more p q so_far (d, (adds, is)) = subst (Produces (items ++ item ∷ [])) (sym is) (produces_next p d so_far adds)
 
   -- ---- the end
@@ -267,3 +293,9 @@ module _ {S : Type 0} (memory : MemoryName) (stands : S → List PureValue → H
         let Right : PureState S → Type 0 = IsPlainWith memory terms (b + length items * item_growth) in
         each_append Right p.whole p.stopped (each_to (IsWhole items) Right p.whole (λ r w. w.still_plain keep b c plain over below is) all.whole)
         (each_to (IsHalf items) Right p.stopped (λ r half. half.still_plain keep b c plain over below is) all.stopped)
+
+    pub all_narrow : narrows → StayNarrow terms bs items s (p.whole ++ p.stopped)
+    all_narrow keep b narrow is =
+        let Right : PureState S → Type 0 = IsNarrowWith terms (b + length items * item_growth) in
+        each_append Right p.whole p.stopped (each_to (IsWhole items) Right p.whole (λ r w. w.still_narrow keep b narrow is) all.whole)
+        (each_to (IsHalf items) Right p.stopped (λ r half. half.still_narrow keep b narrow is) all.stopped)

@@ -55,10 +55,10 @@ pub store_serves : {S : Type 0} (stands : S → List PureValue → Heap → Type
     → Serves stands terms s bs v t l → StoreServes s.vars v bs t
 store_serves stands terms s bs v t l serves = record { proper = serves.state.proper; over = serves.store_over; stands = serves.store }
 
-module _ {S : Type 0} (memory : MemoryName) (stands : S → List PureValue → Heap → Type 0) (terms : S → StateTerms) (kept : S → Type 0) (keeps : Type 0) (bs : PureStore) (e : PureExpr) (cases : PureCases PureTerm)
+module _ {S : Type 0} (memory : MemoryName) (stands : S → List PureValue → Heap → Type 0) (terms : S → StateTerms) (kept : S → Type 0) (keeps narrows : Type 0) (bs : PureStore) (e : PureExpr) (cases : PureCases PureTerm)
     (says : AreCasesOf bs e cases) (from : ComesFrom bs e cases) (names : NameNoOthers IsOver bs cases) (plainly : AsksPlainly bs e cases) (s : PureState S) where
   -- the expression has surely no value
-  pub never_good : cases.good ≡ None → AddsToEach memory stands terms kept keeps bs (pure e) (s ∷ []) no_states
+  pub never_good : cases.good ≡ None → AddsToEach memory stands terms kept keeps narrows bs (pure e) (s ∷ []) no_states
   never_good none = record {
     cover = λ v t l m here is heap.
         let serves : Serves stands terms s bs v t l = only (λ q. Serves stands terms q bs v t l) s here in
@@ -87,7 +87,7 @@ module _ {S : Type 0} (memory : MemoryName) (stands : S → List PureValue → H
     good_there v t l serves ok = good_if_ok v (HasValue v) (evaluate e t) cases g (boolean true) is_g ok (says s.vars v t (store_serves stands terms s bs v t l serves))
 
     -- the guard is surely not true
-    pub never_true : sides.when_true ≡ None → AddsToEach memory stands terms kept keeps bs (pure e) (s ∷ []) no_states
+    pub never_true : sides.when_true ≡ None → AddsToEach memory stands terms kept keeps narrows bs (pure e) (s ∷ []) no_states
     never_true none = record {
       cover = λ v t l m here is heap.
           let serves : Serves stands terms s bs v t l = only (λ q. Serves stands terms q bs v t l) s here in
@@ -150,7 +150,7 @@ module _ {S : Type 0} (memory : MemoryName) (stands : S → List PureValue → H
           (each_to (Decided (c + text_bound)) (Decided wide) side (decided_up (c + text_bound) wide (reaches b c below)) decided)))
 
       -- the state where the guard is true
-      pub assumes : AddsToEach memory stands terms kept keeps bs (pure e) (s ∷ []) (record { whole = assumed ∷ []; stopped = [] })
+      pub assumes : AddsToEach memory stands terms kept keeps narrows bs (pure e) (s ∷ []) (record { whole = assumed ∷ []; stopped = [] })
       assumes = record {
         cover = λ v t l m here is heap.
             let serves : Serves stands terms s bs v t l = only (λ q. Serves stands terms q bs v t l) s here in
@@ -159,11 +159,11 @@ module _ {S : Type 0} (memory : MemoryName) (stands : S → List PureValue → H
             let there : IsTrue (all_true v side) = subst (λ (o : Option (List PureAtom)). IsSideWhere v true o) is_side (side_of v t l (boolean true) serves good.1) in
             let met = met_both v (s.conds ++ g.conds) side (met_both v s.conds g.conds serves.state.meets good.0) there in
             inl (inl (subst (λ (x : LogicState). Stands stands assumed v x) parts.1 (still_stands v l serves.state met)));
-        whole = (inl (record { next = is_next; over = is_over; still_kept = λ k. k; still_plain = λ k. still_plain; exact = λ v t l serves met none. is_exact v t l serves met }), tt);
+        whole = (inl (record { next = is_next; over = is_over; still_kept = λ k. k; still_plain = λ k. still_plain; still_narrow = λ k b item is. absurd item; exact = λ v t l serves met none. is_exact v t l serves met }), tt);
         stopped = tt;
       }
 
     -- whether there is such a state or not
-    pub assumes_where : (o : Option (List PureAtom)) → sides.when_true ≡ o → AddsToEach memory stands terms kept keeps bs (pure e) (s ∷ []) (assumed_where s g o)
+    pub assumes_where : (o : Option (List PureAtom)) → sides.when_true ≡ o → AddsToEach memory stands terms kept keeps narrows bs (pure e) (s ∷ []) (assumed_where s g o)
     assumes_where None is = never_true is
     assumes_where (Some side) is = assumes side is

@@ -13,9 +13,9 @@ use Rattle.sym_states.specs.Pure.{PureState, PureArguments}
 use Rattle.sym_states.proofs.CoreItems.{adds_key}
 use Rattle.sym_states.proofs.FactItems.{adds_fact}
 
-pub adds_use : {S : Type 0} (memory : MemoryName) (stands : S → List PureValue → Heap → Type 0) (terms : S → StateTerms) (kept : S → Type 0) (keeps : Type 0) (bs : PureStore) (u : PurePredUse) (s : PureState S)
-    (a : PureArguments) → AreArguments bs u a → (p : PureProduction S) (o : Option Core) → core_of u.pred ≡ o → AddsByName memory stands terms kept keeps o u.pred s a p
-    → AddsToEach memory stands terms kept keeps bs (uses u) (s ∷ []) p
-adds_use memory stands terms kept keeps bs u s a are p (Some core) named key =
-    subst (AddsToEach memory stands terms kept keeps bs (uses u) (s ∷ [])) (sym key.are) (adds_key memory stands terms kept keeps bs u s core named a are key.branches key.laws key.forms key.still_kept key.still_plain)
-adds_use memory stands terms kept keeps bs u s a are p None named is = subst (AddsToEach memory stands terms kept keeps bs (uses u) (s ∷ [])) (sym is) (adds_fact memory stands terms kept keeps bs u s named a are)
+pub adds_use : {S : Type 0} (memory : MemoryName) (stands : S → List PureValue → Heap → Type 0) (terms : S → StateTerms) (kept : S → Type 0) (keeps narrows : Type 0) (bs : PureStore) (u : PurePredUse) (s : PureState S)
+    (a : PureArguments) → AreArguments bs u a → (p : PureProduction S) (o : Option Core) → core_of u.pred ≡ o → AddsByName memory stands terms kept keeps narrows o u.pred s a p
+    → AddsToEach memory stands terms kept keeps narrows bs (uses u) (s ∷ []) p
+adds_use memory stands terms kept keeps narrows bs u s a are p (Some core) named key =
+    subst (AddsToEach memory stands terms kept keeps narrows bs (uses u) (s ∷ [])) (sym key.are) (adds_key memory stands terms kept keeps narrows bs u s core named a are key.branches key.laws key.forms key.still_kept key.still_plain key.still_narrow)
+adds_use memory stands terms kept keeps narrows bs u s a are p None named is = subst (AddsToEach memory stands terms kept keeps narrows bs (uses u) (s ∷ [])) (sym is) (adds_fact memory stands terms kept keeps narrows bs u s named a are)

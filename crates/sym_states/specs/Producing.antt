@@ -19,7 +19,7 @@ use Rattle.sym_evaluation.specs.Meaning.{HaveValues, IsStoreOver, Serves as Stor
 use Rattle.sym_evaluation.specs.Plainly.{text_bound}
 use Rattle.sym_evaluation.specs.Pure.{PureStore, PureGoodCase}
 use Rattle.sym_evaluation.specs.Questions.{IsAsked, IsTermOf, AreTermsOf, IsGuardCondition}
-use Rattle.sym_model.specs.CoreLaws.{ProduceLaw, ProducesWhatMatters}
+use Rattle.sym_model.specs.CoreLaws.{ProduceLaw, ProducesWhatMatters, ProducesNarrowly}
 use Rattle.sym_model.specs.Cores.{produce_asks, produce_depends, TakesBoth}
 use Rattle.sym_model.specs.Forms.{OpensOnly}
 use Rattle.sym_model.specs.Lists.{Each, OneOf}
@@ -29,6 +29,7 @@ use Rattle.sym_model.specs.Terms.{StateTerms, all_of, asked_of, IsOwnCondition, 
 use Rattle.plain_evaluation.specs.Laws.{IsPlainOver}
 use Rattle.plain_evaluation.specs.Plain.{IsPlainItem}
 use Rattle.sym_states.specs.Meaning.{Stands, Serves, IsOverTable}
+use Rattle.sym_states.specs.Narrowly.{StaysNarrow}
 use Rattle.sym_states.specs.Plainly.{ArePlainArguments, ProducesPlainStates, StaysPlain}
 use Rattle.sym_states.specs.Pure.{PureFact, PureState, PureArguments}
 
@@ -183,13 +184,14 @@ abbrev pub joined : {S : Type 0} → PureProduction S → PureProduction S → P
 joined p q = record { whole = p.whole ++ q.whole; stopped = p.stopped ++ q.stopped }
 
 module _ {S : Type 0} (memory : MemoryName) (stands : S → List PureValue → Heap → Type 0) (terms : S → StateTerms)
-    (kept : S → Type 0) (keeps : Type 0) (bs : PureStore) (item : PureItem) where
+    (kept : S → Type 0) (keeps narrows : Type 0) (bs : PureStore) (item : PureItem) where
   -- a state that adding the item to another one gives
   pub record IsAfter (s r : PureState S) : Type 0 where
     pub next : IsNext terms bs item s r
     pub over : IsOverTable terms s → IsStoreOver s.vars bs → IsOverTable terms r
     pub still_kept : kept s.memory → kept r.memory
     pub still_plain : keeps → StaysPlain memory terms bs item s r
+    pub still_narrow : narrows → StaysNarrow terms bs item s r
     pub exact : (v : List PureValue) (t : Store) (l : LogicState) → Serves stands terms s bs v t l → IsTrue (all_true v r.conds)
         → has_open (added_conds s r) ≡ false → (m : LogicState) × ((with_item t item l ≡ Some m) × Stands stands r v m)
 
@@ -243,13 +245,14 @@ module _ {S : Type 0} (s : PureState S) (a : PureArguments) where
 
 -- the states of branches that keep the laws of production
 pub record AddsKey {S : Type 0} (memory : MemoryName) (stands : S → List PureValue → Heap → Type 0) (terms : S → StateTerms)
-    (kept : S → Type 0) (keeps : Type 0) (core : List ℕ) (s : PureState S) (a : PureArguments) (p : PureProduction S) : Type 0 where
+    (kept : S → Type 0) (keeps narrows : Type 0) (core : List ℕ) (s : PureState S) (a : PureArguments) (p : PureProduction S) : Type 0 where
   pub branches : List (PureBranch S)
   pub are : p ≡ divided s a branches
   pub laws : ProduceLaw memory stands terms core a.ins a.outs s.memory branches
   pub forms : ProducesWhatMatters memory stands terms core a.ins a.outs s.memory branches
   pub still_kept : kept s.memory → Each (λ b. kept b.state) branches
   pub still_plain : keeps → ProducesPlainStates memory terms core a s.memory branches
+  pub still_narrow : narrows → ProducesNarrowly terms core a.ins a.outs s.memory branches
 
 -- where the name is that of a core predicate, it takes these ins and outs
 abbrev pub TakesBothIfCore : MemoryName → List ℕ → List PureTerm → List PureTerm → Type 0
@@ -257,6 +260,6 @@ TakesBothIfCore memory name ins outs = (core : Core) → core_of name ≡ Some c
 
 -- a core predicate is produced, and any other one is a fact
 abbrev pub AddsByName : {S : Type 0} → MemoryName → (S → List PureValue → Heap → Type 0) → (S → StateTerms) → (S → Type 0) → Type 0
-    → Option Core → List ℕ → PureState S → PureArguments → PureProduction S → Type 0
-AddsByName memory stands terms kept keeps (Some core) name s a p = AddsKey memory stands terms kept keeps name s a p
-AddsByName memory stands terms kept keeps None name s a p = p ≡ added_fact s name a
+    → Type 0 → Option Core → List ℕ → PureState S → PureArguments → PureProduction S → Type 0
+AddsByName memory stands terms kept keeps narrows (Some core) name s a p = AddsKey memory stands terms kept keeps narrows name s a p
+AddsByName memory stands terms kept keeps narrows None name s a p = p ≡ added_fact s name a

@@ -1,5 +1,5 @@
 -- Symbolic states with facts, as pure data over the states S of a memory. Terms stand where a logic state has values.
-use Rattle.std.specs.Prelude.{ℕ, List}
+use Rattle.std.specs.Prelude.{ℕ, List, ◌++◌}
 use Rattle.gil_values.specs.declared.places.Place.{Place}
 use Rattle.pure_terms.specs.declared.variables.Sort.{Sort}
 use Rattle.pure_terms.specs.Pure.{PureTerm, PureAtom}
@@ -26,3 +26,7 @@ pub record PureArguments : Type 0 where
   pub conds : List PureAtom
   pub ins : List PureTerm
   pub outs : List PureTerm
+
+-- the state with these conditions behind its own
+abbrev pub with_conditions : {S : Type 0} → List PureAtom → PureState S → PureState S
+with_conditions more s = record s { conds = s.conds ++ more }

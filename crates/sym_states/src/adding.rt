@@ -54,7 +54,7 @@ fn assume<M: ListedMemory>(
     store: &SymStore,
 ) -> Result<Production<M>, AllocError>
     requires { IsTrue (are_spelled (expr_view expression.now ∷ [])) }
-    ensures { IfOk result (λ p. AddsToEach M.Local.memory M.stands M.terms M.kept M.keeps_plain (store_view store.now) (pure (expr_view expression.now))
+    ensures { IfOk result (λ p. AddsToEach M.Local.memory M.stands M.terms M.kept M.keeps_plain M.keeps_narrow (store_view store.now) (pure (expr_view expression.now))
         (state_view state ∷ []) (production_view p)) }
 {
     plain_expressions_ask_nothing();
@@ -157,7 +157,7 @@ fn add_core<M: ListedMemory>(
     arguments: Arguments,
 ) -> Result<Production<M>, AllocError>
     requires { TakesBoth M.Local.memory core.now (terms_view arguments.ins) (terms_view arguments.outs) }
-    ensures { IfOk result (λ p. AddsKey M.Local.memory M.stands M.terms M.kept M.keeps_plain core.now (state_view state) (arguments_view arguments)
+    ensures { IfOk result (λ p. AddsKey M.Local.memory M.stands M.terms M.kept M.keeps_plain M.keeps_narrow core.now (state_view state) (arguments_view arguments)
         (production_view p)) }
 {
     let branches = state
@@ -174,7 +174,7 @@ fn add_predicate<M: ListedMemory>(
     arguments: Arguments,
 ) -> Result<Production<M>, AllocError>
     requires { TakesBothIfCore M.Local.memory pred.now (terms_view arguments.ins) (terms_view arguments.outs) }
-    ensures { IfOk result (λ p. AddsByName M.Local.memory M.stands M.terms M.kept M.keeps_plain (core_of pred.now) pred.now (state_view state)
+    ensures { IfOk result (λ p. AddsByName M.Local.memory M.stands M.terms M.kept M.keeps_plain M.keeps_narrow (core_of pred.now) pred.now (state_view state)
         (arguments_view arguments) (production_view p)) }
 {
     match Core::from_name(pred) {
@@ -191,7 +191,7 @@ fn add_use<M: ListedMemory>(
     store: &SymStore,
 ) -> Result<Production<M>, AllocError>
     requires { MayAdd M.Local.memory (uses (pred_use_view used.now)) }
-    ensures { IfOk result (λ p. AddsToEach M.Local.memory M.stands M.terms M.kept M.keeps_plain (store_view store.now) (uses (pred_use_view used.now))
+    ensures { IfOk result (λ p. AddsToEach M.Local.memory M.stands M.terms M.kept M.keeps_plain M.keeps_narrow (store_view store.now) (uses (pred_use_view used.now))
         (state_view state ∷ []) (production_view p)) }
 {
     let arguments = evaluate_use(alloc, store, used)?;
@@ -209,7 +209,7 @@ pub(crate) fn add_item<M: ListedMemory>(
     store: &SymStore,
 ) -> Result<Production<M>, AllocError>
     requires { MayAdd M.Local.memory (item_view item.now) }
-    ensures { IfOk result (λ p. AddsToEach M.Local.memory M.stands M.terms M.kept M.keeps_plain (store_view store.now) (item_view item.now)
+    ensures { IfOk result (λ p. AddsToEach M.Local.memory M.stands M.terms M.kept M.keeps_plain M.keeps_narrow (store_view store.now) (item_view item.now)
         (state_view state ∷ []) (production_view p)) }
 {
     match item {

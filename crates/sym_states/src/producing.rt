@@ -4,6 +4,7 @@ ghost use Rattle.gil_syntax.specs.View.{item_view, assertion_view};
 ghost use Rattle.sym_evaluation.specs.View.{store_view};
 ghost use Rattle.sym_model.specs.Lists.{Each};
 ghost use Rattle.sym_states.specs.Laws.{CoversAddings, AreAddings, ComeFromItems, StayOverTable, AreKept};
+ghost use Rattle.sym_states.specs.Narrowly.{StayNarrow};
 ghost use Rattle.sym_states.specs.Plainly.{StayPlain};
 ghost use Rattle.sym_states.specs.Producing.{MayAdd, AddsToEach, AddsNext};
 ghost use Rattle.sym_states.specs.View.{state_view, states_view, production_view};
@@ -24,7 +25,7 @@ fn add_to_each<M: ListedMemory>(
     store: &SymStore,
 ) -> Result<Production<M>, AllocError>
     requires { MayAdd M.Local.memory (item_view item.now) }
-    ensures { IfOk result (λ p. AddsToEach M.Local.memory M.stands M.terms M.kept M.keeps_plain (store_view store.now) (item_view item.now)
+    ensures { IfOk result (λ p. AddsToEach M.Local.memory M.stands M.terms M.kept M.keeps_plain M.keeps_narrow (store_view store.now) (item_view item.now)
         (states_view states) (production_view p)) }
 {
     let mut production = Production::new(alloc);
@@ -43,7 +44,7 @@ fn add_next<M: ListedMemory>(
     store: &SymStore,
 ) -> Result<Production<M>, AllocError>
     requires { MayAdd M.Local.memory (item_view item.now) }
-    ensures { IfOk result (λ p. AddsNext M.Local.memory M.stands M.terms M.kept M.keeps_plain (store_view store.now) (item_view item.now)
+    ensures { IfOk result (λ p. AddsNext M.Local.memory M.stands M.terms M.kept M.keeps_plain M.keeps_narrow (store_view store.now) (item_view item.now)
         (production_view production) (production_view p)) }
 {
     let Production { whole, stopped } = production;
@@ -75,6 +76,8 @@ pub fn produce_items<M: ListedMemory>(
     ensures kept { M.kept state.memory → IfOk result (λ rs. AreKept M.kept (states_view rs)) }
     ensures plain { M.keeps_plain → IfOk result (λ rs. StayPlain M.Local.memory M.terms (store_view store.now) (assertion_view items.now)
         (state_view state) (states_view rs)) }
+    ensures narrow { M.keeps_narrow → IfOk result (λ rs. StayNarrow M.terms (store_view store.now) (assertion_view items.now) (state_view state)
+        (states_view rs)) }
 {
     let mut production = Production::of_whole(alloc, state)?;
     for item in items.as_slice() {

@@ -2,6 +2,7 @@
 ghost use Rattle.std.specs.Prelude.{◌≡◌, ◌++◌, IfOk, OnOk};
 ghost use Rattle.pure_terms.specs.View.{atoms_view};
 ghost use Rattle.sym_model.specs.View.{path_view};
+ghost use Rattle.sym_states.specs.Pure.{with_conditions};
 ghost use Rattle.sym_states.specs.View.{fact_view, facts_view, state_view};
 
 use gil_values::{Place, Text};
@@ -119,6 +120,15 @@ pub(crate) fn require(alloc: Global, conds: &mut PathCond, more: &Atoms) -> Resu
 }
 
 impl<M: Drop> SymState<M> {
+    /// The state with these conditions behind its own.
+    pub fn under(self, alloc: Global, more: &Atoms) -> Result<SymState<M>, AllocError>
+        ensures { IfOk result (λ s. state_view s ≡ with_conditions (atoms_view more.now) (state_view self)) }
+    {
+        let mut state = self;
+        require(alloc, &mut state.conds, more)?;
+        Ok(state)
+    }
+
     /// A state that is equal but for its memory, which is this one.
     pub fn over_memory(&self, alloc: Global, memory: M) -> Result<SymState<M>, AllocError>
         ensures { IfOk result (λ s. state_view s ≡ record (state_view self.now) { memory = memory }) }

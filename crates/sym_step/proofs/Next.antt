@@ -11,11 +11,13 @@ use Rattle.pure_terms.specs.Meaning.{AreOver}
 use Rattle.pure_terms.specs.Pure.{PureTerm, PureAtom}
 use Rattle.sym_engine.specs.Forms.{NeedWhatMattersIn}
 use Rattle.sym_engine.specs.Lawful.{IsOwnOf, IsOwnAt, AreLawfulIn, IsAskedByMemoryOf, IsAskedByMemoryAt}
+use Rattle.sym_engine.specs.Narrow.{narrow_growth, IsNarrowPath, StayNarrowIn, StaysNarrow}
 use Rattle.sym_engine.specs.Placed.{AreAtCommands, GoesOnAtCommands}
 use Rattle.sym_engine.specs.Plain.{StayPlainIn}
 use Rattle.sym_engine.specs.Settles.{StandsThere, IsAfter, AreAllOver}
 use Rattle.sym_engine.proofs.Fragments.{each_over_all}
 use Rattle.sym_engine.proofs.Settled.{SettledSoFar}
+use Rattle.sym_engine.proofs.SettledNarrow.{settled_narrow}
 use Rattle.sym_engine.proofs.SettledPlain.{settled_within}
 use Rattle.sym_model.specs.Lists.{Each, IsAmong}
 use Rattle.sym_model.specs.Terms.{StateTerms}
@@ -79,6 +81,9 @@ module _ {S : Type 0} (p : PureParts) (m : Actions) (stands : S → List PureVal
     pub one_within : (plain : S → ℤ → ℤ → Type 0) → ((b : ℕ) → IsPlainPath plain b path → IsPlainPath plain (b + step_growth) q × ¬ IsUnknown q.ending) → StaysWithin p (λ d. IsTrue (is_simple_command d)) (IsPlainPath plain) path nexts
     one_within plain stays c b at simple small from = subst (Each (λ r. IsPlainPath plain (b + step_growth) r × ¬ IsUnknown r.ending)) (sym only) (stays b from, tt)
 
+    pub one_narrow : ((b : ℕ) → IsNarrowPath terms b path → IsNarrowPath terms (b + narrow_growth) q × ¬ IsUnknown q.ending) → StaysNarrow p terms path nexts
+    one_narrow stays c b at form enough narrow from = subst (Each (λ r. IsNarrowPath terms (b + narrow_growth) r × ¬ IsUnknown r.ending)) (sym only) (stays b from, tt)
+
 -- ---- what a decider is asked of
 
 module _ {S : Type 0} (terms : S → StateTerms) (path : PurePath S) where
@@ -135,6 +140,9 @@ module _ {S : Type 0} (p : PureParts) (path : PurePath S) where
       pub asked_within : (plain : S → ℤ → ℤ → Type 0) → path.steps < 10000 → IsValid p → StayPlainIn plain p path c.command cs → StaysWithin p (λ d. IsTrue (is_simple_command d)) (IsPlainPath plain) path nexts
       asked_within plain few valid stays = settled_within plain p m stands terms (IsOwnOf stands terms asked m path c.command) (IsAskedByMemoryOf stands terms asked m path c.command) path few c.command c cs nexts valid at refl laws stays are_settled
 
+      pub asked_narrow : path.steps < 10000 → IsValid p → StayNarrowIn terms p path c.command cs → StaysNarrow p terms path nexts
+      asked_narrow few valid stays = settled_narrow terms p m stands (IsOwnOf stands terms asked m path c.command) (IsAskedByMemoryOf stands terms asked m path c.command) path few c.command c cs nexts valid over at refl laws stays are_settled
+
 -- ---- literal forms
 
 every : {A : Type 0} (P : A → Type 0) → ((x : A) → P x) → (xs : List A) → Each P xs
@@ -149,18 +157,19 @@ no_action p stands terms depends path k none cs c over at is = every (λ d. Need
 -- ---- the paths of a step at a command that asks something
 
 module _ {S : Type 0} (p : PureParts) (m : Actions) (stands : S → List PureValue → Heap → Type 0) (terms : S → StateTerms) (asked : List ℕ → List PureTerm → List PureTerm × List PureTerm) (depends : S → List ℕ → List PureTerm → List PureValue → Heap → PureTerm → Type 0)
-    (plain : S → ℤ → ℤ → Type 0) (keeps_plain : Type 0) (path : PurePath S) (c : PureNumberedCommand) (here : Place) where
+    (plain : S → ℤ → ℤ → Type 0) (keeps_plain keeps_narrow : Type 0) (path : PurePath S) (c : PureNumberedCommand) (here : Place) where
   pub asked_steps : (cs : List (Candidate S)) (count : ℕ) (nexts : List (PurePath S)) → MayStep p terms path → command_of_path p path ≡ Some c → here ≡ place_at path.stack c → IsValid p
-      → AreLawfulIn stands terms asked m p path here c.command cs × (keeps_plain → StayPlainIn plain p path c.command cs) × NeedWhatMattersIn stands terms depends p path c.command cs → length path.conds ≡ count → SettledSoFar count here cs nexts
-      → AreStepped p m stands terms asked depends plain keeps_plain path nexts
+      → AreLawfulIn stands terms asked m p path here c.command cs × (keeps_plain → StayPlainIn plain p path c.command cs) × NeedWhatMattersIn stands terms depends p path c.command cs × (keeps_narrow → StayNarrowIn terms p path c.command cs) → length path.conds ≡ count → SettledSoFar count here cs nexts
+      → AreStepped p m stands terms asked depends plain keeps_plain keeps_narrow path nexts
   asked_steps cs count nexts may at is valid next counted settled = record {
     next = asked_next p path m stands terms asked c here cs may.over may.no_end at is next.0 count counted nexts settled;
     placed = asked_placed p path m stands terms asked c here cs may.over may.no_end at is next.0 count counted nexts settled valid may.placed;
     simple = λ keeps. asked_within p path m stands terms asked c here cs may.over may.no_end at is next.0 count counted nexts settled plain may.steps valid (next.1 keeps);
+    narrow = λ keeps. asked_narrow p path m stands terms asked c here cs may.over may.no_end at is next.0 count counted nexts settled may.steps valid (next.3 keeps);
     forms = settled_needs p stands depends path cs nexts (next.2 c may.over at refl) (are_settled p path m stands terms asked c here cs may.over may.no_end at is next.0 count counted nexts settled);
   }
 
   -- candidates of the command at which the path stands
-  pub asked_at : (k command : PureCommand) (cs : List (Candidate S)) → k ≡ command → AreLawfulIn stands terms asked m p path here command cs → (keeps_plain → StayPlainIn plain p path command cs) → NeedWhatMattersIn stands terms depends p path command cs
-      → IsNext p m stands terms asked depends plain keeps_plain path here k (are_asked cs)
-  asked_at k command cs is lawful stays needs = subst (λ j. IsNext p m stands terms asked depends plain keeps_plain path here j (are_asked cs)) (sym is) (lawful, stays, needs)
+  pub asked_at : (k command : PureCommand) (cs : List (Candidate S)) → k ≡ command → AreLawfulIn stands terms asked m p path here command cs → (keeps_plain → StayPlainIn plain p path command cs) → NeedWhatMattersIn stands terms depends p path command cs → (keeps_narrow → StayNarrowIn terms p path command cs)
+      → IsNext p m stands terms asked depends plain keeps_plain keeps_narrow path here k (are_asked cs)
+  asked_at k command cs is lawful stays needs narrow = subst (λ j. IsNext p m stands terms asked depends plain keeps_plain keeps_narrow path here j (are_asked cs)) (sym is) (lawful, stays, needs, narrow)

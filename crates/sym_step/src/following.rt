@@ -56,7 +56,7 @@ pub(crate) fn next_of<M: SymMemory>(
     requires may { MayStep (prog_view prog.now) M.terms (path_view path) }
     requires at { command_of_path (prog_view prog.now) (path_view path) ≡ Some (numbered_command_view numbered.now) }
     requires next { MayAdvance (frames_view path.stack) }
-    ensures { IfOk result (λ next. IsNext (prog_view prog.now) M.Local.actions M.stands M.terms M.asked M.depends M.plain M.keeps_plain
+    ensures { IfOk result (λ next. IsNext (prog_view prog.now) M.Local.actions M.stands M.terms M.asked M.depends M.plain M.keeps_plain M.keeps_narrow
         (path_view path) here.now (numbered_command_view numbered.now).command (next_view next)) }
 {
     match &numbered.command {

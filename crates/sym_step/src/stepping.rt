@@ -4,6 +4,7 @@ ghost use Rattle.gil_program.specs.Program.{prog_view};
 ghost use Rattle.gil_syntax.specs.Simple.{is_simple_command};
 ghost use Rattle.gil_syntax.specs.View.{numbered_command_view};
 ghost use Rattle.sym_engine.specs.Lawful.{IsOwnAt, IsAskedByMemoryAt, MayAdvance};
+ghost use Rattle.sym_engine.specs.Narrow.{StaysNarrow};
 ghost use Rattle.sym_model.specs.Lists.{Each};
 ghost use Rattle.sym_paths.specs.Forms.{NeedsWhatMatters};
 ghost use Rattle.sym_paths.specs.Meaning.{command_of_path};
@@ -45,7 +46,7 @@ fn step_at<M: SymMemory, D: Decider>(
     requires may { MayStep (prog_view prog.now) M.terms (path_view path) }
     requires at { command_of_path (prog_view prog.now) (path_view path) ≡ Some (numbered_command_view numbered.now) }
     requires next { MayAdvance (frames_view path.stack) }
-    ensures { IfOk result (λ ps. AreStepped (prog_view prog.now) M.Local.actions M.stands M.terms M.asked M.depends M.plain M.keeps_plain
+    ensures { IfOk result (λ ps. AreStepped (prog_view prog.now) M.Local.actions M.stands M.terms M.asked M.depends M.plain M.keeps_plain M.keeps_narrow
         (path_view path) (paths_view ps)) }
 {
     let here = place_of(alloc, &path.stack, numbered)?;
@@ -73,6 +74,7 @@ pub fn step<M: SymMemory, D: Decider>(
         (paths_view ps)) }
     ensures simple { M.keeps_plain → IfOk result (λ ps. StaysWithin (prog_view prog.now) (λ c. IsTrue (is_simple_command c))
         (IsPlainPath M.plain) (path_view path) (paths_view ps)) }
+    ensures narrow { M.keeps_narrow → IfOk result (λ ps. StaysNarrow (prog_view prog.now) M.terms (path_view path) (paths_view ps)) }
     ensures forms { IfOk result (λ ps. Each (NeedsWhatMatters (prog_view prog.now) M.stands M.depends (path_view path)) (paths_view ps)) }
 {
     match command_of(prog, &path.stack) {

@@ -1,6 +1,7 @@
 use Rattle.std.proofs.Common.{sym, subst, ◌∙◌, true≢false}
 use Rattle.gil_values.specs.View.{values_view}
 use Rattle.gil_syntax.specs.View.{proc_view}
+use Rattle.pure_terms.specs.Fragment.{InFragment}
 use Rattle.pure_terms.specs.Meaning.{AreOver}
 use Rattle.pure_terms.specs.View.{terms_view, atoms_view}
 use Rattle.sym_asking.specs.Asking.{IsSolution, IsRightly}
@@ -9,6 +10,8 @@ use Rattle.sym_asking.proofs.Fragments.{each_over_all}
 use Rattle.sym_model.specs.View.{path_view as conditions_view}
 use Rattle.sym_paths.specs.View.{path_view}
 use Rattle.sym_states.specs.View.{state_view}
+use Rattle.bi_beginnings.proofs.Covering.{begins_exactly}
+use Rattle.bi_beginnings.proofs.Narrowness.{begins_narrow, start_inside}
 use Rattle.bi_beginnings.proofs.Openings.{as_many, opens, begins_bare, none_inside}
 use Rattle.bi_beginnings.proofs.opening.enter.Goals as goal
 
@@ -29,6 +32,22 @@ returns-in_ok-start_from-in-Satisfiable-clause-starts g c =
       tt,
     )
 
+pub returns-in_ok-start_from-in-Satisfiable-clause-exact : goal.returns-in_ok-start_from-in-Satisfiable-clause-exact
+returns-in_ok-start_from-in-Satisfiable-clause-exact g c = λ b exact.
+    let v = values_view c.in-Satisfiable.field-0 in
+    let right = subst (λ s. IsRightly c.args.state.vars (atoms_view c.atoms.result.now) (satisfiability_view s)) c.in-Satisfiable.is c.in_ok-ask.ensures in
+    let solution : IsSolution c.args.state.vars (conditions_view c.args.state.conds) v = subst (λ atoms. IsSolution c.args.state.vars atoms v) c.atoms.ensures right in (
+      begins_exactly g.M.SymMemory.stands (proc_view c.args.proc.now) (terms_view c.args.args.now) b (state_view c.args.state) (path_view c.in_ok-start_from-in-Satisfiable.field-0)
+          c.in_ok-start_from-in-Satisfiable.ensures solution.no_form exact,
+      tt,
+    )
+
+pub returns-in-Unsatisfiable-clause-exact : goal.returns-in-Unsatisfiable-clause-exact
+returns-in-Unsatisfiable-clause-exact g c = λ b exact. tt
+
+pub returns-in_ok-query_of-in-Undecided-clause-exact : goal.returns-in_ok-query_of-in-Undecided-clause-exact
+returns-in_ok-query_of-in-Undecided-clause-exact g c = λ b exact. tt
+
 pub returns-in_ok-start_from-in-Satisfiable-clause-bare : goal.returns-in_ok-start_from-in-Satisfiable-clause-bare
 returns-in_ok-start_from-in-Satisfiable-clause-bare g c = λ bare. record {
   decided = λ some. true≢false (sym some);
@@ -46,3 +65,21 @@ pub returns-in_ok-query_of-in-Undecided-clause-bare : goal.returns-in_ok-query_o
 returns-in_ok-query_of-in-Undecided-clause-bare g c = λ bare.
     let right = subst (λ s. IsRightly c.args.state.vars (atoms_view c.atoms.result.now) (satisfiability_view s)) c.in-Undecided.is c.in_ok-ask.ensures in
     absurd (right.outside (none_inside (atoms_view c.atoms.result.now) (c.atoms.ensures ∙ bare.no_condition)))
+
+pub returns-in_ok-start_from-in-Satisfiable-clause-narrow : goal.returns-in_ok-start_from-in-Satisfiable-clause-narrow
+returns-in_ok-start_from-in-Satisfiable-clause-narrow g c = λ n within start. record {
+  decided = λ some. true≢false (sym some);
+  each_start = (
+    begins_narrow g.M.SymMemory.terms n (proc_view c.args.proc.now) (terms_view c.args.args.now) (state_view c.args.state) (path_view c.in_ok-start_from-in-Satisfiable.field-0) start
+        c.in_ok-start_from-in-Satisfiable.ensures,
+    tt,
+  );
+}
+
+pub returns-in-Unsatisfiable-clause-narrow : goal.returns-in-Unsatisfiable-clause-narrow
+returns-in-Unsatisfiable-clause-narrow g c = λ n within start. record { decided = λ some. true≢false (sym some); each_start = tt }
+
+pub returns-in_ok-query_of-in-Undecided-clause-narrow : goal.returns-in_ok-query_of-in-Undecided-clause-narrow
+returns-in_ok-query_of-in-Undecided-clause-narrow g c = λ n within start.
+    let right = subst (λ s. IsRightly c.args.state.vars (atoms_view c.atoms.result.now) (satisfiability_view s)) c.in-Undecided.is c.in_ok-ask.ensures in
+    absurd (right.outside (subst InFragment (sym c.atoms.ensures) (start_inside g.M.SymMemory.terms n within (state_view c.args.state) c.requires.entry.over start)))

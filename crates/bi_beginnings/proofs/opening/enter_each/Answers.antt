@@ -8,9 +8,11 @@ use Rattle.sym_paths.specs.View.{paths_view}
 use Rattle.sym_model.specs.Lists.{Each}
 use Rattle.sym_model.proofs.ListLaws.{each_to}
 use Rattle.sym_states.specs.View.{state_view, states_view}
-use Rattle.bi_beginnings.specs.Beginnings.{IsOpening, BeginsBare}
-use Rattle.bi_beginnings.specs.Opening.{IsEntryState, IsBareState, IsOpenedBy, starts_of, undecided_of}
+use Rattle.bi_beginnings.specs.Beginnings.{IsOpening, BeginsExactly, BeginsBare}
+use Rattle.bi_beginnings.specs.Narrowly.{IsNarrowStart, BeginsNarrow}
+use Rattle.bi_beginnings.specs.Opening.{IsEntryState, IsBareState, IsEnteredExactly, IsOpenedBy, starts_of, undecided_of}
 use Rattle.bi_beginnings.proofs.Covering.{opened_more, opened_last, some_first, some_second}
+use Rattle.bi_beginnings.proofs.Narrowness.{narrow_further}
 use Rattle.bi_beginnings.proofs.Openings.{each_further, first_of_both, bare_further}
 use Rattle.bi_beginnings.proofs.Tables.{each_pushed, none_there}
 use Rattle.bi_beginnings.proofs.opening.enter_each.Goals as goal
@@ -21,7 +23,7 @@ enter-requires-clause-entry g c =
     (into_iter_items c.loop-state.state-iterator) (into_iter_items c.next.new.self) c.in-Some.state c.loop-state.invariant.rest c.in-Some.ensures.steps.0 c.requires.entries
 
 pub loop-state-init : goal.loop-state-init
-loop-state-init g c = record { counted = search rules; rest = search rules; starts = search rules; cover = search rules; undecided = search rules; bare = λ all. record { decided = λ some. true≢false (sym some); each_start = subst (λ xs. Each (BeginsBare g.M.SymMemory.stands g.M.SymMemory.plain) (paths_view xs)) (sym c.new.ensures) tt } }
+loop-state-init g c = record { counted = search rules; rest = search rules; starts = search rules; cover = search rules; exact = λ b all. subst (λ xs. Each (BeginsExactly g.M.SymMemory.stands b) (paths_view xs)) (sym c.new.ensures) tt; undecided = search rules; bare = λ all. record { decided = λ some. true≢false (sym some); each_start = subst (λ xs. Each (BeginsBare g.M.SymMemory.stands g.M.SymMemory.plain) (paths_view xs)) (sym c.new.ensures) tt }; narrow = λ n within all. record { decided = λ some. true≢false (sym some); each_start = subst (λ xs. Each (BeginsNarrow g.M.SymMemory.terms n) (paths_view xs)) (sym c.new.ensures) tt } }
 
 pub loop-state-preserved : goal.loop-state-preserved
 loop-state-preserved g c = record {
@@ -44,6 +46,12 @@ loop-state-preserved g c = record {
       c.loop-state.invariant.cover)
       (opened_last stands (state_view c.in-Some.state) (IsSome (undecided_of c.in_ok-opening.opening)) now before (starts_of c.in_ok-opening.opening) after
       (some_second c.loop-state.opened.undecided (undecided_of c.in_ok-opening.opening) c.in_ok-opened.opened.undecided c.in_ok-opened.ensures.undecided) c.in_ok-opened.ensures.starts c.in_ok-opening.ensures.cover);
+  exact = λ b all.
+      each_further (BeginsExactly g.M.SymMemory.stands b) (paths_view c.loop-state.opened.starts) (starts_of c.in_ok-opening.opening)
+      (paths_view c.in_ok-opened.opened.starts) c.in_ok-opened.ensures.starts (c.loop-state.invariant.exact b all)
+      (c.in_ok-opening.ensures.exact b
+      (over_next (IsEnteredExactly g.M.SymMemory.stands b) state_view c.args.states c.loop-state.yielded
+      (into_iter_items c.loop-state.state-iterator) (into_iter_items c.next.new.self) c.in-Some.state c.loop-state.invariant.rest c.in-Some.ensures.steps.0 all));
   undecided = first_of_both (λ q. ¬ InFragment (atoms_view q.query)) c.loop-state.opened.undecided (undecided_of c.in_ok-opening.opening) c.in_ok-opened.opened.undecided
       c.in_ok-opened.ensures.undecided c.loop-state.invariant.undecided c.in_ok-opening.ensures.undecided;
   bare = λ all.
@@ -52,6 +60,13 @@ loop-state-preserved g c = record {
       (c.loop-state.invariant.bare all)
       (c.in_ok-opening.ensures.bare
       (over_next (IsBareState g.M.SymMemory.stands g.M.SymMemory.terms) state_view c.args.states c.loop-state.yielded
+      (into_iter_items c.loop-state.state-iterator) (into_iter_items c.next.new.self) c.in-Some.state c.loop-state.invariant.rest c.in-Some.ensures.steps.0 all));
+  narrow = λ n within all.
+      narrow_further g.M.SymMemory.terms n c.loop-state.opened.undecided (undecided_of c.in_ok-opening.opening) c.in_ok-opened.opened.undecided
+      (paths_view c.loop-state.opened.starts) (starts_of c.in_ok-opening.opening) (paths_view c.in_ok-opened.opened.starts) c.in_ok-opened.ensures.undecided c.in_ok-opened.ensures.starts
+      (c.loop-state.invariant.narrow n within all)
+      (c.in_ok-opening.ensures.narrow n within
+      (over_next (IsNarrowStart g.M.SymMemory.terms n) state_view c.args.states c.loop-state.yielded
       (into_iter_items c.loop-state.state-iterator) (into_iter_items c.next.new.self) c.in-Some.state c.loop-state.invariant.rest c.in-Some.ensures.steps.0 all));
 }
 

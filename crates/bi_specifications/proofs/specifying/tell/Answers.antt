@@ -11,7 +11,7 @@ use Rattle.bi_specifications.proofs.specifying.tell.Goals as goal
 pub returns-in_ok-spec-in-Returned-clause-found : goal.returns-in_ok-spec-in-Returned-clause-found
 returns-in_ok-spec-in-Returned-clause-found g c =
     let q = proc_view c.args.proc.now in
-    let e = entry_view c.args.entry.now in
+    let e = entry_view c.args.beginning.now in
     let path = path_view c.args.path.now in
     let t = c.in-Returned.term in
     let (us, (listed, says)) = c.in_ok-posts-in-Returned.ensures in
@@ -25,7 +25,7 @@ returns-in_ok-spec-in-Returned-clause-found g c =
 pub returns-in_ok-spec-in-Threw-clause-found : goal.returns-in_ok-spec-in-Threw-clause-found
 returns-in_ok-spec-in-Threw-clause-found g c =
     let q = proc_view c.args.proc.now in
-    let e = entry_view c.args.entry.now in
+    let e = entry_view c.args.beginning.now in
     let path = path_view c.args.path.now in
     let t = c.in-Threw.term in
     let (us, (listed, says)) = c.in_ok-errors-in-Threw.ensures in
@@ -39,7 +39,7 @@ returns-in_ok-spec-in-Threw-clause-found g c =
 pub returns-in_ok-spec-in-Cut-clause-found : goal.returns-in_ok-spec-in-Cut-clause-found
 returns-in_ok-spec-in-Cut-clause-found g c =
     let q = proc_view c.args.proc.now in
-    let e = entry_view c.args.entry.now in
+    let e = entry_view c.args.beginning.now in
     let path = path_view c.args.path.now in
     let spec = c.in_ok-spec-in-Cut.spec in
     let is : spec_view spec ≡ spec_of q e path [] [] =
@@ -51,7 +51,7 @@ returns-in_ok-spec-in-Cut-clause-found g c =
 pub returns-in_ok-spec-in-Returned-clause-cover : goal.returns-in_ok-spec-in-Returned-clause-cover
 returns-in_ok-spec-in-Returned-clause-cover g c =
     let q = proc_view c.args.proc.now in
-    let e = entry_view c.args.entry.now in
+    let e = entry_view c.args.beginning.now in
     let path = path_view c.args.path.now in
     let spec = c.in_ok-spec-in-Returned.spec in
     is_met_along g.M.Local.LocalMemory.memory g.M.Local.LocalMemory.actions g.met.M.Local.LocalMemory.laws g.M.SymMemory.stands g.M.SymMemory.terms g.met.M.SymMemory.meaning g.M.SymMemory.asked g.M.SymMemory.depends g.M.SymMemory.plain g.M.SymMemory.keeps_plain
@@ -61,7 +61,7 @@ returns-in_ok-spec-in-Returned-clause-cover g c =
 pub returns-in_ok-spec-in-Threw-clause-cover : goal.returns-in_ok-spec-in-Threw-clause-cover
 returns-in_ok-spec-in-Threw-clause-cover g c =
     let q = proc_view c.args.proc.now in
-    let e = entry_view c.args.entry.now in
+    let e = entry_view c.args.beginning.now in
     let path = path_view c.args.path.now in
     let spec = c.in_ok-spec-in-Threw.spec in
     is_met_along g.M.Local.LocalMemory.memory g.M.Local.LocalMemory.actions g.met.M.Local.LocalMemory.laws g.M.SymMemory.stands g.M.SymMemory.terms g.met.M.SymMemory.meaning g.M.SymMemory.asked g.M.SymMemory.depends g.M.SymMemory.plain g.M.SymMemory.keeps_plain
@@ -71,7 +71,7 @@ returns-in_ok-spec-in-Threw-clause-cover g c =
 pub returns-in_ok-spec-in-Cut-clause-cover : goal.returns-in_ok-spec-in-Cut-clause-cover
 returns-in_ok-spec-in-Cut-clause-cover g c =
     let q = proc_view c.args.proc.now in
-    let e = entry_view c.args.entry.now in
+    let e = entry_view c.args.beginning.now in
     let path = path_view c.args.path.now in
     let spec = c.in_ok-spec-in-Cut.spec in
     is_met_along g.M.Local.LocalMemory.memory g.M.Local.LocalMemory.actions g.met.M.Local.LocalMemory.laws g.M.SymMemory.stands g.M.SymMemory.terms g.met.M.SymMemory.meaning g.M.SymMemory.asked g.M.SymMemory.depends g.M.SymMemory.plain g.M.SymMemory.keeps_plain

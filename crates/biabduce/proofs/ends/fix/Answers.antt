@@ -1,16 +1,21 @@
-use Rattle.std.proofs.Common.{inl, sym, subst}
+use Rattle.std.proofs.Common.{◌+◌, length, inl, sym, subst}
 use Rattle.std.proofs.lemmas.Result.{on_ok_weaker}
 use Rattle.pure_terms.specs.Fragment.{InFragment}
 use Rattle.pure_terms.specs.View.{atoms_view, term_view}
 use Rattle.sym_model.specs.Lists.{Each}
 use Rattle.sym_model.specs.View.{key_view}
 use Rattle.bi_beginnings.specs.Beginnings.{IsBeginning}
-use Rattle.bi_beginnings.specs.Missing.{AwaitsAgain}
+use Rattle.bi_beginnings.specs.Missing.{AwaitsAgain, LeavesNothing}
+use Rattle.bi_beginnings.specs.Narrowly.{AgainStaysNarrow, IsNarrowAgain}
 use Rattle.bi_beginnings.specs.View.{beginning_view, beginnings_view, again_view}
+use Rattle.biabduce.specs.Narrowly.{numbers_at}
 use Rattle.biabduce.specs.View.{inference_view}
+use Rattle.biabduce.proofs.Decided.{begun_decided}
+use Rattle.biabduce.proofs.NarrowPaths.{begun_more}
 use Rattle.biabduce.proofs.Keeping.{after_begun, after_left}
 use Rattle.biabduce.proofs.Outside.{open_outside}
 use Rattle.biabduce.proofs.Providing.{keeps_begun, begun_awaits, keeps_left, left_some}
+use Rattle.biabduce.proofs.ProvidingNarrowly.{begun_keeps, begun_provides, left_keeps}
 use Rattle.biabduce.proofs.ends.fix.Goals as goal
 
 pub returns-in-With-clause-sound : goal.returns-in-With-clause-sound
@@ -48,3 +53,60 @@ returns-in_ok-ask_form-in-Late-clause-cover g c = λ p q beginning.
     let j = inference_view c.leave.new.self in
     let atoms = atoms_view c.in_ok-ask_form-in-Late.field-0.query in
     (keeps_left p g.M.Local.LocalMemory.memory g.M.Local.LocalMemory.actions q c.args.bound i j atoms c.leave.ensures, λ r missed. inl (left_some p g.M.Local.LocalMemory.memory g.M.Local.LocalMemory.actions q c.args.bound i j atoms c.leave.ensures))
+
+pub returns-in-With-clause-decided : goal.returns-in-With-clause-decided
+returns-in-With-clause-decided g c =
+    on_ok_weaker c.begin_with.result
+    (λ is at.
+    begun_decided (inference_view c.args.inference.now) (inference_view c.begin_with.new.self) (beginnings_view c.in-With.beginnings) is
+    (subst LeavesNothing c.in-With.is (c.in_ok-beginnings.ensures.nothing at)))
+    c.begin_with.ensures
+
+pub returns-in_ok-ask_form-in-Late-clause-decided : goal.returns-in_ok-ask_form-in-Late-clause-decided
+returns-in_ok-ask_form-in-Late-clause-decided g c = λ at. absurd (subst LeavesNothing c.in-Late.is (c.in_ok-beginnings.ensures.nothing at))
+
+pub returns-in-With-clause-narrow : goal.returns-in-With-clause-narrow
+returns-in-With-clause-narrow g c = λ keep.
+    let i = inference_view c.args.inference.now in
+    let j = inference_view c.begin_with.new.self in
+    let b = beginning_view c.args.beginning.now in
+    on_ok_weaker c.begin_with.result
+    (λ is n misses.
+    begun_more n c.args.bound b i j (beginnings_view c.in-With.beginnings) is
+    (subst (IsNarrowAgain c.args.bound n b) c.in-With.is (c.in_ok-beginnings.ensures.narrow keep n misses)))
+    c.begin_with.ensures
+
+pub returns-in_ok-ask_form-in-Late-clause-narrow : goal.returns-in_ok-ask_form-in-Late-clause-narrow
+returns-in_ok-ask_form-in-Late-clause-narrow g c = λ keep n misses.
+    absurd (subst (IsNarrowAgain c.args.bound n (beginning_view c.args.beginning.now)) c.in-Late.is (c.in_ok-beginnings.ensures.narrow keep n misses))
+
+pub returns-in-With-clause-narrow_cover : goal.returns-in-With-clause-narrow_cover
+returns-in-With-clause-narrow_cover g c = λ keep.
+    let memory = g.M.Local.LocalMemory.memory in
+    let m = g.M.Local.LocalMemory.actions in
+    let i = inference_view c.args.inference.now in
+    let j = inference_view c.begin_with.new.self in
+    let more = beginnings_view c.in-With.beginnings in
+    let b = beginning_view c.args.beginning.now in
+    let last = numbers_at (length b.uses + 1) in
+    on_ok_weaker c.begin_with.result
+    (λ is p q beginning. (
+      begun_keeps p memory m q c.args.bound i j more is,
+      λ r left misses missed.
+          begun_provides p memory m q c.args.bound b i j more r left is
+          (subst (IsNarrowAgain c.args.bound last b) c.in-With.is (c.in_ok-beginnings.ensures.narrow keep last misses))
+          (subst (AwaitsAgain memory m q.params c.args.bound b c.args.path.vars (atoms_view c.args.path.conds) (key_view c.args.key.now)) c.in-With.is (c.in_ok-beginnings.ensures.cover q.params beginning)
+          r.args r.heap r.counter missed),
+    ))
+    c.begin_with.ensures
+
+pub returns-in_ok-ask_form-in-Late-clause-narrow_cover : goal.returns-in_ok-ask_form-in-Late-clause-narrow_cover
+returns-in_ok-ask_form-in-Late-clause-narrow_cover g c = λ keep p q beginning.
+    let i = inference_view c.args.inference.now in
+    let j = inference_view c.leave.new.self in
+    let atoms = atoms_view c.in_ok-ask_form-in-Late.field-0.query in
+    let b = beginning_view c.args.beginning.now in
+    let last = numbers_at (length b.uses + 1) in (
+      left_keeps p g.M.Local.LocalMemory.memory g.M.Local.LocalMemory.actions q c.args.bound i j atoms c.leave.ensures,
+      λ r left misses missed. absurd (subst (IsNarrowAgain c.args.bound last b) c.in-Late.is (c.in_ok-beginnings.ensures.narrow keep last misses)),
+    )

@@ -8,10 +8,14 @@ use Rattle.sym_paths.specs.Pure.{missed, unknown}
 use Rattle.sym_paths.specs.View.{end_view}
 use Rattle.bi_beginnings.specs.View.{beginning_view}
 use Rattle.biabduce.specs.Covering.{Keeps, CoversEnd}
-use Rattle.biabduce.specs.Decided.{IsLeftOpen}
+use Rattle.biabduce.specs.Decided.{IsClosed}
+use Rattle.biabduce.specs.Narrowly.{IsNarrowlyClosed}
+use Rattle.biabduce.specs.NarrowRuns.{KeepsNarrowly, CoversNarrowEnd}
 use Rattle.biabduce.specs.View.{inference_view}
 use Rattle.biabduce.proofs.Keeping.{after_left}
+use Rattle.biabduce.proofs.NarrowPaths.{nothing_begun}
 use Rattle.biabduce.proofs.Providing.{keeps_left, left_some}
+use Rattle.biabduce.proofs.ProvidingNarrowly.{left_keeps}
 use Rattle.biabduce.proofs.ends.go_on.Goals as goal
 
 pub returns-in-Some-Missed-clause-sound : goal.returns-in-Some-Missed-clause-sound
@@ -40,9 +44,38 @@ returns-in-Some-Unknown-clause-cover g c = λ p q beginning.
 pub returns-in-Some-Missed-clause-decided : goal.returns-in-Some-Missed-clause-decided
 returns-in-Some-Missed-clause-decided g c =
     let end : option_map end_view c.args.path.end ≡ Some (missed (key_view c.in-Some-Missed.key) c.in-Some-Missed.place) = search rules in
-    on_ok_weaker c.fix.result (λ tells closed. absurd (closed (subst IsLeftOpen (sym end) tt))) c.fix.ensures.sound
+    on_ok_weaker c.fix.result (λ tells closed. tells (subst (IsClosed g.M.Local.LocalMemory.memory c.args.path.vars) end closed)) c.fix.ensures.decided
 
 pub returns-in-Some-Unknown-clause-decided : goal.returns-in-Some-Unknown-clause-decided
 returns-in-Some-Unknown-clause-decided g c = λ closed.
     let end : option_map end_view c.args.path.end ≡ Some (unknown c.in-Some-Unknown.place c.in-Some-Unknown.reason) = search rules in
-    absurd (closed (subst IsLeftOpen (sym end) tt))
+    absurd (subst (IsClosed g.M.Local.LocalMemory.memory c.args.path.vars) end closed)
+
+pub returns-in-Some-Missed-clause-narrow : goal.returns-in-Some-Missed-clause-narrow
+returns-in-Some-Missed-clause-narrow g c = λ keep.
+    let end : option_map end_view c.args.path.end ≡ Some (missed (key_view c.in-Some-Missed.key) c.in-Some-Missed.place) = search rules in
+    let b = beginning_view c.args.beginning.now in
+    on_ok_weaker c.fix.result (λ tells n closed. tells n (subst (IsNarrowlyClosed g.M.Local.LocalMemory.memory n b c.args.path.vars (atoms_view c.args.path.conds)) end closed)) (c.fix.ensures.narrow keep)
+
+pub returns-in-Some-Unknown-clause-narrow : goal.returns-in-Some-Unknown-clause-narrow
+returns-in-Some-Unknown-clause-narrow g c = λ keep n closed.
+    let end : option_map end_view c.args.path.end ≡ Some (unknown c.in-Some-Unknown.place c.in-Some-Unknown.reason) = search rules in
+    absurd (subst (IsNarrowlyClosed g.M.Local.LocalMemory.memory n (beginning_view c.args.beginning.now) c.args.path.vars (atoms_view c.args.path.conds)) end closed)
+
+pub returns-in_default-clause-narrow : goal.returns-in_default-clause-narrow
+returns-in_default-clause-narrow g c = λ keep n closed. nothing_begun n c.args.bound (beginning_view c.args.beginning.now) (inference_view c.args.inference.now)
+
+pub returns-in-Some-Missed-clause-narrow_cover : goal.returns-in-Some-Missed-clause-narrow_cover
+returns-in-Some-Missed-clause-narrow_cover g c = λ keep.
+    let end : option_map end_view c.args.path.end ≡ Some (missed (key_view c.in-Some-Missed.key) c.in-Some-Missed.place) = search rules in
+    let j = inference_view c.fix.new.inference in
+    on_ok_weaker c.fix.result (λ tells p q beginning. subst (λ o. KeepsNarrowly p g.M.Local.LocalMemory.memory g.M.Local.LocalMemory.actions q c.args.bound (inference_view c.args.inference.now) j × CoversNarrowEnd p g.M.Local.LocalMemory.memory g.M.Local.LocalMemory.actions q c.args.bound (beginning_view c.args.beginning.now) c.args.path.vars (atoms_view c.args.path.conds) o j) (sym end) (tells p q beginning)) (c.fix.ensures.narrow_cover keep)
+
+pub returns-in-Some-Unknown-clause-narrow_cover : goal.returns-in-Some-Unknown-clause-narrow_cover
+returns-in-Some-Unknown-clause-narrow_cover g c = λ keep p q beginning.
+    let end : option_map end_view c.args.path.end ≡ Some (unknown c.in-Some-Unknown.place c.in-Some-Unknown.reason) = search rules in
+    let i = inference_view c.args.inference.now in
+    let j = inference_view c.leave.new.self in
+    let atoms = atoms_view c.ask_conditions.result.query in
+    subst (λ o. KeepsNarrowly p g.M.Local.LocalMemory.memory g.M.Local.LocalMemory.actions q c.args.bound i j × CoversNarrowEnd p g.M.Local.LocalMemory.memory g.M.Local.LocalMemory.actions q c.args.bound (beginning_view c.args.beginning.now) c.args.path.vars (atoms_view c.args.path.conds) o j) (sym end)
+    (left_keeps p g.M.Local.LocalMemory.memory g.M.Local.LocalMemory.actions q c.args.bound i j atoms c.leave.ensures, tt)

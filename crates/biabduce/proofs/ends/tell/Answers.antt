@@ -8,16 +8,17 @@ use Rattle.bi_specifications.specs.Specified.{IsTrulyTold, IsMetAlong, TellsNoth
 use Rattle.bi_specifications.specs.View.{entry_view, found_view, IfTold, MatchTold, IsUnsaid}
 use Rattle.biabduce.specs.View.{inference_view}
 use Rattle.biabduce.proofs.Accounted.{told_there, covered_by_told}
-use Rattle.biabduce.proofs.Decided.{found_decided}
 use Rattle.biabduce.proofs.Keeping.{after_found, after_left}
+use Rattle.biabduce.proofs.NarrowPaths.{told_alone, same_alone}
 use Rattle.biabduce.proofs.Outside.{open_outside}
 use Rattle.biabduce.proofs.Providing.{keeps_found, found_covers, keeps_left, left_some}
+use Rattle.biabduce.proofs.ProvidingNarrowly.{found_keeps, found_provides, left_keeps}
 use Rattle.biabduce.proofs.ends.tell.Goals as goal
 
 pub returns-in-Found-clause-sound : goal.returns-in-Found-clause-sound
 returns-in-Found-clause-sound g c =
     let q = proc_view c.args.proc.now in
-    let told = subst (λ t. IfTold t (IsTrulyTold g.M.Local.LocalMemory.memory g.M.Local.LocalMemory.actions g.M.SymMemory.stands g.M.SymMemory.terms g.M.SymMemory.asked g.M.SymMemory.depends g.M.SymMemory.plain g.M.SymMemory.keeps_plain g.M.SymMemory.kept q (entry_view c.args.entry.now) (path_view c.args.path))) c.in-Found.is c.in_ok-found.ensures.found in
+    let told = subst (λ t. IfTold t (IsTrulyTold g.M.Local.LocalMemory.memory g.M.Local.LocalMemory.actions g.M.SymMemory.stands g.M.SymMemory.terms g.M.SymMemory.asked g.M.SymMemory.depends g.M.SymMemory.plain g.M.SymMemory.keeps_plain g.M.SymMemory.kept q (entry_view c.args.beginning.now) (path_view c.args.path))) c.in-Found.is c.in_ok-found.ensures.found in
     on_ok_weaker c.find.result
     (λ is p n sound explored. after_found p g.M.Local.LocalMemory.memory g.M.Local.LocalMemory.actions q n (inference_view c.args.inference.now) (inference_view c.find.new.self) (found_view c.in-Found.found) is sound (told p n explored)) c.find.ensures
 
@@ -29,7 +30,7 @@ returns-in_ok-ask_form-in-Unsaid-clause-sound g c = λ p n sound explored.
 pub returns-in-Found-clause-cover : goal.returns-in-Found-clause-cover
 returns-in-Found-clause-cover g c =
     let q = proc_view c.args.proc.now in
-    let e = entry_view c.args.entry.now in
+    let e = entry_view c.args.beginning.now in
     let path = path_view c.args.path in
     let found = found_view c.in-Found.found in
     let i = inference_view c.args.inference.now in
@@ -53,7 +54,7 @@ returns-in_ok-ask_form-in-Unsaid-clause-cover g c = λ p n b explored.
 pub returns-in-Nothing-clause-cover : goal.returns-in-Nothing-clause-cover
 returns-in-Nothing-clause-cover g c = λ p n b explored.
     let q = proc_view c.args.proc.now in
-    let e = entry_view c.args.entry.now in
+    let e = entry_view c.args.beginning.now in
     let path = path_view c.args.path in
     let nothing = subst (λ t. MatchTold t (IsMetAlong g.M.Local.LocalMemory.memory g.M.Local.LocalMemory.actions g.M.SymMemory.stands g.M.SymMemory.terms g.M.SymMemory.asked g.M.SymMemory.depends g.M.SymMemory.plain g.M.SymMemory.keeps_plain g.M.SymMemory.kept q e path) (TellsNothing g.M.Local.LocalMemory.memory g.M.Local.LocalMemory.actions g.M.SymMemory.stands g.M.SymMemory.terms g.M.SymMemory.asked g.M.SymMemory.depends g.M.SymMemory.plain g.M.SymMemory.keeps_plain g.M.SymMemory.kept q e path)) c.in-Nothing.is c.in_ok-found.ensures.cover in
     let (how, (ends, told)) = told_there path.ending c.requires.told in
@@ -61,10 +62,43 @@ returns-in-Nothing-clause-cover g c = λ p n b explored.
 
 pub returns-in-Found-clause-decided : goal.returns-in-Found-clause-decided
 returns-in-Found-clause-decided g c =
-    on_ok_weaker c.find.result (λ is may decided. found_decided (inference_view c.args.inference.now) (inference_view c.find.new.self) (found_view c.in-Found.found) is decided) c.find.ensures
+    on_ok_weaker c.find.result (λ is may. told_alone (inference_view c.args.inference.now) (inference_view c.find.new.self) (found_view c.in-Found.found) is) c.find.ensures
 
 pub returns-in_ok-ask_form-in-Unsaid-clause-decided : goal.returns-in_ok-ask_form-in-Unsaid-clause-decided
 returns-in_ok-ask_form-in-Unsaid-clause-decided g c = λ may. absurd (subst (λ t. ¬ IsUnsaid t) c.in-Unsaid.is (c.in_ok-found.ensures.said may) tt)
 
 pub returns-in-Nothing-clause-decided : goal.returns-in-Nothing-clause-decided
-returns-in-Nothing-clause-decided g c = λ may decided. decided
+returns-in-Nothing-clause-decided g c = λ may. same_alone (inference_view c.args.inference.now)
+
+pub returns-in-Found-clause-narrow_cover : goal.returns-in-Found-clause-narrow_cover
+returns-in-Found-clause-narrow_cover g c =
+    let q = proc_view c.args.proc.now in
+    let e = entry_view c.args.beginning.now in
+    let path = path_view c.args.path in
+    let found = found_view c.in-Found.found in
+    let i = inference_view c.args.inference.now in
+    let along = subst (λ t. MatchTold t (IsMetAlong g.M.Local.LocalMemory.memory g.M.Local.LocalMemory.actions g.M.SymMemory.stands g.M.SymMemory.terms g.M.SymMemory.asked g.M.SymMemory.depends g.M.SymMemory.plain g.M.SymMemory.keeps_plain g.M.SymMemory.kept q e path) (TellsNothing g.M.Local.LocalMemory.memory g.M.Local.LocalMemory.actions g.M.SymMemory.stands g.M.SymMemory.terms g.M.SymMemory.asked g.M.SymMemory.depends g.M.SymMemory.plain g.M.SymMemory.keeps_plain g.M.SymMemory.kept q e path)) c.in-Found.is c.in_ok-found.ensures.cover in
+    on_ok_weaker c.find.result
+    (λ is p n b explored. (
+      found_keeps p g.M.Local.LocalMemory.memory g.M.Local.LocalMemory.actions q n i (inference_view c.find.new.self) found is,
+      λ r wanted a begins accounts said.
+          found_provides p g.M.Local.LocalMemory.memory g.M.Local.LocalMemory.actions q n i (inference_view c.find.new.self) found r is
+          (covered_by_told p g.M.Local.LocalMemory.memory g.M.Local.LocalMemory.actions g.met.M.Local.LocalMemory.laws g.M.SymMemory.stands g.M.SymMemory.terms g.M.SymMemory.asked g.M.SymMemory.depends g.M.SymMemory.plain g.M.SymMemory.keeps_plain g.M.SymMemory.kept q e path n explored b r wanted a begins accounts found along i.founds c.requires.told),
+    )) c.find.ensures
+
+pub returns-in_ok-ask_form-in-Unsaid-clause-narrow_cover : goal.returns-in_ok-ask_form-in-Unsaid-clause-narrow_cover
+returns-in_ok-ask_form-in-Unsaid-clause-narrow_cover g c = λ p n b explored.
+    let q = proc_view c.args.proc.now in
+    let i = inference_view c.args.inference.now in
+    let j = inference_view c.leave.new.self in
+    let atoms = atoms_view c.in_ok-ask_form-in-Unsaid.field-0.query in
+    (left_keeps p g.M.Local.LocalMemory.memory g.M.Local.LocalMemory.actions q n i j atoms c.leave.ensures, λ r wanted a begins accounts said. absurd (subst (λ t. ¬ IsUnsaid t) c.in-Unsaid.is (c.in_ok-found.ensures.said said) tt))
+
+pub returns-in-Nothing-clause-narrow_cover : goal.returns-in-Nothing-clause-narrow_cover
+returns-in-Nothing-clause-narrow_cover g c = λ p n b explored.
+    let q = proc_view c.args.proc.now in
+    let e = entry_view c.args.beginning.now in
+    let path = path_view c.args.path in
+    let nothing = subst (λ t. MatchTold t (IsMetAlong g.M.Local.LocalMemory.memory g.M.Local.LocalMemory.actions g.M.SymMemory.stands g.M.SymMemory.terms g.M.SymMemory.asked g.M.SymMemory.depends g.M.SymMemory.plain g.M.SymMemory.keeps_plain g.M.SymMemory.kept q e path) (TellsNothing g.M.Local.LocalMemory.memory g.M.Local.LocalMemory.actions g.M.SymMemory.stands g.M.SymMemory.terms g.M.SymMemory.asked g.M.SymMemory.depends g.M.SymMemory.plain g.M.SymMemory.keeps_plain g.M.SymMemory.kept q e path)) c.in-Nothing.is c.in_ok-found.ensures.cover in
+    let (how, (ends, told)) = told_there path.ending c.requires.told in
+    (λ r provided. provided, λ r wanted a begins accounts said. absurd (nothing p n how explored c.requires.no_draw ends told))

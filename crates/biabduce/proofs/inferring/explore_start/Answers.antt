@@ -4,6 +4,7 @@ use Rattle.gil_machine.specs.Run.{start as start_state}
 use Rattle.gil_program.specs.Program.{prog_view}
 use Rattle.gil_syntax.specs.View.{proc_view}
 use Rattle.sym_explore.specs.Exploring.{IsFrom, KeepAccounts, KeepTrails, MayGoOn, or_none}
+use Rattle.sym_explore.specs.Narrow.{IsNarrowFrom, IsNarrowEndedFrom, KeepNarrowTrails}
 use Rattle.sym_explore.specs.Runs.{AccountsFor}
 use Rattle.sym_explore.specs.View.{paths_left}
 use Rattle.sym_model.specs.Lists.{Each, OneOf}
@@ -12,6 +13,7 @@ use Rattle.bi_beginnings.specs.View.{beginning_view}
 use Rattle.bi_specifications.specs.Specified.{IsExplored}
 use Rattle.bi_specifications.specs.View.{entry_view}
 use Rattle.biabduce.proofs.Accounted.{has_input, first_accounts}
+use Rattle.biabduce.proofs.Keeping.{entry_of_uses}
 use Rattle.biabduce.proofs.inferring.explore_start.Goals as goal
 
 pub loop-turn-init : goal.loop-turn-init
@@ -32,6 +34,13 @@ loop-turn-init g c =
           (subst (OneOf (AccountsFor p m M.stands [] (start_state p (proc_view c.args.proc.now).name r.args a.own r.counter) start a.values)) (sym left)
           (inl (first_accounts p g.M.Local.LocalMemory.memory m g.met.M.Local.LocalMemory.laws M.stands M.terms M.asked M.kept (proc_view c.args.proc.now) c.args.bound (beginning_view c.args.beginning.now) r wanted a start c.requires.opening c.requires.found begins)));
       decided = λ decidable bare decided. decided;
+      narrow_left = λ keep. subst (Each (IsNarrowFrom p m M.stands M.terms M.asked M.depends M.plain M.keeps_plain c.args.bound start)) (sym left) (record { from = record { earlier = []; trail = refl; within = omega (arith, none); simple = λ keeps. tt; forms = tt }; narrow = tt }, tt);
+      narrow = λ keep decidable is_left starts decided. decided;
+      keeps_narrowly = λ keep entry r provided. provided;
+      accounts_narrowly = λ keep entry is_left starts r wanted narrow a begins.
+          inr
+          (subst (OneOf (AccountsFor p m M.stands [] (start_state p (proc_view c.args.proc.now).name r.args a.own r.counter) start a.values)) (sym left)
+          (inl (first_accounts p g.M.Local.LocalMemory.memory m g.met.M.Local.LocalMemory.laws M.stands M.terms M.asked M.kept (proc_view c.args.proc.now) c.args.bound (beginning_view c.args.beginning.now) r wanted a start c.requires.opening c.requires.found begins)));
     }
 
 pub next_ended-requires-clause-placed : goal.next_ended-requires-clause-placed
@@ -58,6 +67,16 @@ returns-in-None g c =
           (has_input p g.M.Local.LocalMemory.memory m g.met.M.Local.LocalMemory.laws M.stands M.terms M.asked M.kept q c.args.bound (beginning_view c.args.beginning.now) r wanted a c.args.prog.now.well_made) one)))
           (c.loop-turn.invariant.accounts r wanted a begins);
       decided = c.loop-turn.invariant.decided;
+      narrow = c.loop-turn.invariant.narrow;
+      narrow_cover = λ keep_narrow entry. (
+        c.loop-turn.invariant.keeps_narrowly keep_narrow entry,
+        λ is_left starts r wanted narrow a begins.
+            let For = AccountsFor p m M.stands [] (start_state p q.name r.args a.own r.counter) start a.values in
+            ⊎_elim (λ provided. provided)
+            (λ one. absurd (subst (OneOf For) none (keep start [] a.values (start_state p q.name r.args a.own r.counter)
+            (has_input p g.M.Local.LocalMemory.memory m g.met.M.Local.LocalMemory.laws M.stands M.terms M.asked M.kept q c.args.bound (beginning_view c.args.beginning.now) r wanted a c.args.prog.now.well_made) one)))
+            (c.loop-turn.invariant.accounts_narrowly keep_narrow entry is_left starts r wanted narrow a begins),
+      );
     }
 
 pub loop-turn-preserved : goal.loop-turn-preserved
@@ -70,25 +89,27 @@ loop-turn-preserved g c =
     let now = paths_left c.next_ended.new.self in
     let trails = subst (λ o. KeepTrails p m M.stands M.terms M.asked M.depends M.plain M.keeps_plain c.args.bound old (or_none (option_map path_view o)) now) c.in-Some.is c.in_ok-next_ended.ensures.trails in
     let come = trails start c.loop-turn.invariant.left in
+    let narrow_come : M.keeps_narrow → Each (IsNarrowEndedFrom p m M.stands M.terms M.asked M.depends M.plain M.keeps_plain c.args.bound start) (path_view c.in-Some.path ∷ []) × Each (IsNarrowFrom p m M.stands M.terms M.asked M.depends M.plain M.keeps_plain c.args.bound start) now =
+    λ keep. subst (λ o. KeepNarrowTrails p m M.stands M.terms M.asked M.depends M.plain M.keeps_plain c.args.bound old (or_none (option_map path_view o)) now) c.in-Some.is (c.in_ok-next_ended.ensures.narrow keep) start (c.loop-turn.invariant.narrow_left keep) in
     let q = proc_view c.args.proc.now in
     let b = beginning_view c.args.beginning.now in
     let keep = subst (λ o. KeepAccounts p m M.stands c.args.bound old (or_none (option_map path_view o) ++ now)) c.in-Some.is c.in_ok-next_ended.ensures.cover in
-    let explored : IsExplored g.M.Local.LocalMemory.memory g.M.Local.LocalMemory.actions M.stands M.terms M.asked M.depends M.plain M.keeps_plain M.kept q (entry_view c.in_ok-entry.entry) (path_view c.in-Some.path) p c.args.bound =
+    let explored : IsExplored g.M.Local.LocalMemory.memory g.M.Local.LocalMemory.actions M.stands M.terms M.asked M.depends M.plain M.keeps_plain M.kept q (entry_view c.args.beginning.now) (path_view c.in-Some.path) p c.args.bound =
     record {
       well_made = c.args.prog.now.well_made;
       valid = c.args.prog.now.valid;
       found = c.requires.found;
       start = start;
       opening = c.requires.opening;
-      entry = c.in_ok-entry.ensures;
+      entry = entry_of_uses g.M.Local.LocalMemory.memory M.stands q.params b start c.requires.beginning c.requires.exact;
       ended = come.0.0;
     }
     in
-    let covers = c.in_ok-take_end-in-Some.ensures.cover p c.requires.beginning explored in
+    let covers = c.in_ok-take_end-in-Some.ensures.cover p explored in
     record {
       placed = c.in_ok-next_ended.ensures.placed;
       left = come.1;
-      sound = c.in_ok-take_end-in-Some.ensures.sound p c.args.bound c.loop-turn.invariant.sound c.requires.beginning explored;
+      sound = c.in_ok-take_end-in-Some.ensures.sound p c.args.bound c.loop-turn.invariant.sound explored;
       keeps = λ r provided. covers.0 r (c.loop-turn.invariant.keeps r provided);
       accounts = λ r wanted a begins.
           ⊎_elim (λ provided. inl (covers.0 r provided))
@@ -98,4 +119,15 @@ loop-turn-preserved g c =
           (has_input p g.M.Local.LocalMemory.memory m g.met.M.Local.LocalMemory.laws M.stands M.terms M.asked M.kept q c.args.bound b r wanted a c.args.prog.now.well_made) one))
           (c.loop-turn.invariant.accounts r wanted a begins);
       decided = λ decidable bare decided. c.in_ok-take_end-in-Some.ensures.decided p decidable c.requires.bounded explored bare (c.loop-turn.invariant.decided decidable bare decided);
+      narrow_left = λ keep. (narrow_come keep).1;
+      narrow = λ keep decidable is_left starts decided. c.in_ok-take_end-in-Some.ensures.narrow keep p decidable c.requires.bounded explored (narrow_come keep).0.0 is_left starts (c.loop-turn.invariant.narrow keep decidable is_left starts decided);
+      keeps_narrowly = λ keep_narrow entry r provided. (c.in_ok-take_end-in-Some.ensures.narrow_cover keep_narrow p entry c.requires.bounded explored (narrow_come keep_narrow).0.0).0 r (c.loop-turn.invariant.keeps_narrowly keep_narrow entry r provided);
+      accounts_narrowly = λ keep_narrow entry is_left starts r wanted narrow a begins.
+          let (keeps, narrow_covers) = c.in_ok-take_end-in-Some.ensures.narrow_cover keep_narrow p entry c.requires.bounded explored (narrow_come keep_narrow).0.0 in
+          ⊎_elim (λ provided. inl (keeps r provided))
+          (λ one.
+          ⊎_elim (λ here. inl (narrow_covers is_left starts r wanted narrow a begins here)) inr
+          (keep start [] a.values (start_state p q.name r.args a.own r.counter)
+          (has_input p g.M.Local.LocalMemory.memory m g.met.M.Local.LocalMemory.laws M.stands M.terms M.asked M.kept q c.args.bound b r wanted a c.args.prog.now.well_made) one))
+          (c.loop-turn.invariant.accounts_narrowly keep_narrow entry is_left starts r wanted narrow a begins);
     }

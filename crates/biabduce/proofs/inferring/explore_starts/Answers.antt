@@ -7,17 +7,20 @@ use Rattle.sym_engine.proofs.Settled.{rest_more}
 use Rattle.sym_model.specs.Lists.{Each}
 use Rattle.sym_paths.specs.View.{path_view, paths_view}
 use Rattle.sym_step.specs.Stepping.{MayStep}
-use Rattle.bi_beginnings.specs.Beginnings.{IsOpening, BeginsBare}
+use Rattle.bi_beginnings.specs.Beginnings.{IsOpening, BeginsExactly, BeginsBare}
 use Rattle.bi_beginnings.specs.View.{beginning_view}
 use Rattle.bi_specifications.proofs.Telling.{none_there}
 use Rattle.biabduce.specs.Covering.{CoversStart}
+use Rattle.biabduce.specs.Narrowly.{StartsNarrowly}
+use Rattle.biabduce.specs.NarrowRuns.{CoversNarrowStart}
 use Rattle.biabduce.specs.View.{inference_view}
 use Rattle.biabduce.proofs.Keeping.{each_middle, each_pushed}
 use Rattle.biabduce.proofs.Providing.{still_started}
+use Rattle.biabduce.proofs.ProvidingNarrowly.{still_started_narrowly}
 use Rattle.biabduce.proofs.inferring.explore_starts.Goals as goal
 
 pub loop-start-init : goal.loop-start-init
-loop-start-init g c = record { counted = search rules; rest = search rules; sound = c.requires.sound; keeps = λ r provided. provided; cover = tt; decided = λ decidable bare decided. decided }
+loop-start-init g c = record { counted = search rules; rest = search rules; sound = c.requires.sound; keeps = λ r provided. provided; cover = tt; decided = λ decidable bare decided. decided; narrow = λ keep decidable left starts decided. decided; keeps_narrowly = λ keep entry r provided. provided; narrow_cover = λ keep entry left starts. tt }
 
 pub explore_start-requires-clause-opening : goal.explore_start-requires-clause-opening
 explore_start-requires-clause-opening g c =
@@ -25,6 +28,13 @@ explore_start-requires-clause-opening g c =
     let is = c.loop-start.invariant.rest ∙ ap (λ xs. c.loop-start.yielded ++ xs) c.in-Some.ensures.steps.0 in
     each_middle P (paths_view c.loop-start.yielded) (path_view c.in-Some.start) (paths_view (into_iter_items c.next.new.self))
     (subst (Each P) (ap paths_view is ∙ map-append path_view c.loop-start.yielded (c.in-Some.start ∷ into_iter_items c.next.new.self)) c.requires.opening)
+
+pub explore_start-requires-clause-exact : goal.explore_start-requires-clause-exact
+explore_start-requires-clause-exact g c =
+    let P = BeginsExactly g.M.SymMemory.stands (beginning_view c.args.beginning.now) in
+    let is = c.loop-start.invariant.rest ∙ ap (λ xs. c.loop-start.yielded ++ xs) c.in-Some.ensures.steps.0 in
+    each_middle P (paths_view c.loop-start.yielded) (path_view c.in-Some.start) (paths_view (into_iter_items c.next.new.self))
+    (subst (Each P) (ap paths_view is ∙ map-append path_view c.loop-start.yielded (c.in-Some.start ∷ into_iter_items c.next.new.self)) c.requires.exact)
 
 pub explore_start-requires-clause-step : goal.explore_start-requires-clause-step
 explore_start-requires-clause-step g c =
@@ -60,6 +70,28 @@ loop-start-preserved g c =
           (each_middle P (paths_view c.loop-start.yielded) (path_view c.in-Some.start) (paths_view (into_iter_items c.next.new.self))
           (subst (Each P) (ap paths_view is ∙ map-append path_view c.loop-start.yielded (c.in-Some.start ∷ into_iter_items c.next.new.self)) bare))
           (c.loop-start.invariant.decided decidable bare decided);
+      narrow = λ keep decidable left starts decided.
+          let P = StartsNarrowly g.M.SymMemory.terms (beginning_view c.args.beginning.now) in
+          let is = c.loop-start.invariant.rest ∙ ap (λ xs. c.loop-start.yielded ++ xs) c.in-Some.ensures.steps.0 in
+          c.in_ok-explore_start.ensures.narrow keep decidable left
+          (each_middle P (paths_view c.loop-start.yielded) (path_view c.in-Some.start) (paths_view (into_iter_items c.next.new.self))
+          (subst (Each P) (ap paths_view is ∙ map-append path_view c.loop-start.yielded (c.in-Some.start ∷ into_iter_items c.next.new.self)) starts))
+          (c.loop-start.invariant.narrow keep decidable left starts decided);
+      keeps_narrowly = λ keep entry r provided. (c.in_ok-explore_start.ensures.narrow_cover keep entry).0 r (c.loop-start.invariant.keeps_narrowly keep entry r provided);
+      narrow_cover = λ keep entry left starts.
+          let p = prog_view c.args.prog.now in
+          let q = proc_view c.args.proc.now in
+          let b = beginning_view c.args.beginning.now in
+          let i = inference_view c.loop-start.inference in
+          let j = inference_view c.explore_start.new.inference in
+          let P = StartsNarrowly g.M.SymMemory.terms b in
+          let is = c.loop-start.invariant.rest ∙ ap (λ xs. c.loop-start.yielded ++ xs) c.in-Some.ensures.steps.0 in
+          let (keeps, covers) = c.in_ok-explore_start.ensures.narrow_cover keep entry in
+          each_pushed (CoversNarrowStart p g.M.Local.LocalMemory.memory g.M.Local.LocalMemory.actions q c.args.bound g.M.SymMemory.stands g.M.SymMemory.terms b j) path_view c.loop-start.yielded c.in-Some.start
+          (still_started_narrowly p g.M.Local.LocalMemory.memory g.M.Local.LocalMemory.actions q c.args.bound g.M.SymMemory.stands g.M.SymMemory.terms b i j (paths_view c.loop-start.yielded) keeps (c.loop-start.invariant.narrow_cover keep entry left starts))
+          (covers left
+          (each_middle P (paths_view c.loop-start.yielded) (path_view c.in-Some.start) (paths_view (into_iter_items c.next.new.self))
+          (subst (Each P) (ap paths_view is ∙ map-append path_view c.loop-start.yielded (c.in-Some.start ∷ into_iter_items c.next.new.self)) starts)));
     }
 
 pub returns-clause-sound : goal.returns-clause-sound
@@ -78,3 +110,17 @@ returns-clause-cover g c =
 
 pub returns-clause-decided : goal.returns-clause-decided
 returns-clause-decided g c = c.loop-start.invariant.decided
+
+pub returns-clause-narrow : goal.returns-clause-narrow
+returns-clause-narrow g c = c.loop-start.invariant.narrow
+
+pub returns-clause-narrow_cover : goal.returns-clause-narrow_cover
+returns-clause-narrow_cover g c = λ keep entry.
+    let left = into_iter_items c.loop-start.start-iterator in
+    let none : left ≡ [] = none_there left (sym c.loop-start.invariant.counted ∙ c.in-None.ensures.steps.0) in
+    let all : c.args.starts ≡ c.loop-start.yielded = c.loop-start.invariant.rest ∙ ap (λ xs. c.loop-start.yielded ++ xs) none ∙ append-nil c.loop-start.yielded in (
+      c.loop-start.invariant.keeps_narrowly keep entry,
+      λ is_left starts.
+          subst (λ xs. Each (CoversNarrowStart (prog_view c.args.prog.now) g.M.Local.LocalMemory.memory g.M.Local.LocalMemory.actions (proc_view c.args.proc.now) c.args.bound g.M.SymMemory.stands g.M.SymMemory.terms (beginning_view c.args.beginning.now) (inference_view c.loop-start.inference)) (paths_view xs)) (sym all)
+          (c.loop-start.invariant.narrow_cover keep entry is_left starts),
+    )

@@ -8,6 +8,8 @@ use Rattle.bi_beginnings.specs.Beginnings.{BeginsBare}
 use Rattle.bi_beginnings.specs.View.{beginning_view}
 use Rattle.biabduce.specs.Covering.{Keeps, CoversStart}
 use Rattle.biabduce.specs.Decided.{IsDecidable, StaysDecided}
+use Rattle.biabduce.specs.NarrowRuns.{KeepsNarrowly, CoversNarrowStart}
+use Rattle.biabduce.specs.Narrowly.{IsNarrowEntry, IsNarrowlyDecidable, IsNarrowLeft, StaysNarrowlyDecided, StartsNarrowly}
 use Rattle.biabduce.specs.Sound.{IsSound}
 use Rattle.biabduce.specs.View.{inference_view}
 use Rattle.biabduce.proofs.inferring.explore_starts.Given as goal
@@ -19,6 +21,11 @@ invariant-loop-start g l = record {
   sound : IsSound (prog_view l.prog) g.M.Local.LocalMemory.memory g.M.Local.LocalMemory.actions (proc_view l.proc) l.bound (inference_view l.inference);
   keeps : Keeps (prog_view l.prog) g.M.Local.LocalMemory.memory g.M.Local.LocalMemory.actions (proc_view l.proc) l.bound (inference_view l.initial.inference) (inference_view l.inference);
   cover : Each (CoversStart (prog_view l.prog) g.M.Local.LocalMemory.memory g.M.Local.LocalMemory.actions (proc_view l.proc) l.bound g.M.SymMemory.stands (beginning_view l.beginning) (inference_view l.inference)) (paths_view l.yielded);
-  decided : IsDecidable g.M.SymMemory.keeps_plain (prog_view l.prog) g.M.Local.LocalMemory.actions (proc_view l.proc).name l.bound → Each (BeginsBare g.M.SymMemory.stands g.M.SymMemory.plain) (paths_view l.fn.starts)
+  decided : IsDecidable g.M.SymMemory.keeps_plain (prog_view l.prog) g.M.Local.LocalMemory.memory g.M.Local.LocalMemory.actions (proc_view l.proc).name → Each (BeginsBare g.M.SymMemory.stands g.M.SymMemory.plain) (paths_view l.fn.starts)
       → StaysDecided (inference_view l.initial.inference) (inference_view l.inference);
+  narrow : g.M.SymMemory.keeps_narrow → IsNarrowlyDecidable (prog_view l.prog) g.M.Local.LocalMemory.memory (proc_view l.proc) → IsNarrowLeft (proc_view l.proc) l.bound (beginning_view l.beginning)
+      → Each (StartsNarrowly g.M.SymMemory.terms (beginning_view l.beginning)) (paths_view l.fn.starts) → StaysNarrowlyDecided (proc_view l.proc) l.bound (inference_view l.initial.inference) (inference_view l.inference);
+  keeps_narrowly : g.M.SymMemory.keeps_narrow → IsNarrowEntry g.M.Local.LocalMemory.memory (proc_view l.proc) → KeepsNarrowly (prog_view l.prog) g.M.Local.LocalMemory.memory g.M.Local.LocalMemory.actions (proc_view l.proc) l.bound (inference_view l.initial.inference) (inference_view l.inference);
+  narrow_cover : g.M.SymMemory.keeps_narrow → IsNarrowEntry g.M.Local.LocalMemory.memory (proc_view l.proc) → IsNarrowLeft (proc_view l.proc) l.bound (beginning_view l.beginning) → Each (StartsNarrowly g.M.SymMemory.terms (beginning_view l.beginning)) (paths_view l.fn.starts)
+      → Each (CoversNarrowStart (prog_view l.prog) g.M.Local.LocalMemory.memory g.M.Local.LocalMemory.actions (proc_view l.proc) l.bound g.M.SymMemory.stands g.M.SymMemory.terms (beginning_view l.beginning) (inference_view l.inference)) (paths_view l.yielded);
 }

@@ -1,13 +1,16 @@
-use Rattle.std.proofs.Common.{IsSome, subst}
+use Rattle.std.proofs.Common.{length, IsSome, subst}
 use Rattle.std.proofs.lemmas.Result.{on_ok_weaker}
 use Rattle.gil_program.specs.Program.{prog_view}
 use Rattle.gil_syntax.specs.View.{proc_view}
 use Rattle.sym_paths.specs.View.{paths_view}
 use Rattle.bi_beginnings.specs.View.{beginning_view}
+use Rattle.biabduce.specs.Narrowly.{numbers_at}
 use Rattle.biabduce.specs.View.{inference_view}
 use Rattle.biabduce.proofs.Decided.{any_decided}
 use Rattle.biabduce.proofs.Keeping.{after_any, on_ok_both}
+use Rattle.biabduce.proofs.NarrowPaths.{begun_small, start_narrowly, any_narrowly}
 use Rattle.biabduce.proofs.Providing.{keeps_any, any_left, begun_covers}
+use Rattle.biabduce.proofs.ProvidingNarrowly.{any_keeps, begun_covers_narrowly}
 use Rattle.biabduce.proofs.inferring.follow.Goals as goal
 
 pub explore_starts-requires-clause-sound : goal.explore_starts-requires-clause-sound
@@ -43,3 +46,40 @@ returns-clause-decided g c =
     let opens = c.in_ok-opened.ensures.bare bare in
     stays decidable opens.each_start (any_decided i after c.in_ok-opened.opened.undecided c.leave_any.ensures opens.decided decided))
     c.explore_starts.ensures.decided
+
+pub returns-clause-narrow : goal.returns-clause-narrow
+returns-clause-narrow g c = λ keep.
+    let q = proc_view c.args.proc.now in
+    let b = beginning_view c.args.beginning.now in
+    let i = inference_view c.args.inference.now in
+    let after = inference_view c.leave_any.new.self in
+    let starts = paths_view c.in_ok-opened.opened.starts in
+    on_ok_weaker c.explore_starts.result
+    (λ stays decidable left decided.
+    let opens = c.in_ok-opened.ensures.narrow keep (numbers_at (length b.uses)) left.narrow (begun_small q c.args.bound b left c.requires.bounded) in
+    stays decidable left (start_narrowly g.M.SymMemory.stands g.M.SymMemory.terms b starts c.in_ok-opened.ensures.exact opens.each_start)
+    (any_narrowly q c.args.bound i after c.in_ok-opened.opened.undecided c.leave_any.ensures opens.decided decided))
+    (c.explore_starts.ensures.narrow keep)
+
+pub returns-clause-narrow_cover : goal.returns-clause-narrow_cover
+returns-clause-narrow_cover g c = λ keep.
+    let p = prog_view c.args.prog.now in
+    let memory = g.M.Local.LocalMemory.memory in
+    let m = g.M.Local.LocalMemory.actions in
+    let q = proc_view c.args.proc.now in
+    let b = beginning_view c.args.beginning.now in
+    let i = inference_view c.args.inference.now in
+    let after = inference_view c.leave_any.new.self in
+    let j = inference_view c.explore_starts.new.inference in
+    let opened = c.in_ok-opened.opened in
+    let starts = paths_view opened.starts in
+    on_ok_weaker c.explore_starts.result
+    (λ tells entry.
+    let (keeps, covers) = tells entry in (
+      λ r provided. keeps r (any_keeps p memory m q c.args.bound i after opened.undecided c.leave_any.ensures r provided),
+      λ left.
+          let opens = c.in_ok-opened.ensures.narrow keep (numbers_at (length b.uses)) left.narrow (begun_small q c.args.bound b left c.requires.bounded) in
+          begun_covers_narrowly p memory m q c.args.bound g.M.SymMemory.stands g.M.SymMemory.terms b (IsSome opened.undecided) j starts c.in_ok-opened.ensures.cover opens.decided
+          (covers left (start_narrowly g.M.SymMemory.stands g.M.SymMemory.terms b starts c.in_ok-opened.ensures.exact opens.each_start)),
+    ))
+    (c.explore_starts.ensures.narrow_cover keep)

@@ -7,12 +7,14 @@ use Rattle.sym_model.specs.Lists.{Each}
 use Rattle.sym_model.proofs.ListLaws.{same_some}
 use Rattle.bi_beginnings.specs.Beginnings.{IsBare}
 use Rattle.bi_beginnings.specs.View.{beginning_view, beginnings_view}
+use Rattle.biabduce.specs.Narrowly.{IsNarrowLeft}
 use Rattle.biabduce.specs.Sound.{IsSound}
-use Rattle.biabduce.specs.View.{inference_view}
 use Rattle.biabduce.specs.View.{inference_view}
 use Rattle.biabduce.proofs.Decided.{first_decided, taken_decided}
 use Rattle.biabduce.proofs.Keeping.{first_sound, over_sound, taken_sound}
+use Rattle.biabduce.proofs.NarrowPaths.{first_narrowly, taken_narrowly}
 use Rattle.biabduce.proofs.Providing.{first_provided, followed, all_covered}
+use Rattle.biabduce.proofs.ProvidingNarrowly.{first_provided_narrowly, followed_narrowly, all_covered_narrowly}
 use Rattle.biabduce.proofs.inferring.follow_all.Goals as goal
 
 pub loop-turn-init : goal.loop-turn-init
@@ -26,6 +28,9 @@ loop-turn-init g c =
           let (r, (found, none)) = decidable.entry in
           let same : q ≡ r = same_some (sym c.requires.found ∙ found) in
           first_decided q (inference_view c.in_ok-inference.inference) (ap (λ (x : PureProc). x.params) same ∙ none) c.in_ok-inference.ensures;
+      narrow = λ keep decidable. first_narrowly q c.args.bound (inference_view c.in_ok-inference.inference) decidable.entry.few_params c.in_ok-inference.ensures;
+      narrow_cover = λ keep entry r wanted narrow few.
+          first_provided_narrowly p g.M.Local.LocalMemory.memory g.M.Local.LocalMemory.actions q c.args.bound c.requires.found (inference_view c.in_ok-inference.inference) c.in_ok-inference.ensures entry r wanted few;
     }
 
 pub returns-in_default-clause-sound : goal.returns-in_default-clause-sound
@@ -66,6 +71,13 @@ loop-turn-preserved g c =
       decided = λ decidable.
           let (bare, rest) = taken_decided (inference_view c.loop-turn.inference) (beginnings_view c.pop.new.self.items) (beginning_view c.in-Some.beginning) is (c.loop-turn.invariant.decided decidable) in
           c.in_ok-follow.ensures.decided decidable bare rest;
+      narrow = λ keep decidable.
+          let (left, rest) = taken_narrowly (proc_view c.args.proc.now) c.args.bound (inference_view c.loop-turn.inference) (beginnings_view c.pop.new.self.items) (beginning_view c.in-Some.beginning) is (c.loop-turn.invariant.narrow keep decidable) in
+          c.in_ok-follow.ensures.narrow keep decidable left rest;
+      narrow_cover = λ keep entry r wanted narrow few.
+          let (keeps, covers) = c.in_ok-follow.ensures.narrow_cover keep entry in
+          followed_narrowly (prog_view c.args.prog.now) g.M.Local.LocalMemory.memory g.M.Local.LocalMemory.actions (proc_view c.args.proc.now) c.args.bound (inference_view c.loop-turn.inference) (beginnings_view c.pop.new.self.items) (beginning_view c.in-Some.beginning) (inference_view c.follow.new.inference) r is
+          keeps covers wanted narrow (c.loop-turn.invariant.narrow_cover keep entry r wanted narrow few);
     }
 
 pub returns-in_default-clause-decided : goal.returns-in_default-clause-decided
@@ -73,3 +85,15 @@ returns-in_default-clause-decided g c = λ decidable.
     let is = ap beginnings_view (c.in_default.ensures.items ∙ append-nil c.pop.new.self.items) in
     let decided = c.loop-turn.invariant.decided decidable in
     record { left = subst (Each IsBare) is decided.left; decided = decided.decided }
+
+pub returns-in_default-clause-narrow : goal.returns-in_default-clause-narrow
+returns-in_default-clause-narrow g c = λ keep decidable.
+    let is = ap beginnings_view (c.in_default.ensures.items ∙ append-nil c.pop.new.self.items) in
+    let decided = c.loop-turn.invariant.narrow keep decidable in
+    record { left = subst (Each (IsNarrowLeft (proc_view c.args.proc.now) c.args.bound)) is decided.left; decided = decided.decided }
+
+pub returns-in_default-clause-narrow_cover : goal.returns-in_default-clause-narrow_cover
+returns-in_default-clause-narrow_cover g c = λ keep entry r wanted narrow few.
+    let none : c.pop.new.self.items ≡ [] = c.in_default.ensures.rest ∙ ap (λ k. take (k - 1) c.loop-turn.inference.left.items) c.in_default.ensures.cases.0 in
+    let is = ap beginnings_view (c.in_default.ensures.items ∙ append-nil c.pop.new.self.items ∙ none) in
+    all_covered_narrowly (prog_view c.args.prog.now) g.M.Local.LocalMemory.memory g.M.Local.LocalMemory.actions (proc_view c.args.proc.now) c.args.bound (inference_view c.loop-turn.inference) r is (c.loop-turn.invariant.narrow_cover keep entry r wanted narrow few)

@@ -5,16 +5,20 @@ use Rattle.gil_machine.proofs.Placed.{found_name}
 use Rattle.gil_syntax.specs.Programs.{find_proc}
 use Rattle.gil_syntax.specs.View.{proc_view}
 use Rattle.sym_model.specs.Lists.{Each}
+use Rattle.sym_model.proofs.ListLaws.{same_some}
 use Rattle.bi_specifications.specs.Specified.{IsTrulyFound}
 use Rattle.bi_specifications.specs.View.{founds_view}
 use Rattle.inferred_specs.specs.Inferred.{Covers}
 use Rattle.pure_terms.specs.declared.queries.Query.{Query}
 use Rattle.pure_terms.specs.View.{atoms_view}
 use Rattle.biabduce.specs.Decided.{IsDecidable}
+use Rattle.biabduce.specs.Narrowly.{IsNarrowlyDecidable}
+use Rattle.biabduce.specs.NarrowRuns.{CoversNarrowly}
 use Rattle.biabduce.specs.View.{inference_view}
 use Rattle.biabduce.proofs.Decided.{nothing_left}
 use Rattle.biabduce.proofs.Keeping.{seen_back}
 use Rattle.biabduce.proofs.Providing.{none_left, covers_so}
+use Rattle.biabduce.proofs.ProvidingNarrowly.{covers_narrowly_so}
 use Rattle.biabduce.proofs.inferring.infer.Goals as goal
 
 pub follow_all-requires-clause-found : goal.follow_all-requires-clause-found
@@ -50,4 +54,25 @@ returns-clause-decided g c = λ decidable.
     let there : find_proc p.procs c.args.name.now ≡ Some q = sym c.proc.ensures ∙ ap (option_map (λ r. proc_view r.now)) c.in-Some.is in
     nothing_left c.in_ok-inference.inference.undecided
     (c.in_ok-inference.ensures.decided
-    (subst (λ f. IsDecidable g.M.SymMemory.keeps_plain p g.M.Local.LocalMemory.actions f c.args.bound) (sym (found_name p.procs c.args.name.now q there)) decidable)).decided
+    (subst (IsDecidable g.M.SymMemory.keeps_plain p g.M.Local.LocalMemory.memory g.M.Local.LocalMemory.actions) (sym (found_name p.procs c.args.name.now q there)) decidable)).decided
+
+pub returns-clause-narrow : goal.returns-clause-narrow
+returns-clause-narrow g c = λ keep r found decidable.
+    let p = prog_view c.args.prog.now in
+    let q = proc_view c.in-Some.proc.now in
+    let there : find_proc p.procs c.args.name.now ≡ Some q = sym c.proc.ensures ∙ ap (option_map (λ x. proc_view x.now)) c.in-Some.is in
+    let same : r ≡ q = same_some (sym found ∙ there) in
+    nothing_left c.in_ok-inference.inference.undecided
+    (c.in_ok-inference.ensures.narrow keep (subst (IsNarrowlyDecidable p g.M.Local.LocalMemory.memory) same decidable)).decided
+
+pub returns-clause-narrow_cover : goal.returns-clause-narrow_cover
+returns-clause-narrow_cover g c = λ keep.
+    let p = prog_view c.args.prog.now in
+    let q = proc_view c.in-Some.proc.now in
+    let memory = g.M.Local.LocalMemory.memory in
+    let m = g.M.Local.LocalMemory.actions in
+    let i = inference_view c.in_ok-inference.inference in
+    let there : find_proc p.procs c.args.name.now ≡ Some q = sym c.proc.ensures ∙ ap (option_map (λ x. proc_view x.now)) c.in-Some.is in
+    let same = found_name p.procs c.args.name.now q there in
+    subst (λ f. CoversNarrowly p memory m f c.args.bound i.founds) same
+    (covers_narrowly_so p memory m q c.args.bound (ap (find_proc p.procs) same ∙ there) i (c.in_ok-inference.ensures.narrow_cover keep))

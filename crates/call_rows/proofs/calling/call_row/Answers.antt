@@ -1,16 +1,18 @@
-use Rattle.std.proofs.Common.{sym, ap, subst}
+use Rattle.std.proofs.Common.{◌+◌, IsTrue, sym, ap, subst}
 use Rattle.gil_program.specs.Program.{prog_view}
+use Rattle.gil_syntax.specs.Simple.{is_simple_command}
 use Rattle.sym_model.specs.Lists.{Each}
 use Rattle.sym_model.proofs.ListLaws.{each_to}
 use Rattle.sym_paths.specs.Origins.{Follows}
 use Rattle.sym_engine.specs.Lawful.{IsOwnAt, IsAskedByMemoryAt}
-use Rattle.sym_paths.specs.Steps.{AreNextPaths, Covers, Grows}
+use Rattle.sym_paths.specs.Steps.{AreNextPaths, Covers, Grows, IsPlainPath, StaysWithin, step_growth}
 use Rattle.sym_paths.specs.View.{path_view, paths_view}
 use Rattle.sym_states.specs.View.{facts_view}
 use Rattle.checked_paths.specs.View.{checking_view, entry_view, nexts_view, passed_by_view}
 use Rattle.call_rows.specs.Calling.{EachIsCalled, IsNextOver, IsUnspecified}
 use Rattle.call_rows.proofs.CallLaws.{nexts_over, row_covers}
-use Rattle.call_rows.proofs.Unspecified.{is_unspecified, calls_go}
+use Rattle.checked_paths.proofs.Plainness.{IsSurePath, nexts_sure}
+use Rattle.call_rows.proofs.Unspecified.{is_unspecified, calls_go, calls_sure, each_both}
 use Rattle.call_rows.proofs.RowExact.{row_exact}
 use Rattle.call_rows.proofs.calling.call_row.Goals as goal
 
@@ -87,3 +89,24 @@ returns-clause-unspecified g c calls =
       calls_go p memory stands terms g.M.SymMemory.kept e c.args.here.now (facts_view parts.1) (passed_by_view parts.2) Comes nexts (nexts_view c.in_ok-nexts.nexts) c.in_ok-nexts.ensures
           (each_to Comes (λ next. IsUnspecified p next × Comes next) nexts (λ next comes. (is_unspecified p m terms path calls next comes, comes)) origin),
     )
+
+pub returns-clause-plain : goal.returns-clause-plain
+returns-clause-plain g c keeps calls d b at simple narrow from =
+    let stands = g.M.SymMemory.stands in
+    let terms = g.M.SymMemory.terms in
+    let plain = g.M.SymMemory.plain in
+    let memory = g.M.Local.LocalMemory.memory in
+    let m = g.M.Local.LocalMemory.actions in
+    let p = prog_view c.args.prog.now in
+    let e = entry_view c.args.spec.now c.args.entered.now in
+    let path = path_view c.args.checking.path in
+    let nexts = paths_view c.in_ok-paths.paths in
+    let parts = c.into_parts-path.result in
+    let Comes = Follows p m terms path in
+    let P = IsPlainPath plain (b + step_growth) in
+    let origin : Each Comes nexts = subst (λ q. Each (Follows p m terms q) nexts) (ap path_view c.into_parts-path.ensures.path) c.in_ok-paths.ensures.next.origin in
+    let growth : Each (Grows terms path) nexts = subst (λ q. Each (Grows terms q) nexts) (ap path_view c.into_parts-path.ensures.path) c.in_ok-paths.ensures.next.growth in
+    let within : StaysWithin p (λ k. IsTrue (is_simple_command k)) (IsPlainPath plain) path nexts = subst (λ q. StaysWithin p (λ k. IsTrue (is_simple_command k)) (IsPlainPath plain) q nexts) (ap path_view c.into_parts-path.ensures.path) (c.in_ok-paths.ensures.simple keeps) in
+    let none : Each (IsUnspecified p) nexts = each_to Comes (IsUnspecified p) nexts (is_unspecified p m terms path calls) origin in
+    calls_sure p memory stands terms g.M.SymMemory.kept e c.args.here.now (facts_view parts.1) (passed_by_view parts.2) P nexts (nexts_view c.in_ok-nexts.nexts) c.in_ok-nexts.ensures
+    (each_both (IsUnspecified p) (IsSurePath P) nexts none (nexts_sure p plain terms path c.requires.may.steps nexts growth within d b at simple narrow from))

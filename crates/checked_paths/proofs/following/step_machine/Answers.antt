@@ -1,4 +1,4 @@
-use Rattle.std.proofs.Common.{◌≡◌, [], sym, ap, subst}
+use Rattle.std.proofs.Common.{◌≡◌, ◌<◌, [], sym, ap, subst}
 use Rattle.std.proofs.lemmas.Result.{IfOk-weaker}
 use Rattle.gil_program.specs.Program.{prog_view}
 use Rattle.sym_engine.specs.Lawful.{IsOwnAt}
@@ -11,11 +11,13 @@ use Rattle.checked_paths.specs.Covering.{AreNexts}
 use Rattle.checked_paths.specs.Exactness.{AddsOnly, AreExact}
 use Rattle.checked_paths.specs.Following.{IsAtMachineCommand, StaysInFrame}
 use Rattle.checked_paths.specs.Meaning.{MayGoOn}
+use Rattle.checked_paths.specs.Plainly.{LeadsPlainly}
 use Rattle.checked_paths.specs.Pure.{PureEntry}
 use Rattle.checked_paths.specs.View.{checking_view, nexts_view, passed_by_view}
 use Rattle.checked_paths.proofs.Answering.{machine_nexts}
 use Rattle.checked_paths.proofs.Exact.{adds_own, if_ok_both, machine_exact}
 use Rattle.checked_paths.proofs.Going.{answers_go}
+use Rattle.checked_paths.proofs.Plainness.{leads_plainly}
 use Rattle.checked_paths.proofs.following.step_machine.Goals as goal
 
 pub returns-clause-next : goal.returns-clause-next
@@ -75,3 +77,15 @@ returns-clause-origin g c =
     IfOk-weaker c.follow_all.result _ _
     (λ ns are. answers_go Comes M.stands M.terms _ _ nexts (nexts_view ns) are (subst (λ q. Each (Follows p m M.terms q) nexts) (ap path_view c.into_parts-path.ensures.path) c.in_ok-paths.ensures.next.origin))
     c.follow_all.ensures.answer
+
+pub returns-clause-plain : goal.returns-clause-plain
+returns-clause-plain g c keeps =
+    let M = g.M.SymMemory in
+    let p = prog_view c.args.prog.now in
+    let path = path_view c.into_parts-path.result.0 in
+    let nexts = paths_view c.in_ok-paths.paths in
+    let early : path.steps < 10000 = subst (λ q. (path_view q).steps < 10000) (sym c.into_parts-path.ensures.path) c.requires.may.steps in
+    if_ok_both _ _ _ c.follow_all.result
+    (λ ns are shows. subst (λ q. LeadsPlainly p M.plain (path_view q) (nexts_view ns)) c.into_parts-path.ensures.path
+    (leads_plainly p M.plain M.terms path early nexts c.in_ok-paths.ensures.next.growth (c.in_ok-paths.ensures.simple keeps) c.args.here.now M.stands _ _ (nexts_view ns) are shows))
+    c.follow_all.ensures.answer c.follow_all.ensures.shows

@@ -5,9 +5,11 @@ use Rattle.gil_program.specs.Program.{prog_view}
 use Rattle.sym_engine.proofs.Settled.{rest_more, over_next}
 use Rattle.sym_paths.specs.View.{path_view, paths_view}
 use Rattle.sym_states.specs.View.{facts_view, state_view}
+use Rattle.footprint.specs.Plainly.{IsPlainMemory}
 use Rattle.checked_paths.proofs.Lists.{with_last}
 use Rattle.checked_paths.specs.View.{entry_view, next_view, nexts_view, passed_by_view}
 use Rattle.checked_rows.specs.Ending.{EachIsEnded, EachIsExactlyEnded, IsEnded, IsExactlyEnded, MayEnd}
+use Rattle.checked_rows.specs.Plainly.{EachEndsSurely, EndsSurely}
 use Rattle.checked_rows.proofs.ending.end_all.Goals as goal
 
 pub loop-path-init : goal.loop-path-init
@@ -17,6 +19,7 @@ loop-path-init g c = record {
   ended = subst (EachIsEnded (prog_view c.args.prog.now) g.M.SymMemory.stands g.M.SymMemory.terms (entry_view c.args.spec.now c.args.entered.now) (state_view c.args.state.now) (facts_view c.args.preds.now) (passed_by_view c.args.passed.now) []) (sym (ap nexts_view c.new-nexts.ensures)) tt;
   exactly = subst (EachIsExactlyEnded (prog_view c.args.prog.now) g.M.SymMemory.stands g.M.SymMemory.terms (entry_view c.args.spec.now c.args.entered.now) (state_view c.args.state.now) (facts_view c.args.preds.now) (passed_by_view c.args.passed.now) c.args.here.now [])
       (sym (ap nexts_view c.new-nexts.ensures)) tt;
+  surely = subst (EachEndsSurely g.M.SymMemory.plain (IsPlainMemory g.M.Local.LocalMemory.memory g.M.SymMemory.keeps_plain g.M.SymMemory.terms) (state_view c.args.state.now) (entry_view c.args.spec.now c.args.entered.now) []) (sym (ap nexts_view c.new-nexts.ensures)) tt;
 }
 
 pub end_one-requires-clause-end : goal.end_one-requires-clause-end
@@ -47,6 +50,9 @@ loop-path-preserved g c =
       exactly = subst (λ ps. EachIsExactlyEnded p stands terms e s facts passed here ps (nexts_view c.push.new.self)) (sym seen)
           (subst (EachIsExactlyEnded p stands terms e s facts passed here (paths_view c.loop-path.yielded ++ path_view c.in-Some.path ∷ [])) (sym pushed)
           (with_last (IsExactlyEnded p stands terms e s facts passed here) (paths_view c.loop-path.yielded) (path_view c.in-Some.path) (nexts_view c.loop-path.nexts) (next_view n) c.loop-path.invariant.exactly c.in_ok-end_one.ensures.exact));
+      surely = subst (λ ps. EachEndsSurely g.M.SymMemory.plain (IsPlainMemory g.M.Local.LocalMemory.memory g.M.SymMemory.keeps_plain g.M.SymMemory.terms) (state_view c.args.state.now) e ps (nexts_view c.push.new.self)) (sym seen)
+          (subst (EachEndsSurely g.M.SymMemory.plain (IsPlainMemory g.M.Local.LocalMemory.memory g.M.SymMemory.keeps_plain g.M.SymMemory.terms) (state_view c.args.state.now) e (paths_view c.loop-path.yielded ++ path_view c.in-Some.path ∷ [])) (sym pushed)
+          (with_last (EndsSurely g.M.SymMemory.plain (IsPlainMemory g.M.Local.LocalMemory.memory g.M.SymMemory.keeps_plain g.M.SymMemory.terms) (state_view c.args.state.now) e) (paths_view c.loop-path.yielded) (path_view c.in-Some.path) (nexts_view c.loop-path.nexts) (next_view n) c.loop-path.invariant.surely c.in_ok-end_one.ensures.plain));
     }
 
 pub returns-clause-next : goal.returns-clause-next
@@ -60,3 +66,9 @@ returns-clause-exact g c =
     let none : into_iter_items c.loop-path.path-iterator ≡ [] = nil_from_length (into_iter_items c.loop-path.path-iterator) (sym c.loop-path.invariant.counted ∙ c.in-None.ensures.steps.0) in
     subst (λ ps. EachIsExactlyEnded (prog_view c.args.prog.now) g.M.SymMemory.stands g.M.SymMemory.terms (entry_view c.args.spec.now c.args.entered.now) (state_view c.args.state.now) (facts_view c.args.preds.now) (passed_by_view c.args.passed.now) c.args.here.now (paths_view ps) (nexts_view c.loop-path.nexts))
     (sym (c.loop-path.invariant.rest ∙ ap (λ xs. c.loop-path.yielded ++ xs) none ∙ append-nil c.loop-path.yielded)) c.loop-path.invariant.exactly
+
+pub returns-clause-plain : goal.returns-clause-plain
+returns-clause-plain g c =
+    let none : into_iter_items c.loop-path.path-iterator ≡ [] = nil_from_length (into_iter_items c.loop-path.path-iterator) (sym c.loop-path.invariant.counted ∙ c.in-None.ensures.steps.0) in
+    subst (λ ps. EachEndsSurely g.M.SymMemory.plain (IsPlainMemory g.M.Local.LocalMemory.memory g.M.SymMemory.keeps_plain g.M.SymMemory.terms) (state_view c.args.state.now) (entry_view c.args.spec.now c.args.entered.now) (paths_view ps) (nexts_view c.loop-path.nexts))
+    (sym (c.loop-path.invariant.rest ∙ ap (λ xs. c.loop-path.yielded ++ xs) none ∙ append-nil c.loop-path.yielded)) c.loop-path.invariant.surely

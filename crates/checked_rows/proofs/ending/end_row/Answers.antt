@@ -1,21 +1,25 @@
-use Rattle.std.proofs.Common.{[], ap, subst}
+use Rattle.std.proofs.Common.{[], IsTrue, ap, subst}
 use Rattle.gil_program.specs.Program.{prog_view}
 use Rattle.gil_syntax.specs.Pure.{PureCommand}
+use Rattle.gil_syntax.specs.Simple.{is_simple_command}
 use Rattle.sym_model.proofs.ListLaws.{each_to}
 use Rattle.sym_model.specs.Lists.{Each}
 use Rattle.sym_engine.specs.Lawful.{IsOwnAt, IsAskedByMemoryAt}
 use Rattle.sym_paths.specs.Origins.{Follows}
-use Rattle.sym_paths.specs.Steps.{Covers, Grows, AreNextPaths}
+use Rattle.sym_paths.specs.Steps.{Covers, Grows, AreNextPaths, IsPlainPath, StaysWithin}
 use Rattle.sym_paths.specs.View.{path_view, paths_view}
 use Rattle.sym_states.proofs.Values.{ok_to}
 use Rattle.sym_states.specs.View.{facts_view, state_view}
+use Rattle.footprint.specs.Plainly.{IsPlainMemory}
 use Rattle.checked_paths.specs.Following.{OfGoing}
 use Rattle.checked_paths.specs.View.{checking_view, entry_view, nexts_view, passed_by_view}
 use Rattle.checked_rows.specs.Ending.{EachIsEnded, EachIsExactlyEnded, IsLeaving, MayEnd}
+use Rattle.checked_rows.specs.Plainly.{EachEndsSurely, EndsPlainly}
 use Rattle.checked_rows.specs.Rows.{AreRowOf, IsExactRowOf}
 use Rattle.checked_rows.proofs.EndExactLaws.{end_exact}
 use Rattle.checked_rows.proofs.EndRowLaws.{may_end, end_covers}
 use Rattle.checked_rows.proofs.EndGoing.{ends_go}
+use Rattle.checked_rows.proofs.Plainness.{memory_of_path, ends_plainly}
 use Rattle.checked_rows.proofs.ending.end_row.Goals as goal
 
 pub end_all-requires-clause-end : goal.end_all-requires-clause-end
@@ -87,3 +91,20 @@ returns-clause-origin g c =
     let origin : Each Comes nexts = subst (λ q. Each (Follows p m terms q) nexts) (ap path_view c.into_parts-path.ensures.path) c.in_ok-paths.ensures.next.origin in
     ok_to c.end_all.result (λ ns. EachIsEnded p stands terms e s (facts_view parts.1) (passed_by_view parts.2) nexts (nexts_view ns)) (λ ns. Each (OfGoing Comes) (nexts_view ns))
     (λ ns are. ends_go p stands terms e s (facts_view parts.1) (passed_by_view parts.2) Comes nexts (nexts_view ns) are origin) c.end_all.ensures.next
+
+pub returns-clause-plain : goal.returns-clause-plain
+returns-clause-plain g c keeps =
+    let terms = g.M.SymMemory.terms in
+    let plain = g.M.SymMemory.plain in
+    let p = prog_view c.args.prog.now in
+    let e = entry_view c.args.spec.now c.args.entered.now in
+    let path = path_view c.args.checking.path in
+    let nexts = paths_view c.in_ok-paths.paths in
+    let growth : Each (Grows terms path) nexts = subst (λ q. Each (Grows terms q) nexts) (ap path_view c.into_parts-path.ensures.path) c.in_ok-paths.ensures.next.growth in
+    let within : StaysWithin p (λ k. IsTrue (is_simple_command k)) (IsPlainPath plain) path nexts = subst (λ q. StaysWithin p (λ k. IsTrue (is_simple_command k)) (IsPlainPath plain) q nexts) (ap path_view c.into_parts-path.ensures.path) (c.in_ok-paths.ensures.simple keeps) in
+    let s = state_view c.in_ok-state.state in
+    let memory = g.M.Local.LocalMemory.memory in
+    let holds = g.M.SymMemory.keeps_plain in
+    ok_to c.end_all.result (λ ns. EachEndsSurely plain (IsPlainMemory g.M.Local.LocalMemory.memory g.M.SymMemory.keeps_plain g.M.SymMemory.terms) s e nexts (nexts_view ns)) (λ ns. EndsPlainly p plain e path (nexts_view ns))
+    (λ ns are. ends_plainly p plain (IsPlainMemory g.M.Local.LocalMemory.memory g.M.SymMemory.keeps_plain g.M.SymMemory.terms) s terms e path c.requires.may.steps nexts growth within
+    (memory_of_path memory holds g.M.SymMemory.stands terms plain g.met.M.SymMemory.plain_is_said keeps path (checking_view c.args.checking).facts s c.in_ok-state.ensures) (nexts_view ns) are) c.end_all.ensures.plain

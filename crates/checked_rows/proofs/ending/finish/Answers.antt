@@ -8,9 +8,11 @@ use Rattle.pure_terms.specs.Pure.{term_of}
 use Rattle.pure_terms.specs.View.{atoms_view, term_view, terms_view}
 use Rattle.footprint.specs.Consuming.{MatchesWhole, MatchesNone}
 use Rattle.footprint.specs.Leaves.{IsAnswer}
+use Rattle.footprint.specs.Plainly.{IsPlainMemory, IsDecidedMatching}
 use Rattle.footprint.specs.Pure.{PureStop}
 use Rattle.footprint.specs.View.{matching_view, matches_view}
 use Rattle.checked_runs.specs.Specifications.{result_name}
+use Rattle.sym_evaluation.specs.Plainly.{IsPlain}
 use Rattle.sym_evaluation.specs.Pure.{term_at}
 use Rattle.sym_evaluation.specs.View.{store_view}
 use Rattle.sym_model.specs.Lists.{Each}
@@ -24,8 +26,10 @@ use Rattle.checked_paths.specs.Pure.{over}
 use Rattle.checked_paths.specs.View.{entry_view, next_view}
 use Rattle.checked_rows.specs.Doubts.{under, beyond, IsDoubtNext}
 use Rattle.checked_rows.specs.Ending.{AreEntryNames, FinishesExactly, HasNoOther, DoubtsAResult}
+use Rattle.checked_rows.specs.Plainly.{FinishesPlainly}
 use Rattle.checked_rows.specs.View.{doubt_view}
 use Rattle.checked_rows.proofs.EndLaws.{entry_names_over, result_doubt, finished, stopped}
+use Rattle.checked_rows.proofs.Plainness.{under_sure, result_sure}
 use Rattle.checked_rows.proofs.ending.finish.Goals as goal
 
 pub other_result-requires-clause-conds : goal.other_result-requires-clause-conds
@@ -80,7 +84,7 @@ returns-in-All-clause-next g c =
     let told = subst (λ o. IfNone o (HasNoOther s.vars (atoms_view c.atoms-conds.result.now) t (term_at before result_name))) c.in_default.is c.in_ok-doubt.ensures.none in
     let none_other : HasNoOther s.vars s.conds t (term_at before result_name) = subst (λ cs. HasNoOther s.vars cs t (term_at before result_name)) c.atoms-conds.ensures told in
     let over_names = each_bound (IsOver s.vars) before bs result_name t c.in_ok-names-2.ensures c.requires.term over_before in
-    let answer = subst (λ ps. IsAnswer stands terms kept s (Serves stands terms s bs) (MatchesWhole p.preds ps posts) (MatchesNone p.preds ps posts) (matching_view c.in_ok-consume_whole.field-0)) c.in_ok-scope.ensures c.in_ok-consume_whole.ensures in
+    let answer = subst (λ ps. IsAnswer stands terms kept s (Serves stands terms s bs) (MatchesWhole p.preds ps posts) (MatchesNone p.preds ps posts) (matching_view c.in_ok-consume_whole.field-0)) c.in_ok-scope.ensures c.in_ok-consume_whole.ensures.says in
     let all = subst (λ r. IsAnswer stands terms kept s (Serves stands terms s bs) (MatchesWhole p.preds (e.spec.params ++ e.spec.logicals) posts) (MatchesNone p.preds (e.spec.params ++ e.spec.logicals) posts) (matching_view r)) c.in-All.is answer in
     finished p stands e posts t s before of_entry over_before c.requires.term terms kept bs c.in_ok-names-2.ensures none_other c.requires.over over_names (matches_view c.in-All.field-0) all over refl
 
@@ -105,7 +109,7 @@ returns-in-Unmatched-clause-exact g c =
     let told = subst (λ o. IfNone o (HasNoOther s.vars (atoms_view c.atoms-conds.result.now) t (term_at before result_name))) c.in_default.is c.in_ok-doubt.ensures.none in
     let none_other : HasNoOther s.vars s.conds t (term_at before result_name) = subst (λ cs. HasNoOther s.vars cs t (term_at before result_name)) c.atoms-conds.ensures told in
     let over_names = each_bound (IsOver s.vars) before bs result_name t c.in_ok-names-2.ensures c.requires.term over_before in
-    let answer = subst (λ ps. IsAnswer stands terms kept s (Serves stands terms s bs) (MatchesWhole p.preds ps posts) (MatchesNone p.preds ps posts) (matching_view c.in_ok-consume_whole.field-0)) c.in_ok-scope.ensures c.in_ok-consume_whole.ensures in
+    let answer = subst (λ ps. IsAnswer stands terms kept s (Serves stands terms s bs) (MatchesWhole p.preds ps posts) (MatchesNone p.preds ps posts) (matching_view c.in_ok-consume_whole.field-0)) c.in_ok-scope.ensures c.in_ok-consume_whole.ensures.says in
     let none = subst (λ r. IsAnswer stands terms kept s (Serves stands terms s bs) (MatchesWhole p.preds (e.spec.params ++ e.spec.logicals) posts) (MatchesNone p.preds (e.spec.params ++ e.spec.logicals) posts) (matching_view r)) c.in-Unmatched.is answer in
     ok_to c.doubted_next-in-Unmatched.result (λ n. IsDoubtNext FaultKind.Post here path (under k.conds u) (next_view n)) (λ n. FinishesExactly p stands e posts t here path s (next_view n))
     (λ n shows. inr (under k.conds u, (stopped p stands e posts t s before of_entry over_before c.requires.term terms kept bs c.in_ok-names-2.ensures none_other c.requires.over over_names k u none, shows))) c.doubted_next-in-Unmatched.ensures.shows
@@ -124,6 +128,75 @@ returns-clause-exact g c =
     let here = c.args.here.now in
     let path = path_view c.args.path.now in
     let d = beyond (atoms_view c.in-Unknown.conds) c.in-Unknown.reason in
-    let und = subst (λ r. IsAnswer stands terms kept s (Serves stands terms s bs) (MatchesWhole p.preds c.in_ok-scope.scope posts) (MatchesNone p.preds c.in_ok-scope.scope posts) (matching_view r)) c.in-Unknown.is c.in_ok-consume_whole.ensures in
+    let und = subst (λ r. IsAnswer stands terms kept s (Serves stands terms s bs) (MatchesWhole p.preds c.in_ok-scope.scope posts) (MatchesNone p.preds c.in_ok-scope.scope posts) (matching_view r)) c.in-Unknown.is c.in_ok-consume_whole.ensures.says in
     ok_to c.doubted_next-in-Unknown.result (λ n. IsDoubtNext FaultKind.Post here path d (next_view n)) (λ n. FinishesExactly p stands e posts t here path s (next_view n))
     (λ n shows. inr (d, (und, shows))) c.doubted_next-in-Unknown.ensures.shows
+
+pub returns-in-Some-clause-plain : goal.returns-in-Some-clause-plain
+returns-in-Some-clause-plain g c =
+    let e = entry_view c.args.spec.now c.args.entered.now in
+    let s = state_view c.args.state in
+    let params = (proc_view c.args.proc.now).params in
+    let before = store_view c.in_ok-names.names in
+    let t = term_view c.args.term.now in
+    let posts = map assertion_view c.args.posts.now in
+    let here = c.args.here.now in
+    let path = path_view c.args.path.now in
+    let d = doubt_view c.in-Some.doubt in
+    let over_before = entry_names_over (IsOver s.vars) params e.args e.variables before c.requires.entry.args c.requires.entry.variables c.in_ok-names.ensures in
+    let told = subst (λ o. IfSome o (λ k. DoubtsAResult s.vars (atoms_view c.atoms-conds.result.now) t (term_at before result_name) (doubt_view k))) c.in-Some.is c.in_ok-doubt.ensures.doubt in
+    let doubts : DoubtsAResult s.vars s.conds t (term_at before result_name) d = subst (λ cs. DoubtsAResult s.vars cs t (term_at before result_name) d) c.atoms-conds.ensures told in
+    ok_to c.doubted_next.result (λ n. IsDoubtNext FaultKind.Post here path d (next_view n)) (λ n. FinishesPlainly (IsPlainMemory g.M.Local.LocalMemory.memory g.M.SymMemory.keeps_plain g.M.SymMemory.terms) e posts t s (next_view n))
+    (λ n shows b may. result_sure here path (next_view n) s e posts t (IsPlainMemory g.M.Local.LocalMemory.memory g.M.SymMemory.keeps_plain g.M.SymMemory.terms) b may c.requires.over.conds c.requires.term (term_at before result_name)
+    (λ r is. (over_before result_name r is, entry_names_over (IsPlain b) params e.args e.variables before may.leaves.args may.leaves.variables c.in_ok-names.ensures result_name r is)) d doubts shows) c.doubted_next.ensures.shows
+
+pub returns-in-Unmatched-clause-plain : goal.returns-in-Unmatched-clause-plain
+returns-in-Unmatched-clause-plain g c =
+    let e = entry_view c.args.spec.now c.args.entered.now in
+    let s = state_view c.args.state in
+    let params = (proc_view c.args.proc.now).params in
+    let before = store_view c.in_ok-names.names in
+    let bs = store_view c.in_ok-names-2.names in
+    let t = term_view c.args.term.now in
+    let posts = map assertion_view c.args.posts.now in
+    let here = c.args.here.now in
+    let path = path_view c.args.path.now in
+    let conds = atoms_view c.in-Unmatched.conds in
+    let u = values_view c.in-Unmatched.valuation in
+    ok_to c.doubted_next-in-Unmatched.result (λ n. IsDoubtNext FaultKind.Post here path (under conds u) (next_view n)) (λ n. FinishesPlainly (IsPlainMemory g.M.Local.LocalMemory.memory g.M.SymMemory.keeps_plain g.M.SymMemory.terms) e posts t s (next_view n))
+    (λ n shows b may.
+    let plain_before = entry_names_over (IsPlain b) params e.args e.variables before may.leaves.args may.leaves.variables c.in_ok-names.ensures in
+    let told : IsDecidedMatching (matching_view c.in_ok-consume_whole.field-0) = c.in_ok-consume_whole.ensures.plain b (record {
+      items = may.leaves.items;
+      narrow = may.leaves.narrow;
+      decided = may.decided;
+      plain_memory = may.plain_memory;
+      store = each_bound (IsPlain b) before bs result_name t c.in_ok-names-2.ensures may.term plain_before;
+      few = may.few;
+    }) in
+    under_sure here path (next_view n) conds u (subst (λ r. IsDecidedMatching (matching_view r)) c.in-Unmatched.is told) shows) c.doubted_next-in-Unmatched.ensures.shows
+
+pub returns-clause-plain : goal.returns-clause-plain
+returns-clause-plain g c =
+    let e = entry_view c.args.spec.now c.args.entered.now in
+    let s = state_view c.args.state in
+    let params = (proc_view c.args.proc.now).params in
+    let before = store_view c.in_ok-names.names in
+    let bs = store_view c.in_ok-names-2.names in
+    let t = term_view c.args.term.now in
+    let posts = map assertion_view c.args.posts.now in
+    let here = c.args.here.now in
+    let path = path_view c.args.path.now in
+    let d = beyond (atoms_view c.in-Unknown.conds) c.in-Unknown.reason in
+    ok_to c.doubted_next-in-Unknown.result (λ n. IsDoubtNext FaultKind.Post here path d (next_view n)) (λ n. FinishesPlainly (IsPlainMemory g.M.Local.LocalMemory.memory g.M.SymMemory.keeps_plain g.M.SymMemory.terms) e posts t s (next_view n))
+    (λ n shows b may.
+    let plain_before = entry_names_over (IsPlain b) params e.args e.variables before may.leaves.args may.leaves.variables c.in_ok-names.ensures in
+    let never : IsDecidedMatching (matching_view c.in_ok-consume_whole.field-0) = c.in_ok-consume_whole.ensures.plain b (record {
+      items = may.leaves.items;
+      narrow = may.leaves.narrow;
+      decided = may.decided;
+      plain_memory = may.plain_memory;
+      store = each_bound (IsPlain b) before bs result_name t c.in_ok-names-2.ensures may.term plain_before;
+      few = may.few;
+    }) in
+    absurd (subst (λ r. IsDecidedMatching (matching_view r)) c.in-Unknown.is never)) c.doubted_next-in-Unknown.ensures.shows

@@ -6,10 +6,13 @@ use Rattle.pure_terms.specs.View.{term_view}
 use Rattle.sym_paths.specs.View.{path_view}
 use Rattle.sym_states.proofs.Values.{ok_to}
 use Rattle.sym_states.specs.View.{state_view}
+use Rattle.footprint.specs.Plainly.{IsPlainMemory}
 use Rattle.checked_paths.specs.Meaning.{IsEntryOver}
 use Rattle.checked_paths.specs.View.{entry_view, next_view}
 use Rattle.checked_rows.specs.Ending.{Finishes, FinishesExactly, at_end}
+use Rattle.checked_rows.specs.Plainly.{FinishesPlainly}
 use Rattle.checked_rows.proofs.EndRowLaws.{there_over, there_vars, finishes_there, exactly_there}
+use Rattle.checked_rows.proofs.Plainness.{finishes_plainly_there}
 use Rattle.checked_rows.proofs.ending.finish_there.Goals as goal
 
 pub finish-requires-clause-over : goal.finish-requires-clause-over
@@ -46,3 +49,12 @@ returns-clause-exact g c =
     let s = at_end (state_view c.args.state.now) path in
     ok_to c.finish.result (λ n. FinishesExactly p stands e posts t here path (state_view c.in_ok-there.there) (next_view n)) (λ n. FinishesExactly p stands e posts t here path s (next_view n))
     (λ n exactly. exactly_there stands g.M.SymMemory.terms s (state_view c.in_ok-there.there) c.in_ok-there.ensures p e posts t here path (next_view n) exactly) c.finish.ensures.exact
+
+pub returns-clause-plain : goal.returns-clause-plain
+returns-clause-plain g c =
+    let e = entry_view c.args.spec.now c.args.entered.now in
+    let posts = map assertion_view c.args.posts.now in
+    let t = term_view c.args.term.now in
+    let s = at_end (state_view c.args.state.now) (path_view c.args.path.now) in
+    ok_to c.finish.result (λ n. FinishesPlainly (IsPlainMemory g.M.Local.LocalMemory.memory g.M.SymMemory.keeps_plain g.M.SymMemory.terms) e posts t (state_view c.in_ok-there.there) (next_view n)) (λ n. FinishesPlainly (IsPlainMemory g.M.Local.LocalMemory.memory g.M.SymMemory.keeps_plain g.M.SymMemory.terms) e posts t s (next_view n))
+    (λ n plainly. finishes_plainly_there g.M.Local.LocalMemory.memory g.M.SymMemory.keeps_plain g.M.SymMemory.stands g.M.SymMemory.terms s (state_view c.in_ok-there.there) c.in_ok-there.ensures e posts t (next_view n) plainly) c.finish.ensures.plain

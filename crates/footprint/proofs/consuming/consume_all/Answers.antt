@@ -31,7 +31,7 @@ answer-requires g c =
     let cs = cases_at (map pred_def_view c.preds.result.now) 1 in
     let leaves = leaves_view c.in_ok-leaves.leaves in
     subst (λ vars. Each (λ x. AreOver vars x.conds) leaves.stopped) (sym c.in_ok-vars.ensures)
-    (stops_over g.M.SymMemory.stands g.M.SymMemory.terms g.M.SymMemory.kept s (Serves g.M.SymMemory.stands g.M.SymMemory.terms s bs) (ItemsGive cs scope items) (ItemsStop cs scope items) leaves c.in_ok-leaves.ensures)
+    (stops_over g.M.SymMemory.stands g.M.SymMemory.terms g.M.SymMemory.kept s (Serves g.M.SymMemory.stands g.M.SymMemory.terms s bs) (ItemsGive cs scope items) (ItemsStop cs scope items) leaves c.in_ok-leaves.ensures.0)
 
 pub returns : goal.returns
 returns g c =
@@ -43,7 +43,7 @@ returns g c =
     let leaves = leaves_view c.in_ok-leaves.leaves in
     let If = Serves g.M.SymMemory.stands g.M.SymMemory.terms s bs in
     let are : AreLeaves g.M.SymMemory.stands g.M.SymMemory.terms g.M.SymMemory.kept s If (Matches preds scope items) (StopsAt preds scope items) leaves =
-    subst (λ ps. AreLeaves g.M.SymMemory.stands g.M.SymMemory.terms g.M.SymMemory.kept s If (ItemsGive (cases_at ps 1) scope items) (ItemsStop (cases_at ps 1) scope items) leaves) c.preds.ensures c.in_ok-leaves.ensures in
+    subst (λ ps. AreLeaves g.M.SymMemory.stands g.M.SymMemory.terms g.M.SymMemory.kept s If (ItemsGive (cases_at ps 1) scope items) (ItemsStop (cases_at ps 1) scope items) leaves) c.preds.ensures c.in_ok-leaves.ensures.0 in
     ok_to c.answer.result _ (λ r. IsAnswer g.M.SymMemory.stands g.M.SymMemory.terms g.M.SymMemory.kept s If (Matches preds scope items) (StopsAt preds scope items) (matching_view r))
     (λ r is. leaves_answer g.M.SymMemory.stands g.M.SymMemory.terms g.M.SymMemory.kept s If (Matches preds scope items) (StopsAt preds scope items) leaves are (λ v t l serves. serves.state.proper) (matching_view r)
     (subst (λ vars. AnswersLeaves vars leaves (matching_view r)) c.in_ok-vars.ensures is)) c.answer.ensures

@@ -1,10 +1,11 @@
-use Rattle.std.proofs.Common.{◌≡◌, suc, ◌+◌, ◌-◌, [], ◌∷◌, ◌++◌, length, map, take, Some, None, sym, ap, subst, ◌∙◌, arith, length-take-le}
+use Rattle.std.proofs.Common.{◌≡◌, suc, ◌+◌, ◌-◌, [], ◌∷◌, ◌++◌, length, map, take, Option, Some, None, sym, ap, subst, ◌∙◌, arith, length-take-le}
 use Rattle.std.specs.Option.{option_map}
 use Rattle.std.specs.Vec.Iter.{into_iter_items}
 use Rattle.std.proofs.lemmas.List.{take_all, take_more, length-map, map-append}
 use Rattle.gil_syntax.specs.Pure.{pure, uses}
 use Rattle.gil_syntax.specs.Programs.{find_pred}
 use Rattle.gil_syntax.specs.View.{assertion_view, item_view, expr_view, pred_use_view, pred_def_view}
+use Rattle.mem_model.specs.declared.cores.Core.{Core}
 use Rattle.mem_model.specs.CoreNames.{core_of}
 use Rattle.assert_logic.specs.Matching.{try_pred}
 use Rattle.pure_terms.specs.View.{atoms_view}
@@ -19,11 +20,13 @@ use Rattle.sym_states.specs.View.{state_view, states_view}
 use Rattle.sym_states.proofs.ArgumentLaws.{spelled_parts}
 use Rattle.sym_states.proofs.Produced.{item_more, each_item}
 use Rattle.sym_states.proofs.Values.{ok_to}
+use Rattle.footprint.specs.declared.leaves.Leaves.{Leaves}
 use Rattle.footprint.specs.Assertions.{cases_at, ItemsGive, ItemsStop, IsMatchable, MatchesItem, NextMatched, AreAskedOver, UseGives, UseStops, IsOpen, CasesMatched}
 use Rattle.footprint.specs.Cases.{StopsIn, CasesGive, CasesStop, CaseTried, NextCase, PredTried, PredMatched}
 use Rattle.footprint.specs.Consuming.{MayMatch}
 use Rattle.footprint.specs.Items.{ItemGives, ItemStops}
 use Rattle.footprint.specs.Leaves.{AreLeaves}
+use Rattle.footprint.specs.Plainly.{IsPlainMemory, CoreStaysPlain, ItemStaysPlain, ItemsStayPlain}
 use Rattle.footprint.specs.Pure.{PureStop, PureLeaves}
 use Rattle.footprint.specs.Spreading.{joined, stops_at, Gathers}
 use Rattle.footprint.specs.Uses.{AsksUse, HasAllIns}
@@ -34,6 +37,8 @@ use Rattle.footprint.proofs.CaseLaws.{end_leaves, next_case_leaves, no_case_leav
 use Rattle.footprint.proofs.ItemsLaw.{next_leaves, start_leaves, matchable_each, stops_in_each, items_over, guard_item}
 use Rattle.footprint.proofs.Loops.{taken_more, taken_all, taken_has, each_read}
 use Rattle.footprint.proofs.Parts.{gathers_more}
+use Rattle.footprint.proofs.PlainUses.{unasked_plain, asked_plain, no_core_plain}
+use Rattle.footprint.proofs.Plainness.{items_begin, items_more}
 use Rattle.footprint.proofs.matching.+matching.Goals as goal
 
 pub match_items-loop-number-init : goal.match_items-loop-number-init
@@ -42,8 +47,11 @@ match_items-loop-number-init g t c =
     let bs = store_view c.args.start.store in
     let cs = cases_at (map pred_def_view c.args.preds.now) c.args.depth in
     let scope = c.args.scope.now in
-    subst (AreLeaves g.M.SymMemory.stands g.M.SymMemory.terms g.M.SymMemory.kept s (Serves g.M.SymMemory.stands g.M.SymMemory.terms s bs) (ItemsGive cs scope []) (ItemsStop cs scope [])) (sym c.in_ok-leaves.ensures)
-    (start_leaves g.M.SymMemory.stands g.M.SymMemory.terms g.M.SymMemory.kept cs scope s bs c.requires.start.over c.requires.start.store_over)
+    let m = match_view c.args.start in
+    subst (λ x. AreLeaves g.M.SymMemory.stands g.M.SymMemory.terms g.M.SymMemory.kept s (Serves g.M.SymMemory.stands g.M.SymMemory.terms s bs) (ItemsGive cs scope []) (ItemsStop cs scope []) x × ItemsStayPlain (IsPlainMemory g.M.Local.LocalMemory.memory g.M.SymMemory.keeps_plain g.M.SymMemory.terms) [] m x) (sym c.in_ok-leaves.ensures) (
+      start_leaves g.M.SymMemory.stands g.M.SymMemory.terms g.M.SymMemory.kept cs scope s bs c.requires.start.over c.requires.start.store_over,
+      items_begin g.M.Local.LocalMemory.memory g.M.SymMemory.keeps_plain g.M.SymMemory.terms g.M.SymMemory.stands g.M.SymMemory.kept m,
+    )
 
 pub match_items-loop-number-preserved : goal.match_items-loop-number-preserved
 match_items-loop-number-preserved g t c =
@@ -58,8 +66,11 @@ match_items-loop-number-preserved g t c =
     let If = Serves g.M.SymMemory.stands g.M.SymMemory.terms s bs in
     let seen : assertion_view (take (i + 1) xs) ≡ before ++ item_view item ∷ [] = item_more xs i item c.loop-number-test.true c.index-items-number.is in
     let size : i ≡ length before = sym (length-map (take i xs) item_view ∙ length-take-le i xs (omega (arith, c.loop-number-test.true))) in
-    subst (λ ys. AreLeaves g.M.SymMemory.stands g.M.SymMemory.terms g.M.SymMemory.kept s If (ItemsGive cs scope ys) (ItemsStop cs scope ys) (leaves_view c.in_ok-leaves-2.leaves)) (sym seen)
-    (next_leaves g.M.SymMemory.stands g.M.SymMemory.terms g.M.SymMemory.kept cs scope s If before (item_view item) i size (leaves_view c.loop-number.leaves) (leaves_view c.in_ok-leaves-2.leaves) c.loop-number.invariant c.in_ok-leaves-2.ensures)
+    let m = match_view c.args.start in
+    subst (λ ys. AreLeaves g.M.SymMemory.stands g.M.SymMemory.terms g.M.SymMemory.kept s If (ItemsGive cs scope ys) (ItemsStop cs scope ys) (leaves_view c.in_ok-leaves-2.leaves) × ItemsStayPlain (IsPlainMemory g.M.Local.LocalMemory.memory g.M.SymMemory.keeps_plain g.M.SymMemory.terms) ys m (leaves_view c.in_ok-leaves-2.leaves)) (sym seen) (
+      next_leaves g.M.SymMemory.stands g.M.SymMemory.terms g.M.SymMemory.kept cs scope s If (IsPlainMemory g.M.Local.LocalMemory.memory g.M.SymMemory.keeps_plain g.M.SymMemory.terms) before (item_view item) i size (leaves_view c.loop-number.leaves) (leaves_view c.in_ok-leaves-2.leaves) c.loop-number.invariant.0 c.in_ok-leaves-2.ensures,
+      items_more g.M.Local.LocalMemory.memory g.M.SymMemory.keeps_plain g.M.SymMemory.terms g.M.SymMemory.stands g.M.SymMemory.kept i cs scope before (item_view item) m (leaves_view c.loop-number.leaves) (leaves_view c.in_ok-leaves-2.leaves) c.loop-number.invariant.1 c.in_ok-leaves-2.ensures,
+    )
 
 pub match_items-match_next-requires : goal.match_items-match_next-requires
 match_items-match_next-requires g t c κs within =
@@ -71,7 +82,7 @@ match_items-match_next-requires g t c κs within =
     let i = c.loop-number.number in
     let item = c.index-items-number.result in
     let If = Serves g.M.SymMemory.stands g.M.SymMemory.terms s bs in
-    let each = matchable_each g.M.SymMemory.stands g.M.SymMemory.terms g.M.SymMemory.kept s If (ItemsGive cs scope (assertion_view (take i xs))) (ItemsStop cs scope (assertion_view (take i xs))) (leaves_view c.loop-number.leaves) c.loop-number.invariant in
+    let each = matchable_each g.M.SymMemory.stands g.M.SymMemory.terms g.M.SymMemory.kept s If (ItemsGive cs scope (assertion_view (take i xs))) (ItemsStop cs scope (assertion_view (take i xs))) (leaves_view c.loop-number.leaves) c.loop-number.invariant.0 in
     let may = each_item (MayAdd g.M.Local.LocalMemory.memory) xs i item c.loop-number-test.true c.index-items-number.is (subst (λ ys. Each (MayAdd g.M.Local.LocalMemory.memory) (assertion_view ys)) (sym c.as_slice-items.ensures) c.requires.may) in
     (omega arith, (within.0, (within.1.0, (within.1.1, (each, (may, c.requires.cases))))))
 
@@ -82,11 +93,12 @@ match_items-returns g t c =
     let cs = cases_at (map pred_def_view c.args.preds.now) c.args.depth in
     let scope = c.args.scope.now in
     let all = take_all c.loop-number.number c.as_slice-items.result.now (omega (arith, c.loop-number-test.false)) ∙ c.as_slice-items.ensures in
-    subst (λ ys. AreLeaves g.M.SymMemory.stands g.M.SymMemory.terms g.M.SymMemory.kept s (Serves g.M.SymMemory.stands g.M.SymMemory.terms s bs) (ItemsGive cs scope (assertion_view ys)) (ItemsStop cs scope (assertion_view ys)) (leaves_view c.loop-number.leaves)) all c.loop-number.invariant
+    subst (λ ys. AreLeaves g.M.SymMemory.stands g.M.SymMemory.terms g.M.SymMemory.kept s (Serves g.M.SymMemory.stands g.M.SymMemory.terms s bs) (ItemsGive cs scope (assertion_view ys)) (ItemsStop cs scope (assertion_view ys)) (leaves_view c.loop-number.leaves)
+    × ItemsStayPlain (IsPlainMemory g.M.Local.LocalMemory.memory g.M.SymMemory.keeps_plain g.M.SymMemory.terms) (assertion_view ys) (match_view c.args.start) (leaves_view c.loop-number.leaves)) all c.loop-number.invariant
 
 pub match_next-loop-found-preserved : goal.match_next-loop-found-preserved
 match_next-loop-found-preserved g t c =
-    let P = MatchesItem g.M.SymMemory.stands g.M.SymMemory.terms g.M.SymMemory.kept c.args.number (cases_at (map pred_def_view c.args.preds.now) c.args.depth) c.args.scope.now (item_view c.args.item.now) in
+    let P = MatchesItem g.M.SymMemory.stands g.M.SymMemory.terms g.M.SymMemory.kept (IsPlainMemory g.M.Local.LocalMemory.memory g.M.SymMemory.keeps_plain g.M.SymMemory.terms) c.args.number (cases_at (map pred_def_view c.args.preds.now) c.args.depth) c.args.scope.now (item_view c.args.item.now) in
     let before = matches_view c.loop-found.yielded in
     let x = match_view c.in-Some.found in
     let longer : length (into_iter_items c.loop-found.found-iterator) ≡ length (into_iter_items c.next.new.self) + 1 = ap length c.in-Some.ensures.steps.0 ∙ omega arith in
@@ -104,16 +116,16 @@ match_next-match_item-requires g t c κs within =
 
 pub match_next-prune-requires : goal.match_next-prune-requires
 match_next-prune-requires g t c =
-    items_over g.M.SymMemory.stands g.M.SymMemory.terms g.M.SymMemory.kept c.args.number (cases_at (map pred_def_view c.args.preds.now) c.args.depth) c.args.scope.now (item_view c.args.item.now) (matches_view c.loop-found.yielded) (leaves_view c.loop-found.next) c.loop-found.invariant.gathers
+    items_over g.M.SymMemory.stands g.M.SymMemory.terms g.M.SymMemory.kept (IsPlainMemory g.M.Local.LocalMemory.memory g.M.SymMemory.keeps_plain g.M.SymMemory.terms) c.args.number (cases_at (map pred_def_view c.args.preds.now) c.args.depth) c.args.scope.now (item_view c.args.item.now) (matches_view c.loop-found.yielded) (leaves_view c.loop-found.next) c.loop-found.invariant.gathers
 
 pub match_next-returns : goal.match_next-returns
 match_next-returns g t c =
-    let P = MatchesItem g.M.SymMemory.stands g.M.SymMemory.terms g.M.SymMemory.kept c.args.number (cases_at (map pred_def_view c.args.preds.now) c.args.depth) c.args.scope.now (item_view c.args.item.now) in
+    let P = MatchesItem g.M.SymMemory.stands g.M.SymMemory.terms g.M.SymMemory.kept (IsPlainMemory g.M.Local.LocalMemory.memory g.M.SymMemory.keeps_plain g.M.SymMemory.terms) c.args.number (cases_at (map pred_def_view c.args.preds.now) c.args.depth) c.args.scope.now (item_view c.args.item.now) in
     let next = leaves_view c.loop-found.next in
     let pruned = leaves_view c.in_ok-next-2.next in
     let before = leaves_view c.args.leaves in
     let all : c.args.leaves.matched ≡ c.loop-found.yielded = taken_all c.args.leaves.matched c.loop-found.yielded (into_iter_items c.loop-found.found-iterator) c.loop-found.invariant.rest (sym c.loop-found.invariant.counted ∙ c.in-None.ensures.steps.0) in
-    ok_to c.joined_with-2.result _ (λ r. NextMatched g.M.SymMemory.stands g.M.SymMemory.terms g.M.SymMemory.kept c.args.number (cases_at (map pred_def_view c.args.preds.now) c.args.depth) c.args.scope.now (item_view c.args.item.now) before (leaves_view r))
+    ok_to c.joined_with-2.result _ (λ r. NextMatched g.M.SymMemory.stands g.M.SymMemory.terms g.M.SymMemory.kept (IsPlainMemory g.M.Local.LocalMemory.memory g.M.SymMemory.keeps_plain g.M.SymMemory.terms) c.args.number (cases_at (map pred_def_view c.args.preds.now) c.args.depth) c.args.scope.now (item_view c.args.item.now) before (leaves_view r))
     (λ r is. (
       next,
       (
@@ -132,9 +144,16 @@ match_item-returns-in-Pure g t c =
     let bs = store_view c.args.found.store in
     let e = expr_view c.in-Pure.expression in
     let seen : pure e ≡ item_view c.args.item.now = sym (ap item_view c.in-Pure.is) in
-    ok_to c.match_guard.result _ (λ r. MatchesItem g.M.SymMemory.stands g.M.SymMemory.terms g.M.SymMemory.kept c.args.number (cases_at (map pred_def_view c.args.preds.now) c.args.depth) c.args.scope.now (item_view c.args.item.now) (match_view c.args.found) (leaves_view r))
-    (λ r are. subst (λ x. MatchesItem g.M.SymMemory.stands g.M.SymMemory.terms g.M.SymMemory.kept c.args.number (cases_at (map pred_def_view c.args.preds.now) c.args.depth) c.args.scope.now x (match_view c.args.found) (leaves_view r)) seen
-    (guard_item g.M.SymMemory.stands g.M.SymMemory.terms g.M.SymMemory.kept c.args.number (cases_at (map pred_def_view c.args.preds.now) c.args.depth) c.args.scope.now e s bs (leaves_view r) c.requires.found.over are)) c.match_guard.ensures
+    ok_to c.match_guard.result _ (λ r. MatchesItem g.M.SymMemory.stands g.M.SymMemory.terms g.M.SymMemory.kept (IsPlainMemory g.M.Local.LocalMemory.memory g.M.SymMemory.keeps_plain g.M.SymMemory.terms) c.args.number (cases_at (map pred_def_view c.args.preds.now) c.args.depth) c.args.scope.now (item_view c.args.item.now) (match_view c.args.found) (leaves_view r))
+    (λ r are. subst (λ x. MatchesItem g.M.SymMemory.stands g.M.SymMemory.terms g.M.SymMemory.kept (IsPlainMemory g.M.Local.LocalMemory.memory g.M.SymMemory.keeps_plain g.M.SymMemory.terms) c.args.number (cases_at (map pred_def_view c.args.preds.now) c.args.depth) c.args.scope.now x (match_view c.args.found) (leaves_view r)) seen
+    (guard_item g.M.SymMemory.stands g.M.SymMemory.terms g.M.SymMemory.kept c.args.number (cases_at (map pred_def_view c.args.preds.now) c.args.depth) c.args.scope.now e s bs (leaves_view r) c.requires.found.over are.0, are.1)) c.match_guard.ensures
+
+pub match_item-returns : goal.match_item-returns
+match_item-returns g t c =
+    let u = pred_use_view c.in-Uses.used in
+    let seen : uses u ≡ item_view c.args.item.now = sym (ap item_view c.in-Uses.is) in
+    ok_to c.match_use.result _ (λ r. MatchesItem g.M.SymMemory.stands g.M.SymMemory.terms g.M.SymMemory.kept (IsPlainMemory g.M.Local.LocalMemory.memory g.M.SymMemory.keeps_plain g.M.SymMemory.terms) c.args.number (cases_at (map pred_def_view c.args.preds.now) c.args.depth) c.args.scope.now (item_view c.args.item.now) (match_view c.args.found) (leaves_view r))
+    (λ r are. subst (λ x. MatchesItem g.M.SymMemory.stands g.M.SymMemory.terms g.M.SymMemory.kept (IsPlainMemory g.M.Local.LocalMemory.memory g.M.SymMemory.keeps_plain g.M.SymMemory.terms) c.args.number (cases_at (map pred_def_view c.args.preds.now) c.args.depth) c.args.scope.now x (match_view c.args.found) (leaves_view r)) seen are) c.match_use.ensures
 
 pub match_asked-match_core-requires : goal.match_asked-match_core-requires
 match_asked-match_core-requires g t c =
@@ -159,8 +178,20 @@ match_asked-returns-in-Some g t c =
     let u = pred_use_view c.args.used.now in
     let a = asked_view c.args.asked.now in
     let named : core_of u.pred ≡ Some c.in-Some.field-0 = sym c.from_name.ensures ∙ c.in-Some.is in
-    ok_to c.match_core.result _ (λ r. AreLeaves g.M.SymMemory.stands g.M.SymMemory.terms g.M.SymMemory.kept s (AsksUse g.M.SymMemory.stands g.M.SymMemory.terms s bs a) (UseGives (cases_at (map pred_def_view c.args.preds.now) c.args.depth) c.args.scope.now (core_of u.pred) u a) (UseStops c.args.number (cases_at (map pred_def_view c.args.preds.now) c.args.depth) c.args.scope.now (core_of u.pred) u a) (leaves_view r))
-    (λ r are. core_use g.M.SymMemory.stands g.M.SymMemory.terms g.M.SymMemory.kept c.args.number (cases_at (map pred_def_view c.args.preds.now) c.args.depth) c.args.scope.now c.in-Some.field-0 u s bs a (leaves_view r) named c.requires.over are) c.match_core.ensures
+    ok_to c.match_core.result _ (λ r. AreLeaves g.M.SymMemory.stands g.M.SymMemory.terms g.M.SymMemory.kept s (AsksUse g.M.SymMemory.stands g.M.SymMemory.terms s bs a) (UseGives (cases_at (map pred_def_view c.args.preds.now) c.args.depth) c.args.scope.now (core_of u.pred) u a) (UseStops c.args.number (cases_at (map pred_def_view c.args.preds.now) c.args.depth) c.args.scope.now (core_of u.pred) u a) (leaves_view r)
+    × CoreStaysPlain (IsPlainMemory g.M.Local.LocalMemory.memory g.M.SymMemory.keeps_plain g.M.SymMemory.terms) u a.ins bs s (leaves_view r))
+    (λ r are. (core_use g.M.SymMemory.stands g.M.SymMemory.terms g.M.SymMemory.kept c.args.number (cases_at (map pred_def_view c.args.preds.now) c.args.depth) c.args.scope.now c.in-Some.field-0 u s bs a (leaves_view r) named c.requires.over are.0, are.1)) c.match_core.ensures
+
+pub match_asked-returns-in-None : goal.match_asked-returns-in-None
+match_asked-returns-in-None g t c =
+    let s = state_view c.args.state.now in
+    let bs = store_view c.args.store.now in
+    let u = pred_use_view c.args.used.now in
+    let a = asked_view c.args.asked.now in
+    let named : core_of u.pred ≡ None = sym c.from_name.ensures ∙ c.in-None.is in
+    let Are = λ (o : Option Core) (r : Leaves g.row.M.Denot). AreLeaves g.M.SymMemory.stands g.M.SymMemory.terms g.M.SymMemory.kept s (AsksUse g.M.SymMemory.stands g.M.SymMemory.terms s bs a) (UseGives (cases_at (map pred_def_view c.args.preds.now) c.args.depth) c.args.scope.now o u a) (UseStops c.args.number (cases_at (map pred_def_view c.args.preds.now) c.args.depth) c.args.scope.now o u a) (leaves_view r) in
+    ok_to c.match_user.result _ (λ r. Are (core_of u.pred) r × CoreStaysPlain (IsPlainMemory g.M.Local.LocalMemory.memory g.M.SymMemory.keeps_plain g.M.SymMemory.terms) u a.ins bs s (leaves_view r))
+    (λ r are. (subst (λ (o : Option Core). Are o r) (sym named) are, no_core_plain g.M.Local.LocalMemory.memory g.M.SymMemory.keeps_plain g.M.SymMemory.terms c.args.number c.args.scope.now u s bs c.requires.store_over named a.ins (leaves_view r))) c.match_user.ensures
 
 pub match_cases-match_found-requires : goal.match_cases-match_found-requires
 match_cases-match_found-requires g t c κs within =
@@ -242,8 +273,11 @@ match_use-returns-in-None g t c =
     let x = split_by asked_view c.in_ok-found.field-0 in
     let stopped_are = c.in_ok-stopped.ensures ∙ ap (λ cs. stops_at c.args.number cs x.none) c.atoms.ensures in
     let are : leaves_view c.of_stops-leaves.result ≡ record { matched = []; stopped = stops_at c.args.number s.conds x.none; undecided = [] } = c.of_stops-leaves.ensures ∙ ap (λ ys. record { matched = []; stopped = ys; undecided = [] }) stopped_are in
-    subst (AreLeaves g.M.SymMemory.stands g.M.SymMemory.terms g.M.SymMemory.kept s (Serves g.M.SymMemory.stands g.M.SymMemory.terms s bs) (ItemGives (cases_at (map pred_def_view c.args.preds.now) c.args.depth) c.args.scope.now (uses u)) (ItemStops c.args.number (cases_at (map pred_def_view c.args.preds.now) c.args.depth) c.args.scope.now (uses u))) (sym are)
-    (unasked_leaves g.M.SymMemory.stands g.M.SymMemory.terms g.M.SymMemory.kept c.args.number (cases_at (map pred_def_view c.args.preds.now) c.args.depth) c.args.scope.now u s bs c.requires.over c.requires.store_over x c.in_ok-found.ensures.says c.in_ok-found.ensures.names (ap (option_map (good_view asked_view)) c.in-None.is))
+    subst (λ y. AreLeaves g.M.SymMemory.stands g.M.SymMemory.terms g.M.SymMemory.kept s (Serves g.M.SymMemory.stands g.M.SymMemory.terms s bs) (ItemGives (cases_at (map pred_def_view c.args.preds.now) c.args.depth) c.args.scope.now (uses u)) (ItemStops c.args.number (cases_at (map pred_def_view c.args.preds.now) c.args.depth) c.args.scope.now (uses u)) y
+    × ItemStaysPlain (IsPlainMemory g.M.Local.LocalMemory.memory g.M.SymMemory.keeps_plain g.M.SymMemory.terms) (uses u) (record { state = s; store = bs }) y) (sym are) (
+      unasked_leaves g.M.SymMemory.stands g.M.SymMemory.terms g.M.SymMemory.kept c.args.number (cases_at (map pred_def_view c.args.preds.now) c.args.depth) c.args.scope.now u s bs c.requires.over c.requires.store_over x c.in_ok-found.ensures.says c.in_ok-found.ensures.names (ap (option_map (good_view asked_view)) c.in-None.is),
+      unasked_plain g.M.Local.LocalMemory.memory g.M.SymMemory.keeps_plain g.M.SymMemory.terms c.args.number c.args.scope.now u s bs c.requires.store_over x c.in_ok-found.ensures.plain,
+    )
 
 pub match_use-match_asked-requires : goal.match_use-match_asked-requires
 match_use-match_asked-requires g t c κs within =
@@ -271,11 +305,16 @@ match_use-returns-in_ok-more-in-Some g t c =
     let stopped_are = c.in_ok-stopped.ensures ∙ ap (λ cs. stops_at c.args.number cs x.none) c.atoms.ensures in
     let are : leaves_view c.of_stops-leaves.result ≡ record { matched = []; stopped = stops_at c.args.number s.conds x.none; undecided = [] } = c.of_stops-leaves.ensures ∙ ap (λ ys. record { matched = []; stopped = ys; undecided = [] }) stopped_are in
     let q = record s { conds = s.conds ++ found.conds } in
-    let more = subst (λ r. AreLeaves g.M.SymMemory.stands g.M.SymMemory.terms g.M.SymMemory.kept r (AsksUse g.M.SymMemory.stands g.M.SymMemory.terms r bs found.result) (UseGives (cases_at (map pred_def_view c.args.preds.now) c.args.depth) c.args.scope.now (core_of u.pred) u found.result) (UseStops c.args.number (cases_at (map pred_def_view c.args.preds.now) c.args.depth) c.args.scope.now (core_of u.pred) u found.result) (leaves_view c.in_ok-more-in-Some.more)) c.in_ok-state-in-Some.ensures c.in_ok-more-in-Some.ensures in
-    ok_to c.joined_with.result _ (λ r. AreLeaves g.M.SymMemory.stands g.M.SymMemory.terms g.M.SymMemory.kept s (Serves g.M.SymMemory.stands g.M.SymMemory.terms s bs) (ItemGives (cases_at (map pred_def_view c.args.preds.now) c.args.depth) c.args.scope.now (uses u)) (ItemStops c.args.number (cases_at (map pred_def_view c.args.preds.now) c.args.depth) c.args.scope.now (uses u)) (leaves_view r))
-    (λ r is. subst (AreLeaves g.M.SymMemory.stands g.M.SymMemory.terms g.M.SymMemory.kept s (Serves g.M.SymMemory.stands g.M.SymMemory.terms s bs) (ItemGives (cases_at (map pred_def_view c.args.preds.now) c.args.depth) c.args.scope.now (uses u)) (ItemStops c.args.number (cases_at (map pred_def_view c.args.preds.now) c.args.depth) c.args.scope.now (uses u)))
-    (sym (is ∙ ap (λ y. joined y (leaves_view c.in_ok-more-in-Some.more)) are))
-    (asked_leaves g.M.SymMemory.stands g.M.SymMemory.terms g.M.SymMemory.kept c.args.number (cases_at (map pred_def_view c.args.preds.now) c.args.depth) c.args.scope.now u s bs c.requires.over c.requires.store_over x c.in_ok-found.ensures.says c.in_ok-found.ensures.names found is_g (leaves_view c.in_ok-more-in-Some.more) more)) c.joined_with.ensures
+    let more = subst (λ r. AreLeaves g.M.SymMemory.stands g.M.SymMemory.terms g.M.SymMemory.kept r (AsksUse g.M.SymMemory.stands g.M.SymMemory.terms r bs found.result) (UseGives (cases_at (map pred_def_view c.args.preds.now) c.args.depth) c.args.scope.now (core_of u.pred) u found.result) (UseStops c.args.number (cases_at (map pred_def_view c.args.preds.now) c.args.depth) c.args.scope.now (core_of u.pred) u found.result) (leaves_view c.in_ok-more-in-Some.more)
+    × CoreStaysPlain (IsPlainMemory g.M.Local.LocalMemory.memory g.M.SymMemory.keeps_plain g.M.SymMemory.terms) u found.result.ins bs r (leaves_view c.in_ok-more-in-Some.more)) c.in_ok-state-in-Some.ensures c.in_ok-more-in-Some.ensures in
+    ok_to c.joined_with.result _ (λ r. AreLeaves g.M.SymMemory.stands g.M.SymMemory.terms g.M.SymMemory.kept s (Serves g.M.SymMemory.stands g.M.SymMemory.terms s bs) (ItemGives (cases_at (map pred_def_view c.args.preds.now) c.args.depth) c.args.scope.now (uses u)) (ItemStops c.args.number (cases_at (map pred_def_view c.args.preds.now) c.args.depth) c.args.scope.now (uses u)) (leaves_view r)
+    × ItemStaysPlain (IsPlainMemory g.M.Local.LocalMemory.memory g.M.SymMemory.keeps_plain g.M.SymMemory.terms) (uses u) (record { state = s; store = bs }) (leaves_view r))
+    (λ r is. subst (λ y. AreLeaves g.M.SymMemory.stands g.M.SymMemory.terms g.M.SymMemory.kept s (Serves g.M.SymMemory.stands g.M.SymMemory.terms s bs) (ItemGives (cases_at (map pred_def_view c.args.preds.now) c.args.depth) c.args.scope.now (uses u)) (ItemStops c.args.number (cases_at (map pred_def_view c.args.preds.now) c.args.depth) c.args.scope.now (uses u)) y
+    × ItemStaysPlain (IsPlainMemory g.M.Local.LocalMemory.memory g.M.SymMemory.keeps_plain g.M.SymMemory.terms) (uses u) (record { state = s; store = bs }) y)
+    (sym (is ∙ ap (λ y. joined y (leaves_view c.in_ok-more-in-Some.more)) are)) (
+      asked_leaves g.M.SymMemory.stands g.M.SymMemory.terms g.M.SymMemory.kept c.args.number (cases_at (map pred_def_view c.args.preds.now) c.args.depth) c.args.scope.now u s bs c.requires.over c.requires.store_over x c.in_ok-found.ensures.says c.in_ok-found.ensures.names found is_g (leaves_view c.in_ok-more-in-Some.more) more.0,
+      asked_plain g.M.Local.LocalMemory.memory g.M.SymMemory.keeps_plain g.M.SymMemory.terms c.args.number c.args.scope.now u s bs c.requires.store_over x c.in_ok-found.ensures.plain found is_g (leaves_view c.in_ok-more-in-Some.more) more.1,
+    )) c.joined_with.ensures
 
 pub match_user-match_open-requires : goal.match_user-match_open-requires
 match_user-match_open-requires g t c κs within =
@@ -357,7 +396,7 @@ try_case-returns g t c =
         λ is_scope.
             end_leaves g.M.SymMemory.stands g.M.SymMemory.terms g.M.SymMemory.kept c.args.number (cases_at (map pred_def_view c.args.preds.now) c.args.depth) d items r bs (leaves_view c.in_ok-leaves.leaves) (leaves_view y)
             (subst (λ sc. AreLeaves g.M.SymMemory.stands g.M.SymMemory.terms g.M.SymMemory.kept r (Serves g.M.SymMemory.stands g.M.SymMemory.terms r bs) (ItemsGive (cases_at (map pred_def_view c.args.preds.now) c.args.depth) sc items) (ItemsStop (cases_at (map pred_def_view c.args.preds.now) c.args.depth) sc items) (leaves_view c.in_ok-leaves.leaves)) is_scope
-            (subst (λ b. AreLeaves g.M.SymMemory.stands g.M.SymMemory.terms g.M.SymMemory.kept r (Serves g.M.SymMemory.stands g.M.SymMemory.terms r b) (ItemsGive (cases_at (map pred_def_view c.args.preds.now) c.args.depth) c.args.scope.now items) (ItemsStop (cases_at (map pred_def_view c.args.preds.now) c.args.depth) c.args.scope.now items) (leaves_view c.in_ok-leaves.leaves)) c.in_ok-store.ensures c.in_ok-leaves.ensures)) ends,
+            (subst (λ b. AreLeaves g.M.SymMemory.stands g.M.SymMemory.terms g.M.SymMemory.kept r (Serves g.M.SymMemory.stands g.M.SymMemory.terms r b) (ItemsGive (cases_at (map pred_def_view c.args.preds.now) c.args.depth) c.args.scope.now items) (ItemsStop (cases_at (map pred_def_view c.args.preds.now) c.args.depth) c.args.scope.now items) (leaves_view c.in_ok-leaves.leaves)) c.in_ok-store.ensures c.in_ok-leaves.ensures.0)) ends,
       ),
     )) c.end_case.ensures
 

@@ -6,9 +6,10 @@ use Rattle.sym_states.specs.Meaning.{Serves}
 use Rattle.sym_states.specs.View.{state_view, states_view}
 use Rattle.footprint.specs.Assertions.{cases_at, ItemsGive, ItemsStop, MatchesItem, CasesMatched}
 use Rattle.footprint.specs.Leaves.{AreLeaves}
+use Rattle.footprint.specs.Plainly.{IsPlainMemory, ItemsStayPlain}
 use Rattle.footprint.specs.Spreading.{Gathers}
 use Rattle.footprint.specs.Cases.{CasesGive, CasesStop, CaseTried}
-use Rattle.footprint.specs.View.{matches_view, stops_view, asked_view, leaves_view}
+use Rattle.footprint.specs.View.{match_view, matches_view, stops_view, asked_view, leaves_view}
 use Rattle.footprint.proofs.matching.+matching.Given as goal
 
 abbrev pub decreases-match_cases : goal.decreases-match_cases
@@ -55,12 +56,13 @@ invariant-match_items-loop-number g l =
     AreLeaves g.M.SymMemory.stands g.M.SymMemory.terms g.M.SymMemory.kept (state_view l.fn.start.state) (Serves g.M.SymMemory.stands g.M.SymMemory.terms (state_view l.fn.start.state) (store_view l.fn.start.store))
     (ItemsGive (cases_at (map pred_def_view l.preds) l.depth) l.scope (assertion_view (take l.number l.items)))
     (ItemsStop (cases_at (map pred_def_view l.preds) l.depth) l.scope (assertion_view (take l.number l.items))) (leaves_view l.leaves)
+    × ItemsStayPlain (IsPlainMemory g.M.Local.LocalMemory.memory g.M.SymMemory.keeps_plain g.M.SymMemory.terms) (assertion_view (take l.number l.items)) (match_view l.fn.start) (leaves_view l.leaves)
 
 abbrev pub invariant-match_next-loop-found : goal.invariant-match_next-loop-found
 invariant-match_next-loop-found g l = record {
   counted : into_iter_len l.found-iterator ≡ length (into_iter_items l.found-iterator);
   rest : l.fn.leaves.matched ≡ l.yielded ++ into_iter_items l.found-iterator;
-  gathers : Gathers (MatchesItem g.M.SymMemory.stands g.M.SymMemory.terms g.M.SymMemory.kept l.number (cases_at (map pred_def_view l.preds) l.depth) l.scope (item_view l.item)) (matches_view l.yielded) (leaves_view l.next);
+  gathers : Gathers (MatchesItem g.M.SymMemory.stands g.M.SymMemory.terms g.M.SymMemory.kept (IsPlainMemory g.M.Local.LocalMemory.memory g.M.SymMemory.keeps_plain g.M.SymMemory.terms) l.number (cases_at (map pred_def_view l.preds) l.depth) l.scope (item_view l.item)) (matches_view l.yielded) (leaves_view l.next);
 }
 
 abbrev pub invariant-match_open-loop-state : goal.invariant-match_open-loop-state

@@ -9,6 +9,7 @@ use Rattle.sym_states.specs.View.{state_view}
 use Rattle.sym_states.proofs.Values.{ok_to}
 use Rattle.footprint.specs.Assertions.{cases_at, ItemsGive, ItemsStop}
 use Rattle.footprint.specs.Leaves.{AreLeaves}
+use Rattle.footprint.specs.Plainly.{IsPlainMemory, ItemsStayPlain}
 use Rattle.footprint.specs.View.{leaves_view}
 use Rattle.footprint.specs.Whole.{WholeTried}
 use Rattle.footprint.proofs.CaseLaws.{renewed_over, renewed_store_over}
@@ -36,7 +37,8 @@ returns g c =
     let scope = c.args.scope.now in
     let items = assertion_view c.args.post.now in
     let first = leaves_view c.in_ok-leaves.leaves in
-    let are = subst (λ (xs : PureStore). AreLeaves g.M.SymMemory.stands g.M.SymMemory.terms g.M.SymMemory.kept r (Serves g.M.SymMemory.stands g.M.SymMemory.terms r xs) (ItemsGive cs scope items) (ItemsStop cs scope items) first)
+    let are = subst (λ (xs : PureStore). AreLeaves g.M.SymMemory.stands g.M.SymMemory.terms g.M.SymMemory.kept r (Serves g.M.SymMemory.stands g.M.SymMemory.terms r xs) (ItemsGive cs scope items) (ItemsStop cs scope items) first
+    × ItemsStayPlain (IsPlainMemory g.M.Local.LocalMemory.memory g.M.SymMemory.keeps_plain g.M.SymMemory.terms) items (record { state = r; store = xs }) first)
     c.in_ok-store.ensures c.in_ok-leaves.ensures in
-    ok_to c.keep_whole.result _ (λ x. WholeTried g.M.SymMemory.stands g.M.SymMemory.terms g.M.SymMemory.kept cs scope items s bs conds (leaves_view x))
+    ok_to c.keep_whole.result _ (λ x. WholeTried g.M.SymMemory.stands g.M.SymMemory.terms g.M.SymMemory.kept (IsPlainMemory g.M.Local.LocalMemory.memory g.M.SymMemory.keeps_plain g.M.SymMemory.terms) cs scope items s bs conds (leaves_view x))
     (λ x is. (r, (c.in_ok-state.ensures, (first, (are, is))))) c.keep_whole.ensures

@@ -1,4 +1,25 @@
+use Rattle.block_heap.specs.BlockLaws.{block_misses_what_lacks}
+use Rattle.object_heap.specs.ObjectLaws.{object_misses_what_lacks}
+use Rattle.record_heap.specs.RecordLaws.{record_misses_what_lacks}
 use Rattle.gillian_core.proofs.languages.infer_in.Goals as goal
+
+pub inferred-requires-clause-own_keys : goal.inferred-requires-clause-own_keys
+inferred-requires-clause-own_keys g c = record_misses_what_lacks
+
+pub inferred-requires-in-GilBlock-clause-own_keys : goal.inferred-requires-in-GilBlock-clause-own_keys
+inferred-requires-in-GilBlock-clause-own_keys g c = block_misses_what_lacks
+
+pub inferred-requires-in-GilObject-clause-own_keys : goal.inferred-requires-in-GilObject-clause-own_keys
+inferred-requires-in-GilObject-clause-own_keys g c = object_misses_what_lacks
+
+pub inferred-requires-in-While-clause-own_keys : goal.inferred-requires-in-While-clause-own_keys
+inferred-requires-in-While-clause-own_keys g c = record_misses_what_lacks
+
+pub inferred-requires-in-Clike-clause-own_keys : goal.inferred-requires-in-Clike-clause-own_keys
+inferred-requires-in-Clike-clause-own_keys g c = block_misses_what_lacks
+
+pub inferred-requires-in-Object-clause-own_keys : goal.inferred-requires-in-Object-clause-own_keys
+inferred-requires-in-Object-clause-own_keys g c = object_misses_what_lacks
 
 pub returns-in-GilRecord : goal.returns-in-GilRecord
 returns-in-GilRecord g c = rw c.in-GilRecord.is c.inferred.ensures

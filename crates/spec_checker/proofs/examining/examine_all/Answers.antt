@@ -11,8 +11,8 @@ use Rattle.spec_checker.proofs.examining.examine_all.Goals as goal
 pub loop-place-init : goal.loop-place-init
 loop-place-init g c =
     let p = prog_view c.args.prog.now in
-    subst (λ (xs : List (Examined Met)). ExaminedUntil p g.M.Local.LocalMemory.memory g.M.Local.LocalMemory.actions c.args.bound p.specs 0 xs) (sym c.new-examined.ensures)
-    (examined_none p g.M.Local.LocalMemory.memory g.M.Local.LocalMemory.actions c.args.bound p.specs)
+    subst (λ (xs : List (Examined Met)). ExaminedUntil p g.M.Local.LocalMemory.memory g.M.Local.LocalMemory.actions g.M.SymMemory.keeps_plain c.args.bound p.specs 0 xs) (sym c.new-examined.ensures)
+    (examined_none p g.M.Local.LocalMemory.memory g.M.Local.LocalMemory.actions g.M.SymMemory.keeps_plain c.args.bound p.specs)
 
 pub examine-requires : goal.examine-requires
 examine-requires g c =
@@ -30,7 +30,7 @@ pub loop-place-preserved : goal.loop-place-preserved
 loop-place-preserved g c =
     let p = prog_view c.args.prog.now in
     let seen = ap (map spec_view) c.as_slice-specs.ensures ∙ c.specs.ensures in
-    examined_more p g.M.Local.LocalMemory.memory g.M.Local.LocalMemory.actions c.args.bound p.specs c.loop-place.place c.loop-place.examined c.push.new.self c.in_ok-examine.field-0
+    examined_more p g.M.Local.LocalMemory.memory g.M.Local.LocalMemory.actions g.M.SymMemory.keeps_plain c.args.bound p.specs c.loop-place.place c.loop-place.examined c.push.new.self c.in_ok-examine.field-0
     (spec_view c.index-specs-place.result) c.loop-place.invariant
     (spec_read c.as_slice-specs.result.now p.specs c.loop-place.place c.index-specs-place.result seen c.loop-place-test.true c.index-specs-place.is)
     c.in_ok-examine.ensures c.in_ok-push.ensures.ok
@@ -42,4 +42,4 @@ returns g c =
     let count = length-map c.as_slice-specs.result.now spec_view in
     let many = ap length seen in
     let all : c.loop-place.place ≡ length p.specs = omega (arith, count, many) in
-    examined_all p g.M.Local.LocalMemory.memory g.M.Local.LocalMemory.actions c.args.bound p.specs c.loop-place.place c.loop-place.examined all c.loop-place.invariant
+    examined_all p g.M.Local.LocalMemory.memory g.M.Local.LocalMemory.actions g.M.SymMemory.keeps_plain c.args.bound p.specs c.loop-place.place c.loop-place.examined all c.loop-place.invariant

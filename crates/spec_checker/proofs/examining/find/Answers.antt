@@ -16,9 +16,9 @@ returns-in-Some g c =
     let closes =
     subst (λ (o : Option Proof). RefutesRightly (precondition_table s) (precondition_atoms s) (option_map proof_view o)) c.in-Some.is c.in_ok-proof.ensures.refutes in
     let none = subst (λ (o : Option Proof). IfSome o (λ proof. HasNoStart s)) c.in-Some.is c.in_ok-proof.ensures.vacuous in
-    vacuous_found (prog_view c.args.prog.now) g.M.Local.LocalMemory.memory g.M.Local.LocalMemory.actions c.args.bound s c.vacuous_specifications_have_no_run.ensures c.in-Some.proof none closes
+    vacuous_found (prog_view c.args.prog.now) g.M.Local.LocalMemory.memory g.M.Local.LocalMemory.actions g.M.SymMemory.keeps_plain c.args.bound s c.vacuous_specifications_have_no_run.ensures c.in-Some.proof none closes
 
 pub returns-in_ok-explored-in-None : goal.returns-in_ok-explored-in-None
 returns-in_ok-explored-in-None g c =
-    explored_found (prog_view c.args.prog.now) g.M.Local.LocalMemory.memory g.M.Local.LocalMemory.actions c.args.bound (spec_view c.args.spec.now)
-    c.in_ok-explored-in-None.explored.cause c.in_ok-explored-in-None.explored.uses c.finding_of.result c.finding_of.ensures c.in_ok-explored-in-None.ensures.verified c.in_ok-explored-in-None.ensures.causes c.in_ok-explored-in-None.ensures.contained
+    explored_found (prog_view c.args.prog.now) g.M.Local.LocalMemory.memory g.M.Local.LocalMemory.actions g.M.SymMemory.keeps_plain c.args.bound (spec_view c.args.spec.now)
+    c.in_ok-explored-in-None.explored.cause c.in_ok-explored-in-None.explored.uses c.finding_of.result c.finding_of.ensures c.in_ok-explored-in-None.ensures.verified c.in_ok-explored-in-None.ensures.causes c.in_ok-explored-in-None.ensures.contained c.in_ok-explored-in-None.ensures.plain

@@ -5,7 +5,9 @@ use Rattle.gil_syntax.specs.View.{spec_view}
 use Rattle.checked_paths.specs.View.{checking_view, entry_view, nexts_view}
 use Rattle.spec_exploration.specs.Exploring.{AreTaken, exploration_view}
 use Rattle.spec_exploration.specs.Inside.{StaysInside}
+use Rattle.spec_exploration.specs.Plain.{StaysPlain}
 use Rattle.spec_exploration.proofs.Inside.{taken_inside}
+use Rattle.spec_exploration.proofs.Plainness.{cut_plain, taken_plain}
 use Rattle.spec_exploration.proofs.Reaching.{cut_reached, step_reached}
 use Rattle.spec_exploration.proofs.Taking.{cut_settled, cut_placed, step_settled, step_placed}
 use Rattle.spec_exploration.proofs.exploration.advance.Goals as goal
@@ -91,3 +93,24 @@ returns-clause-inside g c contained inside here =
     subst (StaysInside p s) (sym c.in_ok-exploration.ensures) (record { left = inside.left; none_used = λ i. inside.none_used i ++ stepped.0 i }) in
     IfOk-weaker c.take.result _ _
     (λ after taken. taken_inside p s (exploration_view c.in_ok-exploration.exploration) (exploration_view after) (nexts_view c.in_ok-stepped.stepped.nexts) taken before stepped.1) c.take.ensures
+
+pub returns-then-checking-bound-clause-plain :
+    goal.returns-then-checking-bound-clause-plain
+returns-then-checking-bound-clause-plain g c keeps plain terms stays inside from =
+    let p = prog_view c.args.prog.now in
+    let s = spec_view c.args.spec.now in
+    let x = checking_view c.args.checking in
+    let within : x.path.steps ≤ 10000 = let first : x.path.steps ≤ c.args.bound = c.requires.reached.within in let second : c.args.bound ≤ 10000 = c.requires.bounded in omega (arith, first, second) in
+    let sure = cut_plain p s plain g.M.SymMemory.plain g.M.SymMemory.terms (entry_view c.args.spec.now c.args.entered.now) x c.in_ok-cause.cause c.requires.may within from c.in_ok-cause.ensures in
+    IfOk-weaker c.take_one.result _ _
+    (λ after taken. taken_plain p s plain g.M.SymMemory.plain (exploration_view c.args.exploration) (exploration_view after) _ taken stays (sure, tt)) c.take_one.ensures
+
+pub returns-clause-plain : goal.returns-clause-plain
+returns-clause-plain g c keeps plain terms stays inside from =
+    let p = prog_view c.args.prog.now in
+    let s = spec_view c.args.spec.now in
+    let before : StaysPlain g.M.SymMemory.plain s (exploration_view c.in_ok-exploration.exploration) =
+    subst (StaysPlain g.M.SymMemory.plain s) (sym c.in_ok-exploration.ensures) (record { left = stays.left; cause = stays.cause }) in
+    IfOk-weaker c.take.result _ _
+    (λ after taken. taken_plain p s plain g.M.SymMemory.plain (exploration_view c.in_ok-exploration.exploration) (exploration_view after) (nexts_view c.in_ok-stepped.stepped.nexts) taken before
+    (c.in_ok-stepped.ensures.plain keeps plain terms inside from)) c.take.ensures

@@ -6,6 +6,7 @@ use Rattle.checked_paths.specs.Meaning.{MayGoOn}
 use Rattle.checked_paths.specs.View.{checking_view, entry_view, nexts_view}
 use Rattle.spec_exploration.specs.Exploring.{AreTaken, exploration_view}
 use Rattle.spec_exploration.proofs.Inside.{taken_inside, apart_inside}
+use Rattle.spec_exploration.proofs.Plainness.{apart_plain, taken_plain}
 use Rattle.spec_exploration.proofs.Reaching.{starts_reached, all_but_last}
 use Rattle.spec_exploration.proofs.Taking.{starts_settle, starts_placed, settle_later, settled_runs, last_apart, if_none}
 use Rattle.spec_exploration.proofs.exploration.explore_from.Goals as goal
@@ -25,6 +26,7 @@ loop-turn-init g c =
       placed = starts_placed (prog_view c.args.prog.now) L.memory L.actions M.stands M.terms e c.args.bound starts first taken c.requires.placed;
       reached = starts_reached (prog_view c.args.prog.now) L.memory L.actions M.stands M.terms e c.args.bound first starts c.requires.reached taken;
       inside = λ contained starts_in. taken_inside (prog_view c.args.prog.now) (spec_view c.args.spec.now) (record { left = []; cause = None; uses = [] }) first starts taken (record { left = tt; none_used = refl }) starts_in;
+      plain = λ keeps plain terms starts_in starts_plain. taken_plain (prog_view c.args.prog.now) (spec_view c.args.spec.now) plain M.plain (record { left = []; cause = None; uses = [] }) first starts taken (record { left = tt; cause = tt }) starts_plain;
     }
 
 pub returns-in_default-clause-verified :
@@ -87,7 +89,14 @@ loop-turn-preserved g c =
       inside = λ contained starts_in.
           let apart = apart_inside (prog_view c.args.prog.now) (spec_view c.args.spec.now) old (map checking_view c.pop.new.self.items) x is (c.loop-turn.invariant.inside contained starts_in) in
           c.in_ok-exploration-2.ensures.inside contained apart.0 apart.1;
+      plain = λ keeps plain terms starts_in starts_plain.
+          let inside = apart_inside (prog_view c.args.prog.now) (spec_view c.args.spec.now) old (map checking_view c.pop.new.self.items) x is (c.loop-turn.invariant.inside plain.contained starts_in) in
+          let apart = apart_plain (prog_view c.args.prog.now) (spec_view c.args.spec.now) plain M.plain old (map checking_view c.pop.new.self.items) x is (c.loop-turn.invariant.plain keeps plain terms starts_in starts_plain) in
+          c.in_ok-exploration-2.ensures.plain keeps plain terms apart.0 inside.1 apart.1;
     }
 
 pub returns-in_default-clause-inside : goal.returns-in_default-clause-inside
 returns-in_default-clause-inside g c contained starts_in = (c.loop-turn.invariant.inside contained starts_in).none_used
+
+pub returns-in_default-clause-plain : goal.returns-in_default-clause-plain
+returns-in_default-clause-plain g c keeps plain terms starts_in starts_plain = (c.loop-turn.invariant.plain keeps plain terms starts_in starts_plain).cause

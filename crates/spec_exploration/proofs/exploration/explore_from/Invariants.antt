@@ -5,6 +5,7 @@ use Rattle.sym_model.specs.Lists.{Each}
 use Rattle.checked_paths.specs.View.{entry_view, nexts_view}
 use Rattle.spec_exploration.specs.Exploring.{ArePlaced, AreReached, SettlesStarts, exploration_view}
 use Rattle.spec_exploration.specs.Inside.{IsNextInside, StaysInside}
+use Rattle.spec_exploration.specs.Plain.{HasPlainTerms, IsPlainNext, IsPlainSpec, StaysPlain}
 use Rattle.spec_exploration.proofs.exploration.explore_from.Given as goal
 
 abbrev pub invariant-loop-turn : goal.invariant-loop-turn
@@ -14,6 +15,10 @@ invariant-loop-turn g l = record {
   inside :
       IsContained (prog_view l.prog) (spec_view l.spec) → Each (IsNextInside (prog_view l.prog) (spec_view l.spec)) (nexts_view l.fn.starts)
       → StaysInside (prog_view l.prog) (spec_view l.spec) (exploration_view l.exploration);
+  plain :
+      g.M.SymMemory.keeps_plain → IsPlainSpec (prog_view l.prog) (spec_view l.spec) → HasPlainTerms (entry_view l.spec l.entered) → Each (IsNextInside (prog_view l.prog) (spec_view l.spec)) (nexts_view l.fn.starts)
+      → Each (IsPlainNext g.M.SymMemory.plain (spec_view l.spec)) (nexts_view l.fn.starts)
+      → StaysPlain g.M.SymMemory.plain (spec_view l.spec) (exploration_view l.exploration);
   reached :
       AreReached (prog_view l.prog) g.M.Local.LocalMemory.memory g.M.Local.LocalMemory.actions g.M.SymMemory.stands g.M.SymMemory.terms (entry_view l.spec l.entered) l.bound (exploration_view l.exploration);
 }

@@ -8,6 +8,7 @@ use Rattle.spec_causes.specs.Causes.{entry_for}
 use Rattle.spec_exploration.proofs.Beginnings.{first_there, starts_over, starts_cover, starts_may, starts_reached}
 use Rattle.spec_exploration.proofs.Inside.{starts_inside}
 use Rattle.spec_exploration.proofs.Meeting.{found_known, met_none, met_right}
+use Rattle.spec_exploration.proofs.Plainness.{met_sure, starts_plain}
 use Rattle.spec_exploration.proofs.Steps.{params_there}
 use Rattle.spec_exploration.proofs.exploration.explore_specification.Goals as goal
 
@@ -78,4 +79,16 @@ returns g c =
       contained = λ contained.
           c.in_ok-cause.ensures.inside contained
           (starts_inside p s (beginnings_view c.in_ok-args.field-0) g.M.SymMemory.terms g.M.SymMemory.kept c.in_ok-args.ensures.begin c.in_ok-here.here (nexts_view c.in_ok-starts.starts) c.in_ok-starts.ensures);
+      plain = λ keeps plain.
+          let M = g.M.SymMemory in
+          let begin = c.in_ok-args.ensures.begin in
+          let here = c.in_ok-here.here in
+          let starts = nexts_view c.in_ok-starts.starts in
+          let same = params_there p L.memory (programs_are_addable p L.memory c.args.prog.now.well_made c.args.prog.now.valid c.requires.modes) s c.requires.found begin.proc begin.found in
+          let from = c.in_ok-args.ensures.plain keeps plain.begins in
+          let placed = starts_may p L.memory L.actions M.stands s (beginnings_view c.in_ok-args.field-0) here M.terms M.kept c.args.prog.now.valid begin same starts c.in_ok-starts.ensures in
+          met_sure p L.memory L.actions c.args.bound (entry_for s entered) c.in_ok-cause.field-0.cause entered c.in_ok-cause-2.cause c.in_ok-cause-2.ensures c.in_ok-cause.ensures.causes
+          (c.in_ok-cause.ensures.plain keeps plain (record { args = from.args; variables = from.variables })
+          (starts_inside p s (beginnings_view c.in_ok-args.field-0) M.terms M.kept begin here starts c.in_ok-starts.ensures)
+          (starts_plain p s plain M.plain M.terms (entry_for s entered) here (beginnings_view c.in_ok-args.field-0) starts from c.in_ok-starts.ensures placed));
     }

@@ -3,6 +3,7 @@ use Rattle.gil_syntax.specs.View.{spec_view}
 use Rattle.checked_paths.proofs.Exact.{if_ok_both}
 use Rattle.checked_paths.specs.View.{checking_view, entry_view, nexts_view}
 use Rattle.spec_exploration.proofs.Inside.{command_there, nexts_inside}
+use Rattle.spec_exploration.proofs.Plainness.{nexts_plain}
 use Rattle.spec_exploration.proofs.stepping.check_step.Goals as goal
 
 pub returns-then-is_call-clause-inside : goal.returns-then-is_call-clause-inside
@@ -24,3 +25,16 @@ returns-clause-inside g c contained inside =
       nexts_inside p (spec_view c.args.spec.now) contained g.M.Local.LocalMemory.actions g.M.SymMemory.terms (entry_view c.args.spec.now c.args.entered.now) x n at inside (nexts_view c.in_ok-nexts.nexts)
           c.in_ok-nexts.ensures.next.follow (c.in_ok-nexts.ensures.origin contained inside),
     )
+
+pub returns-then-is_call-clause-plain : goal.returns-then-is_call-clause-plain
+returns-then-is_call-clause-plain g c keeps plain terms inside from =
+    let p = prog_view c.args.prog.now in
+    let x = checking_view c.args.checking in
+    if_ok_both _ _ _ c.step_call.result
+    (λ st nexts steps. nexts_plain p (spec_view c.args.spec.now) plain g.M.SymMemory.plain g.M.SymMemory.terms (entry_view c.args.spec.now c.args.entered.now) x (nexts_view st.nexts) nexts.follow (steps from))
+    c.step_call.ensures.next (c.step_call.ensures.plain keeps plain inside)
+
+pub returns-clause-plain : goal.returns-clause-plain
+returns-clause-plain g c keeps plain terms inside from =
+    nexts_plain (prog_view c.args.prog.now) (spec_view c.args.spec.now) plain g.M.SymMemory.plain g.M.SymMemory.terms (entry_view c.args.spec.now c.args.entered.now) (checking_view c.args.checking) (nexts_view c.in_ok-nexts.nexts)
+    c.in_ok-nexts.ensures.next.follow (c.in_ok-nexts.ensures.plain keeps plain terms inside from)

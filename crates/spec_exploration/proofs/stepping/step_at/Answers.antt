@@ -8,6 +8,7 @@ use Rattle.plain_specs.specs.Contained.{is_told_by_itself}
 use Rattle.sym_paths.specs.View.{frames_view, path_view}
 use Rattle.checked_paths.specs.View.{entry_view, checking_view, nexts_view}
 use Rattle.spec_exploration.proofs.Inside.{told}
+use Rattle.spec_exploration.proofs.Plainness.{end_plain, row_plain}
 use Rattle.spec_exploration.proofs.Asking.{MayAskAll, leaving_asks, all_asked, own_asked}
 use Rattle.spec_exploration.proofs.Steps.{addable_there, ins_spelled, outs_spelled, of_some_kind, machine_stays}
 use Rattle.spec_exploration.proofs.stepping.step_at.Goals as goal
@@ -226,4 +227,40 @@ returns-in-Unfold-clause-origin g c contained inside =
 pub returns-in-LoopInvariant-clause-origin : goal.returns-in-LoopInvariant-clause-origin
 returns-in-LoopInvariant-clause-origin g c contained inside =
     let told = told (prog_view c.args.prog.now) (spec_view c.args.spec.now) contained (path_view c.args.checking.path) (numbered_command_view c.args.numbered.now) c.requires.at inside in
+    absurd (true≢false (sym (subst (λ k. IsTrue (is_told_by_itself k)) (ap command_view c.in-LoopInvariant.is) told)))
+
+pub returns-then-is_leaving-clause-plain : goal.returns-then-is_leaving-clause-plain
+returns-then-is_leaving-clause-plain g c keeps plain terms inside =
+    let p = prog_view c.args.prog.now in
+    let s = spec_view c.args.spec.now in
+    let n = numbered_command_view c.args.numbered.now in
+    IfOk-weaker c.leave.result _ _
+    (λ ns ends. end_plain p s plain g.M.SymMemory.plain (path_view c.args.checking.path) c.requires.early n c.requires.at inside (entry_view c.args.spec.now c.args.entered.now) refl terms (nexts_view ns) ends) (c.leave.ensures.plain keeps)
+
+pub returns-then-is_of_machine-clause-plain : goal.returns-then-is_of_machine-clause-plain
+returns-then-is_of_machine-clause-plain g c keeps plain terms inside =
+    let p = prog_view c.args.prog.now in
+    let s = spec_view c.args.spec.now in
+    let n = numbered_command_view c.args.numbered.now in
+    IfOk-weaker c.step_machine.result _ _
+    (λ ns leads. row_plain p s plain g.M.SymMemory.plain (path_view c.args.checking.path) c.requires.early n c.requires.at inside (nexts_view ns) leads) (c.step_machine.ensures.plain keeps)
+
+pub returns-in-AssertThat-clause-plain : goal.returns-in-AssertThat-clause-plain
+returns-in-AssertThat-clause-plain g c keeps plain terms inside =
+    let told = told (prog_view c.args.prog.now) (spec_view c.args.spec.now) plain.contained (path_view c.args.checking.path) (numbered_command_view c.args.numbered.now) c.requires.at inside in
+    absurd (true≢false (sym (subst (λ k. IsTrue (is_told_by_itself k)) (ap command_view c.in-AssertThat.is) told)))
+
+pub returns-in-Fold-clause-plain : goal.returns-in-Fold-clause-plain
+returns-in-Fold-clause-plain g c keeps plain terms inside =
+    let told = told (prog_view c.args.prog.now) (spec_view c.args.spec.now) plain.contained (path_view c.args.checking.path) (numbered_command_view c.args.numbered.now) c.requires.at inside in
+    absurd (true≢false (sym (subst (λ k. IsTrue (is_told_by_itself k)) (ap command_view c.in-Fold.is) told)))
+
+pub returns-in-Unfold-clause-plain : goal.returns-in-Unfold-clause-plain
+returns-in-Unfold-clause-plain g c keeps plain terms inside =
+    let told = told (prog_view c.args.prog.now) (spec_view c.args.spec.now) plain.contained (path_view c.args.checking.path) (numbered_command_view c.args.numbered.now) c.requires.at inside in
+    absurd (true≢false (sym (subst (λ k. IsTrue (is_told_by_itself k)) (ap command_view c.in-Unfold.is) told)))
+
+pub returns-in-LoopInvariant-clause-plain : goal.returns-in-LoopInvariant-clause-plain
+returns-in-LoopInvariant-clause-plain g c keeps plain terms inside =
+    let told = told (prog_view c.args.prog.now) (spec_view c.args.spec.now) plain.contained (path_view c.args.checking.path) (numbered_command_view c.args.numbered.now) c.requires.at inside in
     absurd (true≢false (sym (subst (λ k. IsTrue (is_told_by_itself k)) (ap command_view c.in-LoopInvariant.is) told)))

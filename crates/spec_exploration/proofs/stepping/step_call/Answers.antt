@@ -5,6 +5,7 @@ use Rattle.gil_syntax.specs.View.{numbered_command_view, spec_view}
 use Rattle.sym_paths.specs.View.{path_view}
 use Rattle.spec_exploration.proofs.Inside.{call_unspecified}
 use Rattle.checked_paths.specs.View.{checking_view, entry_view, nexts_view}
+use Rattle.spec_exploration.proofs.Plainness.{row_plain}
 use Rattle.spec_exploration.proofs.Asking.{call_asks, all_asked}
 use Rattle.spec_exploration.proofs.stepping.step_call.Goals as goal
 
@@ -34,3 +35,13 @@ returns-clause-asked g c =
     IfOk-weaker c.call_row.result _ _
     (λ s row. all_asked p (checking_view c.args.checking) L.memory L.actions g.M.SymMemory.stands (entry_view c.args.spec.now c.args.entered.now) n c.requires.at (call_asks n.command c.requires.call) (nexts_view s.nexts)
     (row n.command c.requires.call n c.requires.may c.requires.at refl (c.in_ok-here.ensures p c.requires.at))) c.call_row.ensures.exact
+
+pub returns-clause-plain : goal.returns-clause-plain
+returns-clause-plain g c keeps plain inside =
+    let p = prog_view c.args.prog.now in
+    let s = spec_view c.args.spec.now in
+    let n = numbered_command_view c.args.numbered.now in
+    let path = path_view c.args.checking.path in
+    IfOk-weaker c.call_row.result _ _
+    (λ st leads. row_plain p s plain g.M.SymMemory.plain path c.requires.early n c.requires.at inside (nexts_view st.nexts) leads)
+    (c.call_row.ensures.plain keeps (call_unspecified p s plain.contained path n c.requires.at c.requires.call inside))

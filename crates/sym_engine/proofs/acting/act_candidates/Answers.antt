@@ -7,6 +7,7 @@ use Rattle.pure_terms.specs.Meaning.{IsOver}
 use Rattle.pure_terms.specs.View.{terms_view}
 use Rattle.sym_engine.specs.Forms.{NeedWhatMatters}
 use Rattle.sym_engine.specs.Lawful.{AreLawful}
+use Rattle.sym_engine.specs.Narrow.{StayNarrow}
 use Rattle.sym_engine.specs.Plain.{StayPlain}
 use Rattle.sym_engine.specs.View.{candidates_view}
 use Rattle.sym_engine.proofs.Adding.{act_lawful}
@@ -15,6 +16,7 @@ use Rattle.sym_engine.proofs.Arguments.{seen_results, seen_none}
 use Rattle.sym_engine.proofs.Forms.{act_needs}
 use Rattle.sym_engine.proofs.Leaving.{if_ok_map}
 use Rattle.sym_engine.proofs.Staying.{ActsInPlain, act_plain}
+use Rattle.sym_engine.proofs.StayingNarrow.{ActsInNarrow, act_narrow}
 use Rattle.sym_engine.proofs.acting.act_candidates.Goals as goal
 use Rattle.sym_evaluation.specs.View.{all_cases_view, good_view}
 use Rattle.sym_evaluation.specs.Questions.{OnResult, AreEachOver}
@@ -118,4 +120,29 @@ returns-in_ok-branches-in-Some-clause-forms g c =
         subst (λ b. ActsAsEach path c.args.name.now c.args.here.now b good branches ds) c.fresh_for-takes.ensures each,
       ),
     ))))
+    c.add_each.ensures
+
+pub returns-in-None-clause-narrow : goal.returns-in-None-clause-narrow
+returns-in-None-clause-narrow g c =
+    let path = path_view c.args.path in
+    let es = exprs_view c.args.arguments.now in
+    let acts = ActsInNarrow g.M.SymMemory.stands g.M.SymMemory.terms g.M.SymMemory.depends g.M.SymMemory.plain path c.args.here.now true c.args.name.now c.args.action.now in
+    λ keeps. subst (StayNarrow g.M.SymMemory.terms path (pure_act c.args.name.now c.args.action.now (exprs_view c.args.arguments.now))) (append-nil (candidates_view c.in_ok-candidates.candidates))
+    (act_narrow g.M.SymMemory.stands g.M.SymMemory.terms g.M.SymMemory.depends g.M.SymMemory.plain path c.args.here.now true (all_cases_view c.in_ok-faults.field-0) (candidates_view c.in_ok-candidates.candidates) [] c.in_ok-candidates.ensures c.args.name.now c.args.action.now es
+    c.in_ok-faults.ensures.evaluated (seen_none terms_view acts c.in_ok-faults.field-0.good c.in-None.is))
+
+pub returns-in_ok-branches-in-Some-clause-narrow : goal.returns-in_ok-branches-in-Some-clause-narrow
+returns-in_ok-branches-in-Some-clause-narrow g c =
+    let path = path_view c.args.path in
+    let es = exprs_view c.args.arguments.now in
+    let good = good_view terms_view c.in-Some.good in
+    let branches = branches_view c.in_ok-branches-in-Some.branches in
+    let acts = ActsInNarrow g.M.SymMemory.stands g.M.SymMemory.terms g.M.SymMemory.depends g.M.SymMemory.plain path c.args.here.now c.fresh_for-takes.result c.args.name.now c.args.action.now in
+    λ keeps. if_ok_map
+    (λ cs. (ds : List (Candidate g.row.M.Denot)) × ((candidates_view cs ≡ candidates_view c.in_ok-candidates.candidates ++ ds) × ActsAsEach path c.args.name.now c.args.here.now c.fresh_for-takes.result good branches ds))
+    (λ cs. StayNarrow g.M.SymMemory.terms path (pure_act c.args.name.now c.args.action.now (exprs_view c.args.arguments.now)) (candidates_view cs)) c.add_each.result
+    (λ cs (ds, (is, each)).
+    subst (StayNarrow g.M.SymMemory.terms path (pure_act c.args.name.now c.args.action.now (exprs_view c.args.arguments.now))) (sym is)
+    (act_narrow g.M.SymMemory.stands g.M.SymMemory.terms g.M.SymMemory.depends g.M.SymMemory.plain path c.args.here.now c.fresh_for-takes.result (all_cases_view c.in_ok-faults.field-0) (candidates_view c.in_ok-candidates.candidates) ds c.in_ok-candidates.ensures c.args.name.now c.args.action.now es
+    c.in_ok-faults.ensures.evaluated (seen_results terms_view acts c.in_ok-faults.field-0.good c.in-Some.good ds c.in-Some.is (branches, (c.in_ok-branches-in-Some.ensures.narrow keeps, each)))))
     c.add_each.ensures

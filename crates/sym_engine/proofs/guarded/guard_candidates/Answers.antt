@@ -4,6 +4,7 @@ use Rattle.gil_syntax.specs.Pure.{ifgoto as pure_ifgoto}
 use Rattle.gil_syntax.specs.View.{expr_view}
 use Rattle.pure_terms.specs.View.{term_view}
 use Rattle.sym_engine.specs.Lawful.{AddsCopies, AreLawful}
+use Rattle.sym_engine.specs.Narrow.{StayNarrow}
 use Rattle.sym_engine.specs.Plain.{StayPlain}
 use Rattle.sym_engine.specs.View.{candidates_view}
 use Rattle.sym_engine.proofs.Adding.{guard_lawful, adds_none}
@@ -11,11 +12,13 @@ use Rattle.sym_engine.proofs.Arguments.{seen_none}
 use Rattle.sym_engine.proofs.Leaving.{if_ok_map}
 use Rattle.sym_engine.proofs.Simpler.{guard_evaluated, guard_fails}
 use Rattle.sym_engine.proofs.Staying.{guard_none, guard_some}
+use Rattle.sym_engine.proofs.StayingNarrow.{guard_none_narrow, guard_some_narrow}
 use Rattle.sym_engine.proofs.guarded.guard_candidates.Goals as goal
 use Rattle.sym_evaluation.specs.Plainly.{GuardsPlainly}
 use Rattle.sym_evaluation.proofs.GuardTerms.{plain_guard_stays}
 use Rattle.sym_evaluation.specs.View.{cases_view, faults_view, good_view, sides_view}
 use Rattle.sym_paths.specs.Moves.{running_store}
+use Rattle.sym_paths.specs.Valued.{IsEvaluated}
 use Rattle.sym_paths.specs.View.{path_view}
 use Rattle.sym_candidates.specs.Guards.{IsGuardEvaluated, Turns, turns}
 
@@ -62,4 +65,26 @@ returns-in_ok-sides-in-Some-clause-plain g c =
     (λ cs adds.
     guard_some g.M.SymMemory.stands g.M.SymMemory.terms g.M.SymMemory.depends g.M.SymMemory.plain path c.args.here.now e c.args.label.now faults good term sides (candidates_view c.in_ok-candidates.candidates) (candidates_view cs) c.in_ok-candidates.ensures adds answers
     (λ n plain. plain_guard_stays n good.result term plain c.in_ok-result-in-Some.ensures) c.in_ok-sides-in-Some.ensures.decided)
+    c.add_sides.ensures
+
+pub returns-in-None-clause-narrow : goal.returns-in-None-clause-narrow
+returns-in-None-clause-narrow g c =
+    guard_none_narrow g.M.SymMemory.stands g.M.SymMemory.terms g.M.SymMemory.depends g.M.SymMemory.plain (path_view c.args.path) c.args.here.now (expr_view c.args.expression.now) c.args.label.now (cases_view c.in_ok-faults.field-0) (candidates_view c.in_ok-candidates.candidates) c.in_ok-candidates.ensures c.in_ok-faults.ensures.evaluated
+
+pub returns-in_ok-sides-in-Some-clause-narrow : goal.returns-in_ok-sides-in-Some-clause-narrow
+returns-in_ok-sides-in-Some-clause-narrow g c =
+    let path = path_view c.args.path in
+    let e = expr_view c.args.expression.now in
+    let faults = faults_view c.in_ok-faults.field-0.faults in
+    let good = good_view term_view c.in-Some.good in
+    let term = term_view c.in_ok-result-in-Some.result in
+    let sides = sides_view c.in_ok-sides-in-Some.sides in
+    let evaluated : IsEvaluated (running_store path.stack) e (record { faults = faults; good = Some good }) =
+    subst (λ o. IsEvaluated (running_store path.stack) e (record { faults = faults; good = option_map (good_view term_view) o })) c.in-Some.is c.in_ok-faults.ensures.evaluated in
+    if_ok_map
+    (λ cs. AddsCopies g.M.SymMemory.stands g.M.SymMemory.terms g.M.SymMemory.depends g.M.SymMemory.plain (turns path c.args.label.now c.args.here.now (record good { result = term }) sides) (candidates_view c.in_ok-candidates.candidates) (candidates_view cs))
+    (λ cs. StayNarrow g.M.SymMemory.terms path (pure_ifgoto (expr_view c.args.expression.now) c.args.label.now) (candidates_view cs)) c.add_sides.result
+    (λ cs adds.
+    guard_some_narrow g.M.SymMemory.stands g.M.SymMemory.terms g.M.SymMemory.depends g.M.SymMemory.plain path c.args.here.now e c.args.label.now faults good term sides (candidates_view c.in_ok-candidates.candidates) (candidates_view cs) c.in_ok-candidates.ensures adds evaluated
+    c.in_ok-result-in-Some.ensures c.in_ok-sides-in-Some.ensures.origin)
     c.add_sides.ensures

@@ -16,6 +16,6 @@ returns c =
     let t = term_view c.args.term.now in
     subst (BindsTerm c.args.sorts.now x t bs) (sym c.where_met.ensures)
     (binds_term c.args.sorts.now x t bs (store_view c.set.new.self) (test_view c.in_ok-fits.fits) (test_view c.in_ok-test.test)
-    (record { says = c.in_ok-fits.ensures.says; over = c.in_ok-fits.ensures.names })
+    (record { says = c.in_ok-fits.ensures.says; over = c.in_ok-fits.ensures.names; decided = c.in_ok-fits.ensures.plain })
     (c.in_ok-test.ensures ∙ ap (also (test_view c.in_ok-fits.fits)) c.in_ok-same.ensures)
     (λ y. c.in_ok-set.ensures.ok y ∙ (λ i. if bytes_eq (c.in_ok-copy.ensures i) y then Some (c.in_ok-copy-2.ensures i) else term_at bs y)))

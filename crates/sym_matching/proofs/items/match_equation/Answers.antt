@@ -7,7 +7,9 @@ use Rattle.gil_values.specs.Pure.{boolean}
 use Rattle.sym_evaluation.specs.View.{store_view}
 use Rattle.sym_states.proofs.Values.{ok_to}
 use Rattle.sym_matching.specs.Parts.{Alone}
+use Rattle.sym_matching.specs.Plainly.{PureStaysPlain}
 use Rattle.sym_matching.specs.View.{stores_view}
+use Rattle.sym_matching.proofs.Deciding.{equation_plainly}
 use Rattle.sym_matching.proofs.ValueLaws.{equation_defines, equation_holds}
 use Rattle.sym_matching.proofs.items.match_equation.Goals as goal
 
@@ -15,15 +17,20 @@ pub returns-in-Some : goal.returns-in-Some
 returns-in-Some c =
     let bs = store_view c.args.store.now in
     let scope = c.args.scope.now in
-    ok_to c.define.result _ (λ x. Alone (match_pure scope (expr_view c.args.expression.now)) bs (stores_view x))
-    (λ x is. subst (λ (e : PureExpr). Alone (match_pure scope e) bs (stores_view x)) (sym c.requires.equation)
-    (equation_defines scope bs (stores_view x) (expr_view c.args.left.now) (expr_view c.args.right.now) c.in-Some.name.now (sym c.in-Some.ensures) is)) c.define.ensures
+    ok_to c.define.result _ (λ x. Alone (match_pure scope (expr_view c.args.expression.now)) bs (stores_view x) × PureStaysPlain (expr_view c.args.expression.now) bs (stores_view x))
+    (λ x is. subst (λ (e : PureExpr). Alone (match_pure scope e) bs (stores_view x) × PureStaysPlain e bs (stores_view x)) (sym c.requires.equation) (
+      equation_defines scope bs (stores_view x) (expr_view c.args.left.now) (expr_view c.args.right.now) c.in-Some.name.now (sym c.in-Some.ensures) is.0,
+      equation_plainly (expr_view c.args.left.now) (expr_view c.args.right.now) bs (stores_view x) is.1,
+    )) c.define.ensures
 
 pub returns-in-None : goal.returns-in-None
 returns-in-None c =
     let bs = store_view c.args.store.now in
     let scope = c.args.scope.now in
-    ok_to c.assume.result _ (λ x. Alone (match_pure scope (expr_view c.args.expression.now)) bs (stores_view x))
-    (λ x is. subst (λ (e : PureExpr). Alone (match_pure scope e) bs (stores_view x)) (sym c.requires.equation)
-    (equation_holds scope bs (stores_view x) (expr_view c.args.left.now) (expr_view c.args.right.now) (sym c.in-None.ensures)
-    (subst (λ (e : PureExpr). Alone (λ s. where_same (evaluate e s) (boolean true) s) bs (stores_view x)) c.requires.equation is))) c.assume.ensures
+    ok_to c.assume.result _ (λ x. Alone (match_pure scope (expr_view c.args.expression.now)) bs (stores_view x) × PureStaysPlain (expr_view c.args.expression.now) bs (stores_view x))
+    (λ x is. (
+      subst (λ (e : PureExpr). Alone (match_pure scope e) bs (stores_view x)) (sym c.requires.equation)
+          (equation_holds scope bs (stores_view x) (expr_view c.args.left.now) (expr_view c.args.right.now) (sym c.in-None.ensures)
+          (subst (λ (e : PureExpr). Alone (λ s. where_same (evaluate e s) (boolean true) s) bs (stores_view x)) c.requires.equation is.0)),
+      is.1,
+    )) c.assume.ensures

@@ -8,6 +8,7 @@ use Rattle.gil_values.specs.Pure.{boolean}
 use Rattle.sym_evaluation.specs.View.{store_view}
 use Rattle.sym_states.proofs.Values.{ok_to}
 use Rattle.sym_matching.specs.Parts.{Alone}
+use Rattle.sym_matching.specs.Plainly.{PureStaysPlain}
 use Rattle.sym_matching.specs.View.{stores_view}
 use Rattle.sym_matching.proofs.ValueLaws.{operator_holds, equal_operator}
 use Rattle.sym_matching.proofs.items.match_operands.Goals as goal
@@ -22,7 +23,10 @@ pub returns : goal.returns
 returns c =
     let bs = store_view c.args.store.now in
     let scope = c.args.scope.now in
-    ok_to c.assume.result _ (λ x. Alone (match_pure scope (expr_view c.args.expression.now)) bs (stores_view x))
-    (λ x is. subst (λ (e : PureExpr). Alone (match_pure scope e) bs (stores_view x)) (sym c.requires.operands)
-    (operator_holds scope bs (stores_view x) c.args.op (expr_view c.args.left.now) (expr_view c.args.right.now) (sym c.is_equality.ensures ∙ c.if-is_equality.false)
-    (subst (λ (e : PureExpr). Alone (λ s. where_same (evaluate e s) (boolean true) s) bs (stores_view x)) c.requires.operands is))) c.assume.ensures
+    ok_to c.assume.result _ (λ x. Alone (match_pure scope (expr_view c.args.expression.now)) bs (stores_view x) × PureStaysPlain (expr_view c.args.expression.now) bs (stores_view x))
+    (λ x is. (
+      subst (λ (e : PureExpr). Alone (match_pure scope e) bs (stores_view x)) (sym c.requires.operands)
+          (operator_holds scope bs (stores_view x) c.args.op (expr_view c.args.left.now) (expr_view c.args.right.now) (sym c.is_equality.ensures ∙ c.if-is_equality.false)
+          (subst (λ (e : PureExpr). Alone (λ s. where_same (evaluate e s) (boolean true) s) bs (stores_view x)) c.requires.operands is.0)),
+      is.1,
+    )) c.assume.ensures

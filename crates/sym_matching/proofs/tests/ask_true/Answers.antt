@@ -16,4 +16,4 @@ returns c =
     let sides = sides_view c.in_ok-when_true.field-0 in
     subst (λ (x : Alternatives). IsTestOf (λ w. same_value w (boolean true)) (term_view c.args.term.now) (record { when = sides.when_true; otherwise = x }))
     (sym (c.in_ok-otherwise-2.ensures ∙ ap (λ (x : Alternatives). x ++ side_alternatives sides.when_no_boolean) (c.in_ok-otherwise.ensures ∙ ap (λ (x : Alternatives). x ++ side_alternatives sides.when_false) c.never.ensures)))
-    (guard_is_test (term_view c.args.term.now) sides c.in_ok-when_true.ensures.sides c.in_ok-when_true.ensures.origin)
+    (guard_is_test (term_view c.args.term.now) sides c.in_ok-when_true.ensures.sides c.in_ok-when_true.ensures.origin c.in_ok-when_true.ensures.decided)

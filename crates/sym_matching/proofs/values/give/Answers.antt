@@ -16,5 +16,5 @@ returns c =
     let t = term_view c.args.term.now in
     subst (GivesTerm c.args.scope.now x t bs) (sym c.where_met.ensures)
     (gives_term c.args.scope.now x t bs (store_view c.set.new.self) (test_view c.in_ok-test.test) (sym c.is_declared.ensures ∙ c.if-not-is_declared.false)
-    (record { says = c.in_ok-test.ensures.says; over = c.in_ok-test.ensures.names })
+    (record { says = c.in_ok-test.ensures.says; over = c.in_ok-test.ensures.names; decided = c.in_ok-test.ensures.plain })
     (λ y. c.in_ok-set.ensures.ok y ∙ (λ i. if bytes_eq (c.in_ok-copy.ensures i) y then Some (c.in_ok-copy-2.ensures i) else term_at (c.in_ok-given.ensures i) y)))

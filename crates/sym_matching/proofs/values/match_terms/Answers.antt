@@ -5,7 +5,8 @@ use Rattle.pure_terms.specs.View.{term_view, terms_view}
 use Rattle.sym_evaluation.specs.View.{store_view}
 use Rattle.sym_evaluation.proofs.Sizes.{element_spellable}
 use Rattle.sym_states.proofs.Values.{ok_to}
-use Rattle.sym_matching.specs.Matching.{SplitsValues}
+use Rattle.sym_matching.specs.Matching.{SplitsValues, StoresStayOver}
+use Rattle.sym_matching.specs.Plainly.{TermsStayPlain}
 use Rattle.sym_matching.specs.Splitting.{sure}
 use Rattle.sym_matching.specs.View.{stores_view}
 use Rattle.sym_matching.proofs.Reading.{seen_length, seen_at, seen_next, below_other, taken_lengths}
@@ -18,7 +19,23 @@ returns-then-len-clause-says c =
     let es = exprs_view c.args.expressions.now in
     let ts = terms_view c.args.terms.now in
     ok_to c.no_store.result _ (λ x. SplitsValues c.args.scope.now es ts bs (stores_view x))
-    (λ x is. subst (SplitsValues c.args.scope.now es ts bs) (sym is) (terms_differ c.args.scope.now bs es ts (λ same. c.if-len.true (c.len.ensures ∙ same ∙ sym c.len-2.ensures))).says) c.no_store.ensures
+    (λ x is. subst (SplitsValues c.args.scope.now es ts bs) (sym is) (terms_differ c.args.scope.now bs es ts (λ same. c.if-len.true (c.len.ensures ∙ same ∙ sym c.len-2.ensures))).stores.says) c.no_store.ensures
+
+pub returns-then-len-clause-names : goal.returns-then-len-clause-names
+returns-then-len-clause-names c =
+    let bs = store_view c.args.store.now in
+    let es = exprs_view c.args.expressions.now in
+    let ts = terms_view c.args.terms.now in
+    ok_to c.no_store.result _ (λ x. StoresStayOver bs ts (stores_view x))
+    (λ x is. subst (StoresStayOver bs ts) (sym is) (terms_differ c.args.scope.now bs es ts (λ same. c.if-len.true (c.len.ensures ∙ same ∙ sym c.len-2.ensures))).stores.over) c.no_store.ensures
+
+pub returns-then-len-clause-plain : goal.returns-then-len-clause-plain
+returns-then-len-clause-plain c =
+    let bs = store_view c.args.store.now in
+    let es = exprs_view c.args.expressions.now in
+    let ts = terms_view c.args.terms.now in
+    ok_to c.no_store.result _ (λ x. TermsStayPlain es ts bs (stores_view x))
+    (λ x is. subst (TermsStayPlain es ts bs) (sym is) (terms_differ c.args.scope.now bs es ts (λ same. c.if-len.true (c.len.ensures ∙ same ∙ sym c.len-2.ensures))).plain) c.no_store.ensures
 
 pub loop-index-init : goal.loop-index-init
 loop-index-init c =
@@ -62,4 +79,32 @@ returns-clause-says c =
     let whole : MatchesTerms scope es ts bs (stores_view c.loop-index.split)
     = subst (λ xs. MatchesTerms scope xs ts bs (stores_view c.loop-index.split)) (take_all i es past)
     (subst (λ ys. MatchesTerms scope (take i es) ys bs (stores_view c.loop-index.split)) (take_all i ts (subst (λ n. n ≤ i) same past)) c.loop-index.invariant) in
-    whole.says
+    whole.stores.says
+
+pub returns-clause-names : goal.returns-clause-names
+returns-clause-names c =
+    let i = c.loop-index.index in
+    let scope = c.args.scope.now in
+    let bs = store_view c.args.store.now in
+    let es = exprs_view c.args.expressions.now in
+    let ts = terms_view c.args.terms.now in
+    let same : length es ≡ length ts = sym c.len.ensures ∙ c.if-len.false ∙ c.len-2.ensures in
+    let past : length es ≤ i = subst (λ n. n ≤ i) (seen_length expr_view c.as_slice-expression-items.result.now es c.as_slice-expression-items.ensures) c.loop-index-test.false in
+    let whole : MatchesTerms scope es ts bs (stores_view c.loop-index.split)
+    = subst (λ xs. MatchesTerms scope xs ts bs (stores_view c.loop-index.split)) (take_all i es past)
+    (subst (λ ys. MatchesTerms scope (take i es) ys bs (stores_view c.loop-index.split)) (take_all i ts (subst (λ n. n ≤ i) same past)) c.loop-index.invariant) in
+    whole.stores.over
+
+pub returns-clause-plain : goal.returns-clause-plain
+returns-clause-plain c =
+    let i = c.loop-index.index in
+    let scope = c.args.scope.now in
+    let bs = store_view c.args.store.now in
+    let es = exprs_view c.args.expressions.now in
+    let ts = terms_view c.args.terms.now in
+    let same : length es ≡ length ts = sym c.len.ensures ∙ c.if-len.false ∙ c.len-2.ensures in
+    let past : length es ≤ i = subst (λ n. n ≤ i) (seen_length expr_view c.as_slice-expression-items.result.now es c.as_slice-expression-items.ensures) c.loop-index-test.false in
+    let whole : MatchesTerms scope es ts bs (stores_view c.loop-index.split)
+    = subst (λ xs. MatchesTerms scope xs ts bs (stores_view c.loop-index.split)) (take_all i es past)
+    (subst (λ ys. MatchesTerms scope (take i es) ys bs (stores_view c.loop-index.split)) (take_all i ts (subst (λ n. n ≤ i) same past)) c.loop-index.invariant) in
+    whole.plain

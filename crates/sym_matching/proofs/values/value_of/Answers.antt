@@ -14,4 +14,4 @@ returns c =
     let e = expr_view c.args.expression.now in
     let cases = cases_view c.in_ok-faults.field-0 in
     subst (λ (x : Alternatives). AreValues bs e (record { found = cases.good; none = x })) (sym c.in_ok-conditions_of.ensures)
-    (values_from bs e cases c.in_ok-faults.ensures.cases c.in_ok-faults.ensures.origin c.in_ok-faults.ensures.names)
+    (values_from c.plain_expressions_ask_nothing.ensures bs e cases c.requires c.in_ok-faults.ensures.cases c.in_ok-faults.ensures.origin c.in_ok-faults.ensures.names)

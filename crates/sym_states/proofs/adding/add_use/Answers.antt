@@ -26,8 +26,8 @@ returns-in-Some g c =
     let s = state_view c.args.state in
     let a = arguments_view c.in-Some.arguments in
     let are : AreArguments bs u a = subst (λ o. AreArgumentsIfAny bs u (option_map arguments_view o)) c.in-Some.is c.in_ok-arguments.ensures in
-    ok_to c.add_predicate.result _ (λ p. AddsToEach g.M.Local.LocalMemory.memory g.M.SymMemory.stands g.M.SymMemory.terms g.M.SymMemory.kept g.M.SymMemory.keeps_plain bs (uses u) (s ∷ []) (production_view p))
-    (λ p is. adds_use g.M.Local.LocalMemory.memory g.M.SymMemory.stands g.M.SymMemory.terms g.M.SymMemory.kept g.M.SymMemory.keeps_plain bs u s a are (production_view p) (core_of u.pred) refl is) c.add_predicate.ensures
+    ok_to c.add_predicate.result _ (λ p. AddsToEach g.M.Local.LocalMemory.memory g.M.SymMemory.stands g.M.SymMemory.terms g.M.SymMemory.kept g.M.SymMemory.keeps_plain g.M.SymMemory.keeps_narrow bs (uses u) (s ∷ []) (production_view p))
+    (λ p is. adds_use g.M.Local.LocalMemory.memory g.M.SymMemory.stands g.M.SymMemory.terms g.M.SymMemory.kept g.M.SymMemory.keeps_plain g.M.SymMemory.keeps_narrow bs u s a are (production_view p) (core_of u.pred) refl is) c.add_predicate.ensures
 
 pub returns-in-None : goal.returns-in-None
 returns-in-None g c =
@@ -35,4 +35,4 @@ returns-in-None g c =
     let u = pred_use_view c.args.used.now in
     let s = state_view c.args.state in
     let none : HaveNoValues bs u = subst (λ o. AreArgumentsIfAny bs u (option_map arguments_view o)) c.in-None.is c.in_ok-arguments.ensures in
-    subst (AddsToEach g.M.Local.LocalMemory.memory g.M.SymMemory.stands g.M.SymMemory.terms g.M.SymMemory.kept g.M.SymMemory.keeps_plain bs (uses u) (s ∷ [])) (sym c.new.ensures) (never_valued g.M.Local.LocalMemory.memory g.M.SymMemory.stands g.M.SymMemory.terms g.M.SymMemory.kept g.M.SymMemory.keeps_plain bs u s none)
+    subst (AddsToEach g.M.Local.LocalMemory.memory g.M.SymMemory.stands g.M.SymMemory.terms g.M.SymMemory.kept g.M.SymMemory.keeps_plain g.M.SymMemory.keeps_narrow bs (uses u) (s ∷ [])) (sym c.new.ensures) (never_valued g.M.Local.LocalMemory.memory g.M.SymMemory.stands g.M.SymMemory.terms g.M.SymMemory.kept g.M.SymMemory.keeps_plain g.M.SymMemory.keeps_narrow bs u s none)

@@ -23,8 +23,8 @@ returns-in-None g c =
     let bs = store_view c.args.store.now in
     let e = expr_view c.args.expression.now in
     let s = state_view c.args.state in
-    subst (AddsToEach g.M.Local.LocalMemory.memory g.M.SymMemory.stands g.M.SymMemory.terms g.M.SymMemory.kept g.M.SymMemory.keeps_plain bs (pure e) (s ∷ [])) (sym c.new.ensures)
-    (never_good g.M.Local.LocalMemory.memory g.M.SymMemory.stands g.M.SymMemory.terms g.M.SymMemory.kept g.M.SymMemory.keeps_plain bs e (cases_view c.in_ok-good.field-0) c.in_ok-good.ensures.cases c.in_ok-good.ensures.origin c.in_ok-good.ensures.names (form_asks c.plain_expressions_ask_nothing.ensures bs e (cases_view c.in_ok-good.field-0) c.in_ok-good.ensures.cases c.in_ok-good.ensures.origin c.requires) s
+    subst (AddsToEach g.M.Local.LocalMemory.memory g.M.SymMemory.stands g.M.SymMemory.terms g.M.SymMemory.kept g.M.SymMemory.keeps_plain g.M.SymMemory.keeps_narrow bs (pure e) (s ∷ [])) (sym c.new.ensures)
+    (never_good g.M.Local.LocalMemory.memory g.M.SymMemory.stands g.M.SymMemory.terms g.M.SymMemory.kept g.M.SymMemory.keeps_plain g.M.SymMemory.keeps_narrow bs e (cases_view c.in_ok-good.field-0) c.in_ok-good.ensures.cases c.in_ok-good.ensures.origin c.in_ok-good.ensures.names (form_asks c.plain_expressions_ask_nothing.ensures bs e (cases_view c.in_ok-good.field-0) c.in_ok-good.ensures.cases c.in_ok-good.ensures.origin c.requires) s
     (ap (option_map (good_view term_view)) c.in-None.is))
 
 pub returns-in_ok-sides-in-Some : goal.returns-in_ok-sides-in-Some
@@ -33,8 +33,8 @@ returns-in_ok-sides-in-Some g c =
     let e = expr_view c.args.expression.now in
     let s = state_view c.args.state in
     let sides = sides_view c.in_ok-sides-in-Some.sides in
-    ok_to c.take_side.result _ (λ p. AddsToEach g.M.Local.LocalMemory.memory g.M.SymMemory.stands g.M.SymMemory.terms g.M.SymMemory.kept g.M.SymMemory.keeps_plain bs (pure e) (s ∷ []) (production_view p))
-    (λ p is. subst (AddsToEach g.M.Local.LocalMemory.memory g.M.SymMemory.stands g.M.SymMemory.terms g.M.SymMemory.kept g.M.SymMemory.keeps_plain bs (pure e) (s ∷ [])) (sym is)
-    (assumes_where g.M.Local.LocalMemory.memory g.M.SymMemory.stands g.M.SymMemory.terms g.M.SymMemory.kept g.M.SymMemory.keeps_plain bs e (cases_view c.in_ok-good.field-0) c.in_ok-good.ensures.cases c.in_ok-good.ensures.origin c.in_ok-good.ensures.names (form_asks c.plain_expressions_ask_nothing.ensures bs e (cases_view c.in_ok-good.field-0) c.in_ok-good.ensures.cases c.in_ok-good.ensures.origin c.requires) s
+    ok_to c.take_side.result _ (λ p. AddsToEach g.M.Local.LocalMemory.memory g.M.SymMemory.stands g.M.SymMemory.terms g.M.SymMemory.kept g.M.SymMemory.keeps_plain g.M.SymMemory.keeps_narrow bs (pure e) (s ∷ []) (production_view p))
+    (λ p is. subst (AddsToEach g.M.Local.LocalMemory.memory g.M.SymMemory.stands g.M.SymMemory.terms g.M.SymMemory.kept g.M.SymMemory.keeps_plain g.M.SymMemory.keeps_narrow bs (pure e) (s ∷ [])) (sym is)
+    (assumes_where g.M.Local.LocalMemory.memory g.M.SymMemory.stands g.M.SymMemory.terms g.M.SymMemory.kept g.M.SymMemory.keeps_plain g.M.SymMemory.keeps_narrow bs e (cases_view c.in_ok-good.field-0) c.in_ok-good.ensures.cases c.in_ok-good.ensures.origin c.in_ok-good.ensures.names (form_asks c.plain_expressions_ask_nothing.ensures bs e (cases_view c.in_ok-good.field-0) c.in_ok-good.ensures.cases c.in_ok-good.ensures.origin c.requires) s
     (good_view term_view c.in-Some.good) (ap (option_map (good_view term_view)) c.in-Some.is) sides c.in_ok-sides-in-Some.ensures.sides c.in_ok-sides-in-Some.ensures.origin c.in_ok-sides-in-Some.ensures.decided sides.when_true refl))
     c.take_side.ensures

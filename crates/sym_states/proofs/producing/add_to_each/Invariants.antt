@@ -6,4 +6,4 @@ use Rattle.sym_states.proofs.producing.add_to_each.Given as goal
 
 abbrev pub invariant-loop-state : goal.invariant-loop-state
 invariant-loop-state g l =
-    AddsToEach g.M.Local.LocalMemory.memory g.M.SymMemory.stands g.M.SymMemory.terms g.M.SymMemory.kept g.M.SymMemory.keeps_plain (store_view l.store) (item_view l.item) (states_view l.yielded) (production_view l.production)
+    AddsToEach g.M.Local.LocalMemory.memory g.M.SymMemory.stands g.M.SymMemory.terms g.M.SymMemory.kept g.M.SymMemory.keeps_plain g.M.SymMemory.keeps_narrow (store_view l.store) (item_view l.item) (states_view l.yielded) (production_view l.production)

@@ -14,27 +14,27 @@ use Rattle.sym_step.proofs.stepping.step_at.Goals as goal
 
 pub returns-in-Alone : goal.returns-in-Alone
 returns-in-Alone g c =
-    let stepped = subst (λ n. IsNext (prog_view c.args.prog.now) g.M.Local.LocalMemory.actions g.M.SymMemory.stands g.M.SymMemory.terms g.M.SymMemory.asked g.M.SymMemory.depends g.M.SymMemory.plain g.M.SymMemory.keeps_plain (path_view c.args.path) c.in_ok-here.here (command_view c.args.numbered.now.command) (next_view n))
+    let stepped = subst (λ n. IsNext (prog_view c.args.prog.now) g.M.Local.LocalMemory.actions g.M.SymMemory.stands g.M.SymMemory.terms g.M.SymMemory.asked g.M.SymMemory.depends g.M.SymMemory.plain g.M.SymMemory.keeps_plain g.M.SymMemory.keeps_narrow (path_view c.args.path) c.in_ok-here.here (command_view c.args.numbered.now.command) (next_view n))
     c.in-Alone.is c.in_ok-path.ensures in
     IfOk-weaker c.alone.result (λ ps. paths_view ps ≡ path_view c.in-Alone.path ∷ [])
-    (λ ps. AreStepped (prog_view c.args.prog.now) g.M.Local.LocalMemory.actions g.M.SymMemory.stands g.M.SymMemory.terms g.M.SymMemory.asked g.M.SymMemory.depends g.M.SymMemory.plain g.M.SymMemory.keeps_plain (path_view c.args.path) (paths_view ps))
-    (λ ps same. subst (AreStepped (prog_view c.args.prog.now) g.M.Local.LocalMemory.actions g.M.SymMemory.stands g.M.SymMemory.terms g.M.SymMemory.asked g.M.SymMemory.depends g.M.SymMemory.plain g.M.SymMemory.keeps_plain (path_view c.args.path)) (sym same) stepped)
+    (λ ps. AreStepped (prog_view c.args.prog.now) g.M.Local.LocalMemory.actions g.M.SymMemory.stands g.M.SymMemory.terms g.M.SymMemory.asked g.M.SymMemory.depends g.M.SymMemory.plain g.M.SymMemory.keeps_plain g.M.SymMemory.keeps_narrow (path_view c.args.path) (paths_view ps))
+    (λ ps same. subst (AreStepped (prog_view c.args.prog.now) g.M.Local.LocalMemory.actions g.M.SymMemory.stands g.M.SymMemory.terms g.M.SymMemory.asked g.M.SymMemory.depends g.M.SymMemory.plain g.M.SymMemory.keeps_plain g.M.SymMemory.keeps_narrow (path_view c.args.path)) (sym same) stepped)
     c.alone.ensures
 
 pub settle-requires : goal.settle-requires
 settle-requires g c =
-    let next = subst (λ n. IsNext (prog_view c.args.prog.now) g.M.Local.LocalMemory.actions g.M.SymMemory.stands g.M.SymMemory.terms g.M.SymMemory.asked g.M.SymMemory.depends g.M.SymMemory.plain g.M.SymMemory.keeps_plain (path_view c.args.path) c.in_ok-here.here (command_view c.args.numbered.now.command) (next_view n))
+    let next = subst (λ n. IsNext (prog_view c.args.prog.now) g.M.Local.LocalMemory.actions g.M.SymMemory.stands g.M.SymMemory.terms g.M.SymMemory.asked g.M.SymMemory.depends g.M.SymMemory.plain g.M.SymMemory.keeps_plain g.M.SymMemory.keeps_narrow (path_view c.args.path) c.in_ok-here.here (command_view c.args.numbered.now.command) (next_view n))
     c.in-Asked.is c.in_ok-path.ensures in
     asked_over (prog_view c.args.prog.now) (path_view c.args.path) g.M.Local.LocalMemory.actions g.M.SymMemory.stands g.M.SymMemory.terms g.M.SymMemory.asked (numbered_command_view c.args.numbered.now) c.in_ok-here.here (candidates_view c.in-Asked.candidates)
     c.requires.may.over c.requires.may.no_end c.requires.at c.in_ok-here.ensures next.0
 
 pub returns : goal.returns
 returns g c =
-    let next = subst (λ n. IsNext (prog_view c.args.prog.now) g.M.Local.LocalMemory.actions g.M.SymMemory.stands g.M.SymMemory.terms g.M.SymMemory.asked g.M.SymMemory.depends g.M.SymMemory.plain g.M.SymMemory.keeps_plain (path_view c.args.path) c.in_ok-here.here (command_view c.args.numbered.now.command) (next_view n))
+    let next = subst (λ n. IsNext (prog_view c.args.prog.now) g.M.Local.LocalMemory.actions g.M.SymMemory.stands g.M.SymMemory.terms g.M.SymMemory.asked g.M.SymMemory.depends g.M.SymMemory.plain g.M.SymMemory.keeps_plain g.M.SymMemory.keeps_narrow (path_view c.args.path) c.in_ok-here.here (command_view c.args.numbered.now.command) (next_view n))
     c.in-Asked.is c.in_ok-path.ensures in
     let counted = ap length (sym c.atoms.ensures) ∙ length-map c.atoms.result.now atom_view ∙ sym c.len-old.ensures in
     IfOk-weaker c.settle.result (λ ps. SettledSoFar c.len-old.result c.in_ok-here.here (candidates_view c.in-Asked.candidates) (paths_view ps))
-    (λ ps. AreStepped (prog_view c.args.prog.now) g.M.Local.LocalMemory.actions g.M.SymMemory.stands g.M.SymMemory.terms g.M.SymMemory.asked g.M.SymMemory.depends g.M.SymMemory.plain g.M.SymMemory.keeps_plain (path_view c.args.path) (paths_view ps))
-    (λ ps settled. asked_steps (prog_view c.args.prog.now) g.M.Local.LocalMemory.actions g.M.SymMemory.stands g.M.SymMemory.terms g.M.SymMemory.asked g.M.SymMemory.depends g.M.SymMemory.plain g.M.SymMemory.keeps_plain (path_view c.args.path) (numbered_command_view c.args.numbered.now) c.in_ok-here.here
+    (λ ps. AreStepped (prog_view c.args.prog.now) g.M.Local.LocalMemory.actions g.M.SymMemory.stands g.M.SymMemory.terms g.M.SymMemory.asked g.M.SymMemory.depends g.M.SymMemory.plain g.M.SymMemory.keeps_plain g.M.SymMemory.keeps_narrow (path_view c.args.path) (paths_view ps))
+    (λ ps settled. asked_steps (prog_view c.args.prog.now) g.M.Local.LocalMemory.actions g.M.SymMemory.stands g.M.SymMemory.terms g.M.SymMemory.asked g.M.SymMemory.depends g.M.SymMemory.plain g.M.SymMemory.keeps_plain g.M.SymMemory.keeps_narrow (path_view c.args.path) (numbered_command_view c.args.numbered.now) c.in_ok-here.here
     (candidates_view c.in-Asked.candidates) c.len-old.result (paths_view ps) c.requires.may c.requires.at c.in_ok-here.ensures c.args.prog.now.valid next counted settled)
     c.settle.ensures
