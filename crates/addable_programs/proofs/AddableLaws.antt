@@ -18,10 +18,10 @@ use Rattle.gil_syntax.specs.Pure.{PureExpr, literal, name, logical, list_of, una
 use Rattle.gil_syntax.specs.Subexpressions.{subexpressions, own_literals, literals_of, exprs_of_item, uses_of_item, exprs_of, uses_of, assertions_of}
 use Rattle.gil_syntax.specs.Valid.{is_among, param_names, Signature, core_predicates, signature_of, predicates_of, is_named, ProgramItem, a_proc, a_spec, a_pred, items_of, Piece, piece_of_assertion, piece_of_command, pieces_of, logicals_of_spec, fits, misuses, some_misuses, has_other_params, differs_from, has_unknown_name, has_fault, has_fault_if_there, fault_at, IsValid}
 use Rattle.gil_syntax.specs.WellMade.{is_spellable, is_well_made_node, is_well_made_expr, is_well_made_assertion, is_well_made_command, has_well_made_names, is_well_made_proc, is_well_made_spec, is_well_made_pred, is_well_made, are_program_names, are_logical, is_program_name}
-use Rattle.gil_program.specs.ByName.{find_signature}
-use Rattle.gil_program.proofs.CheckLemmas.{distinct}
-use Rattle.gil_program.proofs.ItemLemmas.{proc_stands, spec_stands, pred_stands}
-use Rattle.gil_program.proofs.PieceLemmas.{misuses-found}
+use Rattle.gil_syntax.specs.ByName.{find_signature}
+use Rattle.gil_syntax.proofs.CheckLemmas.{distinct}
+use Rattle.gil_syntax.proofs.ItemLemmas.{proc_stands, spec_stands, pred_stands}
+use Rattle.gil_syntax.proofs.PieceLemmas.{misuses-found}
 use Rattle.mem_model.specs.declared.cores.Core.{Core}
 use Rattle.mem_model.specs.declared.cores.Core.TheVariants.{Prop, Cell, Shape, Bound, Dom, Proto, Gone}
 use Rattle.mem_model.specs.declared.keys.MemoryName.{MemoryName}

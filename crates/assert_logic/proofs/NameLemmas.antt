@@ -10,7 +10,7 @@ use Rattle.gil_syntax.specs.Pure.{PureExpr, binary_of, from_list}
 use Rattle.gil_syntax.specs.Subexpressions.{subexpressions, subexpressions_of_all, own_names}
 use Rattle.gil_syntax.specs.Valid.{is_among}
 use Rattle.gil_syntax.specs.View.{expr_view, exprs_view}
-use Rattle.gil_program.proofs.ExpressionLemmas.{expr_view-List}
+use Rattle.gil_syntax.proofs.ExpressionLemmas.{expr_view-List}
 use Rattle.assert_logic.specs.Names.{Known, knows_all, is_other}
 
 and_assoc : (a b c : Bool) → ((a && b) && c) ≡ (a && (b && c))

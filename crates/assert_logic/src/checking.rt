@@ -3,7 +3,7 @@ ghost use Rattle.std.specs.Prelude.{◌≡◌, ◌<◌, ℕ, None, Some, MatchOp
 ghost use Rattle.std.specs.Option.{option_and_then, option_map};
 ghost use Rattle.gil_syntax.specs.Programs.{find_spec};
 ghost use Rattle.gil_syntax.specs.View.{spec_view, pred_def_view, command_view, numbered_command_view, assertion_view};
-ghost use Rattle.gil_program.specs.Program.{prog_view};
+ghost use Rattle.gil_syntax.specs.Program.{prog_view};
 ghost use Rattle.assert_logic.specs.First.{IsFirst};
 ghost use Rattle.assert_logic.specs.Modes as modes;
 ghost use Rattle.assert_logic.specs.Modes.{HasModes, IsNamedModeFault};
@@ -11,8 +11,7 @@ ghost use Rattle.assert_logic.specs.ModesView.{scope_view};
 
 use crate::reading::{assertion_fault, given_fault, knows_params};
 use crate::scopes::Scope;
-use gil_program::Prog;
-use gil_syntax::{Assertion, Assertions, Command, PredDef, Proc, Spec, Specs};
+use gil_syntax::{Assertion, Assertions, Command, PredDef, Proc, Prog, Spec, Specs};
 use mem_model::MemoryName;
 
 /// What is wrong with an item. Of two faults of one item the lower kind is named.

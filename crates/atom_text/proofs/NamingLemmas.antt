@@ -7,7 +7,7 @@ use Rattle.std.specs.HashMap.{HashMap}
 use Rattle.std.specs.Option.{option_map}
 use Rattle.std.specs.Str.{bytes_eq}
 use denote.Ref.{Bor}
-use Rattle.gil_program.proofs.NameLemmas.{same_text, bytes_eq-refl}
+use Rattle.gil_syntax.proofs.NameLemmas.{same_text, bytes_eq-refl}
 use Rattle.pure_terms.specs.declared.variables.Var.{Var}
 use Rattle.atom_text.specs.declared.sources.Declaration.{Declaration}
 use Rattle.atom_text.specs.Naming.{IsDistinct}

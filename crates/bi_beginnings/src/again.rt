@@ -22,8 +22,7 @@ use mem_model::{Core, MemoryName};
 use pure_terms::{Atom, Atoms, Sort, Term, Terms, VarTable};
 use sequence::Sequence;
 use std::alloc::{AllocError, Global};
-use sym_conditions::copy_conditions;
-use sym_model::{CoreUse, Fix, Fixes, ListedMemory, Sorts, SymKey, SymSub};
+use sym_model::{CoreUse, Fix, Fixes, ListedMemory, Sorts, SymKey, SymSub, copy_conditions};
 use sym_paths::{Ended, copy_place};
 
 /// What comes of a path that missed a key.

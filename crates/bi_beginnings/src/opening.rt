@@ -2,7 +2,7 @@
 ghost use Rattle.std.specs.Prelude.{◌≡◌, ◌++◌, ℕ, ◌≤◌, length, map, false, Some, IsSome, IfOk, IfSome, IsTrue};
 ghost use Rattle.std.specs.List.{list_all, list_any};
 ghost use Rattle.std.specs.Option.{option_or};
-ghost use Rattle.gil_program.specs.Program.{prog_view};
+ghost use Rattle.gil_syntax.specs.Program.{prog_view};
 ghost use Rattle.gil_syntax.specs.Programs.{find_proc};
 ghost use Rattle.gil_syntax.specs.Valid.{has_twice};
 ghost use Rattle.gil_syntax.specs.View.{proc_view};
@@ -38,17 +38,15 @@ ghost use Rattle.bi_beginnings.specs.View.{beginning_view};
 
 use crate::beginnings::{Beginning, copy_choices, copy_table, extended, sorts_of_params};
 use assertion_terms::{assertion_of, names_of_table};
-use gil_program::Prog;
-use gil_syntax::{Proc, Texts};
+use gil_syntax::{Proc, Prog, Texts};
 use gil_values::Text;
 use pure_terms::{Atom, Atoms, Decider, Query, Reason, Term, Terms, Var, VarTable};
 use sequence::Sequence;
 use std::alloc::{AllocError, Global};
 use std::mem::replace;
-use sym_asking::{Satisfiability, ask};
 use sym_evaluation::SymStore;
 use sym_model::{ListedMemory, PathCond};
-use sym_paths::{Path, Paths, copy_place};
+use sym_paths::{Path, Paths, Satisfiability, ask, copy_place};
 use sym_states::{SymState, SymStates, produce_items};
 
 /// The paths on which the runs of a beginning begin, and the first list of conditions of which the decider doesn't know whether they

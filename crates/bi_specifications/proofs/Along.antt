@@ -19,10 +19,10 @@ use Rattle.pure_terms.specs.declared.variables.Sort.{Sort}
 use Rattle.pure_terms.specs.Fragment.{has_fragment_form, names_sort}
 use Rattle.pure_terms.specs.Meaning.{all_true, IsProper, IsOver, Satisfies}
 use Rattle.pure_terms.specs.Pure.{PureTerm, term_of}
-use Rattle.sym_explore.specs.Exploring.{IsFrom, cut_off, IsEndedFrom}
-use Rattle.sym_explore.specs.Laws.{IsBeside, TrailsKeep, TrailsReplay}
-use Rattle.sym_explore.specs.Runs.{StandsAfter}
-use Rattle.sym_explore.proofs.Kept.{trails_keep, trails_replay, ends_of_runs}
+use Rattle.sym_step.specs.Exploring.{IsFrom, cut_off, IsEndedFrom}
+use Rattle.sym_step.specs.ExplorationLaws.{IsBeside, TrailsKeep, TrailsReplay}
+use Rattle.sym_step.specs.Runs.{StandsAfter}
+use Rattle.sym_step.proofs.Kept.{trails_keep, trails_replay, ends_of_runs}
 use Rattle.sym_model.specs.Lists.{Each}
 use Rattle.sym_model.specs.Terms.{StateTerms}
 use Rattle.sym_paths.specs.Meaning.{Stands, IsEnding}

@@ -37,7 +37,7 @@ use Rattle.sym_evaluation.specs.Meaning.{HaveValues}
 use Rattle.sym_model.specs.Listing.{AreUnion}
 use Rattle.sym_model.specs.Terms.{StateTerms}
 use Rattle.sym_model.proofs.ListLaws.{same_some, not_none, each_to, each_by_place}
-use Rattle.sym_naming.proofs.AddedNames.{added_known}
+use Rattle.sym_states.proofs.AddedNames.{added_known}
 use Rattle.sym_paths.specs.Meaning.{IsOverTable}
 use Rattle.sym_paths.specs.Pure.{PurePath}
 use Rattle.assertion_terms.specs.Laws.{NamesValues}

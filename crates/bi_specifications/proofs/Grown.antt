@@ -11,9 +11,9 @@ use Rattle.pure_terms.specs.declared.variables.Sort.{Sort}
 use Rattle.pure_terms.specs.Kinds.{same_sort}
 use Rattle.pure_terms.specs.Meaning.{Satisfies}
 use Rattle.pure_terms.specs.Pure.{PureTerm, variable, PureAtom}
-use Rattle.sym_explore.specs.Exploring.{cut_off, IsEndedFrom}
-use Rattle.sym_explore.specs.Trails.{IsTrail}
-use Rattle.sym_explore.proofs.Kept.{trails_keep}
+use Rattle.sym_step.specs.Exploring.{cut_off, IsEndedFrom}
+use Rattle.sym_step.specs.Trails.{IsTrail}
+use Rattle.sym_step.proofs.Kept.{trails_keep}
 use Rattle.sym_model.specs.Terms.{StateTerms}
 use Rattle.sym_paths.specs.Meaning.{IsOverTable}
 use Rattle.sym_paths.specs.Pure.{PurePath}

@@ -33,7 +33,7 @@ use Rattle.pure_terms.specs.Kinds.{has_sort}
 use Rattle.pure_terms.specs.Meaning.{all_true, truth, IsProper, Satisfies}
 use Rattle.pure_terms.specs.Pure.{PureTerm, PureAtom}
 use Rattle.sym_evaluation.specs.Meaning.{HaveValues}
-use Rattle.sym_explore.proofs.Following.{proper_part}
+use Rattle.sym_step.proofs.ExplorationSteps.{proper_part}
 use Rattle.sym_model.specs.Laws.{IsMeaning, ComesFrom}
 use Rattle.sym_model.specs.Lists.{OneOf}
 use Rattle.sym_model.specs.Terms.{StateTerms, all_of}

@@ -15,7 +15,7 @@ use Rattle.inferred_specs.specs.Inferred.{Returns, Cuts, PureFound}
 use Rattle.pure_terms.specs.Meaning.{Satisfies}
 use Rattle.pure_terms.specs.Pure.{PureTerm}
 use Rattle.sym_evaluation.specs.Meaning.{HaveValues}
-use Rattle.sym_explore.specs.Exploring.{IsEndedFrom}
+use Rattle.sym_step.specs.Exploring.{IsEndedFrom}
 use Rattle.sym_model.specs.Cores.{TakesBoth}
 use Rattle.sym_model.specs.Listing.{AreUnion}
 use Rattle.sym_model.specs.Lists.{Each}

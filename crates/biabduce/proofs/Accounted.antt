@@ -29,12 +29,12 @@ use Rattle.pure_terms.specs.declared.variables.Sort.{Sort}
 use Rattle.pure_terms.specs.Meaning.{Satisfies}
 use Rattle.pure_terms.specs.Pure.{PureTerm}
 use Rattle.sym_evaluation.specs.Meaning.{HaveValues}
-use Rattle.sym_explore.specs.Exploring.{IsFrom, cut_off, IsEndedFrom}
-use Rattle.sym_explore.specs.Laws.{IsBeside}
-use Rattle.sym_explore.specs.Runs.{EndsAfter, StandsAfter, AccountsFor}
-use Rattle.sym_explore.proofs.Exploring.{accounts_first}
-use Rattle.sym_explore.specs.Narrow.{IsAtNarrow, IsNarrowEndedFrom}
-use Rattle.sym_explore.proofs.Kept.{trails_keep, trails_may_end_before, trails_replay}
+use Rattle.sym_step.specs.Exploring.{IsFrom, cut_off, IsEndedFrom}
+use Rattle.sym_step.specs.ExplorationLaws.{IsBeside}
+use Rattle.sym_step.specs.Runs.{EndsAfter, StandsAfter, AccountsFor}
+use Rattle.sym_step.proofs.Exploring.{accounts_first}
+use Rattle.sym_step.specs.Narrow.{IsAtNarrow, IsNarrowEndedFrom}
+use Rattle.sym_step.proofs.Kept.{trails_keep, trails_may_end_before, trails_replay}
 use Rattle.sym_model.specs.Lists.{Each}
 use Rattle.sym_model.specs.Meaning.{key_value}
 use Rattle.sym_model.specs.Pure.{PureKey}

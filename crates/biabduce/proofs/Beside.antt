@@ -28,7 +28,7 @@ use Rattle.mem_model.proofs.Compatible.{first_part}
 use Rattle.inferred_specs.specs.Inferred.{IsFinish, Finishes, IsCutOff}
 use Rattle.runs_beside.specs.Laws.{StandsBeside}
 use Rattle.runs_beside.proofs.Runs.{states_are_local}
-use Rattle.sym_explore.proofs.Kept.{ends_of_runs}
+use Rattle.sym_step.proofs.Kept.{ends_of_runs}
 use Rattle.sym_model.specs.Fixing.{MissesAndIsDone}
 
 -- ---- ends

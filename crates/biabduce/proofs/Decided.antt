@@ -33,13 +33,13 @@ use Rattle.pure_terms.specs.Pure.{PureTerm, PureAtom, term_of, variables}
 use Rattle.pure_terms.specs.View.{atoms_view}
 use Rattle.pure_terms.proofs.VariableLaws.{stay_when_tables_grow}
 use Rattle.sym_evaluation.specs.Meaning.{HaveValues}
-use Rattle.sym_explore.specs.Exploring.{IsFrom, IsEndedFrom}
-use Rattle.sym_explore.specs.Laws.{IsBeside}
-use Rattle.sym_explore.specs.Plain.{IsAtSimple, grown}
-use Rattle.sym_explore.specs.Runs.{EndsAfter, StandsAfter}
-use Rattle.sym_explore.specs.Trails.{IsTrail}
-use Rattle.sym_explore.proofs.Kept.{trails_keep, trails_replay}
-use Rattle.sym_explore.proofs.Plain.{trails_stay_plain}
+use Rattle.sym_step.specs.Exploring.{IsFrom, IsEndedFrom}
+use Rattle.sym_step.specs.ExplorationLaws.{IsBeside}
+use Rattle.sym_step.specs.Plain.{IsAtSimple, grown}
+use Rattle.sym_step.specs.Runs.{EndsAfter, StandsAfter}
+use Rattle.sym_step.specs.Trails.{IsTrail}
+use Rattle.sym_step.proofs.Kept.{trails_keep, trails_replay}
+use Rattle.sym_step.proofs.Plain.{trails_stay_plain}
 use Rattle.sym_model.specs.Laws.{IsPlainWithin, IsDecidedWithin}
 use Rattle.sym_model.specs.Lists.{Each}
 use Rattle.sym_model.specs.Pure.{PureKey}

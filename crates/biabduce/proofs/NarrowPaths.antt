@@ -28,11 +28,11 @@ use Rattle.pure_terms.proofs.KindLaws.{over_variable}
 use Rattle.sym_engine.specs.Narrow.{IsNarrow, IsNarrowEnd, IsNarrowPath}
 use Rattle.sym_engine.proofs.NarrowTerms.{narrow_up}
 use Rattle.sym_evaluation.specs.Plainly.{text_bound}
-use Rattle.sym_explore.specs.Exploring.{IsEndedFrom}
-use Rattle.sym_explore.specs.Narrow.{IsAtNarrow, grown_narrowly, IsNarrowFrom, IsNarrowEndedFrom}
-use Rattle.sym_explore.specs.Trails.{IsTrail}
-use Rattle.sym_explore.proofs.Kept.{trails_keep}
-use Rattle.sym_explore.proofs.Narrow.{trails_stay_narrow}
+use Rattle.sym_step.specs.Exploring.{IsEndedFrom}
+use Rattle.sym_step.specs.Narrow.{IsAtNarrow, grown_narrowly, IsNarrowFrom, IsNarrowEndedFrom}
+use Rattle.sym_step.specs.Trails.{IsTrail}
+use Rattle.sym_step.proofs.Kept.{trails_keep}
+use Rattle.sym_step.proofs.Narrow.{trails_stay_narrow}
 use Rattle.sym_model.specs.Laws.{IsDecidedWithin}
 use Rattle.sym_model.specs.Lists.{Each}
 use Rattle.sym_model.specs.Plain.{is_narrow, IsNarrowKey}

@@ -10,8 +10,8 @@ use Rattle.mem_model.specs.Heaps.{Heap}
 use Rattle.pure_terms.specs.declared.deciders.Reason.{Reason}
 use Rattle.pure_terms.specs.Fragment.{has_fragment_form, InFragment}
 use Rattle.pure_terms.specs.Pure.{PureTerm, PureAtom, opening}
-use Rattle.sym_explore.specs.Exploring.{IsEndedFrom}
-use Rattle.sym_explore.specs.Trails.{IsTrail}
+use Rattle.sym_step.specs.Exploring.{IsEndedFrom}
+use Rattle.sym_step.specs.Trails.{IsTrail}
 use Rattle.sym_model.specs.Terms.{StateTerms}
 use Rattle.sym_model.proofs.ListLaws.{not_none}
 use Rattle.sym_paths.specs.Pure.{cut, unknown, PurePath}

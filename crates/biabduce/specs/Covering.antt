@@ -12,7 +12,7 @@ use Rattle.mem_model.specs.Heaps.{Heap}
 use Rattle.inferred_specs.specs.Inferred.{Finishes, IsCutOff, PureFound, SomeIsMet}
 use Rattle.pure_terms.specs.declared.variables.Sort.{Sort}
 use Rattle.pure_terms.specs.Pure.{PureAtom}
-use Rattle.sym_explore.specs.Runs.{AccountsFor}
+use Rattle.sym_step.specs.Runs.{AccountsFor}
 use Rattle.sym_model.specs.Lists.{OneOf}
 use Rattle.sym_model.specs.Pure.{PureKey}
 use Rattle.sym_paths.specs.Pure.{PureEnd, returned, failed, threw, missed, vanished, cut, unknown, PurePath}

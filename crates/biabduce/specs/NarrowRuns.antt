@@ -14,7 +14,7 @@ use Rattle.mem_model.specs.Heaps.{Heap, IsPartOf}
 use Rattle.inferred_specs.specs.Inferred.{Finishes, IsCutOff, PureFound, SomeIsMet}
 use Rattle.pure_terms.specs.declared.variables.Sort.{Sort}
 use Rattle.pure_terms.specs.Pure.{PureAtom}
-use Rattle.sym_explore.specs.Runs.{AccountsFor}
+use Rattle.sym_step.specs.Runs.{AccountsFor}
 use Rattle.sym_model.specs.Lists.{OneOf}
 use Rattle.sym_model.specs.Pure.{PureKey}
 use Rattle.sym_model.specs.Terms.{StateTerms}

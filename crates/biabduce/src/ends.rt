@@ -5,7 +5,7 @@ ghost use Rattle.gil_syntax.specs.Pure.{PureProc, PureParts};
 ghost use Rattle.gil_syntax.specs.View.{proc_view};
 ghost use Rattle.pure_terms.specs.View.{atoms_view};
 ghost use Rattle.sym_model.specs.View.{key_view};
-ghost use Rattle.sym_explore.specs.Narrow.{IsNarrowEndedFrom};
+ghost use Rattle.sym_step.specs.Narrow.{IsNarrowEndedFrom};
 ghost use Rattle.sym_paths.specs.View.{end_view, path_view};
 ghost use Rattle.bi_beginnings.specs.Beginnings.{PureBeginning, IsBeginning, BeginsBare};
 ghost use Rattle.bi_beginnings.specs.Fixing.{IsKeyAtNewSymbol};

@@ -1,6 +1,6 @@
 //! The inference of a procedure's specifications.
 ghost use Rattle.std.specs.Prelude.{◌≡◌, ◌≤◌, Some, None, IfOk, IfSome, IsSome, OnOk};
-ghost use Rattle.gil_program.specs.Program.{prog_view};
+ghost use Rattle.gil_syntax.specs.Program.{prog_view};
 ghost use Rattle.gil_syntax.specs.Programs.{find_proc};
 ghost use Rattle.gil_syntax.specs.Pure.{PureProc};
 ghost use Rattle.gil_syntax.specs.View.{proc_view};
@@ -25,15 +25,14 @@ use crate::ends::take_end;
 use crate::inferences::Inference;
 use bi_beginnings::{Beginning, Opened, begin};
 use bi_specifications::Founds;
-use gil_program::Prog;
-use gil_syntax::Proc;
+use gil_syntax::{Proc, Prog};
 use gil_values::Text;
 use pure_terms::{Decider, Query};
 use rewrite_book::RuleBook;
 use std::alloc::{AllocError, Global};
-use sym_explore::Exploration;
 use sym_model::ListedMemory;
 use sym_paths::{Path, Paths};
+use sym_step::Exploration;
 
 /// What is inferred of a procedure.
 #[derive(Debug, Drop)]

@@ -29,9 +29,9 @@ use Rattle.pure_terms.specs.Meaning.{both as value_and, value, IsProper, IsOver}
 use Rattle.pure_terms.specs.Pure.{PureTerm, literal, variable, list_of, unary_of, binary_of}
 use Rattle.sym_chunks.specs.Cases.{failure, branches_of}
 use Rattle.sym_chunks.specs.Forms.{form_of}
-use Rattle.sym_conditions.specs.Alternatives.{Alternatives, Hold, always, of_kind, not_of_kind}
-use Rattle.sym_conditions.proofs.Combined.{always_true}
-use Rattle.sym_conditions.proofs.Telling.{of_kind_tells, not_of_kind_tells}
+use Rattle.sym_model.specs.Alternatives.{Alternatives, Hold, always, of_kind, not_of_kind}
+use Rattle.sym_model.proofs.Combined.{always_true}
+use Rattle.sym_model.proofs.Telling.{of_kind_tells, not_of_kind_tells}
 use Rattle.sym_model.specs.Chunks.{IsUnion, StandFor}
 use Rattle.sym_model.specs.Cores.{zero_term}
 use Rattle.sym_model.specs.Lists.{Each, OneOf}

@@ -23,7 +23,7 @@ use Rattle.sym_chunks.specs.Forms.{form_of}
 use Rattle.sym_chunks.specs.Keys.{same_sub, at_key}
 use Rattle.sym_chunks.specs.Ordering.{inside}
 use Rattle.sym_chunks.specs.Walking.{way_of, walk}
-use Rattle.sym_conditions.specs.Alternatives.{Alternatives, never, always, both, any, is_empty, same, other, of_kind, not_of_kind}
+use Rattle.sym_model.specs.Alternatives.{Alternatives, never, always, both, any, is_empty, same, other, of_kind, not_of_kind}
 use Rattle.sym_model.specs.Chunks.{value_where_described}
 use Rattle.sym_model.specs.Cores.{zero_term}
 use Rattle.sym_model.specs.Lists.{Each}

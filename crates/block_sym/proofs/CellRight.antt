@@ -28,9 +28,9 @@ use Rattle.sym_chunks.specs.Cases.{failure, case_of, PureAccess, accessed, given
 use Rattle.sym_chunks.specs.Keys.{other_sub, at_key}
 use Rattle.sym_chunks.specs.Laws.{IsLocation, IsKeyOf}
 use Rattle.sym_chunks.specs.Ordering.{less, at_most, outside, inside}
-use Rattle.sym_conditions.specs.Alternatives.{Alternatives, Hold, both, any, same}
-use Rattle.sym_conditions.specs.Laws.{HaveBoth}
-use Rattle.sym_conditions.proofs.Combined.{both_from, both_parts, always_true}
+use Rattle.sym_model.specs.Alternatives.{Alternatives, Hold, both, any, same}
+use Rattle.sym_model.specs.ConditionLaws.{HaveBoth}
+use Rattle.sym_model.proofs.Combined.{both_from, both_parts, always_true}
 use Rattle.sym_model.specs.Chunks.{StandFor}
 use Rattle.sym_model.specs.Cores.{zero_term}
 use Rattle.sym_model.specs.Lists.{Each, OneOf}

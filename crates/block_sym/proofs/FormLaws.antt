@@ -24,10 +24,10 @@ use Rattle.sym_chunks.specs.Forms.{form_of}
 use Rattle.sym_chunks.specs.Keys.{other_sub, at_key}
 use Rattle.sym_chunks.specs.Laws.{IsLocation}
 use Rattle.sym_chunks.specs.Walking.{way_of, walk}
-use Rattle.sym_conditions.specs.Alternatives.{Alternatives, Hold, always, both, any, same, other, of_kind, not_of_kind}
-use Rattle.sym_conditions.specs.Laws.{HaveBoth}
-use Rattle.sym_conditions.proofs.Combined.{both_parts}
-use Rattle.sym_conditions.proofs.Telling.{same_tells, of_kind_tells}
+use Rattle.sym_model.specs.Alternatives.{Alternatives, Hold, always, both, any, same, other, of_kind, not_of_kind}
+use Rattle.sym_model.specs.ConditionLaws.{HaveBoth}
+use Rattle.sym_model.proofs.Combined.{both_parts}
+use Rattle.sym_model.proofs.Telling.{same_tells, of_kind_tells}
 use Rattle.sym_model.specs.Chunks.{StandFor, with_held, terms_of}
 use Rattle.sym_model.specs.Cores.{zero_term}
 use Rattle.sym_model.specs.Forms.{OpensOnly, OpenWhatMatters}

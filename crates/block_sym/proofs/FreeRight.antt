@@ -33,10 +33,10 @@ use Rattle.sym_chunks.specs.Cases.{failure, true_term, PureCase, case_of, branch
 use Rattle.sym_chunks.specs.Forms.{form_of}
 use Rattle.sym_chunks.specs.Laws.{IsLocation, IsKeyOf}
 use Rattle.sym_chunks.specs.Walking.{PureWay, way_of, walk}
-use Rattle.sym_conditions.specs.Alternatives.{Alternatives, Hold, both, same, other}
-use Rattle.sym_conditions.specs.Laws.{HaveBoth}
-use Rattle.sym_conditions.proofs.Combined.{both_from, both_parts, always_true}
-use Rattle.sym_conditions.proofs.Telling.{same_tells, other_tells}
+use Rattle.sym_model.specs.Alternatives.{Alternatives, Hold, both, same, other}
+use Rattle.sym_model.specs.ConditionLaws.{HaveBoth}
+use Rattle.sym_model.proofs.Combined.{both_from, both_parts, always_true}
+use Rattle.sym_model.proofs.Telling.{same_tells, other_tells}
 use Rattle.sym_model.specs.Chunks.{IsEntry, IsUnion, StandFor}
 use Rattle.sym_model.specs.Cores.{zero_term}
 use Rattle.sym_model.specs.Lists.{Each, OneOf}

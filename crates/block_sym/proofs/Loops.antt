@@ -9,7 +9,7 @@ use Rattle.pure_terms.specs.declared.variables.Var.{Var}
 use Rattle.pure_terms.specs.Pure.{PureTerm, variable}
 use Rattle.sym_chunks.specs.Cases.{PureCase, case_of, true_term}
 use Rattle.sym_chunks.specs.Walking.{PureWay, way_of, missing_key, next_ways, all_taken, walk}
-use Rattle.sym_conditions.specs.Alternatives.{same}
+use Rattle.sym_model.specs.Alternatives.{same}
 use Rattle.sym_model.specs.Cores.{zero_term}
 use Rattle.sym_model.specs.Pure.{PureSub, cell, gone, PureChunk, done}
 

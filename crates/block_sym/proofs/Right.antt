@@ -31,10 +31,10 @@ use Rattle.pure_terms.specs.Pure.{PureTerm, literal, variable, list_of, unary_of
 use Rattle.sym_chunks.specs.Cases.{ChunkBranches, failure, true_term, branches_of, choose, PureAccess, reads, writes, takes}
 use Rattle.sym_chunks.specs.Forms.{form_of}
 use Rattle.sym_chunks.specs.Laws.{IsLocation}
-use Rattle.sym_conditions.specs.Alternatives.{Alternatives, Hold, always, both, same, other, of_kind, not_of_kind}
-use Rattle.sym_conditions.specs.Laws.{HaveBoth}
-use Rattle.sym_conditions.proofs.Combined.{both_from, both_parts, always_true}
-use Rattle.sym_conditions.proofs.Telling.{same_tells, other_tells, of_kind_tells, not_of_kind_tells}
+use Rattle.sym_model.specs.Alternatives.{Alternatives, Hold, always, both, same, other, of_kind, not_of_kind}
+use Rattle.sym_model.specs.ConditionLaws.{HaveBoth}
+use Rattle.sym_model.proofs.Combined.{both_from, both_parts, always_true}
+use Rattle.sym_model.proofs.Telling.{same_tells, other_tells, of_kind_tells, not_of_kind_tells}
 use Rattle.sym_model.specs.Chunks.{IsUnion, StandFor, with_held, terms_of}
 use Rattle.sym_model.specs.Cores.{zero_term}
 use Rattle.sym_model.specs.Laws.{MayBeAsked, Serves}

@@ -17,7 +17,7 @@ use Rattle.sym_chunks.specs.Forms.{form_of}
 use Rattle.sym_chunks.specs.Keys.{at_key}
 use Rattle.sym_chunks.specs.Ordering.{outside, inside}
 use Rattle.sym_chunks.specs.Walking.{way_of, walk}
-use Rattle.sym_conditions.specs.Alternatives.{Alternatives, never, always, both, any, same, other, of_kind, not_of_kind}
+use Rattle.sym_model.specs.Alternatives.{Alternatives, never, always, both, any, same, other, of_kind, not_of_kind}
 use Rattle.sym_model.specs.Cores.{zero_term}
 use Rattle.sym_model.specs.Pure.{PureSub, cell, bound, gone, PureChunk, done, missed}
 

@@ -8,7 +8,7 @@ ghost use Rattle.block_sym.specs.View.{address_action_view};
 ghost use Rattle.sym_chunks.specs.Cases.{branches_of, failure, true_term};
 ghost use Rattle.sym_chunks.specs.Forms.{form_of};
 ghost use Rattle.sym_chunks.specs.View.{chunk_branches_view};
-ghost use Rattle.sym_conditions.specs.Alternatives.{alternatives_view, always as no_condition, both as combined, of_kind, not_of_kind};
+ghost use Rattle.sym_model.specs.Alternatives.{alternatives_view, always as no_condition, both as combined, of_kind, not_of_kind};
 ghost use Rattle.sym_model.specs.Pure.{done};
 ghost use Rattle.sym_model.specs.View.{frag_view};
 
@@ -20,8 +20,9 @@ use pure_terms::{Literal, Term};
 use sequence::Sequence;
 use std::alloc::{AllocError, Global};
 use sym_chunks::{Access, form_needed, with_branches, with_failure};
-use sym_conditions::{Alternatives, always, both, extend, kind_is, kind_is_not};
-use sym_model::{Branches, SymFrag, SymResult};
+use sym_model::{
+    Alternatives, Branches, SymFrag, SymResult, always, both, extend, kind_is, kind_is_not,
+};
 
 /// What is done at an address. Contracts see it as its pure data, by `address_action_view`.
 #[derive(Debug, Drop)]

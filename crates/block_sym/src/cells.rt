@@ -6,7 +6,7 @@ ghost use Rattle.mem_model.specs.declared.failures.Failure.{Failure};
 ghost use Rattle.sym_chunks.specs.ByPlace.{all_by_place as all_by_place_of, any_at as any_at_of};
 ghost use Rattle.sym_chunks.specs.Cases.{case_of, choose as choose_of, failure, found as found_of};
 ghost use Rattle.sym_chunks.specs.View.{access_view, cases_view, chunk_branches_view};
-ghost use Rattle.sym_conditions.specs.Alternatives.{alternatives_view};
+ghost use Rattle.sym_model.specs.Alternatives.{alternatives_view};
 ghost use Rattle.sym_model.specs.Pure.{bound, cell, missed};
 ghost use Rattle.sym_model.specs.View.{chunk_view, chunks_view, frag_view, result_view};
 
@@ -19,8 +19,9 @@ use sym_chunks::{
     Access, Cases, ChunkTest, all_by_place, any_at, any_key, choose, has_sure_case, inside,
     outside, with_case, with_failure_case, with_found,
 };
-use sym_conditions::{Alternatives, always, never, terms_differ};
-use sym_model::{Branches, Chunk, SymFrag, SymKey, SymResult, SymSub};
+use sym_model::{
+    Alternatives, Branches, Chunk, SymFrag, SymKey, SymResult, SymSub, always, never, terms_differ,
+};
 
 /// An offset is inside the bound that the chunk holds, one of these, unless all cells of its location are there.
 fn inside_unless_whole(

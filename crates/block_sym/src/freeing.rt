@@ -24,7 +24,7 @@ ghost use Rattle.sym_chunks.specs.Cases.{branches_of, case_of, failure, true_ter
 ghost use Rattle.sym_chunks.specs.Forms.{form_of};
 ghost use Rattle.sym_chunks.specs.View.{cases_view, chunk_branches_view, ways_view};
 ghost use Rattle.sym_chunks.specs.Walking.{missing_key, next_ways, walk, way_of};
-ghost use Rattle.sym_conditions.specs.Alternatives.{alternatives_view, both as combined, same, other};
+ghost use Rattle.sym_model.specs.Alternatives.{alternatives_view, both as combined, same, other};
 ghost use Rattle.sym_model.specs.Cores.{zero_term};
 ghost use Rattle.sym_model.specs.Pure.{bound, cell, gone, done, missed};
 ghost use Rattle.sym_model.specs.View.{chunk_view, chunks_view, frag_view, sub_view};
@@ -39,8 +39,10 @@ use sym_chunks::{
     Cases, ChunkTest, Walk, Ways, all_by_place, choose, form_needed, missed_key, walk_on,
     with_all_taken, with_case, with_failure, with_made_case, with_way, without_chunk,
 };
-use sym_conditions::{Alternatives, always, both, never, terms_differ, terms_equal};
-use sym_model::{Branches, Chunk, SymFrag, SymResult, SymSub};
+use sym_model::{
+    Alternatives, Branches, Chunk, SymFrag, SymResult, SymSub, always, both, never, terms_differ,
+    terms_equal,
+};
 
 /// A chunk is neither a bound nor says that its location is gone.
 #[derive(Debug, Drop)]

@@ -10,7 +10,7 @@ ghost use Rattle.block_sym.specs.Table.{address_term as address_term_of, new_cel
 ghost use Rattle.sym_chunks.specs.Cases.{branches_of, failure};
 ghost use Rattle.sym_chunks.specs.Forms.{form_of};
 ghost use Rattle.sym_chunks.specs.View.{chunk_branches_view};
-ghost use Rattle.sym_conditions.specs.Alternatives.{always as no_condition, of_kind, not_of_kind};
+ghost use Rattle.sym_model.specs.Alternatives.{always as no_condition, of_kind, not_of_kind};
 ghost use Rattle.sym_model.specs.Cores.{zero_term};
 ghost use Rattle.sym_model.specs.Pure.{cell, done};
 ghost use Rattle.sym_model.specs.View.{chunk_view, frag_view};
@@ -22,8 +22,7 @@ use pure_terms::{Literal, Term, Terms, Var};
 use sequence::Sequence;
 use std::alloc::{AllocError, Global};
 use sym_chunks::{form_needed, with_branches, with_failure, with_last_branches};
-use sym_conditions::{always, kind_is, kind_is_not};
-use sym_model::{Branches, Chunk, SymFrag, SymResult, SymSub};
+use sym_model::{Branches, Chunk, SymFrag, SymResult, SymSub, always, kind_is, kind_is_not};
 
 /// The greatest number of cells that a block may have.
 const GREATEST_SIZE: i128 = 10_000;

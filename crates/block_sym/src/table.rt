@@ -23,8 +23,7 @@ use pure_terms::{Terms, Var};
 use sequence::Sequence;
 use std::alloc::{AllocError, Global};
 use sym_chunks::{Access, with_failure};
-use sym_conditions::always;
-use sym_model::{Branches, SymFrag};
+use sym_model::{Branches, SymFrag, always};
 
 /// The branch in which the number of arguments is wrong.
 fn wrong_number(alloc: Global, chunks: &SymFrag) -> Result<Branches<SymFrag>, AllocError>

@@ -14,7 +14,7 @@ use Rattle.checked_runs.specs.Specifications.{fit_params}
 use Rattle.pure_terms.specs.declared.variables.Sort.{Sort}
 use Rattle.pure_terms.specs.Meaning.{truth, all_true, Satisfies, IsUnsatisfiable, value}
 use Rattle.pure_terms.specs.Pure.{PureTerm, PureAtom}
-use Rattle.sym_conditions.specs.Alternatives.{Alternatives, Hold}
+use Rattle.sym_model.specs.Alternatives.{Alternatives, Hold}
 use Rattle.sym_evaluation.specs.Meaning.{AreSame, StandsFor, IsStoreOver}
 use Rattle.sym_evaluation.specs.Pure.{PureStore, term_at}
 use Rattle.sym_matching.specs.Matching.{TestsSorts}
@@ -22,7 +22,7 @@ use Rattle.sym_matching.specs.Meaning.{SaysTest}
 use Rattle.sym_matching.specs.Pure.{PureTest}
 use Rattle.sym_model.specs.Lists.{Each, OneOf}
 use Rattle.sym_model.proofs.ListLaws.{same_some}
-use Rattle.sym_naming.proofs.Names.{none_of_two}
+use Rattle.sym_states.proofs.Names.{none_of_two}
 use Rattle.checked_rows.specs.Doubts.{PureDoubt, always, under, beyond, IsToldThere}
 use Rattle.call_rows.specs.Arguments.{FitsParam, FitParams, IsUnfit, IsDoubtOver}
 

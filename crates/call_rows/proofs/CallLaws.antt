@@ -31,7 +31,7 @@ use Rattle.sym_model.specs.Laws.{IsMeaning}
 use Rattle.sym_model.specs.Lists.{Each, OneOf}
 use Rattle.sym_model.specs.Terms.{StateTerms}
 use Rattle.sym_leaving.specs.Leaving.{HasFrame, HasCaller}
-use Rattle.sym_naming.proofs.Names.{among_left, among_right, or_left, same_name}
+use Rattle.sym_states.proofs.Names.{among_left, among_right, or_left, same_name}
 use Rattle.sym_states.specs.Pure.{PureFact}
 use Rattle.sym_paths.proofs.Silent.{stands_at, step-is}
 use Rattle.sym_paths.specs.Meaning.{AreFrames, IsOverTable, StandsForStep, command_of_frames, command_of_path}

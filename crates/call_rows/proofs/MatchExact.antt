@@ -28,7 +28,7 @@ use Rattle.sym_model.specs.Laws.{IsMeaning}
 use Rattle.sym_model.specs.Lists.{OneOf}
 use Rattle.sym_model.specs.Terms.{StateTerms}
 use Rattle.sym_model.proofs.ListLaws.{each_append, not_none, same_some}
-use Rattle.sym_naming.proofs.Names.{or_left, or_right, same_name}
+use Rattle.sym_states.proofs.Names.{or_left, or_right, same_name}
 use Rattle.sym_paths.proofs.Moving.{running_stands, running_each}
 use Rattle.sym_paths.specs.Frames.{running_store}
 use Rattle.sym_states.specs.Meaning.{Serves}

@@ -22,8 +22,8 @@ use Rattle.assert_logic.proofs.AddingLaws.{same_some, no_value}
 use Rattle.assert_logic.proofs.Evaluations.{all_extend}
 use Rattle.assert_logic.proofs.GivenNames.{Gains, same_match, no_match, items_gain, or_left}
 use Rattle.assert_logic.proofs.Givings.{values_go, pure_goes}
-use Rattle.sym_naming.proofs.AddedNames.{added_known}
-use Rattle.sym_naming.proofs.Names.{one_of_two}
+use Rattle.sym_states.proofs.AddedNames.{added_known}
+use Rattle.sym_states.proofs.Names.{one_of_two}
 
 -- each of these names has a value
 abbrev AreKnown : Known → Store → Type 0

@@ -30,8 +30,8 @@ use Rattle.sym_model.specs.Lists.{Each}
 use Rattle.sym_model.specs.Meaning.{has_open}
 use Rattle.sym_model.specs.Terms.{StateTerms, all_of}
 use Rattle.sym_model.proofs.ListLaws.{each_to, not_none, same_some}
-use Rattle.sym_naming.specs.Naming.{AddsNames}
-use Rattle.sym_naming.proofs.NamingLaws.{proper_sorts}
+use Rattle.sym_states.specs.Naming.{AddsNames}
+use Rattle.sym_states.proofs.NamingLaws.{proper_sorts}
 use Rattle.sym_paths.proofs.Growing.{all_true-more}
 use Rattle.sym_paths.specs.Meaning.{Stands}
 use Rattle.sym_paths.specs.Pure.{PurePath}

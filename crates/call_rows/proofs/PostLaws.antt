@@ -40,9 +40,9 @@ use Rattle.sym_model.specs.Lists.{Each, OneOf}
 use Rattle.sym_model.specs.Meaning.{has_open}
 use Rattle.sym_model.specs.Terms.{StateTerms, all_of, AreEachOver}
 use Rattle.sym_model.proofs.ListLaws.{each_to}
-use Rattle.sym_naming.specs.Naming.{PureNamed, MayName, IsNamedAs}
-use Rattle.sym_naming.proofs.Inventing.{adding_invents_nothing}
-use Rattle.sym_naming.proofs.Names.{only_name}
+use Rattle.sym_states.specs.Naming.{PureNamed, MayName, IsNamedAs}
+use Rattle.sym_states.proofs.Inventing.{adding_invents_nothing}
+use Rattle.sym_states.proofs.Names.{only_name}
 use Rattle.sym_paths.proofs.Growing.{all_true-more}
 use Rattle.sym_paths.proofs.Valuations.{below_both}
 use Rattle.sym_states.proofs.Conditions.{added_is, open_right}

@@ -13,7 +13,7 @@ use Rattle.pure_terms.specs.Meaning.{all_true, IsProper, Satisfies}
 use Rattle.pure_terms.specs.Pure.{PureAtom}
 use Rattle.sym_evaluation.specs.Meaning.{StandsFor, IsStoreOver}
 use Rattle.sym_evaluation.specs.Pure.{PureStore}
-use Rattle.sym_asking.specs.Asking.{IsOutside}
+use Rattle.sym_paths.specs.Asking.{IsOutside}
 use Rattle.sym_model.specs.Lists.{Each, OneOf}
 use Rattle.footprint.specs.Leaves.{IsLonger}
 use Rattle.checked_rows.specs.Doubts.{PureDoubt, always, under, beyond}

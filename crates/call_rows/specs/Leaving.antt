@@ -9,7 +9,7 @@ use Rattle.mem_model.specs.Heaps.{Heap}
 use Rattle.pure_terms.specs.declared.deciders.Reason.{Reason}
 use Rattle.pure_terms.specs.Meaning.{Satisfies, IsUnsatisfiable, IsOver}
 use Rattle.pure_terms.specs.Pure.{PureTerm, PureAtom, term_of}
-use Rattle.sym_asking.specs.Asking.{IsOutside}
+use Rattle.sym_paths.specs.Asking.{IsOutside}
 use Rattle.sym_leaving.specs.Leaving.{IsLeft, IsThrown, PureThrown, caught, uncaught}
 use Rattle.sym_model.specs.Meaning.{has_open}
 use Rattle.sym_model.specs.Lists.{Each}

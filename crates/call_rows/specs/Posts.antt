@@ -14,7 +14,7 @@ use Rattle.sym_evaluation.specs.Meaning.{IsStoreOver}
 use Rattle.sym_evaluation.specs.Pure.{PureStore, term_at}
 use Rattle.sym_model.specs.Lists.{Each}
 use Rattle.sym_model.specs.Terms.{StateTerms}
-use Rattle.sym_naming.specs.Naming.{IsNaming, NamesAll}
+use Rattle.sym_states.specs.Naming.{IsNaming, NamesAll}
 use Rattle.sym_states.specs.Meaning.{IsOverTable}
 use Rattle.sym_states.specs.Pure.{PureState}
 use Rattle.sym_unfolding.specs.Adding.{AddsItems}

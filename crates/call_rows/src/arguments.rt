@@ -6,7 +6,7 @@ ghost use Rattle.checked_rows.specs.View.{doubt_view};
 ghost use Rattle.pure_terms.specs.Meaning.{IsOver, IsUnsatisfiable};
 ghost use Rattle.pure_terms.specs.Pure.{term_of};
 ghost use Rattle.pure_terms.specs.View.{atoms_view};
-ghost use Rattle.sym_conditions.specs.Alternatives.{alternatives_view};
+ghost use Rattle.sym_model.specs.Alternatives.{alternatives_view};
 ghost use Rattle.sym_evaluation.specs.Meaning.{IsStoreOver};
 ghost use Rattle.sym_evaluation.specs.View.{store_view};
 ghost use Rattle.sym_model.specs.Lists.{Each, OneOf};
@@ -15,9 +15,9 @@ use checked_rows::{Doubt, doubt_there};
 use gil_syntax::{Param, Params};
 use pure_terms::{Atoms, Decider, VarTable};
 use std::alloc::{AllocError, Global};
-use sym_conditions::Alternatives;
 use sym_evaluation::SymStore;
 use sym_matching::fits_sorts;
+use sym_model::Alternatives;
 
 /// Why the conditions and one of the alternatives aren't surely never met together.
 fn alternatives_doubt<D: Decider>(

@@ -7,7 +7,7 @@ ghost use Rattle.checked_paths.specs.declared.nexts.FaultKind.TheVariants.{CallP
 ghost use Rattle.checked_paths.specs.View.{checking_view, entry_view, next_view};
 ghost use Rattle.checked_rows.specs.Doubts.{beyond, IsDoubtNext};
 ghost use Rattle.checked_rows.specs.States.{with_state};
-ghost use Rattle.gil_program.specs.Program.{prog_view};
+ghost use Rattle.gil_syntax.specs.Program.{prog_view};
 ghost use Rattle.gil_syntax.specs.Programs.{find_spec};
 ghost use Rattle.gil_syntax.specs.View.{spec_view};
 ghost use Rattle.pure_terms.specs.View.{term_view};
@@ -17,16 +17,13 @@ ghost use Rattle.sym_states.specs.View.{facts_view, state_view};
 
 use checked_paths::{Checking, Entered, FaultKind, Next, follow};
 use checked_rows::{Doubt, doubted_next, finish, path_with, state_of};
-use gil_program::Prog;
-use gil_syntax::Spec;
+use gil_syntax::{Prog, Spec};
 use gil_values::Place;
 use pure_terms::{Decider, Reason, Term};
 use std::alloc::{AllocError, Global};
-use sym_asking::{Satisfiability, ask};
-use sym_conditions::copy_conditions;
 use sym_leaving::{Thrown, leave_with, throw_with};
-use sym_model::ListedMemory;
-use sym_paths::Path;
+use sym_model::{ListedMemory, copy_conditions};
+use sym_paths::{Path, Satisfiability, ask};
 use sym_states::{PredChunks, SymState};
 
 /// How a called procedure ends.

@@ -8,7 +8,7 @@ ghost use Rattle.call_rows.specs.View.{ready_view};
 ghost use Rattle.checked_paths.specs.Meaning.{EachWith};
 ghost use Rattle.checked_paths.specs.View.{checking_view, entry_view, nexts_view};
 ghost use Rattle.footprint.specs.View.{match_view};
-ghost use Rattle.gil_program.specs.Program.{prog_view};
+ghost use Rattle.gil_syntax.specs.Program.{prog_view};
 ghost use Rattle.gil_syntax.specs.Programs.{find_spec};
 ghost use Rattle.gil_syntax.specs.View.{assertion_view, spec_view};
 ghost use Rattle.pure_terms.specs.View.{term_view};
@@ -22,8 +22,7 @@ use crate::leaving::{Completion, completed_next};
 use checked_paths::{Checking, Entered, Nexts};
 use checked_rows::result_name;
 use footprint::Match;
-use gil_program::Prog;
-use gil_syntax::{Assertion, Assertions, Params, Spec, Texts};
+use gil_syntax::{Assertion, Assertions, Params, Prog, Spec, Texts};
 use gil_values::Place;
 use pure_terms::{Decider, Term};
 use sequence::Sequence;
@@ -31,8 +30,7 @@ use std::alloc::{AllocError, Global};
 use std::mem;
 use sym_evaluation::SymStore;
 use sym_model::ListedMemory;
-use sym_naming::{Named, with_variables};
-use sym_states::{SymState, SymStates};
+use sym_states::{Named, SymState, SymStates, with_variables};
 use sym_unfolding::add_items;
 
 /// A state to which a postcondition may be added, the terms of names, and that of the result. Contracts see it as its pure data, by

@@ -16,7 +16,7 @@ use Rattle.checked_runs.specs.Checked.{Checked, Outcome, has_fault, Entry, moved
 use Rattle.pure_terms.specs.declared.variables.Sort.{Sort}
 use Rattle.pure_terms.specs.Meaning.{Satisfies}
 use Rattle.pure_terms.specs.Pure.{PureTerm, PureAtom}
-use Rattle.sym_explore.proofs.RunSteps.{step_does}
+use Rattle.sym_step.proofs.RunSteps.{step_does}
 use Rattle.sym_model.specs.Laws.{IsMeaning}
 use Rattle.sym_model.specs.Lists.{Each}
 use Rattle.sym_model.specs.Pure.{PureKey}

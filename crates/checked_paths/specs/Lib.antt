@@ -1,10 +1,11 @@
-pub mod Plainly
-pub mod Pure
-pub mod Meaning
-pub mod Covering
+pub mod Accounting
 pub mod Causes
 pub mod Choosing
+pub mod Covering
 pub mod Exactness
 pub mod Following
-pub mod Accounting
+pub mod Meaning
+pub mod Plainly
+pub mod Pure
+pub mod Trails
 pub mod View

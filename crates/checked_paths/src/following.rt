@@ -9,7 +9,7 @@ ghost use Rattle.checked_paths.specs.Meaning.{MayGoOn};
 ghost use Rattle.checked_paths.specs.Plainly.{LeadsPlainly};
 ghost use Rattle.checked_paths.specs.Pure.{PureEntry};
 ghost use Rattle.checked_paths.specs.View.{checking_view, next_view, nexts_view, passed_by_view};
-ghost use Rattle.gil_program.specs.Program.{prog_view};
+ghost use Rattle.gil_syntax.specs.Program.{prog_view};
 ghost use Rattle.sym_engine.specs.Lawful.{IsOwnAt};
 ghost use Rattle.sym_model.specs.Lists.{Each};
 ghost use Rattle.sym_paths.specs.Origins.{Follows};
@@ -20,7 +20,7 @@ ghost use Rattle.sym_step.specs.Stepping.{MayStep};
 
 use crate::checking::{Checking, PassedByFrames, copy_facts, passed_for};
 use crate::nexts::{Cause, FaultKind, Next, Nexts, Shown};
-use gil_program::Prog;
+use gil_syntax::Prog;
 use gil_values::Place;
 use pure_terms::Decider;
 use rewrite_book::RuleBook;

@@ -9,7 +9,7 @@ use gil_values::Place;
 use pure_terms::{Atoms, Choices, Reason, Term, Valuation, VarTable};
 use sequence::Sequence;
 use std::alloc::{AllocError, Global};
-use sym_conditions::copy_conditions;
+use sym_model::copy_conditions;
 use sym_paths::{Path, copy_place};
 
 /// Which fault a checked run meets, beside a failure.

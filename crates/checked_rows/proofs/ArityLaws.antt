@@ -14,9 +14,9 @@ use Rattle.gil_syntax.specs.Programs.{find_proc, find_spec, find_pred}
 use Rattle.gil_syntax.specs.Pure.{PureExpr, PurePredUse, PurePredDef, PureNumberedCommand, PureProc, PureParts, unfold_use}
 use Rattle.gil_syntax.specs.Subexpressions.{uses_of}
 use Rattle.gil_syntax.specs.Valid.{Signature, core_predicates, signature_of, predicates_of, a_proc, piece_of_command, logicals_of_spec, misuses, IsValid}
-use Rattle.gil_program.specs.ByName.{find_signature}
-use Rattle.gil_program.proofs.CheckLemmas.{distinct}
-use Rattle.gil_program.proofs.PieceLemmas.{misuses-found}
+use Rattle.gil_syntax.specs.ByName.{find_signature}
+use Rattle.gil_syntax.proofs.CheckLemmas.{distinct}
+use Rattle.gil_syntax.proofs.PieceLemmas.{misuses-found}
 use Rattle.mem_model.specs.declared.cores.Core.{Core}
 use Rattle.mem_model.specs.CoreNames.{core_of}
 use Rattle.sym_engine.proofs.Placing.{without_fault, neither, command_found}

@@ -14,7 +14,7 @@ use Rattle.assert_logic.specs.LogicStates.{LogicState}
 use Rattle.footprint.specs.Consuming.{MatchesWhole, MatchesNone, some_match}
 use Rattle.footprint.specs.Leaves.{Premise, AreAll, IsUnmatched}
 use Rattle.footprint.specs.Pure.{PureMatch, PureStop}
-use Rattle.sym_conditions.specs.Alternatives.{Hold, other}
+use Rattle.sym_model.specs.Alternatives.{Hold, other}
 use Rattle.sym_matching.proofs.TestLaws.{equal_says}
 use Rattle.sym_matching.specs.Meaning.{SaysTest}
 use Rattle.sym_matching.specs.Splitting.{equal_test}

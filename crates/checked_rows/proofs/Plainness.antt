@@ -11,11 +11,11 @@ use Rattle.pure_terms.specs.declared.variables.Sort.{Sort}
 use Rattle.pure_terms.specs.Fragment.{InFragment}
 use Rattle.pure_terms.specs.Meaning.{IsOver}
 use Rattle.pure_terms.specs.Pure.{PureTerm, PureAtom, negative, term_of}
-use Rattle.sym_asking.proofs.Fragments.{each_over_all}
+use Rattle.sym_paths.proofs.AskedFragments.{each_over_all}
 use Rattle.sym_chunks.proofs.Readings.{decided_equality}
-use Rattle.sym_conditions.specs.declared.comparing.Comparison.{Comparison}
-use Rattle.sym_conditions.specs.Alternatives.{never, always, given, equal, other, by_comparison}
-use Rattle.sym_conditions.specs.Comparing.{compared}
+use Rattle.sym_model.specs.declared.comparing.Comparison.{Comparison}
+use Rattle.sym_model.specs.Alternatives.{never, always, given, equal, other, by_comparison}
+use Rattle.sym_model.specs.Comparing.{compared}
 use Rattle.sym_evaluation.specs.Plainly.{IsPlain}
 use Rattle.sym_model.specs.Laws.{IsDecidedWithin}
 use Rattle.sym_model.specs.Lists.{Each, OneOf}

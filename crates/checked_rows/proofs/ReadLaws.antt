@@ -15,7 +15,7 @@ use Rattle.sym_evaluation.specs.Questions.{NameNoOthers, AreEachOver, OnConditio
 use Rattle.sym_model.proofs.ListLaws.{each_append, one_with}
 use Rattle.sym_model.specs.Lists.{Each, OneOf}
 use Rattle.sym_model.specs.Terms.{StateTerms}
-use Rattle.sym_asking.specs.Asking.{IsOutside}
+use Rattle.sym_paths.specs.Asking.{IsOutside}
 use Rattle.sym_states.proofs.Conditions.{met_both, met_parts}
 use Rattle.sym_states.proofs.Values.{good_if_ok, no_value}
 use Rattle.sym_states.specs.Meaning.{Serves, IsOverTable}

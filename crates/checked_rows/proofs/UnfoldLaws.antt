@@ -37,8 +37,8 @@ use Rattle.sym_model.specs.Laws.{IsMeaning}
 use Rattle.sym_model.specs.Lists.{Each, OneOf}
 use Rattle.sym_model.specs.Meaning.{has_open}
 use Rattle.sym_model.specs.Terms.{StateTerms}
-use Rattle.sym_naming.proofs.AddedNames.{adding_reads_names}
-use Rattle.sym_naming.proofs.Inventing.{adding_invents_nothing}
+use Rattle.sym_states.proofs.AddedNames.{adding_reads_names}
+use Rattle.sym_states.proofs.Inventing.{adding_invents_nothing}
 use Rattle.sym_paths.specs.Meaning.{command_of_path}
 use Rattle.sym_states.proofs.Conditions.{added_is, open_right}
 use Rattle.sym_states.specs.Meaning as states

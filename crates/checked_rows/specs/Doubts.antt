@@ -11,7 +11,7 @@ use Rattle.pure_terms.specs.declared.deciders.Reason.{Reason}
 use Rattle.pure_terms.specs.declared.variables.Sort.{Sort}
 use Rattle.pure_terms.specs.Meaning.{all_true, Satisfies}
 use Rattle.pure_terms.specs.Pure.{PureAtom}
-use Rattle.sym_asking.specs.Asking.{IsOutside}
+use Rattle.sym_paths.specs.Asking.{IsOutside}
 use Rattle.sym_paths.specs.Pure.{PurePath}
 use Rattle.sym_states.specs.Pure.{PureState}
 use Rattle.footprint.specs.Leaves.{IsLonger}

@@ -9,7 +9,7 @@ use Rattle.checked_runs.specs.Checked.{Entry, result_store, some_matches}
 use Rattle.pure_terms.specs.declared.variables.Sort.{Sort}
 use Rattle.pure_terms.specs.Meaning.{value, IsUnsatisfiable}
 use Rattle.pure_terms.specs.Pure.{PureTerm, PureAtom}
-use Rattle.sym_conditions.specs.Alternatives.{other}
+use Rattle.sym_model.specs.Alternatives.{other}
 use Rattle.sym_evaluation.specs.Pure.{PureStore, term_at}
 use Rattle.sym_model.specs.Lists.{Each, OneOf}
 use Rattle.sym_model.specs.Terms.{StateTerms, AreEachOver}

@@ -13,7 +13,7 @@ use Rattle.mem_model.specs.Heaps.{Heap}
 use Rattle.pure_terms.specs.declared.deciders.Reason.{Reason}
 use Rattle.pure_terms.specs.Meaning.{Satisfies, IsUnsatisfiable}
 use Rattle.pure_terms.specs.Pure.{PureTerm}
-use Rattle.sym_asking.specs.Asking.{IsOutside}
+use Rattle.sym_paths.specs.Asking.{IsOutside}
 use Rattle.sym_model.specs.Terms.{StateTerms}
 use Rattle.sym_paths.specs.Moves.{passing}
 use Rattle.sym_states.specs.Pure.{PureFact, PureState}

@@ -7,7 +7,7 @@ use Rattle.mem_model.specs.Heaps.{Heap}
 use Rattle.assert_logic.specs.Matching.{Match, matched, stops as stopped, match_assertion}
 use Rattle.checked_runs.specs.Checked.{Checked, Entry, names_at, logic_state}
 use Rattle.pure_terms.specs.Meaning.{all_true, Satisfies}
-use Rattle.sym_asking.specs.Asking.{IsOutside}
+use Rattle.sym_paths.specs.Asking.{IsOutside}
 use Rattle.sym_evaluation.specs.Meaning.{StandsFor, IsStoreOver}
 use Rattle.sym_model.specs.Lists.{Each, OneOf}
 use Rattle.sym_model.specs.Terms.{StateTerms}

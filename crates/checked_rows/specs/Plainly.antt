@@ -9,7 +9,7 @@ use Rattle.sym_model.specs.Lists.{Each}
 use Rattle.sym_paths.specs.Meaning.{command_of_path}
 use Rattle.sym_paths.specs.Pure.{PurePath}
 use Rattle.sym_paths.specs.Steps.{IsPlainPath, IsUnknown, step_growth, narrow_bound}
-use Rattle.plain_evaluation.specs.Plain.{IsPlainItem}
+use Rattle.sym_paths.specs.Plain.{IsPlainItem}
 use Rattle.sym_states.specs.Pure.{PureState}
 use Rattle.sym_matching.specs.Plainly.{AreDecided}
 use Rattle.footprint.specs.Plainly.{widened, item_count}

@@ -11,7 +11,7 @@ use Rattle.assert_logic.specs.Matching.{first_fact, fits_fact}
 use Rattle.pure_terms.specs.declared.deciders.Reason.{Reason}
 use Rattle.pure_terms.specs.Meaning.{Satisfies, IsUnsatisfiable}
 use Rattle.pure_terms.specs.Pure.{PureTerm}
-use Rattle.sym_asking.specs.Asking.{IsOutside}
+use Rattle.sym_paths.specs.Asking.{IsOutside}
 use Rattle.sym_evaluation.specs.Pure.{PureStore}
 use Rattle.sym_model.specs.Lists.{Each}
 use Rattle.sym_model.specs.Meaning.{has_open}

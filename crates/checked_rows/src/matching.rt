@@ -5,15 +5,14 @@ ghost use Rattle.checked_paths.specs.View.{checking_view, entry_view};
 ghost use Rattle.checked_rows.specs.Matching.{MatchesThere};
 ghost use Rattle.footprint.specs.Consuming.{MayMatch, CasesMayMatch};
 ghost use Rattle.footprint.specs.View.{matching_view};
-ghost use Rattle.gil_program.specs.Program.{prog_view};
+ghost use Rattle.gil_syntax.specs.Program.{prog_view};
 ghost use Rattle.gil_syntax.specs.View.{assertion_view};
 
 use crate::names::names_in;
 use crate::states::state_of;
 use checked_paths::{Checking, Entered};
 use footprint::{Matching, consume_all};
-use gil_program::Prog;
-use gil_syntax::{Assertion, Params, Spec};
+use gil_syntax::{Assertion, Params, Prog, Spec};
 use gil_values::Place;
 use pure_terms::Decider;
 use std::alloc::{AllocError, Global};

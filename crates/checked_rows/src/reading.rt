@@ -20,10 +20,9 @@ use crate::nexts::Doubt;
 use gil_syntax::Exprs;
 use pure_terms::{Atoms, Decider, Terms, VarTable};
 use std::alloc::{AllocError, Global};
-use sym_asking::{Satisfiability, ask};
-use sym_conditions::copy_conditions;
 use sym_evaluation::{Cases, FaultCases, GoodCase, SymStore, evaluate_all};
-use sym_model::{ListedMemory, PathCond};
+use sym_model::{ListedMemory, PathCond, copy_conditions};
+use sym_paths::{Satisfiability, ask};
 use sym_states::SymState;
 
 /// What reading expressions comes to. Contracts see it as its pure data, by `reading_view`.

@@ -9,7 +9,7 @@ use Rattle.gil_values.specs.Pure.{procedure}
 use Rattle.gil_syntax.specs.declared.validity.InvalidKind.{InvalidKind}
 use Rattle.gil_syntax.specs.Pure.{PureExpr, literal, name, binary_of, assign, call, act, isym, PureNumberedCommand}
 use Rattle.gil_syntax.specs.Valid.{IsNamedFault}
-use Rattle.gil_program.specs.Uncounted.{IsValidButLength}
+use Rattle.gil_syntax.specs.Uncounted.{IsValidButLength}
 use Rattle.source_language.specs.Names.{temporary}
 use Rattle.source_language.specs.Procedures.{null, placed}
 use Rattle.source_language.proofs.Labels.{Fits, fits_append, fits_jump}

@@ -3,7 +3,7 @@ ghost use Rattle.std.specs.Prelude.{◌≡◌, ◌≢◌, true, IsTrue, IfOk, If
 ghost use Rattle.std.specs.List.{list_all};
 ghost use Rattle.gil_syntax.specs.declared.validity.InvalidKind.TheVariants.{Memory};
 ghost use Rattle.gil_syntax.specs.WellMade.{is_well_made};
-ghost use Rattle.gil_program.specs.Uncounted.{IsNamedButLength};
+ghost use Rattle.gil_syntax.specs.Uncounted.{IsNamedButLength};
 ghost use Rattle.clike_lang.specs.Names.{is_source_function};
 ghost use Rattle.clike_lang.specs.View.{source_parts_view};
 ghost use Rattle.clike_compiler.specs.Compiled.{compiled};
@@ -12,7 +12,7 @@ ghost use Rattle.clike_compiler.specs.Source.{source_view};
 use crate::language::ClikeCodes;
 use crate::source::Source;
 use clike_lang::Function;
-use gil_program::{Invalid, check_but_length};
+use gil_syntax::{Invalid, check_but_length};
 use source_language::SourceParts;
 use source_statements::parts_of;
 use std::alloc::Global;

@@ -36,8 +36,8 @@ use Rattle.sym_chunks.proofs.Facts.{Fact, each_fact, keys_equal}
 use Rattle.sym_chunks.proofs.FoundLaws.{lacks_key, key_lacks, found_comes}
 use Rattle.sym_chunks.proofs.Readings.{own_reading, made_state, own_sides, over_reading, over_state, over_sides, plain_parts, plain_reading, plain_state, plain_sides, state_plain, AnyAtom, KeptAt, loose_state, loose_sides, kept_reading, any_term, closed_reading, closed_sides, NoOpen, positive_closed, negative_closed, shaped_terms, shaped_conds, shaped_named}
 use Rattle.sym_chunks.proofs.Shapes.{Reading, ChunkSides, IsFine, IsFineState, IsFineCase, Shaped, fine_terms, fine_case, chosen_shaped, found_shaped, by_place_shaped, side_sub}
-use Rattle.sym_conditions.specs.Alternatives.{Alternatives, Hold, always, both, same, is_empty, settled}
-use Rattle.sym_conditions.proofs.Combined.{both_parts, always_true}
+use Rattle.sym_model.specs.Alternatives.{Alternatives, Hold, always, both, same, is_empty, settled}
+use Rattle.sym_model.proofs.Combined.{both_parts, always_true}
 use Rattle.sym_model.specs.Chunks.{IsUnion, StandFor, terms_of}
 use Rattle.sym_model.specs.CoreLaws.{ConsumeLaw, ConsumesPlainly, IsConsumed, IsTaken as IsTakenOut, IsNoFailure}
 use Rattle.sym_model.specs.Cores.{core_of_sub, IsSubOf, TakesIns, consume_asks}

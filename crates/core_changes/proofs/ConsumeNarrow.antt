@@ -10,7 +10,7 @@ use Rattle.sym_chunks.specs.Cases.{takes, case_of, found, outs_term}
 use Rattle.sym_chunks.specs.Keys.{other_sub}
 use Rattle.sym_chunks.proofs.Narrow.{IsNarrow, IsNarrowChunk, IsNarrowCase, IsNarrowBranch, narrow_wider, state_wider, narrow_chunks, held_at_name, other_sub_decided, by_place_decided, narrow_case, narrow_chosen, found_narrow}
 use Rattle.sym_chunks.proofs.WalkLaws.{each_removed}
-use Rattle.sym_conditions.specs.Alternatives.{always}
+use Rattle.sym_model.specs.Alternatives.{always}
 use Rattle.sym_model.specs.Chunks.{terms_of}
 use Rattle.sym_model.specs.CoreLaws.{outs_listed, ConsumesNarrowly}
 use Rattle.sym_model.specs.Cores.{core_of_sub}

@@ -17,10 +17,10 @@ use Rattle.sym_chunks.specs.Laws.{IsLocation}
 use Rattle.sym_chunks.proofs.Facts.{Fact, fact_loc, fact_sub, name_from, cell_from}
 use Rattle.sym_chunks.proofs.FoundLaws.{by_place_from}
 use Rattle.sym_chunks.proofs.PlaceLaws.{each_place}
-use Rattle.sym_conditions.specs.Alternatives.{Alternatives, Hold, always, both, is_empty, same, other}
-use Rattle.sym_conditions.specs.Laws.{HaveBoth}
-use Rattle.sym_conditions.proofs.Combined.{all_from_from, both_parts, always_true}
-use Rattle.sym_conditions.proofs.Telling.{same_tells, other_tells}
+use Rattle.sym_model.specs.Alternatives.{Alternatives, Hold, always, both, is_empty, same, other}
+use Rattle.sym_model.specs.ConditionLaws.{HaveBoth}
+use Rattle.sym_model.proofs.Combined.{all_from_from, both_parts, always_true}
+use Rattle.sym_model.proofs.Telling.{same_tells, other_tells}
 use Rattle.sym_model.specs.Chunks.{IsUnion}
 use Rattle.sym_model.specs.Lists.{Each}
 use Rattle.sym_model.specs.Meaning.{location_of, name_of, cell_of, sub_value, key_of, key_value}

@@ -8,7 +8,7 @@ use Rattle.pure_terms.specs.Pure.{PureTerm}
 use Rattle.sym_chunks.specs.ByPlace.{all_by_place}
 use Rattle.sym_chunks.specs.Cases.{ChunkBranches, PureCase, case_of, choose, takes, found}
 use Rattle.sym_chunks.specs.Keys.{other_sub}
-use Rattle.sym_conditions.specs.Alternatives.{always}
+use Rattle.sym_model.specs.Alternatives.{always}
 use Rattle.sym_model.specs.Chunks.{StandFor, terms_of}
 use Rattle.sym_model.specs.CoreLaws.{ConsumeLaw, ConsumesPlainly, ConsumesNarrowly}
 use Rattle.sym_model.specs.Cores.{TakesIns}

@@ -17,8 +17,7 @@ use pure_terms::{Term, Terms};
 use sequence::Sequence;
 use std::alloc::{AllocError, Global};
 use sym_chunks::{Access, Cases, all_other_subs, choose, missed_key, with_case, with_found};
-use sym_conditions::always;
-use sym_model::{Branches, SymFrag, SymKey, SymSub};
+use sym_model::{Branches, SymFrag, SymKey, SymSub, always};
 
 fn key_at(alloc: Global, l: &Term, sub: SymSub) -> Result<Option<SymKey>, AllocError>
     ensures { IfOk result (λ k. option_map key_view k ≡ Some (record { loc = term_view l.now; sub = sub_view sub })) }

@@ -28,10 +28,10 @@ use Rattle.sym_chunks.specs.Ordering.{at_most, less, inside}
 use Rattle.sym_chunks.proofs.Facts.{name_from, cell_from, same_names, same_cells, same_texts, same_integers}
 use Rattle.sym_chunks.proofs.OrderLaws.{less_tells, at_most_tells}
 use Rattle.sym_chunks.proofs.Readings.{over_elements, over_literal}
-use Rattle.sym_conditions.specs.Alternatives.{Alternatives, Hold, always, same, other, of_kind}
-use Rattle.sym_conditions.specs.Laws.{HaveBoth}
-use Rattle.sym_conditions.proofs.Combined.{both_from, both_parts, always_true}
-use Rattle.sym_conditions.proofs.Telling.{other_tells, of_kind_tells}
+use Rattle.sym_model.specs.Alternatives.{Alternatives, Hold, always, same, other, of_kind}
+use Rattle.sym_model.specs.ConditionLaws.{HaveBoth}
+use Rattle.sym_model.proofs.Combined.{both_from, both_parts, always_true}
+use Rattle.sym_model.proofs.Telling.{other_tells, of_kind_tells}
 use Rattle.sym_model.specs.Cores.{zero_term}
 use Rattle.sym_model.specs.Lists.{Each}
 use Rattle.sym_model.specs.Meaning.{location_of, name_of, cell_of, sub_value, key_of, key_value}

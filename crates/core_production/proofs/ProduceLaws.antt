@@ -45,9 +45,9 @@ use Rattle.sym_chunks.proofs.Opening.{OpenFor, Opens, closed_open, branches_open
 use Rattle.sym_chunks.proofs.Opening.{both_open as opens_both, form_open as opens_form}
 use Rattle.sym_chunks.proofs.Readings.{own_reading, made_state, own_sides, own_forms, over_reading, over_state, over_sides, over_forms, over_literal, no_list_kind, plain_reading, plain_state, plain_sides, plain_forms, state_plain, AnyAtom, KeptAt, loose_state, loose_sides, loose_forms, kept_reading, any_term, closed_reading, closed_sides, NoOpen, positive_closed, negative_closed, shaped_terms, shaped_conds, shaped_named}
 use Rattle.sym_chunks.proofs.Shapes.{Reading, IsFine, IsFineState, Shaped, EachAtom, fine_terms, fine_chunk}
-use Rattle.sym_conditions.specs.Alternatives.{Alternatives, Hold, never, always, both, any, is_empty, settled, same, of_kind}
-use Rattle.sym_conditions.proofs.Combined.{both_from, both_parts, settled_from}
-use Rattle.sym_conditions.proofs.Telling.{same_tells, of_kind_tells}
+use Rattle.sym_model.specs.Alternatives.{Alternatives, Hold, never, always, both, any, is_empty, settled, same, of_kind}
+use Rattle.sym_model.proofs.Combined.{both_from, both_parts, settled_from}
+use Rattle.sym_model.proofs.Telling.{same_tells, of_kind_tells}
 use Rattle.sym_model.specs.Chunks.{IsEntry, StandFor, value_where_described, located_in, terms_of}
 use Rattle.sym_model.specs.CoreLaws.{IsAdded, ProduceLaw, ProducesWhatMatters, ArePlainUses, ProducesPlainly}
 use Rattle.sym_model.specs.Cores.{core_of_sub, IsSubOf, zero_term, asked_of_core, NamesBeside, IsListProduced, DependsOnForm}

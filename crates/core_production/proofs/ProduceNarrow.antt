@@ -12,7 +12,7 @@ use Rattle.sym_chunks.specs.Cases.{true_term}
 use Rattle.sym_chunks.specs.NameTerms.{listed}
 use Rattle.sym_chunks.proofs.Narrow.{reading, IsNarrow, AreDecided, IsNarrowChunk, IsNarrowBranch, narrow_wider, state_wider, narrow_chunks, name_at, texts_at_shape, texts_at_dom, same_decided, other_decided, listed_decided, form_decided, by_place_decided, narrow_branches}
 use Rattle.sym_chunks.proofs.Shapes.{both_shaped, any_shaped, kind_shaped}
-use Rattle.sym_conditions.specs.Alternatives.{Alternatives, never, always, both, any, same, of_kind}
+use Rattle.sym_model.specs.Alternatives.{Alternatives, never, always, both, any, same, of_kind}
 use Rattle.sym_model.specs.Chunks.{terms_of}
 use Rattle.sym_model.specs.CoreLaws.{ProducesNarrowly}
 use Rattle.sym_model.specs.Cores.{core_of_sub}

@@ -10,7 +10,7 @@ use Rattle.sym_chunks.specs.Cases.{true_term}
 use Rattle.sym_chunks.specs.Forms.{form_of}
 use Rattle.sym_chunks.specs.NameTerms.{listed}
 use Rattle.sym_chunks.proofs.Shapes.{Reading, ChunkSides, ChunkForms, IsFine, IsFineState, Shaped, EachAtom, limits_of, both_shaped, form_shaped, form_never, other_shaped, inside_shaped, kind_shaped, wrong_kind, any_shaped, both_never, listed_shaped, distinct_shaped, loc_near_or_never, loc_same, by_place_shaped, branches_shaped}
-use Rattle.sym_conditions.specs.Alternatives.{Alternatives, never, always, both, any, same, of_kind}
+use Rattle.sym_model.specs.Alternatives.{Alternatives, never, always, both, any, same, of_kind}
 use Rattle.sym_model.specs.Chunks.{value_where_described}
 use Rattle.sym_model.specs.Cores.{zero_term}
 use Rattle.sym_model.specs.Lists.{Each}

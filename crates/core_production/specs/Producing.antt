@@ -13,7 +13,7 @@ use Rattle.sym_chunks.specs.Cases.{ChunkBranches, branches_of, true_term}
 use Rattle.sym_chunks.specs.Forms.{form_of}
 use Rattle.sym_chunks.specs.NameTerms.{listed, distinct_from}
 use Rattle.sym_chunks.specs.Ordering.{inside}
-use Rattle.sym_conditions.specs.Alternatives.{Alternatives, never, always, both, any, same, other, of_kind}
+use Rattle.sym_model.specs.Alternatives.{Alternatives, never, always, both, any, same, other, of_kind}
 use Rattle.sym_model.specs.Chunks.{StandFor, terms_of}
 use Rattle.sym_model.specs.CoreLaws.{ProduceLaw, ProducesWhatMatters, ProducesPlainly, ProducesNarrowly}
 use Rattle.sym_model.specs.Cores.{TakesBoth}

@@ -16,17 +16,16 @@ ghost use Rattle.core_production.specs.Producing.{
   opened_at,
 };
 ghost use Rattle.pure_terms.specs.View.{term_view};
-ghost use Rattle.sym_conditions.specs.Alternatives.{alternatives_view, any, both as combined, of_kind};
+ghost use Rattle.sym_model.specs.Alternatives.{alternatives_view, any, both as combined, of_kind};
 ghost use Rattle.sym_model.specs.View.{chunk_view, chunks_view, sub_view};
 
 use gil_values::Kind;
 use pure_terms::Term;
 use std::alloc::{AllocError, Global};
 use sym_chunks::{ChunkTest, distinct_names, form_needed, inside, listed};
-use sym_conditions::{
-    Alternatives, always, both, extend, kind_is, never, terms_differ, terms_equal,
+use sym_model::{
+    Alternatives, Chunk, SymSub, always, both, extend, kind_is, never, terms_differ, terms_equal,
 };
-use sym_model::{Chunk, SymSub};
 
 /// Besides, the term is of a kind.
 fn with_kind(

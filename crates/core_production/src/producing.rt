@@ -16,7 +16,7 @@ ghost use Rattle.core_production.specs.Producing.{
 ghost use Rattle.mem_model.specs.CoreNames.{core_of};
 ghost use Rattle.pure_terms.specs.View.{term_view, terms_view};
 ghost use Rattle.sym_chunks.specs.View.{chunk_branches_view};
-ghost use Rattle.sym_conditions.specs.Alternatives.{alternatives_view, any, both as combined};
+ghost use Rattle.sym_model.specs.Alternatives.{alternatives_view, any, both as combined};
 ghost use Rattle.sym_model.specs.View.{chunk_view, frag_view, key_view, sub_view};
 
 use crate::fitting::{FitsBeside, FitsClosed, any_opened, is_right};
@@ -27,8 +27,7 @@ use pure_terms::{Literal, Term, Terms};
 use sequence::Sequence;
 use std::alloc::{AllocError, Global};
 use sym_chunks::{ChunkTest, all_by_place, form_needed, with_last_branches};
-use sym_conditions::{Alternatives, both};
-use sym_model::{Branches, Chunk, SymFrag, SymKey, SymResult, SymSub};
+use sym_model::{Alternatives, Branches, Chunk, SymFrag, SymKey, SymResult, SymSub, both};
 
 /// What the key holds, by the outs of its core predicate.
 fn held_by(alloc: Global, sub: &SymSub, outs: &[Term]) -> Result<Option<Term>, AllocError>

@@ -7,8 +7,8 @@ use Rattle.assert_logic.specs.LogicStates.{LogicState}
 use Rattle.pure_terms.specs.declared.variables.Sort.{Sort}
 use Rattle.pure_terms.specs.Meaning.{all_true, IsProper, AreOver, IsUnsatisfiable}
 use Rattle.pure_terms.specs.Pure.{PureAtom}
-use Rattle.sym_asking.specs.Asking.{IsSolution, IsOutside}
-use Rattle.sym_asking.proofs.Fragments.{each_over_all}
+use Rattle.sym_paths.specs.Asking.{IsSolution, IsOutside}
+use Rattle.sym_paths.proofs.AskedFragments.{each_over_all}
 use Rattle.sym_model.specs.Lists.{Each, OneOf}
 use Rattle.sym_model.specs.Terms.{StateTerms}
 use Rattle.sym_model.proofs.ListLaws.{each_append, each_to, one_left, one_right, one_with}

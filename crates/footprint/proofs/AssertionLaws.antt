@@ -13,7 +13,7 @@ use Rattle.assert_logic.specs.LogicStates.{LogicState}
 use Rattle.assert_logic.specs.Matching.{took_fact, FoundFact, Cases, no_cases, first_fact, fits_fact, fact_match, known_outs, match_fact_or, match_use, match_outcomes, match_item}
 use Rattle.pure_terms.specs.Meaning.{all_true, IsProper, IsOver}
 use Rattle.pure_terms.specs.Pure.{PureTerm, PureAtom, term_of}
-use Rattle.sym_conditions.specs.Alternatives.{Hold}
+use Rattle.sym_model.specs.Alternatives.{Hold}
 use Rattle.sym_evaluation.specs.Meaning.{AreSame, IsStoreOver}
 use Rattle.sym_evaluation.specs.Pure.{PureStore, PureGoodCase}
 use Rattle.sym_matching.specs.Meaning.{IsReached, Gives as SplitGives, SaysSplit, AreConditions, AreOuts, AreOutsOver}

@@ -13,7 +13,7 @@ use Rattle.assert_logic.specs.LogicStates.{LogicState}
 use Rattle.assert_logic.specs.Matching.{took_case, place_taken, CaseMatch, Cases, match_values, match_from, match_case, case_match, case_of, case_from, first_of, try_cases, try_pred, scope_of, values_of, case_store}
 use Rattle.pure_terms.specs.Meaning.{all_true, IsProper, IsOver}
 use Rattle.pure_terms.specs.Pure.{PureTerm, PureAtom, term_of}
-use Rattle.sym_conditions.specs.Alternatives.{Hold}
+use Rattle.sym_model.specs.Alternatives.{Hold}
 use Rattle.sym_evaluation.specs.Meaning.{StandsFor, HaveValues, IsStoreOver}
 use Rattle.sym_evaluation.specs.Pure.{PureStore, PureGoodCase}
 use Rattle.sym_matching.specs.Matching.{SplitsCase, CaseStaysOver, AreTermsAt, TermsStayOver}

@@ -8,7 +8,7 @@ use Rattle.mem_model.specs.Heaps.{Heap}
 use Rattle.assert_logic.specs.LogicStates.{LogicState}
 use Rattle.assert_logic.specs.Matching.{Taken, took_nothing, pure_match, ItemMatch, Matching, matched, stops, Cases, match_item, go_on, taken_before, match_from}
 use Rattle.pure_terms.specs.Meaning.{all_true, AreOver}
-use Rattle.sym_asking.proofs.Fragments.{each_over_all}
+use Rattle.sym_paths.proofs.AskedFragments.{each_over_all}
 use Rattle.sym_model.specs.Lists.{Each, OneOf}
 use Rattle.sym_model.specs.Terms.{StateTerms}
 use Rattle.sym_model.proofs.ListLaws.{each_append, each_to}

@@ -8,7 +8,7 @@ use Rattle.assert_logic.specs.LogicStates.{LogicState}
 use Rattle.pure_terms.specs.declared.variables.Sort.{Sort}
 use Rattle.pure_terms.specs.Meaning.{all_true, IsOver}
 use Rattle.pure_terms.specs.Pure.{PureAtom, term_of}
-use Rattle.sym_conditions.specs.Alternatives.{Hold}
+use Rattle.sym_model.specs.Alternatives.{Hold}
 use Rattle.sym_evaluation.specs.Meaning.{StandsFor, IsStoreOver}
 use Rattle.sym_evaluation.specs.Pure.{PureStore, PureGoodCase}
 use Rattle.sym_matching.specs.Meaning.{IsReached, Gives as SplitGives, SaysSplit, IsCondition, AreConditions, IsFoundOver, IsSplitOver}

@@ -20,8 +20,8 @@ use Rattle.sym_model.specs.Plain.{IsPlainState}
 use Rattle.sym_model.specs.Pure.{PureResult, done, failed, missed, result_terms, PureBranch}
 use Rattle.sym_model.specs.Terms.{StateTerms, all_of, AreEachOver}
 use Rattle.sym_model.proofs.ListLaws.{each_append, each_by_place, each_to}
-use Rattle.plain_evaluation.specs.Laws.{PlainExpressionsAskNothing}
-use Rattle.plain_evaluation.specs.Plain.{IsPlainItem}
+use Rattle.sym_paths.specs.PlainLaws.{PlainExpressionsAskNothing}
+use Rattle.sym_paths.specs.Plain.{IsPlainItem}
 use Rattle.sym_states.specs.Meaning.{IsOverTable}
 use Rattle.sym_states.specs.Producing.{are_spelled}
 use Rattle.sym_states.specs.Pure.{PureState}

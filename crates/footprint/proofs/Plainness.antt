@@ -10,8 +10,8 @@ use Rattle.pure_terms.specs.declared.variables.Sort.{Sort}
 use Rattle.pure_terms.specs.Fragment.{InFragment}
 use Rattle.pure_terms.specs.Meaning.{AreOver}
 use Rattle.pure_terms.specs.Pure.{PureAtom}
-use Rattle.sym_asking.specs.Asking.{IsSolution, IsOutside}
-use Rattle.sym_asking.proofs.Fragments.{each_over_all}
+use Rattle.sym_paths.specs.Asking.{IsSolution, IsOutside}
+use Rattle.sym_paths.proofs.AskedFragments.{each_over_all}
 use Rattle.sym_evaluation.specs.Meaning.{IsStoreOver}
 use Rattle.sym_evaluation.specs.Plainly.{IsPlain, IsPlainStore, text_bound}
 use Rattle.sym_evaluation.specs.Pure.{PureStore, PureGoodCase}
@@ -22,7 +22,7 @@ use Rattle.sym_model.specs.Plain.{IsPlainState}
 use Rattle.sym_model.proofs.ListLaws.{each_append, each_left, each_right, each_map, each_to, one_with}
 use Rattle.sym_model.proofs.Fragments.{decided_in_fragment}
 use Rattle.sym_paths.specs.Steps.{narrow_bound}
-use Rattle.plain_evaluation.specs.Plain.{IsPlainItem}
+use Rattle.sym_paths.specs.Plain.{IsPlainItem}
 use Rattle.sym_states.specs.Pure.{PureState}
 use Rattle.sym_states.proofs.Plainness.{plain_up, decided_up}
 use Rattle.sym_matching.specs.Plainly.{AreDecided, IsFoundDecided, IsSplitDecided, PureStaysPlain}

@@ -3,7 +3,7 @@ use Rattle.std.specs.Prelude.{◌≡◌, ◌⊎◌, List, []}
 use Rattle.gil_values.specs.Pure.{PureValue}
 use Rattle.pure_terms.specs.declared.variables.Sort.{Sort}
 use Rattle.pure_terms.specs.Meaning.{IsUnsatisfiable}
-use Rattle.sym_asking.specs.Asking.{IsSolution, IsOutside}
+use Rattle.sym_paths.specs.Asking.{IsSolution, IsOutside}
 use Rattle.sym_model.specs.Lists.{Each, OneOf}
 use Rattle.footprint.specs.Pure.{PureMatch, PureStop, PureUndecided, PureLeaves, PureMatching, all_match, unmatched, unknown}
 

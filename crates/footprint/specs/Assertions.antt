@@ -12,7 +12,7 @@ use Rattle.assert_logic.specs.Matching.{Taken, Cases, no_cases, matched, stops, 
 use Rattle.pure_terms.specs.declared.deciders.Reason.{Reason}
 use Rattle.pure_terms.specs.declared.variables.Sort.{Sort}
 use Rattle.pure_terms.specs.Meaning.{IsUnsatisfiable}
-use Rattle.sym_asking.specs.Asking.{IsOutside}
+use Rattle.sym_paths.specs.Asking.{IsOutside}
 use Rattle.sym_evaluation.specs.Meaning.{IsStoreOver}
 use Rattle.sym_evaluation.specs.Pure.{PureStore}
 use Rattle.sym_matching.specs.Meaning.{AreOutsOver}

@@ -7,7 +7,7 @@ use Rattle.mem_model.specs.Heaps.{Heap}
 use Rattle.assert_logic.specs.LogicStates.{LogicState}
 use Rattle.pure_terms.specs.Meaning.{all_true, IsOver, Satisfies}
 use Rattle.pure_terms.specs.Pure.{PureAtom, term_of}
-use Rattle.sym_asking.specs.Asking.{IsOutside}
+use Rattle.sym_paths.specs.Asking.{IsOutside}
 use Rattle.sym_evaluation.specs.Meaning.{IsStoreOver}
 use Rattle.sym_model.specs.Lists.{Each, OneOf}
 use Rattle.sym_model.specs.Meaning.{has_open}

@@ -10,7 +10,7 @@ use Rattle.sym_model.specs.Lists.{Each}
 use Rattle.sym_model.specs.Plain.{IsPlainState}
 use Rattle.sym_model.specs.Terms.{StateTerms}
 use Rattle.sym_paths.specs.Steps.{narrow_bound}
-use Rattle.plain_evaluation.specs.Plain.{IsPlainItem}
+use Rattle.sym_paths.specs.Plain.{IsPlainItem}
 use Rattle.sym_states.specs.Pure.{PureState}
 use Rattle.sym_matching.specs.Plainly.{AreDecided}
 use Rattle.footprint.specs.Pure.{PureMatch, PureLeaves, PureMatching, all_match, unmatched, unknown}

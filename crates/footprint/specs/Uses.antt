@@ -14,8 +14,8 @@ use Rattle.pure_terms.specs.Pure.{PureTerm, PureAtom, term_of}
 use Rattle.sym_evaluation.specs.Meaning.{HaveValues, IsStoreOver, Serves as StoreServes}
 use Rattle.sym_evaluation.specs.Plainly.{IsPlain, text_bound}
 use Rattle.sym_evaluation.specs.Pure.{PureStore, PureGoodCase}
-use Rattle.plain_evaluation.specs.Laws.{IsPlainOver}
-use Rattle.plain_evaluation.specs.Plain.{IsPlainItem}
+use Rattle.sym_paths.specs.PlainLaws.{IsPlainOver}
+use Rattle.sym_paths.specs.Plain.{IsPlainItem}
 use Rattle.sym_matching.specs.Meaning.{SaysSplit, AreOuts, AreOutsOver}
 use Rattle.sym_matching.specs.Plainly.{IsSplitDecided}
 use Rattle.sym_matching.specs.Pure.{PureSplit, PureOuts}

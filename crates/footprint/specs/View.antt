@@ -15,7 +15,7 @@ use Rattle.footprint.specs.Answers.{PureTold, met, outside, never}
 use Rattle.footprint.specs.Choosing.{PureFactCase, PureChoice}
 use Rattle.footprint.specs.Pure.{PureMatch, PureStop, PureUndecided, PureLeaves, PureMatching, all_match, unmatched, unknown}
 use Rattle.footprint.specs.Uses.{PureAsked}
-use Rattle.sym_conditions.specs.Alternatives.{alternatives_view}
+use Rattle.sym_model.specs.Alternatives.{alternatives_view}
 use Rattle.sym_evaluation.specs.View.{store_view}
 use Rattle.sym_matching.specs.View.{outs_view}
 use Rattle.sym_states.specs.View.{state_view}

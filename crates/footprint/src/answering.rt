@@ -8,7 +8,7 @@ ghost use Rattle.footprint.specs.View.{stop_view, stops_view, undecided_view, ma
 use crate::leaves::{Leaves, Matches, Matching, Stop, Stops, Undecided, UndecidedList};
 use pure_terms::{Decider, Valuation, VarTable};
 use std::alloc::{AllocError, Global};
-use sym_asking::{Satisfiability, ask};
+use sym_paths::{Satisfiability, ask};
 
 /// What is known of stops. Contracts see it as its pure data, by `told_view`.
 #[derive(Debug, Drop)]

@@ -2,7 +2,7 @@
 ghost use Rattle.std.specs.Prelude.{◌≡◌, ◌++◌, IfOk, Some};
 ghost use Rattle.std.specs.Option.{option_map};
 ghost use Rattle.pure_terms.specs.View.{atoms_view, terms_view};
-ghost use Rattle.sym_conditions.specs.Alternatives.{alternatives_view};
+ghost use Rattle.sym_model.specs.Alternatives.{alternatives_view};
 ghost use Rattle.sym_matching.specs.View.{test_view, outs_view};
 ghost use Rattle.sym_states.specs.View.{fact_view, facts_view};
 ghost use Rattle.footprint.specs.Choosing.{TestsFact, FactStaysOver, ChoosesFact, ChoiceStaysOver, both_met, both_tests, placed_cases};
@@ -13,8 +13,8 @@ use gil_values::Text;
 use pure_terms::{Atoms, Terms};
 use sequence::Sequence;
 use std::alloc::{AllocError, Global};
-use sym_conditions::{Alternatives, always, both, extend};
 use sym_matching::{KnownOuts, Test, elements_equal, outs_agree};
+use sym_model::{Alternatives, always, both, extend};
 use sym_states::{PredChunk, PredChunks};
 
 /// The place of the fact that is taken where these conditions are true.

@@ -1,7 +1,7 @@
 //! Consuming assertions.
 ghost use Rattle.std.specs.Prelude.{◌≡◌, IfOk};
 ghost use Rattle.gil_syntax.specs.View.{assertion_view};
-ghost use Rattle.gil_program.specs.Program.{prog_view};
+ghost use Rattle.gil_syntax.specs.Program.{prog_view};
 ghost use Rattle.sym_evaluation.specs.Meaning.{IsStoreOver};
 ghost use Rattle.sym_evaluation.specs.View.{store_view};
 ghost use Rattle.sym_states.specs.Meaning.{Serves, IsOverTable};
@@ -13,8 +13,7 @@ ghost use Rattle.footprint.specs.View.{matching_view};
 use crate::answering::answer;
 use crate::leaves::{Match, Matching};
 use crate::matching::match_items;
-use gil_program::Prog;
-use gil_syntax::{Assertion, Params};
+use gil_syntax::{Assertion, Params, Prog};
 use pure_terms::{Decider, VarTable};
 use sequence::Sequence;
 use std::alloc::{AllocError, Global};

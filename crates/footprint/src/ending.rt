@@ -14,9 +14,9 @@ use crate::leaves::{Leaves, Match, Matches, Stop, Stops};
 use gil_syntax::{Exprs, Param, Params, PredDef};
 use sequence::Sequence;
 use std::alloc::{AllocError, Global};
-use sym_conditions::copy_conditions;
 use sym_evaluation::SymStore;
 use sym_matching::terms_of;
+use sym_model::copy_conditions;
 use sym_states::SymState;
 
 fn push_params(alloc: Global, params: Params, more: &Params) -> Result<Params, AllocError>

@@ -1,6 +1,6 @@
 //! Folding.
 ghost use Rattle.std.specs.Prelude.{◌≡◌, map, Some, IfOk};
-ghost use Rattle.gil_program.specs.Program.{prog_view};
+ghost use Rattle.gil_syntax.specs.Program.{prog_view};
 ghost use Rattle.gil_syntax.specs.View.{pred_def_view};
 ghost use Rattle.pure_terms.specs.View.{terms_view};
 ghost use Rattle.sym_matching.specs.View.{outs_view};
@@ -17,8 +17,7 @@ use crate::items::stop_in;
 use crate::leaves::{Leaves, Matching};
 use crate::matching::{pred_of, try_pred};
 use crate::uses::Asked;
-use gil_program::Prog;
-use gil_syntax::PredDefs;
+use gil_syntax::{PredDefs, Prog};
 use gil_values::Text;
 use pure_terms::{Decider, Terms};
 use sequence::Sequence;

@@ -27,10 +27,9 @@ use gil_syntax::{Expr, Exprs, Params, PredUse};
 use pure_terms::{Term, Terms};
 use sequence::Sequence;
 use std::alloc::{AllocError, Global};
-use sym_conditions::copy_conditions;
 use sym_evaluation::SymStore;
 use sym_matching::{Split, StoreSplit, match_pure, match_terms};
-use sym_model::{Branch, Branches, ListedMemory, SymResult};
+use sym_model::{Branch, Branches, ListedMemory, SymResult, copy_conditions};
 use sym_states::SymState;
 
 /// The leaves of a split of stores.

@@ -1,15 +1,15 @@
 //! What matching on terms comes to.
 ghost use Rattle.std.specs.Prelude.{◌≡◌, [], ◌∷◌, ◌++◌, IfOk};
 ghost use Rattle.pure_terms.specs.View.{atoms_view};
-ghost use Rattle.sym_conditions.specs.Alternatives.{alternatives_view};
+ghost use Rattle.sym_model.specs.Alternatives.{alternatives_view};
 ghost use Rattle.footprint.specs.Spreading.{no_leaves, joined, stops_at};
 ghost use Rattle.footprint.specs.View.{match_view, stops_view, undecided_view, leaves_view};
 
 use pure_terms::{Atoms, Reason, Valuation};
 use sequence::Sequence;
 use std::alloc::{AllocError, Global};
-use sym_conditions::{Alternatives, copy_conditions};
 use sym_evaluation::SymStore;
+use sym_model::{Alternatives, copy_conditions};
 use sym_states::SymState;
 
 /// What is left of a state, and the terms that names got. Contracts see it as its pure data, by `match_view`.

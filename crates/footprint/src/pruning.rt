@@ -10,9 +10,8 @@ use crate::leaves::{Leaves, Match, Undecided};
 use pure_terms::Decider;
 use sequence::Sequence;
 use std::alloc::{AllocError, Global};
-use sym_asking::{Satisfiability, ask};
-use sym_conditions::copy_conditions;
-use sym_model::ListedMemory;
+use sym_model::{ListedMemory, copy_conditions};
+use sym_paths::{Satisfiability, ask};
 
 /// Keeps a match, unless no valuation meets its conditions, or they aren't decided.
 fn prune_match<M: ListedMemory, D: Decider>(

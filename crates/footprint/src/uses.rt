@@ -3,7 +3,7 @@ ghost use Rattle.std.specs.Prelude.{◌≡◌, ◌<◌, ◌++◌, length, map, r
 ghost use Rattle.std.specs.Option.{option_map};
 ghost use Rattle.gil_syntax.specs.View.{exprs_view, pred_use_view};
 ghost use Rattle.pure_terms.specs.View.{terms_view};
-ghost use Rattle.sym_conditions.specs.Alternatives.{alternatives_view};
+ghost use Rattle.sym_model.specs.Alternatives.{alternatives_view};
 ghost use Rattle.sym_evaluation.specs.View.{good_view, faults_view, store_view};
 ghost use Rattle.sym_matching.specs.View.{split_by, outs_view};
 ghost use Rattle.sym_states.specs.Producing.{are_spelled};
@@ -17,14 +17,13 @@ use crate::items::match_outs;
 use crate::leaves::{Leaves, join};
 use crate::states::copy_under;
 use gil_syntax::{Exprs, Params, PredUse};
-use plain_evaluation::plain_expressions_ask_nothing;
 use pure_terms::Terms;
 use sequence::Sequence;
 use std::alloc::{AllocError, Global};
-use sym_conditions::{Alternatives, extend};
 use sym_evaluation::{FaultCases, GoodCase, SymStore, evaluate_all};
 use sym_matching::{KnownOuts, Split, known_outs};
-use sym_model::ListedMemory;
+use sym_model::{Alternatives, ListedMemory, extend};
+use sym_paths::plain_expressions_ask_nothing;
 use sym_states::{PredChunk, PredChunks, SymState, SymStates};
 
 /// The terms of the ins of a use, and of the outs that are known. Contracts see it as its pure data, by `asked_view`.

@@ -1,6 +1,6 @@
 //! Consuming the first of several assertions that leaves nothing.
 ghost use Rattle.std.specs.Prelude.{◌≡◌, map, nat_eq, ◌&&◌, IfOk};
-ghost use Rattle.gil_program.specs.Program.{prog_view};
+ghost use Rattle.gil_syntax.specs.Program.{prog_view};
 ghost use Rattle.gil_syntax.specs.View.{assertion_view, pred_def_view};
 ghost use Rattle.pure_terms.specs.View.{atoms_view};
 ghost use Rattle.sym_evaluation.specs.Meaning.{IsStoreOver};
@@ -24,8 +24,7 @@ use crate::items::stop_in;
 use crate::leaves::{Leaves, Match, Matches, Matching, Stops};
 use crate::matching::match_items;
 use crate::states::renewed;
-use gil_program::Prog;
-use gil_syntax::{Assertion, Assertions, Params, PredDefs};
+use gil_syntax::{Assertion, Assertions, Params, PredDefs, Prog};
 use pure_terms::{Atoms, Decider};
 use sequence::Sequence;
 use std::alloc::{AllocError, Global};

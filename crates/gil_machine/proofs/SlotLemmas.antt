@@ -7,8 +7,8 @@ use Rattle.std.proofs.lemmas.Bool.Decides.{eqb_tells}
 use Rattle.std.proofs.lemmas.List.{get_or_append_left, get_or_past, length-append}
 use Rattle.std.proofs.lemmas.Slice.Eq.{bytes_eq-Decides}
 use Rattle.gil_values.specs.Characters.{IsTextCharacter, IsText}
-use Rattle.gil_program.specs.Names.{first_place}
-use Rattle.gil_program.proofs.NameLemmas.{bytes_eq-sym, bytes_eq-refl, first_place-push}
+use Rattle.gil_syntax.specs.Names.{first_place}
+use Rattle.gil_syntax.proofs.NameLemmas.{bytes_eq-sym, bytes_eq-refl, first_place-push}
 use Rattle.gil_machine.specs.SlotNames.{Names, IsTable, Grows, name_at}
 use Rattle.gil_machine.proofs.KeptValues.{Tells, longer_at}
 

@@ -1,8 +1,8 @@
 -- Procedures and programs whose variables are slots: what they have of those that they stand for.
 use Rattle.std.specs.Prelude.{◌≡◌, ◌<◌, map, length}
 use Rattle.std.specs.List.{All}
-use Rattle.gil_program.specs.Names.{place_of, first_place}
-use Rattle.gil_program.specs.Program.{prog_view}
+use Rattle.gil_syntax.specs.Names.{place_of, first_place}
+use Rattle.gil_syntax.specs.Program.{prog_view}
 use Rattle.gil_syntax.specs.View.{numbered_command_view, proc_view}
 use Rattle.gil_machine.specs.declared.resolved.ResolvedProc.{ResolvedProc}
 use Rattle.gil_machine.specs.declared.resolved.ResolvedProg.{ResolvedProg}

@@ -2,7 +2,7 @@
 use Rattle.std.specs.Prelude.{◌≡◌, ℕ, ◌<◌, ◌≤◌, List, [], ◌∷◌, map, length, slice_index_or, nat_eq}
 use Rattle.std.specs.Str.{bytes_eq}
 use denote.Ref.{Bor}
-use Rattle.gil_program.specs.Names.{place_of, first_place}
+use Rattle.gil_syntax.specs.Names.{place_of, first_place}
 use Rattle.gil_machine.specs.declared.slots.SlotNames.{SlotNames}
 
 abbrev pub Names : Type 0

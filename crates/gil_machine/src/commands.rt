@@ -14,7 +14,7 @@ ghost use Rattle.gil_syntax.specs.Pure.{
   usym as pure_usym,
   call as pure_call,
 };
-ghost use Rattle.gil_program.specs.Program.{prog_view};
+ghost use Rattle.gil_syntax.specs.Program.{prog_view};
 ghost use Rattle.mem_model.specs.Actions.{Actions};
 ghost use Rattle.gil_machine.specs.ResolvedView.{resolved_list_view, resolved_view};
 ghost use Rattle.gil_machine.specs.ResolvedWhole.{IsResolvedProg};

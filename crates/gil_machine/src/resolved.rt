@@ -2,14 +2,13 @@
 ghost use Rattle.std.specs.Prelude.{◌≡◌, ◌<◌, ◌+◌, ◌^◌, IfSome, map, slice_get};
 ghost use Rattle.std.specs.Option.{option_map};
 ghost use Rattle.gil_syntax.specs.Programs.{find_proc};
-ghost use Rattle.gil_program.specs.Program.{prog_view};
+ghost use Rattle.gil_syntax.specs.Program.{prog_view};
 ghost use Rattle.gil_syntax.specs.View.{proc_view};
 ghost use Rattle.gil_machine.specs.ResolvedWhole.{IsResolvedProc, IsResolvedProg};
 ghost use Rattle.gil_machine.specs.ResolvedView.{IsOverSlots, resolved_view, resolved_list_view, resolved_numbered_view};
 ghost use Rattle.gil_machine.specs.SlotNames.{Names, names_of};
 
-use gil_program::Prog;
-use gil_syntax::{Assertion, Params, PredUse, Proc, Texts};
+use gil_syntax::{Assertion, Params, PredUse, Proc, Prog, Texts};
 use gil_values::{BinOp, Kind, Text, UnOp, Value};
 use sequence::Sequence;
 use std::collections::HashMap;

@@ -1,7 +1,7 @@
 //! Variables resolved to slots, once before a run.
 ghost use Rattle.std.specs.Prelude.{◌≡◌, ◌<◌, IfOk, OnOk, map, length};
 ghost use Rattle.std.specs.List.{All};
-ghost use Rattle.gil_program.specs.Names.{place_of, first_place};
+ghost use Rattle.gil_syntax.specs.Names.{place_of, first_place};
 ghost use Rattle.gil_syntax.specs.View.{command_view, expr_view, exprs_view, numbered_command_view};
 ghost use Rattle.gil_machine.specs.ResolvedView.{AssignsSlot, IsOverSlots, resolved_command_view, resolved_list_view, resolved_numbered_view, resolved_view};
 ghost use Rattle.gil_machine.specs.ResolvedWhole.{IsResolvedProc, IsResolvedProg};
@@ -11,8 +11,7 @@ use crate::resolved::{
     Resolved, ResolvedCommand, ResolvedList, ResolvedNumbered, ResolvedProc, ResolvedProg,
 };
 use crate::slots::SlotNames;
-use gil_program::Prog;
-use gil_syntax::{Command, Expr, Exprs, NumberedCommand, Proc};
+use gil_syntax::{Command, Expr, Exprs, NumberedCommand, Proc, Prog};
 use gil_values::Text;
 use sequence::Sequence;
 use std::alloc::{AllocError, Global};

@@ -1,6 +1,6 @@
 //! Slots: the variables of a procedure by numbers.
 ghost use Rattle.std.specs.Prelude.{◌≡◌, ◌<◌, [], None, IfOk, OnOk, length};
-ghost use Rattle.gil_program.specs.Names.{first_place};
+ghost use Rattle.gil_syntax.specs.Names.{first_place};
 ghost use Rattle.gil_machine.specs.SlotNames.{Grows, IsNames, name_at, names_of};
 
 use gil_values::Text;

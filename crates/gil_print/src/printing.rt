@@ -3,15 +3,14 @@ ghost use Rattle.std.specs.Prelude.{◌≡◌, ◌++◌, map, slice_get, string_
 ghost use Rattle.std.specs.List.{flat_map};
 ghost use Rattle.gil_syntax.specs.Pure.{PureProc};
 ghost use Rattle.gil_syntax.specs.View.{spec_view, pred_def_view};
-ghost use Rattle.gil_program.specs.Program.{prog_view};
+ghost use Rattle.gil_syntax.specs.Program.{prog_view};
 ghost use Rattle.gil_syntax.specs.Programs.{renumbered};
 ghost use Rattle.gil_syntax.specs.Valid.{IsValid};
 ghost use Rattle.gil_grammar.specs.Texts.{SpellProgram};
 ghost use Rattle.gil_print.specs.Writable.{IsWritable};
 ghost use Rattle.syntax_print.specs.Programs.{printed_proc, printed_spec, printed_pred, printed_program};
 
-use gil_program::Prog;
-use gil_syntax::{PredDefs, Specs};
+use gil_syntax::{PredDefs, Prog, Specs};
 use std::alloc::{AllocError, Global};
 use syntax_print::{push_pred, push_proc, push_spec};
 

@@ -1,13 +1,28 @@
 //! The syntax of GIL programs: expressions, commands, assertions, procedures, specifications and predicates.
 #![tactic(auto)]
 
+mod arities;
 mod assertions;
+mod bodies;
+mod by_name;
+mod checking;
 mod commands;
+mod duplicates;
 mod examples;
 mod expressions;
+mod invalid;
+mod items;
 mod laws;
+mod limits;
+mod named;
 mod parts;
+mod program;
+mod seeking;
+mod simple;
+mod uncounted;
+mod unknown;
 mod validity;
+mod well_made;
 
 pub use assertions::{Assertion, Assertions, Item, Param, Params, PredUse, SpecSort};
 pub use commands::{Body, Command, NumberedCommand, Texts};
@@ -19,9 +34,14 @@ pub use examples::{
     the_newest_value_counts,
 };
 pub use expressions::{Expr, Exprs};
+pub use invalid::Invalid;
 pub use laws::{
     evaluation_invents_no_symbol, names_decide, one_fault_is_named, one_name_has_one_value,
     valid_or_named,
 };
 pub use parts::{Parts, PredDef, PredDefs, Proc, Procs, Spec, Specs};
+pub use program::Prog;
+pub use simple::is_simple;
+pub use uncounted::check_but_length;
 pub use validity::InvalidKind;
+pub use well_made::is_well_made;

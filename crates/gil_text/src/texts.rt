@@ -4,7 +4,7 @@ ghost use Rattle.gil_lexer.specs.Texts.{AreTokensOf, IsSlice};
 ghost use Rattle.gil_syntax.specs.Pure.{PureParts};
 ghost use Rattle.gil_syntax.specs.Valid.{IsValid};
 ghost use Rattle.gil_syntax.specs.View.{proc_view};
-ghost use Rattle.gil_program.specs.Program.{prog_view};
+ghost use Rattle.gil_syntax.specs.Program.{prog_view};
 ghost use Rattle.gil_grammar.specs.Texts.{PlacedItem, Spell, SpellProgram};
 ghost use Rattle.gil_text.specs.declared.refused.RefusedKind.TheVariants.{Memory};
 ghost use Rattle.gil_text.specs.Located.{located_of, located_view};
@@ -17,8 +17,7 @@ use crate::reading::program_at;
 use crate::refused::{Refused, RefusedKind};
 use gil_lexemes::{Cursor, Stop};
 use gil_lexer::{LexKind, Token, Tokens, lex};
-use gil_program::Prog;
-use gil_syntax::{InvalidKind, Parts, Proc};
+use gil_syntax::{InvalidKind, Parts, Proc, Prog};
 use std::alloc::Global;
 
 /// The kind of refusal of a text with this fault.

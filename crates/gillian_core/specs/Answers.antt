@@ -1,6 +1,6 @@
 -- The answers of the code as data.
 use Rattle.std.specs.Prelude.{[], map}
-use Rattle.gil_program.specs.Program.{prog_view}
+use Rattle.gil_syntax.specs.Program.{prog_view}
 use Rattle.sym_test.specs.View.{PureQuery, PureVerdict}
 use Rattle.sym_test.specs.View as verdict
 use Rattle.gil_report.specs.Pure.{PureAnswer, PureQuestion, clean, bug, undecided}

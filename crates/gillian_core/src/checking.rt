@@ -1,14 +1,13 @@
 //! The check of a program's specifications.
 ghost use Rattle.std.specs.Prelude.{◌≡◌, length, map, IfOk};
 ghost use Rattle.assert_logic.specs.Modes.{HasModes};
-ghost use Rattle.gil_program.specs.Program.{prog_view};
+ghost use Rattle.gil_syntax.specs.Program.{prog_view};
 ghost use Rattle.gil_report.specs.View.{answer_view};
 ghost use Rattle.gil_syntax.specs.View.{spec_view};
 ghost use Rattle.gillian_core.specs.Checked.{AreRightAnswers, CanEachBeTold, CanVerdictBeTold, IsReportOf, ReportsEach};
 
-use gil_program::Prog;
 use gil_report::{Answer, Answers, Cause};
-use gil_syntax::{Spec, Specs};
+use gil_syntax::{Prog, Spec, Specs};
 use gil_values::Text;
 use gillian_words::Bound;
 use path_solver::PathSolver;

@@ -1,6 +1,6 @@
 //! The C-like language, over blocks.
 ghost use Rattle.std.specs.Prelude.{◌≡◌, IfOk, IfErr};
-ghost use Rattle.gil_program.specs.Program.{prog_view};
+ghost use Rattle.gil_syntax.specs.Program.{prog_view};
 ghost use Rattle.gil_syntax.specs.Pure.{PureParts};
 ghost use Rattle.gillian_core.specs.Compiled.{IsSourceOf};
 ghost use Rattle.gillian_core.specs.Finishing.{IsNoProgram};
@@ -10,7 +10,7 @@ ghost use Rattle.gillian_core.specs.ClikeLanguage.{clike_language, clike_sources
 use crate::limits::limit_refused;
 use clike_compiler::compile;
 use clike_text::read;
-use gil_program::Prog;
+use gil_syntax::Prog;
 use gil_text::Refused;
 use std::alloc::Global;
 

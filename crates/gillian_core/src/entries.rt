@@ -1,7 +1,7 @@
 //! The program of a text with its entry.
 ghost use Rattle.std.specs.Prelude.{◌≡◌, ◌↔◌, length, IsTrue, IfOk, IfErr};
 ghost use Rattle.gil_machine.specs.Run.{IsEntry};
-ghost use Rattle.gil_program.specs.Program.{prog_view};
+ghost use Rattle.gil_syntax.specs.Program.{prog_view};
 ghost use Rattle.gil_text.specs.declared.refused.RefusedKind.TheVariants.{Entry};
 ghost use Rattle.gillian_core.specs.Accepted.{EntersAt, HasProc};
 ghost use Rattle.gillian_core.specs.Finishing.{IsNoEntry};
@@ -9,7 +9,7 @@ ghost use Rattle.gillian_core.specs.Languages.{definition_of};
 ghost use Rattle.gillian_core.specs.Right.{IsProgramOf};
 
 use crate::languages::program;
-use gil_program::Prog;
+use gil_syntax::Prog;
 use gil_text::{Refused, RefusedKind};
 use gil_values::Text;
 use gillian_words::Language;

@@ -1,12 +1,12 @@
 //! GIL, over any memory: what a text is doesn't depend on it.
 ghost use Rattle.std.specs.Prelude.{◌≡◌, IfOk, IfErr};
-ghost use Rattle.gil_program.specs.Program.{prog_view};
+ghost use Rattle.gil_syntax.specs.Program.{prog_view};
 ghost use Rattle.gil_syntax.specs.Pure.{PureParts};
 ghost use Rattle.gillian_core.specs.Finishing.{IsNoProgram};
 ghost use Rattle.gillian_core.specs.Gil.{IsTextOf, gil_record};
 ghost use Rattle.gillian_core.specs.Right.{IsProgramOf};
 
-use gil_program::Prog;
+use gil_syntax::Prog;
 use gil_text::{Refused, read_prog};
 use std::alloc::Global;
 

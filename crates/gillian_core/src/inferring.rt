@@ -2,7 +2,7 @@
 ghost use Rattle.std.specs.Prelude.{◌≡◌, ◌++◌, map, IfOk, IsSome};
 ghost use Rattle.std.specs.Option.{option_map};
 ghost use Rattle.bi_specifications.specs.View.{found_view, founds_view};
-ghost use Rattle.gil_program.specs.Program.{prog_view};
+ghost use Rattle.gil_syntax.specs.Program.{prog_view};
 ghost use Rattle.gil_report.specs.Pure.{found};
 ghost use Rattle.gil_report.specs.View.{answer_view};
 ghost use Rattle.gil_syntax.specs.Programs.{find_proc};
@@ -14,8 +14,8 @@ ghost use Rattle.gillian_core.specs.Inferred.{AreRightFounds, found_answers, que
 use crate::testing::question_of;
 use bi_specifications::{Found, Founds};
 use biabduce::infer;
-use gil_program::Prog;
 use gil_report::{Answer, Answers};
+use gil_syntax::Prog;
 use gil_values::Text;
 use gillian_words::Bound;
 use path_solver::PathSolver;

@@ -1,7 +1,7 @@
 //! The program of a text whose assertions can be read from left to right.
 ghost use Rattle.std.specs.Prelude.{◌≡◌, ◌≢◌, IfOk, IfErr};
 ghost use Rattle.assert_logic.specs.Modes.{HasModes};
-ghost use Rattle.gil_program.specs.Program.{prog_view};
+ghost use Rattle.gil_syntax.specs.Program.{prog_view};
 ghost use Rattle.gil_text.specs.declared.refused.RefusedKind.TheVariants as kinds;
 ghost use Rattle.gillian_core.specs.Finishing.{IsNoReadable};
 ghost use Rattle.gillian_core.specs.Languages.{definition_of};
@@ -11,7 +11,7 @@ ghost use Rattle.gillian_core.specs.Right.{IsProgramOf};
 use crate::languages::{memory_name, program};
 use assert_logic::{ModeItem, modes};
 use gil_lexer::{Form, Sign, Token, Word};
-use gil_program::Prog;
+use gil_syntax::Prog;
 use gil_text::{Refused, RefusedKind, place_of, tokens_of};
 use gillian_words::Language;
 use std::alloc::{AllocError, Global};

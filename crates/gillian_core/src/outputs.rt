@@ -1,6 +1,6 @@
 //! What is written of an accepted text.
-use gil_program::Prog;
 use gil_report::Report;
+use gil_syntax::Prog;
 
 /// What is written: a report, or a program.
 #[derive(Drop)]

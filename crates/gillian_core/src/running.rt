@@ -2,7 +2,7 @@
 ghost use Rattle.std.specs.Prelude.{◌≡◌, [], IfOk};
 ghost use Rattle.std.specs.FinMap.{empty};
 ghost use Rattle.gil_values.specs.View.{values_view};
-ghost use Rattle.gil_program.specs.Program.{prog_view};
+ghost use Rattle.gil_syntax.specs.Program.{prog_view};
 ghost use Rattle.gil_machine.specs.Held.{HeldEnd, held_run_of};
 ghost use Rattle.gil_machine.specs.Run.{IsEntry};
 ghost use Rattle.gil_machine.specs.Standing.{IsEndOf};
@@ -10,8 +10,8 @@ ghost use Rattle.gil_report.specs.View.{answer_view};
 ghost use Rattle.gillian_core.specs.Ends.{end_answer};
 
 use gil_machine::{End, run};
-use gil_program::Prog;
 use gil_report::Answer;
+use gil_syntax::Prog;
 use gil_values::{Text, Values};
 use gillian_words::Bound;
 use mem_model::LocalMemory;

@@ -1,6 +1,6 @@
 //! Whether some inputs make a program fail.
 ghost use Rattle.std.specs.Prelude.{◌≡◌, IfOk};
-ghost use Rattle.gil_program.specs.Program.{prog_view};
+ghost use Rattle.gil_syntax.specs.Program.{prog_view};
 ghost use Rattle.gil_machine.specs.Run.{IsEntry};
 ghost use Rattle.sym_test.specs.View.{query_view, verdict_view};
 ghost use Rattle.gil_report.specs.View.{answer_view, question_view};
@@ -8,8 +8,8 @@ ghost use Rattle.gillian_core.specs.Answers.{question_of, verdict_answer};
 ghost use Rattle.gillian_core.specs.Definitions.{memory_of};
 ghost use Rattle.gillian_core.specs.Right.{IsRightVerdict};
 
-use gil_program::Prog;
 use gil_report::{Answer, Question};
+use gil_syntax::Prog;
 use gil_values::Text;
 use gillian_words::Bound;
 use path_solver::PathSolver;

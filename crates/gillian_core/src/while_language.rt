@@ -1,6 +1,6 @@
 //! While, over records.
 ghost use Rattle.std.specs.Prelude.{◌≡◌, IfOk, IfErr};
-ghost use Rattle.gil_program.specs.Program.{prog_view};
+ghost use Rattle.gil_syntax.specs.Program.{prog_view};
 ghost use Rattle.gil_syntax.specs.Pure.{PureParts};
 ghost use Rattle.gillian_core.specs.Compiled.{IsSourceOf};
 ghost use Rattle.gillian_core.specs.Finishing.{IsNoProgram};
@@ -8,7 +8,7 @@ ghost use Rattle.gillian_core.specs.Right.{IsProgramOf};
 ghost use Rattle.gillian_core.specs.WhileLanguage.{while_language, while_sources};
 
 use crate::limits::limit_refused;
-use gil_program::Prog;
+use gil_syntax::Prog;
 use gil_text::Refused;
 use std::alloc::Global;
 use while_compiler::compile;

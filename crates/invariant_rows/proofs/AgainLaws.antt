@@ -13,8 +13,8 @@ use Rattle.checked_runs.specs.Checked.{Checked, Entry, Passed, has_fault, invari
 use Rattle.pure_terms.specs.declared.variables.Sort.{Sort}
 use Rattle.pure_terms.specs.Meaning.{truth, all_true, value, Satisfies, IsUnsatisfiable, IsProper}
 use Rattle.pure_terms.specs.Pure.{PureTerm, PureAtom, opening}
-use Rattle.sym_asking.specs.Asking.{IsSolution}
-use Rattle.sym_conditions.specs.Alternatives.{Alternatives, Hold}
+use Rattle.sym_paths.specs.Asking.{IsSolution}
+use Rattle.sym_model.specs.Alternatives.{Alternatives, Hold}
 use Rattle.sym_evaluation.specs.Meaning.{StandsFor, IsStoreOver}
 use Rattle.sym_evaluation.specs.Pure.{PureStore}
 use Rattle.sym_model.specs.Laws.{IsMeaning}
@@ -38,7 +38,7 @@ use Rattle.checked_paths.specs.Pure.{PureEntry, PurePassed, PureChecking, PureNe
 use Rattle.checked_rows.specs.Doubts.{PureDoubt, always, under, beyond, IsRightDoubt, IsToldThere}
 use Rattle.checked_rows.specs.Names.{logicals_there, AreNames}
 use Rattle.checked_rows.proofs.ExactLaws.{right_next}
-use Rattle.remainders.specs.Differing.{PureDifference, TellsIfClear, TellsDifference}
+use Rattle.invariant_rows.specs.Differing.{PureDifference, TellsIfClear, TellsDifference}
 use Rattle.invariant_rows.specs.Fitting.{AllFit, NeverMet, DoubtsOne}
 use Rattle.invariant_rows.specs.Listed.{AreUnlisted}
 use Rattle.invariant_rows.specs.Visiting.{OfBefore, DoubtsBefore, IsVisitedAgain, IsUndecidedThere, ArePassedIfAny, IsLeft, IsKnown}

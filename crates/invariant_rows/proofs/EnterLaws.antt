@@ -23,7 +23,7 @@ use Rattle.sym_model.specs.Laws.{IsMeaning}
 use Rattle.sym_model.specs.Lists.{OneOf}
 use Rattle.sym_model.specs.Terms.{StateTerms, all_of}
 use Rattle.sym_model.proofs.ListLaws.{each_to}
-use Rattle.sym_naming.specs.Naming.{MayName, IsNamedAs, NamesAll}
+use Rattle.sym_states.specs.Naming.{MayName, IsNamedAs, NamesAll}
 use Rattle.sym_paths.proofs.Growing.{all_true-more, path_stands}
 use Rattle.sym_paths.proofs.Moving.{running_stands}
 use Rattle.sym_paths.specs.Frames.{running_store}

@@ -22,17 +22,17 @@ use Rattle.pure_terms.specs.declared.deciders.Reason.{Reason}
 use Rattle.pure_terms.specs.declared.variables.Sort.{Sort}
 use Rattle.pure_terms.specs.Meaning.{all_true, IsProper, IsOver, Satisfies}
 use Rattle.pure_terms.specs.Pure.{term_of}
-use Rattle.sym_asking.specs.Asking.{IsOutside}
+use Rattle.sym_paths.specs.Asking.{IsOutside}
 use Rattle.sym_evaluation.specs.Meaning.{StandsFor}
 use Rattle.sym_evaluation.specs.Pure.{PureStore, term_at}
-use Rattle.sym_explore.proofs.Following.{meets_part}
+use Rattle.sym_step.proofs.ExplorationSteps.{meets_part}
 use Rattle.sym_model.proofs.ListLaws.{same_some, not_none}
 use Rattle.sym_model.specs.Laws.{IsMeaning}
 use Rattle.sym_model.specs.Lists.{Each}
 use Rattle.sym_model.specs.Meaning.{has_open}
 use Rattle.sym_model.specs.Terms.{StateTerms}
-use Rattle.sym_naming.proofs.Names.{or_left, or_right, same_name}
-use Rattle.sym_naming.specs.Naming.{AddsNames, HaveSorts}
+use Rattle.sym_states.proofs.Names.{or_left, or_right, same_name}
+use Rattle.sym_states.specs.Naming.{AddsNames, HaveSorts}
 use Rattle.sym_paths.proofs.Growing.{all_true-more}
 use Rattle.sym_paths.proofs.Moving.{running_stands}
 use Rattle.sym_paths.proofs.Recording.{past_is, fresh_append}
@@ -45,7 +45,7 @@ use Rattle.sym_states.proofs.Conditions.{added_is, none_open}
 use Rattle.sym_states.specs.Meaning as states
 use Rattle.sym_states.specs.Producing.{added_conds}
 use Rattle.sym_states.specs.Pure.{PureState}
-use Rattle.sym_naming.proofs.NamingLaws.{proper_sorts}
+use Rattle.sym_states.proofs.NamingLaws.{proper_sorts}
 use Rattle.sym_unfolding.proofs.AddLaws.{both_each, each_for_all}
 use Rattle.sym_unfolding.specs.Adding.{IsBefore, IsAddingOf, AddsExactly}
 use Rattle.sym_unfolding.specs.Further.{IsFurther}

@@ -10,7 +10,7 @@ use Rattle.checked_runs.specs.Checked.{fits_if_known, known_fit}
 use Rattle.pure_terms.specs.declared.variables.Sort.{Sort}
 use Rattle.pure_terms.specs.Meaning.{all_true, Satisfies, IsOver, IsProper}
 use Rattle.pure_terms.specs.Pure.{PureTerm, PureAtom, term_of}
-use Rattle.sym_conditions.specs.Alternatives.{Hold}
+use Rattle.sym_model.specs.Alternatives.{Hold}
 use Rattle.sym_evaluation.specs.Meaning.{AreSame, StandsFor, IsStoreOver}
 use Rattle.sym_evaluation.specs.Pure.{PureStore, term_at}
 use Rattle.sym_matching.specs.Matching.{TestsSorts}
@@ -18,7 +18,7 @@ use Rattle.sym_matching.specs.Meaning.{IsCondition, AreConditions}
 use Rattle.sym_matching.specs.Pure.{PureTest}
 use Rattle.sym_model.proofs.ListLaws.{each_to}
 use Rattle.sym_model.specs.Lists.{Each}
-use Rattle.sym_naming.proofs.Names.{same_name, names_same}
+use Rattle.sym_states.proofs.Names.{same_name, names_same}
 use Rattle.sym_unfolding.proofs.SearchLaws.{joined_true, true_parts}
 use Rattle.checked_rows.specs.Doubts.{PureDoubt, always, under, beyond}
 use Rattle.invariant_rows.specs.Fitting.{NeverMet, SurelyFits, AllFit, DoubtsOne, DoubtsSorts}

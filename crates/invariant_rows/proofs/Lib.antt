@@ -1,11 +1,14 @@
 pub mod AddedLaws
+pub mod AgainLaws
+pub mod DifferenceLaws
 pub mod EnterLaws
+pub mod FirstLaws
 pub mod FitLaws
+pub mod LeftLaws
 pub mod ListedLaws
+pub mod Lists
 pub mod LoopLaws
 pub mod MatchedModes
 pub mod PassedLaws
+pub mod RemainderLaws
 pub mod VisitLaws
-pub mod FirstLaws
-pub mod AgainLaws
-pub mod LeftLaws

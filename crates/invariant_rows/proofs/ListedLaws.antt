@@ -11,7 +11,7 @@ use Rattle.pure_terms.specs.Pure.{PureTerm}
 use Rattle.sym_evaluation.specs.Meaning.{AreSame, StandsFor}
 use Rattle.sym_evaluation.specs.Pure.{PureBinding, PureStore, term_at}
 use Rattle.sym_model.proofs.ListLaws.{not_none}
-use Rattle.sym_naming.proofs.Names.{names_same}
+use Rattle.sym_states.proofs.Names.{names_same}
 use Rattle.sym_paths.specs.Meaning.{OfEachName}
 use Rattle.checked_rows.proofs.BelowLaws.{kept_value, other_value, some_kept}
 use Rattle.invariant_rows.specs.Listed.{have_terms, AreUnlisted, KeepsUnlisted}

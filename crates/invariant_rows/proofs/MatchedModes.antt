@@ -34,8 +34,8 @@ use Rattle.assert_logic.proofs.GivenNames.{no_match, values_gain, items_gain}
 use Rattle.assert_logic.proofs.Givings.{chosen, unless_goes, same_goes}
 use Rattle.checked_runs.proofs.Stores.{no_value}
 use Rattle.sym_model.specs.Lists.{Each}
-use Rattle.sym_naming.proofs.AddedNames.{added_known}
-use Rattle.sym_naming.proofs.Names.{one_of_two, or_left, or_right, same_name}
+use Rattle.sym_states.proofs.AddedNames.{added_known}
+use Rattle.sym_states.proofs.Names.{one_of_two, or_left, or_right, same_name}
 use Rattle.sym_states.specs.Producing.{FitsCore, MayAdd}
 
 -- ---- a predicate whose ins are the names of a store, and whose outs those of a scope

@@ -31,7 +31,7 @@ use Rattle.sym_model.specs.Laws.{IsMeaning}
 use Rattle.sym_model.specs.Lists.{Each, OneOf}
 use Rattle.sym_model.specs.Terms.{StateTerms}
 use Rattle.sym_model.proofs.ListLaws.{same_some, not_none, each_append, each_to, one_left, one_right, one_parts, one_to, one_map}
-use Rattle.sym_naming.proofs.Inventing.{adding_invents_nothing}
+use Rattle.sym_states.proofs.Inventing.{adding_invents_nothing}
 use Rattle.sym_paths.proofs.Moving.{running_stands}
 use Rattle.sym_paths.specs.Frames.{running_store}
 use Rattle.sym_paths.specs.Meaning.{command_of_frames, command_of_path}

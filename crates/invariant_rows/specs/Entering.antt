@@ -8,11 +8,11 @@ use Rattle.mem_model.specs.declared.keys.MemoryName.{MemoryName}
 use Rattle.mem_model.specs.Heaps.{Heap}
 use Rattle.pure_terms.specs.declared.deciders.Reason.{Reason}
 use Rattle.pure_terms.specs.Meaning.{Satisfies, IsUnsatisfiable}
-use Rattle.sym_asking.specs.Asking.{IsOutside}
+use Rattle.sym_paths.specs.Asking.{IsOutside}
 use Rattle.sym_evaluation.specs.Pure.{PureStore}
 use Rattle.sym_model.specs.Meaning.{has_open}
 use Rattle.sym_model.specs.Terms.{StateTerms}
-use Rattle.sym_naming.specs.Naming.{PureNamed, IsNaming, NamesAll}
+use Rattle.sym_states.specs.Naming.{PureNamed, IsNaming, NamesAll}
 use Rattle.sym_paths.specs.Pure.{PureFrame, PurePath}
 use Rattle.sym_states.specs.Pure.{PureState}
 use Rattle.sym_unfolding.specs.Adding.{AddsItems}

@@ -7,7 +7,7 @@ use Rattle.assert_logic.specs.Sorts.{fits_sorts}
 use Rattle.pure_terms.specs.declared.variables.Sort.{Sort}
 use Rattle.pure_terms.specs.Meaning.{all_true, IsProper, IsUnsatisfiable, Satisfies}
 use Rattle.pure_terms.specs.Pure.{PureAtom}
-use Rattle.sym_conditions.specs.Alternatives.{Alternatives}
+use Rattle.sym_model.specs.Alternatives.{Alternatives}
 use Rattle.sym_evaluation.specs.Meaning.{StandsFor}
 use Rattle.sym_evaluation.specs.Pure.{PureStore}
 use Rattle.sym_model.specs.Lists.{Each, OneOf}
@@ -16,7 +16,7 @@ use Rattle.checked_paths.specs.Pure.{PureEntry, PureChecking}
 use Rattle.checked_rows.specs.Doubts.{PureDoubt, always, under, beyond, IsToldThere}
 use Rattle.checked_rows.specs.Names.{AreNames}
 use Rattle.footprint.specs.Leaves.{IsLonger}
-use Rattle.sym_asking.specs.Asking.{IsOutside}
+use Rattle.sym_paths.specs.Asking.{IsOutside}
 
 -- the conditions and those of an alternative are never met together
 abbrev pub NeverMet : List Sort → List PureAtom → Alternatives → Type 0

@@ -20,9 +20,8 @@ use gil_values::Place;
 use pure_terms::{Decider, Reason};
 use sequence::Sequence;
 use std::alloc::{AllocError, Global};
-use sym_asking::{Satisfiability, ask};
-use sym_conditions::copy_conditions;
-use sym_model::ListedMemory;
+use sym_model::{ListedMemory, copy_conditions};
+use sym_paths::{Satisfiability, ask};
 use sym_states::{SymState, SymStates};
 use sym_unfolding::add_items;
 

@@ -14,16 +14,15 @@ ghost use Rattle.sym_states.specs.Meaning.{IsOverTable};
 ghost use Rattle.sym_states.specs.View.{state_view};
 
 use crate::fitting::doubt_of_any;
+use crate::{Difference, compare, is_as_before};
 use checked_paths::{Checking, FaultKind, Next, Passed};
 use checked_rows::{Doubt, doubted_next};
 use gil_values::Place;
 use pure_terms::{Atom, Decider, Term};
-use remainders::{Difference, compare, is_as_before};
 use std::alloc::{AllocError, Global};
-use sym_asking::{Satisfiability, ask};
-use sym_conditions::copy_conditions;
 use sym_evaluation::SymStore;
-use sym_model::ListedMemory;
+use sym_model::{ListedMemory, copy_conditions};
+use sym_paths::{Satisfiability, ask};
 use sym_states::SymState;
 
 /// Why it isn't decided whether all is as it was before, where that depends on the literal form of a term; none where no state is left.

@@ -18,9 +18,8 @@ use std::mem;
 use sym_evaluation::SymStore;
 use sym_leaving::{run_in, take};
 use sym_model::SymMemory;
-use sym_naming::{Named, with_variables};
 use sym_paths::{Frames, Path, running};
-use sym_states::SymState;
+use sym_states::{Named, SymState, with_variables};
 
 /// Gives the frame that runs this store.
 fn run_with(frames: &mut Frames, store: SymStore) -> Result<(), AllocError>

@@ -5,7 +5,7 @@ ghost use Rattle.invariant_rows.specs.Fitting.{AllFit, DoubtsOne, DoubtsSorts, N
 ghost use Rattle.pure_terms.specs.Meaning.{IsOver};
 ghost use Rattle.pure_terms.specs.Pure.{term_of};
 ghost use Rattle.pure_terms.specs.View.{atoms_view};
-ghost use Rattle.sym_conditions.specs.Alternatives.{alternatives_view};
+ghost use Rattle.sym_model.specs.Alternatives.{alternatives_view};
 ghost use Rattle.sym_evaluation.specs.Meaning.{IsStoreOver};
 ghost use Rattle.sym_evaluation.specs.View.{store_view};
 ghost use Rattle.sym_model.specs.Lists.{Each};
@@ -15,9 +15,9 @@ use gil_syntax::Params;
 use gil_values::Text;
 use pure_terms::{Atoms, Decider, VarTable};
 use std::alloc::{AllocError, Global};
-use sym_conditions::Alternatives;
 use sym_evaluation::SymStore;
 use sym_matching::fits_sorts;
+use sym_model::Alternatives;
 
 /// Why the conditions and those of some alternative aren't surely never met together, if they aren't.
 pub(crate) fn doubt_of_any<D: Decider>(

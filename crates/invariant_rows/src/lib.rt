@@ -3,10 +3,15 @@
 
 mod adding;
 mod again;
+mod comparing;
+mod differing;
 mod entering;
 mod fitting;
 mod listed;
 mod passing;
+mod remainders;
 mod visiting;
 
+pub use differing::{Difference, compare};
+pub use remainders::is_as_before;
 pub use visiting::invariant_row;

@@ -7,7 +7,7 @@ use Rattle.std.proofs.lemmas.List.Folds.{list_any-append}
 use Rattle.gil_syntax.specs.declared.validity.InvalidKind.{InvalidKind}
 use Rattle.gil_syntax.specs.Pure.{PureExpr, name, assign, PureNumberedCommand, PureProc}
 use Rattle.gil_syntax.specs.Valid.{ProgramItem, a_proc, has_bad_label, has_no_end, has_many_commands, IsNamedFault}
-use Rattle.gil_program.specs.Uncounted.{IsValidButLength}
+use Rattle.gil_syntax.specs.Uncounted.{IsValidButLength}
 use Rattle.source_language.specs.Code.{truth}
 use Rattle.source_language.specs.Names.{is_source_name, caught}
 use Rattle.source_language.specs.Procedures.{placed}

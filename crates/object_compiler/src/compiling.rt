@@ -1,7 +1,7 @@
 //! Compiling a source.
 ghost use Rattle.std.specs.Prelude.{◌≡◌, None, IfOk, IfErr, OnOk};
 ghost use Rattle.gil_syntax.specs.View.{parts_view};
-ghost use Rattle.gil_program.specs.Program.{prog_view};
+ghost use Rattle.gil_syntax.specs.Program.{prog_view};
 ghost use Rattle.source_language.specs.Limits.{IsLimitOf};
 ghost use Rattle.object_lang.specs.View.{source_parts_view};
 ghost use Rattle.object_compiler.specs.Compiled.{compiled};
@@ -11,8 +11,7 @@ ghost use Rattle.object_compiler.specs.Valid.{first_too_long};
 
 use crate::language::ObjectCodes;
 use crate::source::Source;
-use gil_program::Prog;
-use gil_syntax::{InvalidKind, Parts};
+use gil_syntax::{InvalidKind, Parts, Prog};
 use object_lang::{Function, resolved};
 use object_operators::get_procedure;
 use source_language::{SourceParts, TooMany};

@@ -4,7 +4,7 @@ ghost use Rattle.std.specs.List.{list_all};
 ghost use Rattle.gil_syntax.specs.View.{parts_view};
 ghost use Rattle.gil_syntax.specs.declared.validity.InvalidKind.TheVariants.{Memory};
 ghost use Rattle.gil_syntax.specs.WellMade.{is_well_made};
-ghost use Rattle.gil_program.specs.Uncounted.{IsNamedButLength};
+ghost use Rattle.gil_syntax.specs.Uncounted.{IsNamedButLength};
 ghost use Rattle.object_lang.specs.Names.{is_source_function};
 ghost use Rattle.object_lang.specs.View.{source_parts_view};
 ghost use Rattle.object_compiler.specs.Compiled.{compiled};
@@ -12,8 +12,7 @@ ghost use Rattle.object_compiler.specs.Source.{source_view};
 
 use crate::language::ObjectCodes;
 use crate::source::Source;
-use gil_program::{Invalid, check_but_length};
-use gil_syntax::Parts;
+use gil_syntax::{Invalid, Parts, check_but_length};
 use object_lang::{Function, resolved};
 use object_operators::get_procedure;
 use source_language::SourceParts;

@@ -2,7 +2,7 @@
 use Rattle.std.proofs.Common.{◌≡◌, ℕ, ◌+◌, ◌<◌, List, [], ◌∷◌, ◌++◌, map, take, get_or, length, Bool, ◌||◌, refl, sym, ap, ◌∙◌}
 use Rattle.std.proofs.lemmas.List.{map_push}
 use Rattle.std.proofs.lemmas.List.Recursion.{or_push}
-use Rattle.gil_program.proofs.NameLemmas.{map-take_read}
+use Rattle.gil_syntax.proofs.NameLemmas.{map-take_read}
 use Rattle.source_operators.specs.declared.trees.Expression.{Expression}
 use Rattle.source_statements.specs.Items.{statements}
 use Rattle.source_statements.specs.Pure.{PurePlacedStatement, statement_and, from_placed}

@@ -23,9 +23,9 @@ use Rattle.sym_chunks.specs.Forms.{form_of}
 use Rattle.sym_chunks.specs.Keys.{other_sub, at_key}
 use Rattle.sym_chunks.specs.Laws.{IsLocation, IsKeyOf}
 use Rattle.sym_chunks.specs.NameTerms.{unlisted}
-use Rattle.sym_conditions.specs.Alternatives.{Alternatives, Hold, both, any, same}
-use Rattle.sym_conditions.proofs.Combined.{both_from, both_parts}
-use Rattle.sym_conditions.proofs.Telling.{same_tells}
+use Rattle.sym_model.specs.Alternatives.{Alternatives, Hold, both, any, same}
+use Rattle.sym_model.proofs.Combined.{both_from, both_parts}
+use Rattle.sym_model.proofs.Telling.{same_tells}
 use Rattle.sym_model.specs.Chunks.{IsEntry, IsUnion, StandFor}
 use Rattle.sym_model.specs.Lists.{Each, OneOf}
 use Rattle.sym_model.specs.Meaning.{location_of, name_of, key_of}

@@ -22,8 +22,8 @@ use Rattle.sym_chunks.specs.ByPlace.{all_by_place, any_at}
 use Rattle.sym_chunks.specs.Cases.{PureCase, PureAccess, reads, writes, accessed, given_back, true_term, case_of, found, missed_key, missed_name}
 use Rattle.sym_chunks.specs.Keys.{same_sub, other_sub}
 use Rattle.sym_chunks.specs.Laws.{IsLocation, IsKeyOf}
-use Rattle.sym_conditions.specs.Alternatives.{Hold, both}
-use Rattle.sym_conditions.proofs.Combined.{both_from, both_parts, always_true}
+use Rattle.sym_model.specs.Alternatives.{Hold, both}
+use Rattle.sym_model.proofs.Combined.{both_from, both_parts, always_true}
 use Rattle.sym_model.specs.Chunks.{IsUnion, StandFor, with_held}
 use Rattle.sym_model.specs.Lists.{Each, OneOf}
 use Rattle.sym_model.specs.Meaning.{location_of, key_of}

@@ -18,9 +18,9 @@ use Rattle.sym_chunks.specs.Cases.{PureCase, PureAccess, reads, writes, case_of,
 use Rattle.sym_chunks.specs.Forms.{form_of}
 use Rattle.sym_chunks.specs.Keys.{same_sub, other_sub, at_key}
 use Rattle.sym_chunks.specs.NameTerms.{unlisted, holds_name, unheld_name, unheld}
-use Rattle.sym_conditions.specs.declared.comparing.Comparison.{Comparison}
-use Rattle.sym_conditions.specs.Comparing.{compared}
-use Rattle.sym_conditions.specs.Alternatives.{Alternatives, never, always, given, both, any, is_empty, equal, same, other, by_comparison, of_kind, not_of_kind}
+use Rattle.sym_model.specs.declared.comparing.Comparison.{Comparison}
+use Rattle.sym_model.specs.Comparing.{compared}
+use Rattle.sym_model.specs.Alternatives.{Alternatives, never, always, given, both, any, is_empty, equal, same, other, by_comparison, of_kind, not_of_kind}
 use Rattle.sym_model.specs.Chunks.{with_held, value_where_described}
 use Rattle.sym_model.specs.Lists.{Each}
 use Rattle.sym_model.specs.Pure.{PureSub, named, cell, shape, bound, dom, proto, gone, PureChunk, sub_terms, done}

@@ -27,8 +27,8 @@ use Rattle.sym_chunks.specs.Cases.{PureCase, case_of, missed_name}
 use Rattle.sym_chunks.specs.Forms.{form_of}
 use Rattle.sym_chunks.specs.Keys.{same_sub, other_sub}
 use Rattle.sym_chunks.specs.Laws.{IsLocation, IsKeyOf}
-use Rattle.sym_conditions.specs.Alternatives.{Alternatives, Hold, never, any, same}
-use Rattle.sym_conditions.proofs.Combined.{both_from, always_true}
+use Rattle.sym_model.specs.Alternatives.{Alternatives, Hold, never, any, same}
+use Rattle.sym_model.proofs.Combined.{both_from, always_true}
 use Rattle.sym_model.specs.Chunks.{IsUnion, StandFor}
 use Rattle.sym_model.specs.Lists.{Each, OneOf}
 use Rattle.sym_model.specs.Meaning.{location_of, name_of, key_of}

@@ -29,10 +29,10 @@ use Rattle.pure_terms.specs.Meaning.{value, values, all_true, IsProper, IsOver}
 use Rattle.pure_terms.specs.Pure.{PureTerm, variable, from_list}
 use Rattle.sym_chunks.specs.Cases.{PureCase, reads, writes, branches_of, choose, failure, null_term}
 use Rattle.sym_chunks.specs.Laws.{IsLocation}
-use Rattle.sym_conditions.specs.Alternatives.{Alternatives, Hold, always, both, same, other, of_kind, not_of_kind}
-use Rattle.sym_conditions.specs.Laws.{HaveBoth}
-use Rattle.sym_conditions.proofs.Combined.{both_from, both_parts, always_true}
-use Rattle.sym_conditions.proofs.Telling.{same_tells, other_tells, of_kind_tells, not_of_kind_tells}
+use Rattle.sym_model.specs.Alternatives.{Alternatives, Hold, always, both, same, other, of_kind, not_of_kind}
+use Rattle.sym_model.specs.ConditionLaws.{HaveBoth}
+use Rattle.sym_model.proofs.Combined.{both_from, both_parts, always_true}
+use Rattle.sym_model.proofs.Telling.{same_tells, other_tells, of_kind_tells, not_of_kind_tells}
 use Rattle.sym_model.specs.Chunks.{IsUnion, StandFor, terms_of}
 use Rattle.sym_model.specs.Laws.{MayBeAsked, Serves}
 use Rattle.sym_model.specs.Lists.{Each, OneOf}

@@ -21,8 +21,8 @@ use Rattle.pure_terms.specs.Pure.{PureTerm, literal, variable, list_of, unary_of
 use Rattle.sym_chunks.specs.Cases.{PureCase, writes, found}
 use Rattle.sym_chunks.specs.Laws.{IsLocation}
 use Rattle.sym_chunks.specs.NameTerms.{unlisted}
-use Rattle.sym_conditions.specs.Alternatives.{both, same}
-use Rattle.sym_conditions.proofs.Combined.{both_from, both_parts}
+use Rattle.sym_model.specs.Alternatives.{both, same}
+use Rattle.sym_model.proofs.Combined.{both_from, both_parts}
 use Rattle.sym_model.specs.Chunks.{IsUnion, with_held}
 use Rattle.sym_model.specs.Lists.{Each, OneOf}
 use Rattle.sym_model.specs.Meaning.{location_of, name_of, key_of}

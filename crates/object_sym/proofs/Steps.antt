@@ -9,7 +9,7 @@ use Rattle.pure_terms.specs.View.{term_view}
 use Rattle.sym_chunks.specs.ByPlace.{all_by_place}
 use Rattle.sym_chunks.specs.Cases.{PureCase, case_of, missed_name}
 use Rattle.sym_chunks.specs.Keys.{other_sub}
-use Rattle.sym_conditions.specs.Alternatives.{Alternatives, both, same}
+use Rattle.sym_model.specs.Alternatives.{Alternatives, both, same}
 use Rattle.sym_model.specs.Pure.{PureChunk, named}
 
 pub term_view-Lit : (x : Literal) → term_view (Term.Lit x) ≡ literal x

@@ -14,7 +14,7 @@ use Rattle.sym_chunks.specs.Cases.{ChunkBranches, PureCase, PureAccess, reads, w
 use Rattle.sym_chunks.specs.Forms.{form_of}
 use Rattle.sym_chunks.specs.Keys.{same_sub, other_sub, at_key}
 use Rattle.sym_chunks.specs.NameTerms.{unlisted}
-use Rattle.sym_conditions.specs.Alternatives.{Alternatives, always, both, same, other, of_kind, not_of_kind}
+use Rattle.sym_model.specs.Alternatives.{Alternatives, always, both, same, other, of_kind, not_of_kind}
 use Rattle.sym_model.specs.Chunks.{with_held}
 use Rattle.sym_model.specs.Pure.{PureSub, named, dom, proto, PureChunk, done}
 

@@ -16,7 +16,7 @@ ghost use Rattle.sym_chunks.specs.Forms.{form_of};
 ghost use Rattle.sym_chunks.specs.Keys.{other_sub, at_key};
 ghost use Rattle.sym_chunks.specs.NameTerms.{unlisted as unlisted_in};
 ghost use Rattle.sym_chunks.specs.View.{cases_view};
-ghost use Rattle.sym_conditions.specs.Alternatives.{alternatives_view, both as combined, same};
+ghost use Rattle.sym_model.specs.Alternatives.{alternatives_view, both as combined, same};
 ghost use Rattle.sym_model.specs.Pure.{done};
 ghost use Rattle.sym_model.specs.View.{chunk_view, frag_view, sub_view};
 
@@ -28,8 +28,7 @@ use sym_chunks::{
     Cases, all_other_subs, form_needed, has_sure_case, key_here, missed_key, name_sub, unlisted,
     with_case, with_made_case, without_chunk,
 };
-use sym_conditions::{Alternatives, both, terms_equal};
-use sym_model::{Chunk, SymFrag, SymResult, SymSub};
+use sym_model::{Alternatives, Chunk, SymFrag, SymResult, SymSub, both, terms_equal};
 
 /// The terms, and more of them.
 fn with_terms(alloc: Global, terms: Terms, more: &[Term]) -> Result<Terms, AllocError>

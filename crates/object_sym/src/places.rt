@@ -2,14 +2,15 @@
 ghost use Rattle.std.specs.Prelude.{◌≡◌, IfOk};
 ghost use Rattle.object_sym.specs.Places.{lists, lists_not, untold, knows_not, lacks, opened_at, opened as opened_of};
 ghost use Rattle.pure_terms.specs.View.{term_view};
-ghost use Rattle.sym_conditions.specs.Alternatives.{alternatives_view, any};
+ghost use Rattle.sym_model.specs.Alternatives.{alternatives_view, any};
 ghost use Rattle.sym_model.specs.View.{chunk_view, chunks_view};
 
 use pure_terms::Term;
 use std::alloc::{AllocError, Global};
 use sym_chunks::{ChunkTest, all_other_subs, form_needed, listed, name_sub, unheld, unlisted};
-use sym_conditions::{Alternatives, always, both, extend, never, terms_differ, terms_equal};
-use sym_model::{Chunk, SymSub};
+use sym_model::{
+    Alternatives, Chunk, SymSub, always, both, extend, never, terms_differ, terms_equal,
+};
 
 /// The chunk lists the names of its location, and the name is one of them.
 #[derive(Debug, Drop)]

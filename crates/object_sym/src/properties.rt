@@ -26,8 +26,7 @@ use sym_chunks::{
     Access, Cases, SameSub, all_by_place, any_at, has_sure_case, missed_key, name_sub, with_case,
     with_found,
 };
-use sym_conditions::both;
-use sym_model::{SymFrag, SymResult, SymSub};
+use sym_model::{SymFrag, SymResult, SymSub, both};
 
 /// The result that misses the location's name.
 pub fn missed_name(alloc: Global, l: &Term, p: &Term) -> Result<SymResult, AllocError>

@@ -11,7 +11,7 @@ ghost use Rattle.object_sym.specs.Table.{
 ghost use Rattle.pure_terms.specs.View.{term_view};
 ghost use Rattle.sym_chunks.specs.View.{access_view, cases_view};
 ghost use Rattle.sym_chunks.specs.Cases.{AreChosenAs};
-ghost use Rattle.sym_conditions.specs.Alternatives.{alternatives_view};
+ghost use Rattle.sym_model.specs.Alternatives.{alternatives_view};
 ghost use Rattle.sym_model.specs.View.{frag_view};
 
 use gil_values::Kind;
@@ -21,10 +21,10 @@ use std::alloc::{AllocError, Global};
 use sym_chunks::{
     Access, Cases, all_other_subs, has_sure_case, missed_key, with_case, with_found, with_made_case,
 };
-use sym_conditions::{
-    Alternatives, always, both, extend, kind_is, kind_is_not, terms_differ, terms_equal,
+use sym_model::{
+    Alternatives, Chunk, SymFrag, SymResult, SymSub, always, both, extend, kind_is, kind_is_not,
+    terms_differ, terms_equal,
 };
-use sym_model::{Chunk, SymFrag, SymResult, SymSub};
 
 /// The value is a symbol or Null.
 pub fn is_prototype(alloc: Global, val: &Term) -> Result<Alternatives, AllocError>

@@ -11,7 +11,7 @@ ghost use Rattle.pure_terms.specs.View.{term_view, terms_view};
 ghost use Rattle.sym_chunks.specs.Cases.{case_of, writes, AreChosenAs};
 ghost use Rattle.sym_chunks.specs.NameTerms.{unlisted as unlisted_in};
 ghost use Rattle.sym_chunks.specs.View.{access_view, cases_view};
-ghost use Rattle.sym_conditions.specs.Alternatives.{both as combined, same};
+ghost use Rattle.sym_model.specs.Alternatives.{both as combined, same};
 ghost use Rattle.sym_model.specs.Pure.{done};
 ghost use Rattle.sym_model.specs.View.{frag_view, sub_view};
 
@@ -20,8 +20,7 @@ use pure_terms::{Term, Terms};
 use sequence::Sequence;
 use std::alloc::{AllocError, Global};
 use sym_chunks::{Access, Cases, has_sure_case, name_sub, unlisted, with_found, with_made_case};
-use sym_conditions::{both, terms_equal};
-use sym_model::{Chunk, SymFrag, SymResult, SymSub};
+use sym_model::{Chunk, SymFrag, SymResult, SymSub, both, terms_equal};
 
 /// The names with one at their end.
 fn longer(alloc: Global, names: &Terms, p: &Term) -> Result<Term, AllocError>

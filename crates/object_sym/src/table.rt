@@ -22,7 +22,7 @@ ghost use Rattle.pure_terms.specs.View.{term_view, terms_view};
 ghost use Rattle.sym_chunks.specs.Cases.{reads, writes};
 ghost use Rattle.sym_chunks.specs.View.{cases_view, chunk_branches_view};
 ghost use Rattle.sym_chunks.specs.Arguments.{checked as checked_of, no_property as no_property_of, is_property as is_property_of, wrong_number as wrong_number_of, unknown_action};
-ghost use Rattle.sym_conditions.specs.Alternatives.{alternatives_view, both as combined, of_kind, not_of_kind};
+ghost use Rattle.sym_model.specs.Alternatives.{alternatives_view, both as combined, of_kind, not_of_kind};
 ghost use Rattle.sym_model.specs.View.{frag_view};
 
 use crate::deleting::delete_cases;
@@ -35,8 +35,7 @@ use pure_terms::{Term, Terms, Var};
 use sequence::Sequence;
 use std::alloc::{AllocError, Global};
 use sym_chunks::{Access, checked, of_property, unknown_action, wrong_number};
-use sym_conditions::{both, extend, kind_is, kind_is_not};
-use sym_model::{Branches, SymFrag};
+use sym_model::{Branches, SymFrag, both, extend, kind_is, kind_is_not};
 
 /// A new object with this prototype.
 fn make(

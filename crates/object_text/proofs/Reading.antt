@@ -6,7 +6,7 @@ use Rattle.std.proofs.lemmas.List.{length-map}
 use Rattle.gil_syntax.specs.declared.validity.InvalidKind.{InvalidKind}
 use Rattle.gil_syntax.specs.Valid.{a_proc, a_spec, a_pred, items_of}
 use Rattle.gil_syntax.specs.WellMade.{is_well_made}
-use Rattle.gil_program.specs.Uncounted.{fault_but_length_at, IsNamedButLength}
+use Rattle.gil_syntax.specs.Uncounted.{fault_but_length_at, IsNamedButLength}
 use Rattle.operator_text.specs.Few.{IsNestedWithFew}
 use Rattle.gil_text.specs.Located.{PureLocated}
 use Rattle.source_text.specs.Located.{located_of}

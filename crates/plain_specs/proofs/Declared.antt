@@ -12,7 +12,7 @@ use Rattle.gil_syntax.specs.Pure.{PureExpr, literal, name, logical, list_of, una
 use Rattle.gil_syntax.specs.Subexpressions.{subexpressions, own_names, names_of, own_logicals, logicals_of, exprs_of_item, assertions_of}
 use Rattle.gil_syntax.specs.Valid.{is_among, param_names, a_spec, piece_of_assertion, names_undeclared, uses_unknown, predicates_of, some_names_nothing, pieces_of, has_fault_if_there, fault_at, IsValid}
 use Rattle.gil_syntax.specs.WellMade.{has_hash, is_well_made_node, is_well_made_expr, is_well_made_assertion, is_well_made}
-use Rattle.gil_program.proofs.ItemLemmas.{spec_stands}
+use Rattle.gil_syntax.proofs.ItemLemmas.{spec_stands}
 use Rattle.mem_model.specs.declared.keys.MemoryName.{MemoryName}
 use Rattle.assert_logic.specs.declared.checking.ModeKind.{ModeKind}
 use Rattle.assert_logic.specs.declared.checking.ModeKind.TheVariants.{In, Out, Core as OfMemory}

@@ -30,8 +30,8 @@ use Rattle.sym_chunks.specs.Cases.{PureCase, case_of, gone_case, missed_key, tru
 use Rattle.sym_chunks.specs.Forms.{form_of}
 use Rattle.sym_chunks.specs.Laws.{IsLocation}
 use Rattle.sym_chunks.specs.Walking.{way_of, walk}
-use Rattle.sym_conditions.specs.Alternatives.{Hold, same}
-use Rattle.sym_conditions.proofs.Combined.{always_true}
+use Rattle.sym_model.specs.Alternatives.{Hold, same}
+use Rattle.sym_model.proofs.Combined.{always_true}
 use Rattle.sym_model.specs.Chunks.{IsUnion, StandFor}
 use Rattle.sym_model.specs.Lists.{Each, OneOf}
 use Rattle.sym_model.specs.Meaning.{location_of, name_of, key_of}

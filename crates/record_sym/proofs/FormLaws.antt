@@ -25,9 +25,9 @@ use Rattle.sym_chunks.specs.Forms.{form_of}
 use Rattle.sym_chunks.specs.Keys.{other_sub}
 use Rattle.sym_chunks.specs.Laws.{IsLocation, IsKeyOf}
 use Rattle.sym_chunks.specs.NameTerms.{distinct_from}
-use Rattle.sym_conditions.specs.Alternatives.{Hold, always, any, same, of_kind, not_of_kind}
-use Rattle.sym_conditions.proofs.Combined.{both_parts}
-use Rattle.sym_conditions.proofs.Telling.{of_kind_tells}
+use Rattle.sym_model.specs.Alternatives.{Hold, always, any, same, of_kind, not_of_kind}
+use Rattle.sym_model.proofs.Combined.{both_parts}
+use Rattle.sym_model.proofs.Telling.{of_kind_tells}
 use Rattle.sym_model.specs.Chunks.{StandFor, terms_of}
 use Rattle.sym_model.specs.Forms.{OpensOnly}
 use Rattle.sym_model.specs.Laws.{Serves}

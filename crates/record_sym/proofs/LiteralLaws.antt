@@ -12,8 +12,8 @@ use Rattle.pure_terms.specs.Pure.{PureTerm, positive, negative, literal, variabl
 use Rattle.record_sym.specs.LiteralNames.{name_value}
 use Rattle.record_sym.specs.Table.{faulty}
 use Rattle.sym_chunks.specs.NameTerms.{distinct_from}
-use Rattle.sym_conditions.specs.Alternatives.{Alternatives, always, both, any, all_from, same, other, given, equal, by_comparison}
-use Rattle.sym_conditions.specs.declared.comparing.Comparison.{Comparison}
+use Rattle.sym_model.specs.Alternatives.{Alternatives, always, both, any, all_from, same, other, given, equal, by_comparison}
+use Rattle.sym_model.specs.declared.comparing.Comparison.{Comparison}
 
 is_literal_text : (t : PureTerm) → is_text (name_value t) ≡ true → (x : List ℕ) × (t ≡ literal (Literal.Str x))
 is_literal_text (literal (Literal.Str x)) h = (x, refl)

@@ -16,7 +16,7 @@ use Rattle.record_heap.specs.Table.{no_property, lookup, mutate}
 use Rattle.record_sym.specs.Table.{without_name, name_cases}
 use Rattle.sym_chunks.specs.Cases.{PureAccess, reads, writes, accessed, given_back, found}
 use Rattle.sym_chunks.specs.Laws.{IsLocation, IsKeyOf}
-use Rattle.sym_conditions.specs.Alternatives.{Hold}
+use Rattle.sym_model.specs.Alternatives.{Hold}
 use Rattle.sym_model.specs.Chunks.{IsUnion, StandFor, with_held}
 use Rattle.sym_model.specs.Lists.{Each, OneOf}
 use Rattle.sym_model.specs.Pure.{named, PureChunk, done}

@@ -23,7 +23,7 @@ use Rattle.sym_chunks.specs.NameTerms.{distinct_from}
 use Rattle.sym_chunks.proofs.Loops.{nothing_left}
 use Rattle.sym_chunks.proofs.Narrow.{reading, IsNarrow, AreDecided, IsNarrowChunk, IsNarrowCase, IsNarrowBranch, narrow_wider, state_wider, narrow_chunks, held_at_name, name_at, texts_at_shape, narrow_held, other_decided, unlisted_decided, unheld_decided, form_decided, other_sub_decided, by_place_decided, any_at_decided, narrow_case, narrow_branches, found_narrow, narrow_failure_case, narrow_failure, narrow_number, narrow_unknown, narrow_gone, narrow_property}
 use Rattle.sym_chunks.proofs.Shapes.{both_shaped, or_shaped, any_shaped, not_kind_shaped, same_each, distinct_shaped}
-use Rattle.sym_conditions.specs.Alternatives.{Alternatives, never, always, both, any, all_from, same, other, of_kind, not_of_kind}
+use Rattle.sym_model.specs.Alternatives.{Alternatives, never, always, both, any, all_from, same, other, of_kind, not_of_kind}
 use Rattle.sym_model.specs.Chunks.{terms_of}
 use Rattle.sym_model.specs.Laws.{MayBeAsked, growth}
 use Rattle.sym_model.specs.Lists.{Each}

@@ -33,9 +33,9 @@ use Rattle.record_sym.specs.Table.{faulty, name_chunk, created, make, act_new}
 use Rattle.sym_chunks.specs.Cases.{branches_of, failure}
 use Rattle.sym_chunks.specs.Forms.{form_of}
 use Rattle.sym_chunks.specs.NameTerms.{distinct_from}
-use Rattle.sym_conditions.specs.Alternatives.{Hold, always, any, same, of_kind, not_of_kind}
-use Rattle.sym_conditions.proofs.Combined.{always_true}
-use Rattle.sym_conditions.proofs.Telling.{of_kind_tells, not_of_kind_tells}
+use Rattle.sym_model.specs.Alternatives.{Hold, always, any, same, of_kind, not_of_kind}
+use Rattle.sym_model.proofs.Combined.{always_true}
+use Rattle.sym_model.proofs.Telling.{of_kind_tells, not_of_kind_tells}
 use Rattle.sym_model.specs.Chunks.{IsUnion, StandFor}
 use Rattle.sym_model.specs.Lists.{Each}
 use Rattle.sym_model.specs.Meaning.{location_of, name_of, key_of, key_value}

@@ -24,8 +24,8 @@ use Rattle.sym_chunks.specs.ByPlace.{all_by_place, any_at}
 use Rattle.sym_chunks.specs.Cases.{PureCase, case_of, gone_case, failure, missed_name}
 use Rattle.sym_chunks.specs.Keys.{other_sub}
 use Rattle.sym_chunks.specs.Laws.{IsLocation, IsKeyOf}
-use Rattle.sym_conditions.specs.Alternatives.{Hold, any, same}
-use Rattle.sym_conditions.proofs.Combined.{both_from, always_true}
+use Rattle.sym_model.specs.Alternatives.{Hold, any, same}
+use Rattle.sym_model.proofs.Combined.{both_from, always_true}
 use Rattle.sym_model.specs.Chunks.{IsUnion, StandFor}
 use Rattle.sym_model.specs.Lists.{Each, OneOf}
 use Rattle.sym_model.specs.Meaning.{location_of, key_of}

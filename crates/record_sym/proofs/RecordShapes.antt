@@ -19,7 +19,7 @@ use Rattle.sym_chunks.specs.Forms.{form_of}
 use Rattle.sym_chunks.specs.Keys.{same_sub, other_sub}
 use Rattle.sym_chunks.specs.NameTerms.{distinct_from}
 use Rattle.sym_chunks.specs.Walking.{way_of, walk}
-use Rattle.sym_conditions.specs.Alternatives.{Alternatives, never, always, any, is_empty, same, of_kind, not_of_kind}
+use Rattle.sym_model.specs.Alternatives.{Alternatives, never, always, any, is_empty, same, of_kind, not_of_kind}
 use Rattle.sym_model.specs.Chunks.{value_where_described}
 use Rattle.sym_model.specs.Lists.{Each}
 use Rattle.sym_model.specs.Pure.{PureSub, named, cell, shape, bound, dom, proto, gone, PureChunk, sub_terms, done}

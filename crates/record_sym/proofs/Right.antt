@@ -22,7 +22,7 @@ use Rattle.record_sym.specs.Laws.{AreRight, IsRightAction}
 use Rattle.record_sym.specs.Table.{name_cases, dispose_cases, act_lookup, act_mutate, act_dispose, branches_by}
 use Rattle.sym_chunks.specs.Arguments.{checked, no_property, is_property}
 use Rattle.sym_chunks.specs.Cases.{reads, writes}
-use Rattle.sym_conditions.specs.Alternatives.{of_kind, not_of_kind}
+use Rattle.sym_model.specs.Alternatives.{of_kind, not_of_kind}
 use Rattle.sym_model.specs.Chunks.{StandFor, terms_of}
 use Rattle.sym_model.specs.Laws.{MayBeAsked, Serves}
 use Rattle.sym_model.specs.Lists.{Each}

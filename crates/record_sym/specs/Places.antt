@@ -5,7 +5,7 @@ use Rattle.sym_chunks.specs.ByPlace.{all_by_place}
 use Rattle.sym_chunks.specs.Forms.{form_of}
 use Rattle.sym_chunks.specs.Keys.{other_sub}
 use Rattle.sym_chunks.specs.NameTerms.{unlisted, unheld}
-use Rattle.sym_conditions.specs.Alternatives.{Alternatives, never, always, both, any, same, other}
+use Rattle.sym_model.specs.Alternatives.{Alternatives, never, always, both, any, same, other}
 use Rattle.sym_model.specs.Pure.{PureSub, named, shape, gone, PureChunk}
 
 -- the chunk lists the names of its location by a list term, and p is none of them

@@ -14,7 +14,7 @@ use Rattle.sym_chunks.specs.Cases.{ChunkBranches, PureCase, PureAccess, reads, w
 use Rattle.sym_chunks.specs.Forms.{form_of}
 use Rattle.sym_chunks.specs.NameTerms.{distinct_from}
 use Rattle.sym_chunks.specs.Walking.{way_of, walk}
-use Rattle.sym_conditions.specs.Alternatives.{Alternatives, always, any, same, of_kind, not_of_kind}
+use Rattle.sym_model.specs.Alternatives.{Alternatives, always, any, same, of_kind, not_of_kind}
 use Rattle.sym_model.specs.Pure.{PureSub, named, shape, PureChunk, done}
 
 -- ---- `lookup` and `mutate`

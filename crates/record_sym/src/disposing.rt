@@ -8,7 +8,7 @@ ghost use Rattle.sym_chunks.specs.Cases.{case_of, missed_key as missed_key_of, t
 ghost use Rattle.sym_chunks.specs.Forms.{form_of};
 ghost use Rattle.sym_chunks.specs.View.{cases_view, ways_view};
 ghost use Rattle.sym_chunks.specs.Walking.{walk, way_of};
-ghost use Rattle.sym_conditions.specs.Alternatives.{same};
+ghost use Rattle.sym_model.specs.Alternatives.{same};
 ghost use Rattle.sym_model.specs.Pure.{named, shape, done};
 ghost use Rattle.sym_model.specs.View.{frag_view, sub_view};
 
@@ -20,8 +20,7 @@ use sym_chunks::{
     Cases, Walk, Ways, all_by_place, form_needed, missed_key, name_sub, walk_on, with_all_taken,
     with_case, with_gone, with_way, without_chunk,
 };
-use sym_conditions::terms_equal;
-use sym_model::{Chunk, SymFrag, SymResult, SymSub};
+use sym_model::{Chunk, SymFrag, SymResult, SymSub, terms_equal};
 
 /// The cases, and those of taking the names one after another, which end with the ways to take them.
 fn take_names(

@@ -9,7 +9,7 @@ ghost use Rattle.sym_chunks.specs.Cases.{branches_of, failure};
 ghost use Rattle.sym_chunks.specs.Forms.{form_of};
 ghost use Rattle.sym_chunks.specs.NameTerms.{distinct_from};
 ghost use Rattle.sym_chunks.specs.View.{chunk_branches_view};
-ghost use Rattle.sym_conditions.specs.Alternatives.{alternatives_view, any, always as no_condition, same, of_kind, not_of_kind};
+ghost use Rattle.sym_model.specs.Alternatives.{alternatives_view, any, always as no_condition, same, of_kind, not_of_kind};
 ghost use Rattle.sym_model.specs.Pure.{done};
 ghost use Rattle.sym_model.specs.View.{chunk_view, frag_view};
 
@@ -22,8 +22,10 @@ use std::alloc::{AllocError, Global};
 use sym_chunks::{
     distinct_names, equal_to_one, form_needed, with_branches, with_failure, with_last_branches,
 };
-use sym_conditions::{Alternatives, always, extend, kind_is, kind_is_not, never};
-use sym_model::{Branches, Chunk, SymFrag, SymResult, SymSub};
+use sym_model::{
+    Alternatives, Branches, Chunk, SymFrag, SymResult, SymSub, always, extend, kind_is,
+    kind_is_not, never,
+};
 
 /// The term is no text, or equal to one of these.
 fn faulty_before(alloc: Global, term: &Term, later: &[Term]) -> Result<Alternatives, AllocError>

@@ -19,7 +19,7 @@ ghost use Rattle.sym_chunks.specs.Arguments.{
 };
 ghost use Rattle.sym_chunks.specs.Cases.{writes};
 ghost use Rattle.sym_chunks.specs.View.{access_view, chunk_branches_view};
-ghost use Rattle.sym_conditions.specs.Alternatives.{of_kind, not_of_kind};
+ghost use Rattle.sym_model.specs.Alternatives.{of_kind, not_of_kind};
 ghost use Rattle.sym_model.specs.View.{frag_view};
 
 use crate::disposing::dispose_cases;
@@ -31,8 +31,7 @@ use record_heap::RecordAction;
 use sequence::Sequence;
 use std::alloc::{AllocError, Global};
 use sym_chunks::{Access, checked, of_property, unknown_action, wrong_number};
-use sym_conditions::{kind_is, kind_is_not};
-use sym_model::{Branches, SymFrag};
+use sym_model::{Branches, SymFrag, kind_is, kind_is_not};
 
 /// `new`, with the variable of the new record's location.
 fn act_new(

@@ -15,7 +15,7 @@ use Rattle.checked_paths.specs.Causes.{PureShown, PureCause, failure, fault, bou
 use Rattle.checked_paths.specs.declared.nexts.FaultKind.{FaultKind}
 use Rattle.checked_paths.specs.Exactness.{FailsWith}
 use Rattle.checked_paths.specs.Pure.{PureEntry}
-use Rattle.checked_traces.specs.Trails.{Runs, StandsAt, RunsInto, IsDecided}
+use Rattle.checked_paths.specs.Trails.{Runs, StandsAt, RunsInto, IsDecided}
 use Rattle.spec_causes.specs.Causes.{MeetsAbove, ShowsMeeting, ComesSurely, ComesToBound, IsCauseOf}
 use Rattle.gil_report.specs.declared.answers.Lack.{Lack}
 use Rattle.gil_report.specs.Pure.{PureQuestion, PureWitness}

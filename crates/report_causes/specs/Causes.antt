@@ -19,7 +19,7 @@ use Rattle.sym_evaluation.specs.Pure.{PureStore, term_at}
 use Rattle.sym_model.specs.Lists.{Each, IsAmong}
 use Rattle.checked_paths.specs.Causes.{PureShown, PureCause, failure, shown_in}
 use Rattle.checked_paths.specs.Pure.{PureEntry}
-use Rattle.checked_traces.specs.Trails.{Runs, StandsAt, RunsInto, IsDecided}
+use Rattle.checked_paths.specs.Trails.{Runs, StandsAt, RunsInto, IsDecided}
 use Rattle.spec_causes.specs.Causes.{IsOpen, IsCauseOf}
 use Rattle.gil_report.specs.declared.answers.Lack.{Lack}
 use Rattle.gil_report.specs.Pure.{PureBinding, PureQuestion, PureWitness}

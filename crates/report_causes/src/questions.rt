@@ -15,7 +15,7 @@ use report_names::named_atoms;
 use sequence::Sequence;
 use solver_print::Names;
 use std::alloc::{AllocError, Global};
-use sym_conditions::copy_conditions;
+use sym_model::copy_conditions;
 use sym_paths::copy_place;
 
 /// The place of the atom that a reason names.

@@ -28,8 +28,8 @@ use pure_terms::{HoldsFault, Term, Terms, Valuation, value_of};
 use sequence::Sequence;
 use std::alloc::{AllocError, Global};
 use sym_evaluation::SymStore;
-use sym_naming::names_in;
 use sym_paths::copy_place;
+use sym_states::names_in;
 
 /// Adds the value of a term by this name, where it has one.
 fn bind_value(

@@ -11,7 +11,7 @@ use gil_values::Text;
 use sequence::Sequence;
 use solver_print::Names;
 use std::alloc::{AllocError, Global};
-use sym_naming::names_in;
+use sym_states::names_in;
 
 /// Whether a name is one of a list.
 fn is_among(names: &Texts, name: &Text) -> bool

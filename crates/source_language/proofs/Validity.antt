@@ -8,7 +8,7 @@ use Rattle.gil_syntax.specs.declared.validity.InvalidKind.{InvalidKind}
 use Rattle.gil_syntax.specs.declared.validity.InvalidKind.TheVariants.{Duplicate, BadLabel, NoEnd, UnknownName, Arity, TooMany, Memory}
 use Rattle.gil_syntax.specs.Pure.{PureProc, PureSpec, PurePredDef, PureParts}
 use Rattle.gil_syntax.specs.Valid.{ProgramItem, a_proc, a_spec, a_pred, items_of, has_bad_label, has_no_end, has_many_commands, has_many_names, has_wide_literal, has_fault, has_fault_if_there, IsValid, IsNamedFault}
-use Rattle.gil_program.specs.Uncounted.{has_fault_but_length_if_there, IsValidButLength}
+use Rattle.gil_syntax.specs.Uncounted.{has_fault_but_length_if_there, IsValidButLength}
 use Rattle.source_language.specs.Limits.{is_too_long, first_too_long}
 use Rattle.source_language.specs.Valid.{has_source_fault, has_source_fault_if_there, source_fault_at, HasNoSourceFault}
 use Rattle.source_language.proofs.Labels.{neither}

@@ -4,7 +4,7 @@ use Rattle.gil_syntax.specs.declared.validity.InvalidKind.{InvalidKind}
 use Rattle.gil_syntax.specs.declared.validity.InvalidKind.TheVariants.{Duplicate, BadLabel, NoEnd, UnknownName, Arity, TooMany, Memory}
 use Rattle.gil_syntax.specs.Pure.{PureParts}
 use Rattle.gil_syntax.specs.Valid.{ProgramItem, items_of, is_duplicate, has_unknown_name, has_wrong_arity}
-use Rattle.gil_program.specs.Uncounted.{passes_limit}
+use Rattle.gil_syntax.specs.Uncounted.{passes_limit}
 
 -- the faults that a source may have: of labels and last commands it has none
 abbrev pub has_source_fault : InvalidKind → PureParts → List ProgramItem → ProgramItem → Bool

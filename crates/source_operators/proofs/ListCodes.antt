@@ -1,7 +1,7 @@
 -- The commands of several expressions, one more expression at a time.
 use Rattle.std.proofs.Common.{◌≡◌, ℕ, ◌+◌, ◌<◌, get_or, List, [], ◌∷◌, ◌++◌, map, take, length, sym, ap, ◌∙◌, arith, append_assoc, length-append}
 use Rattle.std.proofs.lemmas.List.{append-nil}
-use Rattle.gil_program.proofs.NameLemmas.{map-take_read}
+use Rattle.gil_syntax.proofs.NameLemmas.{map-take_read}
 use Rattle.source_operators.specs.declared.trees.Expression.{Expression}
 use Rattle.source_operators.specs.Pure.{PureExpression}
 use Rattle.source_operators.specs.View.{expression_view}

@@ -4,7 +4,7 @@ use Rattle.std.specs.Prelude.{max}
 use Rattle.std.proofs.lemmas.List.{append-nil}
 use Rattle.std.proofs.lemmas.List.Recursion.{or_push}
 use Rattle.gil_values.proofs.Lists.{slice_get-read}
-use Rattle.gil_program.proofs.NameLemmas.{map-take_read}
+use Rattle.gil_syntax.proofs.NameLemmas.{map-take_read}
 use Rattle.source_statements.specs.Codes.{Codes}
 use Rattle.source_statements.specs.Compiled.{statement_code, block_code, statement_temporaries, block_temporaries, statement_tries, block_tries, statement_throws, block_throws}
 use Rattle.source_statements.specs.Lengths.{statement_length, block_length}

@@ -9,7 +9,7 @@ use Rattle.gil_values.specs.Pure.{text}
 use Rattle.gil_syntax.specs.declared.validity.InvalidKind.{InvalidKind}
 use Rattle.gil_syntax.specs.Pure.{PureExpr, literal, name, assign, fail, vanish, return, PureNumberedCommand}
 use Rattle.gil_syntax.specs.Valid.{a_proc, has_bad_label, has_no_end, IsNamedFault}
-use Rattle.gil_program.specs.Uncounted.{IsValidButLength}
+use Rattle.gil_syntax.specs.Uncounted.{IsValidButLength}
 use Rattle.source_language.specs.Code.{truth, jump}
 use Rattle.source_language.specs.Names.{is_source_name, has_source_invariant, caught, own_names}
 use Rattle.source_language.specs.Procedures.{placed}

@@ -5,7 +5,7 @@ use Rattle.std.proofs.lemmas.Bool.Decides.{nat_tests}
 use Rattle.std.proofs.lemmas.List.{map_push, length-map}
 use Rattle.std.proofs.lemmas.Option.{slice_get_within}
 use Rattle.gil_values.proofs.Lists.{slice_get-read}
-use Rattle.gil_program.proofs.NameLemmas.{map-take_read}
+use Rattle.gil_syntax.proofs.NameLemmas.{map-take_read}
 use Rattle.gil_syntax.specs.declared.parts.Proc.{Proc}
 use Rattle.gil_syntax.specs.View.{proc_view}
 use Rattle.source_language.specs.declared.trees.Function.{Function}

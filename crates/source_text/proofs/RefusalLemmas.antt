@@ -14,7 +14,7 @@ use Rattle.gil_lexemes.specs.Reading.{Reading, Fails}
 use Rattle.gil_syntax.specs.declared.validity.InvalidKind.{InvalidKind}
 use Rattle.gil_syntax.specs.Pure.{PureSpec, PurePredDef, PureParts}
 use Rattle.gil_syntax.specs.Valid.{ProgramItem, items_of}
-use Rattle.gil_program.specs.Uncounted.{fault_but_length_at, IsNamedButLength}
+use Rattle.gil_syntax.specs.Uncounted.{fault_but_length_at, IsNamedButLength}
 use Rattle.gil_grammar.specs.Nesting.{IsNested}
 use Rattle.gil_grammar.specs.Texts.{byte_before, place_if}
 use Rattle.gil_text.specs.declared.refused.RefusedKind.{RefusedKind}

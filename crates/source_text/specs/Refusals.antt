@@ -6,7 +6,7 @@ use Rattle.gil_lexemes.specs.declared.standing.Lexeme.{Lexeme}
 use Rattle.gil_lexemes.specs.declared.stops.Stop.{Stop}
 use Rattle.gil_lexemes.specs.declared.stops.Stop.TheVariants as stops
 use Rattle.gil_syntax.specs.Pure.{PureParts}
-use Rattle.gil_program.specs.Uncounted.{IsNamedButLength}
+use Rattle.gil_syntax.specs.Uncounted.{IsNamedButLength}
 use Rattle.gil_grammar.specs.Texts.{byte_before, place_if}
 use Rattle.gil_text.specs.declared.refused.Refused.{Refused}
 use Rattle.gil_text.specs.declared.refused.RefusedKind.{RefusedKind}

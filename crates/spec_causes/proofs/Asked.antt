@@ -15,7 +15,7 @@ use Rattle.sym_model.specs.Laws.{IsMeaning}
 use Rattle.sym_model.specs.Lists.{Each}
 use Rattle.sym_model.specs.Terms.{StateTerms}
 use Rattle.sym_model.proofs.ListLaws.{each_to}
-use Rattle.sym_naming.proofs.NamingLaws.{store_longer}
+use Rattle.sym_states.proofs.NamingLaws.{store_longer}
 use Rattle.sym_paths.specs.Frames.{running_store}
 use Rattle.sym_paths.specs.Steps.{counter_past, fresh_count}
 use Rattle.sym_paths.proofs.Moving.{running_stands, running_each}
@@ -25,8 +25,8 @@ use Rattle.checked_paths.specs.Exactness.{AreNewValues, IsContinued, IsUnder, Le
 use Rattle.checked_paths.specs.Meaning.{StandsForChecked, MayGoOn}
 use Rattle.checked_paths.specs.Pure.{PureEntry, PureChecking}
 use Rattle.checked_paths.proofs.Above.{stands_above}
-use Rattle.checked_traces.specs.Trails.{IsTrail, IsTrailStep}
-use Rattle.checked_traces.proofs.Following.{Parts, parts_of, meets_before, trail_vars}
+use Rattle.checked_paths.specs.Trails.{IsTrail, IsTrailStep}
+use Rattle.checked_paths.proofs.TrailSteps.{Parts, parts_of, meets_before, trail_vars}
 use Rattle.spec_causes.specs.Asking.{AsksThere, RunsAsking}
 use Rattle.spec_causes.specs.Reaching.{MayAskAt, AddsAsked, IsAskingTrail}
 

@@ -25,8 +25,8 @@ use Rattle.checked_paths.specs.Meaning.{StandsForChecked, IsEntered, MayGoOn}
 use Rattle.checked_paths.specs.Pure.{PureEntry, PureChecking}
 use Rattle.checked_paths.proofs.Above.{stands_above}
 use Rattle.checked_paths.proofs.Growing.{entered_more}
-use Rattle.checked_traces.specs.Trails.{Runs, RunsInto, IsTrail, IsFollowedBy}
-use Rattle.checked_traces.proofs.Following.{as_many, InTwo, in_two, Parts, parts_of, meets_before, more_again, place_there, trail_vars, trail_conds, runs_follow_on, surely_reached, met_along}
+use Rattle.checked_paths.specs.Trails.{Runs, RunsInto, IsTrail, IsFollowedBy}
+use Rattle.checked_paths.proofs.TrailSteps.{as_many, InTwo, in_two, Parts, parts_of, meets_before, more_again, place_there, trail_vars, trail_conds, runs_follow_on, surely_reached, met_along}
 use Rattle.spec_causes.specs.Asking.{RunsAsking}
 use Rattle.spec_causes.specs.Causes.{MeetsAbove, MayBeMet, StartsUnder, RunsWherever, ComesTo, ComesSurely, ComesToBound, IsReachable, IsOnTheWay, IsOpen}
 use Rattle.spec_causes.specs.Reaching.{AddsAsked, IsStartUnder, IsRealStart, IsAskingTrail, IsReached, IsFoundCause}

@@ -13,7 +13,7 @@ use Rattle.sym_evaluation.specs.Pure.{PureStore}
 use Rattle.sym_evaluation.specs.Questions.{IsAsked, AreTermsOf}
 use Rattle.sym_model.specs.Lists.{Each, IsAmong}
 use Rattle.sym_model.specs.Terms.{StateTerms, is_literal, asked_of, IsOwnCondition}
-use Rattle.sym_candidates.specs.Guards.{IsAskedByGuard}
+use Rattle.sym_paths.specs.Guards.{IsAskedByGuard}
 use Rattle.sym_states.specs.Producing.{IsAskedAmong}
 use Rattle.checked_paths.specs.Choosing.{LeadsAlong}
 

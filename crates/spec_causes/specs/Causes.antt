@@ -26,7 +26,7 @@ use Rattle.checked_paths.specs.declared.checking.Entered.{Entered}
 use Rattle.checked_paths.specs.Exactness.{AreNewValues, HaveMore, FailsWith}
 use Rattle.checked_paths.specs.Meaning.{IsEntered}
 use Rattle.checked_paths.specs.Pure.{PureEntry}
-use Rattle.checked_traces.specs.Trails.{Runs, StandsAt, RunsInto}
+use Rattle.checked_paths.specs.Trails.{Runs, StandsAt, RunsInto}
 use Rattle.spec_causes.specs.Asking.{AsksThere, RunsAsking}
 
 -- ---- valuations

@@ -19,7 +19,7 @@ use Rattle.checked_paths.specs.Causes.{PureShown, PureCause, failure, fault, bou
 use Rattle.checked_paths.specs.Exactness.{HaveMoreOf}
 use Rattle.checked_paths.specs.Meaning.{StandsForChecked, IsEntryOver}
 use Rattle.checked_paths.specs.Pure.{PureEntry, PureChecking}
-use Rattle.checked_traces.specs.Trails.{IsTrailStep}
+use Rattle.checked_paths.specs.Trails.{IsTrailStep}
 use Rattle.spec_causes.specs.Asking.{MayAsk}
 use Rattle.spec_causes.specs.Causes.{MeetsAbove, MayBeMet, IsOnTheWay, HasRuns}
 

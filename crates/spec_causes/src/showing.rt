@@ -12,7 +12,7 @@ ghost use Rattle.sym_paths.specs.Steps.{IsFirstOutside};
 use checked_paths::{Cause, Shown};
 use pure_terms::{Atoms, Decider, Reason, Valuation, VarTable};
 use std::alloc::{AllocError, Global};
-use sym_asking::{Satisfiability, ask, first_outside};
+use sym_paths::{Satisfiability, ask, first_outside};
 use sym_witness::number_symbols;
 
 /// What is told of the conditions of a cause.

@@ -12,7 +12,7 @@ use Rattle.checked_runs.specs.Checked.{Checked, Outcome, has_fault, Entry, Leads
 use Rattle.checked_paths.specs.Causes.{PureCause, failure, fault, bound, undecided, cause_view}
 use Rattle.checked_paths.specs.Choosing.{LeadsAlong, LeadsAlongAt}
 use Rattle.checked_paths.specs.Pure.{PureEntry}
-use Rattle.checked_traces.specs.Trails.{Runs}
+use Rattle.checked_paths.specs.Trails.{Runs}
 use Rattle.plain_specs.specs.Contained.{IsContained, RunsAlone}
 use Rattle.plain_specs.specs.Laws.{HasOnlyGoodRuns, ContainedSpecificationsAreDecided}
 use Rattle.spec_answers.specs.declared.answers.SpecAnswer.{SpecAnswer}

@@ -1,13 +1,13 @@
 //! The check of a program's specifications.
 ghost use Rattle.std.specs.Prelude.{◌≤◌, IfOk};
 ghost use Rattle.assert_logic.specs.Modes.{HasModes};
-ghost use Rattle.gil_program.specs.Program.{prog_view};
+ghost use Rattle.gil_syntax.specs.Program.{prog_view};
 ghost use Rattle.spec_answers.specs.Holding.{AreTrue};
 ghost use Rattle.spec_checker.specs.Answers.{AnswerEach, AreCauses};
 ghost use Rattle.spec_checker.specs.Deciding.{AreDecided, AreSettled};
 
 use crate::examining::examine_all;
-use gil_program::Prog;
+use gil_syntax::Prog;
 use plain_specs::contained_specifications_are_decided;
 use rewrite_book::RuleBook;
 use solver_proof::Refuter;

@@ -1,13 +1,12 @@
 //! What is found out of each specification by itself.
 ghost use Rattle.std.specs.Prelude.{◌≡◌, ◌≤◌, Some, IfOk};
 ghost use Rattle.assert_logic.specs.Modes.{HasModes};
-ghost use Rattle.gil_program.specs.Program.{prog_view};
+ghost use Rattle.gil_syntax.specs.Program.{prog_view};
 ghost use Rattle.gil_syntax.specs.Programs.{find_spec};
 ghost use Rattle.gil_syntax.specs.View.{spec_view};
 ghost use Rattle.spec_checker.specs.Examining.{AreExamined, IsExamined, IsFindingOf, IsFound};
 
-use gil_program::Prog;
-use gil_syntax::Spec;
+use gil_syntax::{Prog, Spec};
 use rewrite_book::RuleBook;
 use sequence::Sequence;
 use solver_proof::Refuter;

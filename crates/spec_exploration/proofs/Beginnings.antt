@@ -20,7 +20,7 @@ use Rattle.pure_terms.specs.declared.variables.Sort.{Sort}
 use Rattle.pure_terms.specs.declared.variables.Var.{Var}
 use Rattle.pure_terms.specs.Meaning.{AreOver, IsProper, IsUnsatisfiable, all_true, truth}
 use Rattle.pure_terms.specs.Pure.{PureAtom, term_of, variables, variables_of_atoms}
-use Rattle.sym_asking.proofs.Fragments.{each_over_all}
+use Rattle.sym_paths.proofs.AskedFragments.{each_over_all}
 use Rattle.sym_beginning.specs.Beginning as beginning
 use Rattle.sym_beginning.specs.Beginning.{PureStart, PureBeginnings, IsEntryUnder, IsBegunFrom, IsBeginning, AreBeginnings, AreStarts}
 use Rattle.sym_beginning.specs.Origins.{ComeOf, NeedForm, IsOfPrecondition, AreOfPrecondition}

@@ -9,7 +9,7 @@ use Rattle.mem_model.specs.Actions.{Actions}
 use Rattle.mem_model.specs.Heaps.{Heap}
 use Rattle.pure_terms.specs.Fragment.{InFragment}
 use Rattle.pure_terms.specs.Pure.{PureTerm, PureAtom, positive, negative, opening}
-use Rattle.plain_evaluation.specs.Plain.{IsPlainItem}
+use Rattle.sym_paths.specs.Plain.{IsPlainItem}
 use Rattle.sym_beginning.specs.Beginning.{PureStart, PureBeginnings}
 use Rattle.sym_beginning.specs.Plainly.{ArePlainBeginnings, first_bound}
 use Rattle.sym_engine.proofs.Fragments.{each_over_all}

@@ -6,7 +6,7 @@ use Rattle.gil_syntax.specs.Pure.{PureNumberedCommand, PureParts, PureSpec}
 use Rattle.gil_machine.specs.Step.{command_of}
 use Rattle.pure_terms.specs.declared.deciders.Reason.{Reason}
 use Rattle.pure_terms.specs.Meaning.{AreOver, IsUnsatisfiable}
-use Rattle.sym_asking.specs.Asking.{IsOutside}
+use Rattle.sym_paths.specs.Asking.{IsOutside}
 use Rattle.sym_beginning.specs.Beginning.{PureStart}
 use Rattle.sym_model.specs.Meaning.{has_open}
 use Rattle.checked_paths.specs.Causes.{PureShown, PureCause, failure, fault, bound, undecided, cause_view, shown_of}

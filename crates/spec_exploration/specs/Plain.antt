@@ -3,7 +3,7 @@ use Rattle.std.specs.Prelude.{◌≡◌, ℕ, ◌+◌, ◌*◌, ◌≤◌, ℤ, 
 use Rattle.gil_syntax.specs.Pure.{PureParts, PureSpec, PureCommand}
 use Rattle.gil_syntax.specs.Simple.{is_simple_command}
 use Rattle.plain_specs.specs.Contained.{HasCommand, MayRun, IsContained}
-use Rattle.plain_evaluation.specs.Plain.{IsPlainItem}
+use Rattle.sym_paths.specs.Plain.{IsPlainItem}
 use Rattle.sym_beginning.specs.Plainly.{BeginsPlainly, first_bound}
 use Rattle.sym_evaluation.specs.Plainly.{IsPlain, IsPlainStore}
 use Rattle.sym_model.specs.Lists.{Each}

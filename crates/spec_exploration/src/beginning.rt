@@ -4,7 +4,7 @@ ghost use Rattle.std.specs.Option.{option_map};
 ghost use Rattle.checked_paths.specs.Pure.{further};
 ghost use Rattle.checked_paths.specs.View.{next_view, nexts_view};
 ghost use Rattle.gil_machine.specs.Step.{command_of};
-ghost use Rattle.gil_program.specs.Program.{prog_view};
+ghost use Rattle.gil_syntax.specs.Program.{prog_view};
 ghost use Rattle.gil_syntax.specs.Programs.{find_proc};
 ghost use Rattle.gil_syntax.specs.View.{numbered_command_view, spec_view};
 ghost use Rattle.pure_terms.specs.Meaning.{AreOver, IsUnsatisfiable};
@@ -12,22 +12,21 @@ ghost use Rattle.pure_terms.specs.View.{atom_view, atoms_view};
 ghost use Rattle.spec_causes.specs.Causes.{MayBeMet, without_forms};
 ghost use Rattle.spec_causes.specs.Reaching.{checked_start};
 ghost use Rattle.spec_exploration.specs.Beginning.{AreStartsOf, IsFirstPlace, IsStartOf, IsStartOver};
-ghost use Rattle.sym_asking.specs.Asking.{IsOutside};
+ghost use Rattle.sym_paths.specs.Asking.{IsOutside};
 ghost use Rattle.sym_beginning.specs.View.{start_view, starts_view};
 ghost use Rattle.sym_model.specs.Lists.{Each};
 ghost use Rattle.sym_model.specs.Meaning.{has_open, is_open};
 ghost use Rattle.sym_paths.specs.View.{path_view};
 
 use checked_paths::{Cause, Checking, Next, Nexts, Shown};
-use gil_program::Prog;
-use gil_syntax::{NumberedCommand, Spec};
+use gil_syntax::{NumberedCommand, Prog, Spec};
 use gil_values::Place;
 use pure_terms::{Atom, Atoms, Decider, Reason, VarTable};
 use sequence::Sequence;
 use std::alloc::{AllocError, Global};
-use sym_asking::{Satisfiability, ask, needs_form};
 use sym_beginning::{Started, Starts};
 use sym_model::ListedMemory;
+use sym_paths::{Satisfiability, ask, needs_form};
 
 /// The first command of a specification's procedure.
 fn first_command<'p>(prog: &'p Prog, spec: &Spec) -> Option<&'p NumberedCommand>

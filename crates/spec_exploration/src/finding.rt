@@ -1,7 +1,7 @@
 //! The command at which a path stands, and its place.
 ghost use Rattle.std.specs.Prelude.{◌≡◌, IfOk, IfSome, Some};
 ghost use Rattle.std.specs.Option.{option_map};
-ghost use Rattle.gil_program.specs.Program.{prog_view};
+ghost use Rattle.gil_syntax.specs.Program.{prog_view};
 ghost use Rattle.gil_syntax.specs.Pure.{PureParts};
 ghost use Rattle.gil_syntax.specs.View.{numbered_command_view};
 ghost use Rattle.sym_engine.specs.Lawful.{MayAdvance};
@@ -9,8 +9,7 @@ ghost use Rattle.sym_paths.specs.Meaning.{command_of_frames};
 ghost use Rattle.sym_paths.specs.Steps.{IsPlaceOf};
 ghost use Rattle.sym_paths.specs.View.{frames_view};
 
-use gil_program::Prog;
-use gil_syntax::NumberedCommand;
+use gil_syntax::{NumberedCommand, Prog};
 use gil_values::Place;
 use std::alloc::{AllocError, Global};
 use sym_paths::{Frames, running};

@@ -10,7 +10,7 @@ ghost use Rattle.checked_paths.specs.View.{checking_view, entry_view, nexts_view
 ghost use Rattle.checked_rows.specs.Ending.{IsLeaving};
 ghost use Rattle.checked_rows.specs.Plainly.{EndsPlainly};
 ghost use Rattle.checked_rows.specs.Rows.{AreRowOf, IsExactRowOf};
-ghost use Rattle.gil_program.specs.Program.{prog_view};
+ghost use Rattle.gil_syntax.specs.Program.{prog_view};
 ghost use Rattle.gil_syntax.specs.Programs.{find_spec};
 ghost use Rattle.gil_syntax.specs.Pure.{PureCommand};
 ghost use Rattle.gil_syntax.specs.View.{command_view, numbered_command_view, spec_view};
@@ -29,8 +29,7 @@ use crate::finding::{command_of, place_of};
 use call_rows::call_row;
 use checked_paths::{Checking, Entered, Nexts, Stepped, step_machine};
 use checked_rows::{assert_row, end_row, fold_row, unfold_row};
-use gil_program::Prog;
-use gil_syntax::{Command, NumberedCommand, Spec};
+use gil_syntax::{Command, NumberedCommand, Prog, Spec};
 use gil_values::Place;
 use invariant_rows::invariant_row;
 use pure_terms::Decider;

@@ -27,9 +27,9 @@ use Rattle.sym_evaluation.specs.Pure.{PureStore, term_at}
 use Rattle.sym_model.specs.Lists.{Each, OneOf}
 use Rattle.sym_model.specs.Terms.{AreEachOver}
 use Rattle.sym_model.proofs.ListLaws.{same_some, not_none, each_append, each_to, one_at}
-use Rattle.sym_naming.specs.Naming.{PureNamed, HaveSorts, MayName, IsNamedAs, IsNaming, NamesAll}
-use Rattle.sym_naming.proofs.Names.{one_of_two, names_same, same_name, turned}
-use Rattle.sym_naming.proofs.NamingLaws.{proper_sorts, store_longer}
+use Rattle.sym_states.specs.Naming.{PureNamed, HaveSorts, MayName, IsNamedAs, IsNaming, NamesAll}
+use Rattle.sym_states.proofs.Names.{one_of_two, names_same, same_name, turned}
+use Rattle.sym_states.proofs.NamingLaws.{proper_sorts, store_longer}
 use Rattle.sym_beginning.specs.Entering.{AreTermsAt, PureEntryTerms, IsFullEntry, AreEntryValues, IsValueOfEntry, Enters}
 
 -- ---- nothing

@@ -21,11 +21,11 @@ use Rattle.sym_model.specs.Plain.{IsPlainState}
 use Rattle.sym_model.specs.Terms.{StateTerms, all_of}
 use Rattle.sym_model.proofs.ListLaws.{not_none, each_to}
 use Rattle.sym_model.proofs.Wider.{plain_wider}
-use Rattle.sym_naming.specs.Naming.{PureNamed, IsVariableFor, IsNaming}
+use Rattle.sym_states.specs.Naming.{PureNamed, IsVariableFor, IsNaming}
 use Rattle.sym_paths.specs.Beginning.{BeginningsStand}
 use Rattle.sym_paths.specs.Steps.{IsPlainPath}
-use Rattle.plain_evaluation.specs.Laws.{IsPlainOver}
-use Rattle.plain_evaluation.specs.Plain.{IsPlainItem}
+use Rattle.sym_paths.specs.PlainLaws.{IsPlainOver}
+use Rattle.sym_paths.specs.Plain.{IsPlainItem}
 use Rattle.sym_states.specs.Plainly.{IsPlainWith}
 use Rattle.sym_states.specs.Pure.{PureState}
 use Rattle.sym_states.proofs.Plainness.{plain_up}

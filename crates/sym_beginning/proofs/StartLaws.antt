@@ -34,7 +34,7 @@ use Rattle.sym_model.specs.Lists.{Each, OneOf, IsAmong}
 use Rattle.sym_model.specs.Meaning.{has_open}
 use Rattle.sym_model.specs.Terms.{StateTerms, all_of, AreEachOver}
 use Rattle.sym_model.proofs.ListLaws.{same_some, not_none, each_to}
-use Rattle.sym_naming.proofs.AddedNames.{added_known}
+use Rattle.sym_states.proofs.AddedNames.{added_known}
 use Rattle.sym_paths.specs.Beginning.{Begins, BeginningsStand}
 use Rattle.sym_paths.specs.Meaning.{Stands as PathStands}
 use Rattle.sym_paths.specs.Pure.{PurePath}

@@ -12,7 +12,7 @@ use Rattle.sym_evaluation.specs.Plainly.{IsPlain, IsPlainStore, text_bound}
 use Rattle.sym_model.specs.Lists.{Each}
 use Rattle.sym_model.specs.Terms.{StateTerms}
 use Rattle.sym_paths.specs.Steps.{IsPlainPath}
-use Rattle.plain_evaluation.specs.Plain.{IsPlainItem}
+use Rattle.sym_paths.specs.Plain.{IsPlainItem}
 use Rattle.sym_states.specs.Laws.{ComeFromItems}
 use Rattle.sym_states.specs.Plainly.{StayPlain, item_growth}
 use Rattle.sym_states.specs.Pure.{PureState}

@@ -1,6 +1,6 @@
 //! Where the runs of a specification begin.
 ghost use Rattle.std.specs.Prelude.{◌≡◌, IfOk, IsTrue, Some, length};
-ghost use Rattle.gil_program.specs.Program.{prog_view};
+ghost use Rattle.gil_syntax.specs.Program.{prog_view};
 ghost use Rattle.gil_syntax.specs.Programs.{find_spec};
 ghost use Rattle.gil_syntax.specs.View.{proc_view, spec_view};
 ghost use Rattle.assert_logic.specs.Modes.{HasModes};
@@ -15,8 +15,7 @@ ghost use Rattle.sym_beginning.specs.Starting.{IsFirstState, StartsFrom, BeginsE
 ghost use Rattle.sym_beginning.specs.View.{entry_view, start_view, starts_view, beginnings_view};
 
 use crate::entering::{EntryTerms, entry_terms};
-use gil_program::Prog;
-use gil_syntax::{Proc, Spec};
+use gil_syntax::{Proc, Prog, Spec};
 use gil_values::Place;
 use pure_terms::{Terms, VarTable};
 use sequence::Sequence;

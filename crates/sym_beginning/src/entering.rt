@@ -19,7 +19,7 @@ use pure_terms::{Terms, VarTable};
 use sequence::Sequence;
 use std::alloc::{AllocError, Global};
 use sym_evaluation::SymStore;
-use sym_naming::{beside, names_in, with_variables};
+use sym_states::{beside, names_in, with_variables};
 
 /// A table of variables, the terms of the parameters and of the variables that the precondition names, and the store of both.
 /// Contracts see them as their pure data, by `entry_view`.

@@ -14,9 +14,9 @@ use Rattle.pure_terms.specs.Pure.{PureTerm, from_list}
 use Rattle.sym_chunks.specs.Arguments.{checked, no_property, is_property}
 use Rattle.sym_chunks.specs.Cases.{PureCase, branches_of, choose, failure}
 use Rattle.sym_chunks.specs.Laws.{IsLocation}
-use Rattle.sym_conditions.specs.Alternatives.{Alternatives, Hold, always, of_kind, not_of_kind}
-use Rattle.sym_conditions.proofs.Combined.{both_from, both_parts, always_true}
-use Rattle.sym_conditions.proofs.Telling.{of_kind_tells, not_of_kind_tells}
+use Rattle.sym_model.specs.Alternatives.{Alternatives, Hold, always, of_kind, not_of_kind}
+use Rattle.sym_model.proofs.Combined.{both_from, both_parts, always_true}
+use Rattle.sym_model.proofs.Telling.{of_kind_tells, not_of_kind_tells}
 use Rattle.sym_model.specs.Chunks.{StandFor}
 use Rattle.sym_model.specs.Lists.{Each, OneOf}
 use Rattle.sym_model.specs.Pure.{PureChunk}

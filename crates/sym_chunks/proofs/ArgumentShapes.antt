@@ -10,7 +10,7 @@ use Rattle.pure_terms.specs.Kinds.{allows, known_kind}
 use Rattle.pure_terms.specs.Pure.{PureTerm}
 use Rattle.sym_chunks.specs.Arguments.{wrong_number, checked, no_property, is_property, unknown_action, may_be_symbol, may_be_property}
 use Rattle.sym_chunks.specs.Cases.{ChunkBranches, PureCase, branches_of, choose, failure}
-use Rattle.sym_conditions.specs.Alternatives.{Alternatives, Hold, never, always, both, is_empty, of_kind, not_of_kind}
+use Rattle.sym_model.specs.Alternatives.{Alternatives, Hold, never, always, both, is_empty, of_kind, not_of_kind}
 use Rattle.sym_model.specs.Forms.{OpensOnly}
 use Rattle.sym_model.specs.Lists.{Each}
 use Rattle.sym_model.specs.Pure.{PureChunk}

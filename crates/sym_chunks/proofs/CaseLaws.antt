@@ -11,8 +11,8 @@ use Rattle.pure_terms.specs.Pure.{PureTerm, literal, variable, list_of, unary_of
 use Rattle.sym_chunks.specs.Cases.{ChunkBranches, PureCase, case_of, branches_of, case_branches, sure_case, choose_by, choose}
 use Rattle.sym_chunks.specs.Forms.{form_of}
 use Rattle.sym_chunks.specs.Laws.{CasesAreChosen}
-use Rattle.sym_conditions.specs.Alternatives.{Alternatives, Hold, never, always, both, any, is_empty, settled, with_form}
-use Rattle.sym_conditions.proofs.Combined.{settled_parts, settled_from, both_from, both_parts}
+use Rattle.sym_model.specs.Alternatives.{Alternatives, Hold, never, always, both, any, is_empty, settled, with_form}
+use Rattle.sym_model.proofs.Combined.{settled_parts, settled_from, both_from, both_parts}
 use Rattle.sym_model.specs.Chunks.{StandFor}
 use Rattle.sym_model.specs.Lists.{Each, OneOf, IsAmong}
 use Rattle.sym_model.specs.Meaning.{IsOutcome, is_open, has_open, IsBranchFor}

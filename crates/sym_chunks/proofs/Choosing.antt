@@ -3,7 +3,7 @@ use Rattle.std.proofs.Common.{◌≡◌, List, ◌++◌, true, sym, ap, ◌∙�
 use Rattle.std.specs.List.{list_any}
 use Rattle.std.proofs.lemmas.List.{append_assoc}
 use Rattle.sym_chunks.specs.Cases.{AreChosenAs, PureCase, choose}
-use Rattle.sym_conditions.specs.Alternatives.{is_empty}
+use Rattle.sym_model.specs.Alternatives.{is_empty}
 use Rattle.sym_chunks.proofs.CaseLaws.{choose_sure}
 
 -- the first cases, where one of them surely comes

@@ -11,8 +11,8 @@ use Rattle.pure_terms.specs.Meaning.{value, all_true, IsProper, IsOver}
 use Rattle.pure_terms.specs.Pure.{PureTerm}
 use Rattle.sym_chunks.specs.ByPlace.{any_at}
 use Rattle.sym_chunks.specs.Laws.{IsLocation}
-use Rattle.sym_conditions.specs.Alternatives.{Alternatives, Hold, both, same}
-use Rattle.sym_conditions.proofs.Combined.{both_from, both_parts}
+use Rattle.sym_model.specs.Alternatives.{Alternatives, Hold, both, same}
+use Rattle.sym_model.proofs.Combined.{both_from, both_parts}
 use Rattle.sym_model.specs.Lists.{Each}
 use Rattle.sym_model.specs.Meaning.{sub_value}
 use Rattle.sym_model.specs.Pure.{PureSub, PureChunk}

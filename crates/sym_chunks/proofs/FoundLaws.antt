@@ -14,7 +14,7 @@ use Rattle.sym_chunks.specs.ByPlace.{all_by_place}
 use Rattle.sym_chunks.specs.Cases.{PureAccess, accessed, given_back, case_of, found_from, found}
 use Rattle.sym_chunks.specs.Keys.{other_sub, at_key}
 use Rattle.sym_chunks.specs.Laws.{IsLocation, IsKeyOf}
-use Rattle.sym_conditions.specs.Alternatives.{Alternatives, Hold, any}
+use Rattle.sym_model.specs.Alternatives.{Alternatives, Hold, any}
 use Rattle.sym_model.specs.Chunks.{IsUnion}
 use Rattle.sym_model.specs.Lists.{Each, OneOf}
 use Rattle.sym_model.specs.Pure.{PureSub, PureChunk}

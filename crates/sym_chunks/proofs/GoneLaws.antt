@@ -17,7 +17,7 @@ use Rattle.pure_terms.specs.Pure.{PureTerm}
 use Rattle.sym_chunks.specs.Cases.{failure, gone_case}
 use Rattle.sym_chunks.specs.Keys.{at_key}
 use Rattle.sym_chunks.specs.Laws.{IsLocation, IsKeyOf}
-use Rattle.sym_conditions.specs.Alternatives.{Hold, any}
+use Rattle.sym_model.specs.Alternatives.{Hold, any}
 use Rattle.sym_model.specs.Chunks.{StandFor}
 use Rattle.sym_model.specs.Lists.{Each, OneOf}
 use Rattle.sym_model.specs.Meaning.{location_of, key_of}

@@ -6,8 +6,8 @@ use Rattle.pure_terms.specs.declared.atoms.Atom.{Atom}
 use Rattle.pure_terms.specs.Pure.{PureTerm}
 use Rattle.sym_chunks.specs.Keys.{at_key}
 use Rattle.sym_chunks.specs.Walking.{sure_place}
-use Rattle.sym_conditions.specs.Alternatives.{Alternatives, alternatives_view, never, both, is_empty}
-use Rattle.sym_conditions.proofs.Stepping.{flat_step}
+use Rattle.sym_model.specs.Alternatives.{Alternatives, alternatives_view, never, both, is_empty}
+use Rattle.sym_model.proofs.Stepping.{flat_step}
 use Rattle.sym_model.specs.Pure.{PureSub, PureChunk}
 use Rattle.sym_model.proofs.ListLaws.{same_some, not_none}
 

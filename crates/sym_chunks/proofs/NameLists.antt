@@ -12,10 +12,10 @@ use Rattle.pure_terms.specs.Meaning.{value, values, all_true, IsProper, IsOver, 
 use Rattle.pure_terms.specs.Pure.{PureTerm, list_of, PureTerms, no_terms, term_and, to_list, variables, variables_of_all}
 use Rattle.pure_terms.proofs.KindLaws.{over_left, over_right}
 use Rattle.sym_chunks.specs.NameTerms.{listed, unlisted, distinct_from}
-use Rattle.sym_conditions.specs.Alternatives.{Alternatives, Hold, always, both, any, all_from, same, other, of_kind}
-use Rattle.sym_conditions.specs.Laws.{HaveBoth}
-use Rattle.sym_conditions.proofs.Combined.{both_from, both_parts, all_from_from, all_from_parts, always_true}
-use Rattle.sym_conditions.proofs.Telling.{same_tells, other_tells, of_kind_tells}
+use Rattle.sym_model.specs.Alternatives.{Alternatives, Hold, always, both, any, all_from, same, other, of_kind}
+use Rattle.sym_model.specs.ConditionLaws.{HaveBoth}
+use Rattle.sym_model.proofs.Combined.{both_from, both_parts, all_from_from, all_from_parts, always_true}
+use Rattle.sym_model.proofs.Telling.{same_tells, other_tells, of_kind_tells}
 use Rattle.sym_model.specs.Lists.{Each, OneOf}
 use Rattle.sym_model.proofs.ListLaws.{same_some, not_none, one_flat, one_flattened}
 use Rattle.sym_model.proofs.Asking.{both_parts as value_parts}

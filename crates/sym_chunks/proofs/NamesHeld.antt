@@ -17,8 +17,8 @@ use Rattle.sym_chunks.specs.Forms.{form_of}
 use Rattle.sym_chunks.specs.Keys.{same_sub}
 use Rattle.sym_chunks.specs.Laws.{IsLocation, IsKeyOf}
 use Rattle.sym_chunks.specs.NameTerms.{is_name, holds_name, unheld_name, unheld}
-use Rattle.sym_conditions.specs.Alternatives.{Alternatives, Hold, never, same}
-use Rattle.sym_conditions.proofs.Combined.{both_from}
+use Rattle.sym_model.specs.Alternatives.{Alternatives, Hold, never, same}
+use Rattle.sym_model.proofs.Combined.{both_from}
 use Rattle.sym_model.specs.Lists.{Each, OneOf}
 use Rattle.sym_model.specs.Meaning.{location_of, name_of, key_of}
 use Rattle.sym_model.specs.Pure.{PureSub, named, cell, shape, bound, dom, proto, gone, PureChunk}

@@ -17,7 +17,7 @@ use Rattle.sym_chunks.specs.Cases.{ChunkBranches, PureCase, case_of, branches_of
 use Rattle.sym_chunks.specs.Forms.{form_of}
 use Rattle.sym_chunks.specs.Keys.{same_sub, other_sub, at_key}
 use Rattle.sym_chunks.specs.NameTerms.{listed, unlisted, holds_name, unheld_name, unheld}
-use Rattle.sym_conditions.specs.Alternatives.{Alternatives, never, always, both, any, is_empty, equal, same, other, kind_is, of_kind, not_of_kind}
+use Rattle.sym_model.specs.Alternatives.{Alternatives, never, always, both, any, is_empty, equal, same, other, kind_is, of_kind, not_of_kind}
 use Rattle.sym_model.specs.Chunks.{with_held, placed_in, value_where_described, value_where_held, terms_of}
 use Rattle.sym_model.specs.Laws.{IsPlainWithin, IsDecidedWithin, growth}
 use Rattle.sym_model.specs.Lists.{Each}

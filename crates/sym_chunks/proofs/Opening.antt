@@ -8,7 +8,7 @@ use Rattle.pure_terms.specs.Meaning.{truth, all_true}
 use Rattle.pure_terms.specs.Pure.{PureTerm, literal, variable, list_of, unary_of, binary_of, PureAtom, opening}
 use Rattle.sym_chunks.specs.Cases.{PureCase, case_of, branches_of, case_branches, sure_case, choose_by, choose}
 use Rattle.sym_chunks.specs.Forms.{form_of}
-use Rattle.sym_conditions.specs.Alternatives.{Alternatives, Hold, always, both, is_empty, settled, with_form}
+use Rattle.sym_model.specs.Alternatives.{Alternatives, Hold, always, both, is_empty, settled, with_form}
 use Rattle.sym_model.specs.Forms.{OpensOnly}
 use Rattle.sym_model.specs.Lists.{Each, OneOf}
 use Rattle.sym_model.specs.Pure.{PureChunk, PureResult}

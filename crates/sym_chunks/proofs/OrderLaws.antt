@@ -20,11 +20,11 @@ use Rattle.pure_terms.specs.Pure.{PureTerm, literal, variable, list_of, unary_of
 use Rattle.pure_terms.proofs.KindLaws.{same_kinds, known_kinds_are_right}
 use Rattle.sym_chunks.specs.Laws.{NumbersAreOrdered}
 use Rattle.sym_chunks.specs.Ordering.{less_than, not_above, literals_less, literals_at_most, less, at_most}
-use Rattle.sym_conditions.specs.declared.comparing.Comparison.{Comparison}
-use Rattle.sym_conditions.specs.Alternatives.{Hold, never, always, given, by_comparison}
-use Rattle.sym_conditions.specs.Comparing.{are_other_kinds, is_fresh_above, are_apart, compared}
-use Rattle.sym_conditions.specs.Laws.{HaveBoth}
-use Rattle.sym_conditions.proofs.Telling.{Compared, are_same, are_different, are_unsure, comparison_of}
+use Rattle.sym_model.specs.declared.comparing.Comparison.{Comparison}
+use Rattle.sym_model.specs.Alternatives.{Hold, never, always, given, by_comparison}
+use Rattle.sym_model.specs.Comparing.{are_other_kinds, is_fresh_above, are_apart, compared}
+use Rattle.sym_model.specs.ConditionLaws.{HaveBoth}
+use Rattle.sym_model.proofs.Telling.{Compared, are_same, are_different, are_unsure, comparison_of}
 use Rattle.sym_model.specs.Terms.{is_literal, may_be_ordered}
 use Rattle.sym_model.proofs.ListLaws.{same_some}
 use Rattle.sym_chunks.proofs.Facts.{same_integers}

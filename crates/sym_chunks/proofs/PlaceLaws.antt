@@ -11,10 +11,10 @@ use Rattle.pure_terms.specs.Meaning.{value, all_true, IsProper}
 use Rattle.pure_terms.specs.Pure.{PureTerm}
 use Rattle.sym_chunks.specs.ByPlace.{elsewhere_or, places_from, places_of, all_at, all_there, all_by_place}
 use Rattle.sym_chunks.specs.Laws.{IsLocation, ChunksAreToldByPlace}
-use Rattle.sym_conditions.specs.Alternatives.{Alternatives, Hold, always, both, is_empty, same, other}
-use Rattle.sym_conditions.specs.Laws.{HaveBoth}
-use Rattle.sym_conditions.proofs.Combined.{both_from, both_parts, all_from_from, all_from_parts, always_true}
-use Rattle.sym_conditions.proofs.Telling.{same_tells, other_tells}
+use Rattle.sym_model.specs.Alternatives.{Alternatives, Hold, always, both, is_empty, same, other}
+use Rattle.sym_model.specs.ConditionLaws.{HaveBoth}
+use Rattle.sym_model.proofs.Combined.{both_from, both_parts, all_from_from, all_from_parts, always_true}
+use Rattle.sym_model.proofs.Telling.{same_tells, other_tells}
 use Rattle.sym_model.specs.Lists.{Each, IsAmong}
 use Rattle.sym_model.specs.Pure.{PureChunk}
 use Rattle.sym_model.proofs.ListLaws.{same_some, each_append, each_to, one_left, one_right, one_parts, one_with, each_is_among}

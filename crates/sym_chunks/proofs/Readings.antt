@@ -22,10 +22,10 @@ use Rattle.pure_terms.proofs.KindLaws.{over_left, over_right}
 use Rattle.pure_terms.proofs.SimpleLaws.{simple_terms_have_kinds}
 use Rattle.sym_chunks.specs.Cases.{ChunkBranches, true_term}
 use Rattle.sym_chunks.specs.Ordering.{less_than, not_above}
-use Rattle.sym_conditions.specs.declared.comparing.Comparison.{Comparison}
-use Rattle.sym_conditions.specs.Alternatives.{equal, kind_is}
-use Rattle.sym_conditions.specs.Comparing.{compared}
-use Rattle.sym_conditions.proofs.Telling.{Compared, are_same, are_different, are_unsure, comparison_of}
+use Rattle.sym_model.specs.declared.comparing.Comparison.{Comparison}
+use Rattle.sym_model.specs.Alternatives.{equal, kind_is}
+use Rattle.sym_model.specs.Comparing.{compared}
+use Rattle.sym_model.proofs.Telling.{Compared, are_same, are_different, are_unsure, comparison_of}
 use Rattle.sym_model.specs.Chunks.{placed_in, value_where_described, value_where_held, offset_of, located_in, terms_of}
 use Rattle.sym_model.specs.Cores.{IsSubOf, MissesItsOwn}
 use Rattle.sym_model.specs.Laws.{IsPlainWithin, IsDecidedWithin, EachTerm}

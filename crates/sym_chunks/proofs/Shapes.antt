@@ -19,9 +19,9 @@ use Rattle.sym_chunks.specs.Keys.{same_sub, other_sub, at_key}
 use Rattle.sym_chunks.specs.NameTerms.{listed, unlisted, distinct_from, holds_name, unheld_name, unheld}
 use Rattle.sym_chunks.specs.Ordering.{less_than, not_above, literals_less, literals_at_most, less, at_most, outside, inside}
 use Rattle.sym_chunks.specs.Walking.{PureWay, way_of, sure_place, ways_from, ways_by, next_ways, missing_key, all_taken, walk}
-use Rattle.sym_conditions.specs.declared.comparing.Comparison.{Comparison}
-use Rattle.sym_conditions.specs.Alternatives.{Alternatives, never, always, given, both, any, all_from, all, is_empty, settled, equal, same, other, by_comparison, kind_is, by_kind, of_kind, not_of_kind, with_form}
-use Rattle.sym_conditions.specs.Comparing.{compared}
+use Rattle.sym_model.specs.declared.comparing.Comparison.{Comparison}
+use Rattle.sym_model.specs.Alternatives.{Alternatives, never, always, given, both, any, all_from, all, is_empty, settled, equal, same, other, by_comparison, kind_is, by_kind, of_kind, not_of_kind, with_form}
+use Rattle.sym_model.specs.Comparing.{compared}
 use Rattle.sym_model.specs.Chunks.{with_held, value_where_described, value_where_held, offset_of}
 use Rattle.sym_model.specs.Cores.{zero_term}
 use Rattle.sym_model.specs.Lists.{Each}

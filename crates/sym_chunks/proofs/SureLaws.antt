@@ -9,9 +9,9 @@ use Rattle.sym_chunks.specs.ByPlace.{elsewhere_or, places_of, all_at, all_there,
 use Rattle.sym_chunks.specs.Cases.{case_of}
 use Rattle.sym_chunks.specs.Keys.{same_sub, other_sub, at_key}
 use Rattle.sym_chunks.specs.Walking.{PureWay, sure_place, missing_key}
-use Rattle.sym_conditions.specs.declared.comparing.Comparison.{Comparison}
-use Rattle.sym_conditions.specs.Alternatives.{Alternatives, never, always, given, both, all_from, is_empty, equal, same, other, by_comparison}
-use Rattle.sym_conditions.specs.Comparing.{compared}
+use Rattle.sym_model.specs.declared.comparing.Comparison.{Comparison}
+use Rattle.sym_model.specs.Alternatives.{Alternatives, never, always, given, both, all_from, is_empty, equal, same, other, by_comparison}
+use Rattle.sym_model.specs.Comparing.{compared}
 use Rattle.sym_model.specs.Lists.{Each, OneOf, IsAmong}
 use Rattle.sym_model.specs.Pure.{PureSub, named, cell, shape, bound, dom, proto, gone, PureChunk, missed}
 use Rattle.sym_model.proofs.ListLaws.{not_none, one_to}

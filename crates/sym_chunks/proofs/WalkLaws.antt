@@ -26,8 +26,8 @@ use Rattle.sym_chunks.specs.Cases.{true_term}
 use Rattle.sym_chunks.specs.Keys.{other_sub, at_key}
 use Rattle.sym_chunks.specs.Laws.{IsLocation, IsKeyOf}
 use Rattle.sym_chunks.specs.Walking.{PureWay, way_of, sure_place, ways_from, ways_by, next_ways, missing_key, all_taken, walk}
-use Rattle.sym_conditions.specs.Alternatives.{Alternatives, Hold, both, is_empty}
-use Rattle.sym_conditions.proofs.Combined.{both_from, both_parts}
+use Rattle.sym_model.specs.Alternatives.{Alternatives, Hold, both, is_empty}
+use Rattle.sym_model.proofs.Combined.{both_from, both_parts}
 use Rattle.sym_model.specs.Chunks.{IsUnion, StandFor}
 use Rattle.sym_model.specs.Lists.{Each, OneOf}
 use Rattle.sym_model.specs.Meaning.{location_of, key_of}

@@ -5,7 +5,7 @@ use Rattle.mem_model.specs.declared.failures.Failure.{Failure}
 use Rattle.pure_terms.specs.Kinds.{allows, known_kind}
 use Rattle.pure_terms.specs.Pure.{PureTerm}
 use Rattle.sym_chunks.specs.Cases.{ChunkBranches, PureCase, branches_of, choose, failure}
-use Rattle.sym_conditions.specs.Alternatives.{Alternatives, always, both, of_kind, not_of_kind}
+use Rattle.sym_model.specs.Alternatives.{Alternatives, always, both, of_kind, not_of_kind}
 use Rattle.sym_model.specs.Pure.{PureChunk}
 
 abbrev pub wrong_number : List PureChunk → ChunkBranches

@@ -3,7 +3,7 @@ use Rattle.std.specs.Prelude.{List, [], ◌∷◌, ◌++◌, if◌then◌else◌
 use Rattle.std.specs.List.{list_any}
 use Rattle.pure_terms.specs.Equality.{same_term}
 use Rattle.pure_terms.specs.Pure.{PureTerm}
-use Rattle.sym_conditions.specs.Alternatives.{Alternatives, always, both, any, all, is_empty, same, other}
+use Rattle.sym_model.specs.Alternatives.{Alternatives, always, both, any, all, is_empty, same, other}
 use Rattle.sym_model.specs.Pure.{PureChunk}
 
 -- another location than l, or l and x; nothing is asked where x is sure

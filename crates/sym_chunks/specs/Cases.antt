@@ -7,7 +7,7 @@ use Rattle.mem_model.specs.Tables.{failure_text}
 use Rattle.pure_terms.specs.declared.literals.Literal.{Literal}
 use Rattle.pure_terms.specs.Pure.{PureTerm, literal, list_of, from_list, PureAtom}
 use Rattle.sym_chunks.specs.Keys.{at_key}
-use Rattle.sym_conditions.specs.Alternatives.{Alternatives, both, any, settled, is_empty}
+use Rattle.sym_model.specs.Alternatives.{Alternatives, both, any, settled, is_empty}
 use Rattle.sym_model.specs.Chunks.{with_held}
 use Rattle.sym_model.specs.Pure.{PureSub, named, gone, PureChunk, PureResult, done, failed, missed, PureBranch}
 

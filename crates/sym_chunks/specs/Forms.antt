@@ -1,6 +1,6 @@
 -- Terms whose literal form is needed.
 use Rattle.pure_terms.specs.Pure.{PureTerm, literal, list_of}
-use Rattle.sym_conditions.specs.Alternatives.{Alternatives, never, with_form}
+use Rattle.sym_model.specs.Alternatives.{Alternatives, never, with_form}
 
 -- besides, the literal form of the term is needed, which is no list term and no literal
 abbrev pub form_of : PureTerm → Alternatives → Alternatives

@@ -1,6 +1,6 @@
 -- The conditions under which a chunk's key is one that is asked for.
 use Rattle.pure_terms.specs.Pure.{PureTerm}
-use Rattle.sym_conditions.specs.Alternatives.{Alternatives, never, always, both, same, other}
+use Rattle.sym_model.specs.Alternatives.{Alternatives, never, always, both, same, other}
 use Rattle.sym_model.specs.Pure.{PureSub, named, cell, shape, bound, dom, proto, gone, PureChunk}
 
 -- two subkeys of one location are the same

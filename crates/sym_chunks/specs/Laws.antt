@@ -9,8 +9,8 @@ use Rattle.sym_chunks.specs.ByPlace.{all_by_place}
 use Rattle.sym_chunks.specs.Cases.{PureCase, choose}
 use Rattle.sym_chunks.specs.Keys.{other_sub, at_key}
 use Rattle.sym_chunks.specs.Ordering.{less, at_most}
-use Rattle.sym_conditions.specs.Alternatives.{Alternatives, Hold}
-use Rattle.sym_conditions.specs.Laws.{HaveBoth}
+use Rattle.sym_model.specs.Alternatives.{Alternatives, Hold}
+use Rattle.sym_model.specs.ConditionLaws.{HaveBoth}
 use Rattle.sym_model.specs.Lists.{Each, OneOf}
 use Rattle.sym_model.specs.Meaning.{key_value}
 use Rattle.sym_model.specs.Pure.{PureSub, PureChunk, sub_terms}

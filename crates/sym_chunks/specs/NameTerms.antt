@@ -4,7 +4,7 @@ use Rattle.std.specs.List.{list_any}
 use Rattle.gil_values.specs.declared.kinds.Kind.{Kind}
 use Rattle.pure_terms.specs.Equality.{same_term}
 use Rattle.pure_terms.specs.Pure.{PureTerm, list_of, to_list}
-use Rattle.sym_conditions.specs.Alternatives.{Alternatives, never, both, any, all, all_from, same, other, of_kind}
+use Rattle.sym_model.specs.Alternatives.{Alternatives, never, both, any, all, all_from, same, other, of_kind}
 use Rattle.sym_model.specs.Pure.{PureSub, named, PureChunk}
 
 -- p is one of the elements of a list term, or none of them

@@ -3,8 +3,8 @@ use Rattle.std.specs.Prelude.{int_lt, int_le, ◌++◌, if◌then◌else◌}
 use Rattle.gil_values.specs.declared.operators.BinOp.{BinOp}
 use Rattle.pure_terms.specs.declared.literals.Literal.{Literal}
 use Rattle.pure_terms.specs.Pure.{PureTerm, literal, binary_of, positive}
-use Rattle.sym_conditions.specs.Alternatives.{Alternatives, never, always, given, both, by_comparison}
-use Rattle.sym_conditions.specs.Comparing.{compared}
+use Rattle.sym_model.specs.Alternatives.{Alternatives, never, always, given, both, by_comparison}
+use Rattle.sym_model.specs.Comparing.{compared}
 use Rattle.sym_model.specs.Cores.{zero_term}
 use Rattle.sym_model.specs.Terms.{may_be_ordered}
 

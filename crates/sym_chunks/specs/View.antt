@@ -6,7 +6,7 @@ use Rattle.sym_chunks.specs.Walking.{PureWay}
 use Rattle.sym_chunks.specs.declared.cases.Case.{Case}
 use Rattle.sym_chunks.specs.declared.finding.Access.{Access}
 use Rattle.sym_chunks.specs.declared.walking.Way.{Way}
-use Rattle.sym_conditions.specs.Alternatives.{alternatives_view}
+use Rattle.sym_model.specs.Alternatives.{alternatives_view}
 use Rattle.sym_model.specs.declared.branches.Branch.{Branch}
 use Rattle.sym_model.specs.declared.chunks.SymFrag.{SymFrag}
 use Rattle.sym_model.specs.Pure.{PureChunk, PureBranch}

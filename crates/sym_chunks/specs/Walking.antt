@@ -5,7 +5,7 @@ use Rattle.pure_terms.specs.Pure.{PureTerm}
 use Rattle.sym_chunks.specs.ByPlace.{all_by_place}
 use Rattle.sym_chunks.specs.Cases.{PureCase, case_of, true_term}
 use Rattle.sym_chunks.specs.Keys.{other_sub, at_key}
-use Rattle.sym_conditions.specs.Alternatives.{Alternatives, both, is_empty}
+use Rattle.sym_model.specs.Alternatives.{Alternatives, both, is_empty}
 use Rattle.sym_model.specs.Pure.{PureSub, gone, PureChunk, done, missed}
 
 -- a way in which keys were taken out of the chunks: when it is so, and the chunks that are left

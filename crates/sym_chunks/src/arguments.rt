@@ -10,7 +10,7 @@ ghost use Rattle.sym_chunks.specs.Arguments.{
   unknown_action as unknown_action_of,
 };
 ghost use Rattle.sym_chunks.specs.View.{cases_view, chunk_branches_view};
-ghost use Rattle.sym_conditions.specs.Alternatives.{alternatives_view};
+ghost use Rattle.sym_model.specs.Alternatives.{alternatives_view};
 ghost use Rattle.sym_model.specs.View.{frag_view};
 
 use crate::cases::{Cases, choose, with_failure};
@@ -19,8 +19,7 @@ use mem_model::Failure;
 use pure_terms::Term;
 use sequence::Sequence;
 use std::alloc::{AllocError, Global};
-use sym_conditions::{Alternatives, always, both, extend, kind_is, kind_is_not};
-use sym_model::{Branches, SymFrag};
+use sym_model::{Alternatives, Branches, SymFrag, always, both, extend, kind_is, kind_is_not};
 
 /// The branches in which the arguments are of wrong kinds, and those of the cases where they are of the right ones.
 pub fn checked(

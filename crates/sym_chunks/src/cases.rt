@@ -6,15 +6,16 @@ ghost use Rattle.mem_model.specs.declared.failures.Failure.{Failure};
 ghost use Rattle.sym_chunks.specs.Cases.{branch_with, branches_of, case_of, case_branches, choose as choose_of, failure, sure_case};
 ghost use Rattle.pure_terms.specs.View.{atoms_view};
 ghost use Rattle.sym_chunks.specs.View.{case_view, cases_view, chunk_branches_view};
-ghost use Rattle.sym_conditions.specs.Alternatives.{alternatives_view, is_empty};
+ghost use Rattle.sym_model.specs.Alternatives.{alternatives_view, is_empty};
 ghost use Rattle.sym_model.specs.View.{frag_view, result_view};
 
 use mem_model::Failure;
 use pure_terms::Atoms;
 use sequence::Sequence;
 use std::alloc::{AllocError, Global};
-use sym_conditions::{Alternatives, both, copy_conditions, settle};
-use sym_model::{Branch, Branches, SymFrag, SymResult};
+use sym_model::{
+    Alternatives, Branch, Branches, SymFrag, SymResult, both, copy_conditions, settle,
+};
 
 /// A case of an action: the conditions under which it comes, the chunks after it and its result. Contracts see it as its pure
 /// data, by `case_view`.

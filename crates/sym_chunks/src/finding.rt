@@ -4,7 +4,7 @@ ghost use Rattle.pure_terms.specs.View.{term_view};
 ghost use Rattle.sym_chunks.specs.Cases.{accessed, case_of, found as found_of, found_from, given_back, outs_listed};
 ghost use Rattle.sym_chunks.specs.Keys.{at_key};
 ghost use Rattle.sym_chunks.specs.View.{access_view, cases_view};
-ghost use Rattle.sym_conditions.specs.Alternatives.{alternatives_view};
+ghost use Rattle.sym_model.specs.Alternatives.{alternatives_view};
 ghost use Rattle.sym_model.specs.View.{chunk_view, frag_view, result_view, sub_view};
 
 use crate::cases::{Cases, with_made_case};

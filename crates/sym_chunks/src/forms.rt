@@ -2,11 +2,11 @@
 ghost use Rattle.std.specs.Prelude.{◌≡◌, IfOk};
 ghost use Rattle.pure_terms.specs.View.{term_view};
 ghost use Rattle.sym_chunks.specs.Forms.{form_of};
-ghost use Rattle.sym_conditions.specs.Alternatives.{alternatives_view};
+ghost use Rattle.sym_model.specs.Alternatives.{alternatives_view};
 
 use pure_terms::Term;
 use std::alloc::{AllocError, Global};
-use sym_conditions::{Alternatives, never, with_form};
+use sym_model::{Alternatives, never, with_form};
 
 /// The alternatives, where besides the literal form of a term is needed. There is none for list terms and literals.
 pub fn form_needed(

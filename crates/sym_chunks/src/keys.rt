@@ -2,13 +2,12 @@
 ghost use Rattle.std.specs.Prelude.{◌≡◌, IfOk};
 ghost use Rattle.pure_terms.specs.View.{term_view};
 ghost use Rattle.sym_chunks.specs.Keys.{same_sub, other_sub, at_key};
-ghost use Rattle.sym_conditions.specs.Alternatives.{alternatives_view};
+ghost use Rattle.sym_model.specs.Alternatives.{alternatives_view};
 ghost use Rattle.sym_model.specs.View.{sub_view, chunk_view};
 
 use pure_terms::Term;
 use std::alloc::{AllocError, Global};
-use sym_conditions::{Alternatives, always, both, never, terms_differ, terms_equal};
-use sym_model::{Chunk, SymSub};
+use sym_model::{Alternatives, Chunk, SymSub, always, both, never, terms_differ, terms_equal};
 
 /// Two subkeys of one location are the same.
 pub fn subkeys_equal(alloc: Global, s: &SymSub, t: &SymSub) -> Result<Alternatives, AllocError>

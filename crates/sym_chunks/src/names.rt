@@ -12,17 +12,16 @@ ghost use Rattle.sym_chunks.specs.NameTerms.{
   unheld_name as unheld_name_of,
   unheld as unheld_of,
 };
-ghost use Rattle.sym_conditions.specs.Alternatives.{alternatives_view, any, all_from, same, other, of_kind, both as combined};
+ghost use Rattle.sym_model.specs.Alternatives.{alternatives_view, any, all_from, same, other, of_kind, both as combined};
 ghost use Rattle.sym_model.specs.Pure.{named};
 ghost use Rattle.sym_model.specs.View.{chunk_view, chunks_view, sub_view};
 
 use gil_values::Kind;
 use pure_terms::Term;
 use std::alloc::{AllocError, Global};
-use sym_conditions::{
-    Alternatives, always, both, extend, kind_is, never, terms_differ, terms_equal,
+use sym_model::{
+    Alternatives, Chunk, SymSub, always, both, extend, kind_is, never, terms_differ, terms_equal,
 };
-use sym_model::{Chunk, SymSub};
 
 /// The term is equal to one of these.
 pub fn equal_to_one(alloc: Global, p: &Term, terms: &[Term]) -> Result<Alternatives, AllocError>

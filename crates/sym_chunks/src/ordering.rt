@@ -14,7 +14,7 @@ ghost use Rattle.sym_chunks.specs.Ordering.{
   outside as outside_of,
   inside as inside_of,
 };
-ghost use Rattle.sym_conditions.specs.Alternatives.{alternatives_view};
+ghost use Rattle.sym_model.specs.Alternatives.{alternatives_view};
 ghost use Rattle.sym_model.specs.Cores.{zero_term};
 ghost use Rattle.sym_model.specs.Terms.{may_be_ordered};
 
@@ -22,7 +22,7 @@ use gil_values::{BinOp, Kind};
 use pure_terms::{Atom, Literal, Term};
 use std::alloc::{AllocError, Global};
 use std::rc::Rc;
-use sym_conditions::{Alternatives, Comparison, always, asked, both, compare, extend, never};
+use sym_model::{Alternatives, Comparison, always, asked, both, compare, extend, never};
 
 fn may_be_number(t: &Term) -> bool
     ensures { result ≡ allows (known_kind (term_view t.now)) Kind.Int }

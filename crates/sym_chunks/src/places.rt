@@ -12,17 +12,17 @@ ghost use Rattle.sym_chunks.specs.ByPlace.{
   all_by_place as all_by_place_of,
   any_at as any_at_of,
 };
-ghost use Rattle.sym_conditions.specs.Alternatives.{alternatives_view, always as no_condition, both as combined, same};
+ghost use Rattle.sym_model.specs.Alternatives.{alternatives_view, always as no_condition, both as combined, same};
 ghost use Rattle.sym_model.specs.Pure.{PureChunk};
 ghost use Rattle.sym_model.specs.View.{chunk_view, chunks_view};
 
 use crate::cases::is_sure;
 use pure_terms::{Term, Terms};
 use std::alloc::{AllocError, Global};
-use sym_conditions::{
-    Alternatives, Comparison, always, both, compare, extend, never, terms_differ, terms_equal,
+use sym_model::{
+    Alternatives, Chunk, Comparison, always, both, compare, extend, never, terms_differ,
+    terms_equal,
 };
-use sym_model::Chunk;
 
 /// A condition on chunks of the location that is asked for.
 pub trait ChunkTest {

@@ -15,7 +15,7 @@ ghost use Rattle.sym_chunks.specs.Walking.{
   missing_key,
   all_taken,
 };
-ghost use Rattle.sym_conditions.specs.Alternatives.{alternatives_view, any, both};
+ghost use Rattle.sym_model.specs.Alternatives.{alternatives_view, any, both};
 ghost use Rattle.sym_model.specs.Pure.{gone, missed};
 ghost use Rattle.sym_model.specs.View.{frag_view, chunk_view, chunks_view, result_view, sub_view};
 
@@ -26,8 +26,7 @@ use mem_model::Failure;
 use pure_terms::{Literal, Term};
 use sequence::Sequence;
 use std::alloc::{AllocError, Global};
-use sym_conditions::{Alternatives, both as combine, extend};
-use sym_model::{Chunk, SymFrag, SymKey, SymResult, SymSub};
+use sym_model::{Alternatives, Chunk, SymFrag, SymKey, SymResult, SymSub, both as combine, extend};
 
 /// A way in which keys were taken out of chunks: when it is so, and the chunks that are left. Contracts see it as its pure
 /// data, by `way_view`.

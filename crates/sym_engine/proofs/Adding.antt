@@ -23,15 +23,15 @@ use Rattle.sym_paths.specs.Moves.{running_store, NoOwn}
 use Rattle.sym_paths.specs.Pure.{PurePath}
 use Rattle.sym_paths.specs.Settling.{Candidate}
 use Rattle.sym_paths.specs.Valued.{faulted, IsEvaluated}
-use Rattle.sym_candidates.specs.Acting.{Acts, IsAskedByAction, IsAskedByMemory}
-use Rattle.sym_candidates.specs.Calls.{Calls, call_cases, IsAskedByCall}
-use Rattle.sym_candidates.specs.Cases.{AreResults, AreOfCases, AreEvaluated}
-use Rattle.sym_candidates.specs.Copies.{IsCopied, AreCopied}
-use Rattle.sym_candidates.specs.Guards.{for_side, Turns, IsAskedByGuard, IsGuardEvaluated}
-use Rattle.sym_candidates.proofs.Acting.{actions_keep_the_laws}
-use Rattle.sym_candidates.proofs.Calling.{calls_keep_the_laws}
-use Rattle.sym_candidates.proofs.Copying.{copies_keep_the_laws}
-use Rattle.sym_candidates.proofs.Turning.{guards_keep_the_laws}
+use Rattle.sym_paths.specs.Acting.{Acts, IsAskedByAction, IsAskedByMemory}
+use Rattle.sym_paths.specs.Calls.{Calls, call_cases, IsAskedByCall}
+use Rattle.sym_paths.specs.Cases.{AreResults, AreOfCases, AreEvaluated}
+use Rattle.sym_paths.specs.Copies.{IsCopied, AreCopied}
+use Rattle.sym_paths.specs.Guards.{for_side, Turns, IsAskedByGuard, IsGuardEvaluated}
+use Rattle.sym_paths.proofs.Acting.{actions_keep_the_laws}
+use Rattle.sym_paths.proofs.CandidateCalls.{calls_keep_the_laws}
+use Rattle.sym_paths.proofs.CandidateCopies.{copies_keep_the_laws}
+use Rattle.sym_paths.proofs.Turning.{guards_keep_the_laws}
 
 module _ {S : Type 0} (stands : S → List PureValue → Heap → Type 0) (terms : S → StateTerms) (depends : S → List ℕ → List PureTerm → List PureValue → Heap → PureTerm → Type 0) (plain : S → ℤ → ℤ → Type 0) where
   abbrev One : Candidate S → Candidate S → Type 0

@@ -16,9 +16,9 @@ use Rattle.sym_paths.specs.Laws.{IsBound}
 use Rattle.sym_paths.specs.Moves.{advanced, running_store}
 use Rattle.sym_paths.specs.Pure.{PurePath}
 use Rattle.sym_paths.specs.Settling.{Candidate}
-use Rattle.sym_candidates.specs.Acting.{taken, ActsTo, ActsAsEach}
-use Rattle.sym_candidates.specs.Calls.{terms_bound, IsFirstStore}
-use Rattle.sym_candidates.specs.Cases.{AreResults, AreEvaluated}
+use Rattle.sym_paths.specs.Acting.{taken, ActsTo, ActsAsEach}
+use Rattle.sym_paths.specs.Calls.{terms_bound, IsFirstStore}
+use Rattle.sym_paths.specs.Cases.{AreResults, AreEvaluated}
 
 pub all_evaluated_in : (bs cs : PureStore) (es : List PureExpr) (cases : PureCases (List PureTerm)) → bs ≡ cs → AreCasesOfAll cs es cases → AllComeFrom cs es cases → NameNoOthers AreEachOver cs cases → AreEvaluated bs es cases
 all_evaluated_in bs cs es cases same are come name = subst (λ ds. AreEvaluated ds es cases) (sym same) (record { are_cases = are; origin = come; names = name })

@@ -16,7 +16,7 @@ use Rattle.sym_model.specs.Laws.{MayBeAsked}
 use Rattle.sym_model.specs.Lists.{Each}
 use Rattle.sym_model.specs.Terms.{StateTerms, all_of, AreEachOver}
 use Rattle.sym_model.proofs.ListLaws.{same_some, not_none, each_to, each_append}
-use Rattle.sym_candidates.specs.Acting.{fresh_where}
+use Rattle.sym_paths.specs.Acting.{fresh_where}
 
 below_test : (a b : ℕ) → a < b → nat_lt a b ≡ true
 below_test a b below = grind (arith, nat_tests)

@@ -26,13 +26,13 @@ use Rattle.sym_paths.specs.Valued.{faulted, failing, Assigns, Fails, IsResult, A
 use Rattle.sym_paths.proofs.Valued.{valued_candidates}
 use Rattle.sym_engine.specs.Lawful.{AreLawful}
 use Rattle.sym_engine.proofs.Placing.{all_placed, assigns_placed, fails_placed, returns_placed, throws_placed}
-use Rattle.sym_candidates.specs.Cases.{AreResults, AreOfCases}
-use Rattle.sym_candidates.specs.Copies.{IsCopied, AreCopied}
-use Rattle.sym_candidates.specs.Returns.{Returns}
-use Rattle.sym_candidates.proofs.Copying.{copies_keep_the_laws}
-use Rattle.sym_candidates.proofs.Returning.{returns_keep_the_laws}
-use Rattle.sym_candidates.specs.Throws.{Throws}
-use Rattle.sym_candidates.proofs.Throwing.{throws_keep_the_laws}
+use Rattle.sym_paths.specs.Cases.{AreResults, AreOfCases}
+use Rattle.sym_paths.specs.Copies.{IsCopied, AreCopied}
+use Rattle.sym_paths.specs.Returns.{Returns}
+use Rattle.sym_paths.proofs.CandidateCopies.{copies_keep_the_laws}
+use Rattle.sym_paths.proofs.Returning.{returns_keep_the_laws}
+use Rattle.sym_paths.specs.Throws.{Throws}
+use Rattle.sym_paths.proofs.Throwing.{throws_keep_the_laws}
 
 -- ---- results that there are, and that there are not
 

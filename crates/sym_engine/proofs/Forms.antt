@@ -19,10 +19,10 @@ use Rattle.sym_paths.specs.Pure.{PurePath}
 use Rattle.sym_paths.specs.Settling.{Candidate}
 use Rattle.sym_paths.specs.Valued.{faulted}
 use Rattle.sym_paths.proofs.Forms.{needs_alike}
-use Rattle.sym_candidates.specs.Acting.{ActsByForms}
-use Rattle.sym_candidates.specs.Cases.{AreResults, AreEvaluated}
-use Rattle.sym_candidates.specs.Copies.{AreCopied}
-use Rattle.sym_candidates.proofs.Forms.{action_needs}
+use Rattle.sym_paths.specs.Acting.{ActsByForms}
+use Rattle.sym_paths.specs.Cases.{AreResults, AreEvaluated}
+use Rattle.sym_paths.specs.Copies.{AreCopied}
+use Rattle.sym_paths.proofs.CandidateForms.{action_needs}
 
 module _ {S : Type 0} (stands : S → List PureValue → Heap → Type 0) (terms : S → StateTerms) (depends : S → List ℕ → List PureTerm → List PureValue → Heap → PureTerm → Type 0) (plain : S → ℤ → ℤ → Type 0) (path : PurePath S) where
   copies_need : (p : PureParts) (cs ds : List (Candidate S)) → Each (λ c. NeedsWhatMatters p stands depends path c.path) cs → AreCopied stands terms depends plain cs ds → Each (λ d. NeedsWhatMatters p stands depends path d.path) ds

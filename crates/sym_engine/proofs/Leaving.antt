@@ -15,8 +15,8 @@ use Rattle.sym_paths.specs.declared.frames.Frame.{Frame}
 use Rattle.sym_paths.specs.Pure.{PureFrame, PurePath}
 use Rattle.sym_paths.specs.Settling.{Candidate}
 use Rattle.sym_paths.specs.View.{frame_view, frames_view}
-use Rattle.sym_candidates.specs.Returns.{Resumes, returning, resuming, Returns}
-use Rattle.sym_candidates.specs.Throws.{handling, throwing, ThrowsTo, Throws}
+use Rattle.sym_paths.specs.Returns.{Resumes, returning, resuming, Returns}
+use Rattle.sym_paths.specs.Throws.{handling, throwing, ThrowsTo, Throws}
 use Rattle.sym_paths.specs.Frames.{from_handler}
 use Rattle.gil_values.specs.declared.places.Place.{Place}
 

@@ -31,14 +31,14 @@ use Rattle.sym_paths.specs.Moves.{advanced, running_store}
 use Rattle.sym_paths.specs.Pure.{PureFrame, PureEnd, returned, failed, threw, PurePath}
 use Rattle.sym_paths.specs.Settling.{Candidate}
 use Rattle.sym_paths.specs.Valued.{faulted, failing, assigned, Assigns, Fails, IsResult}
-use Rattle.sym_candidates.specs.Acting.{ActsTo, ActsAsEach, Acts}
-use Rattle.sym_candidates.specs.Calls.{Called, IsFirstStore, waiting, called_frame, entering, fails_to_call, needs_callee, EntersFound, CallsTerm, Calls}
-use Rattle.sym_candidates.specs.Cases.{AreResults, failing_with}
-use Rattle.sym_candidates.specs.Copies.{AreCopied}
-use Rattle.sym_candidates.specs.Guards.{at_label, for_side, turning, Turns}
-use Rattle.sym_candidates.specs.Returns.{ResumesAt, returning, resuming, Returns}
-use Rattle.sym_candidates.specs.Throws.{Catches, handling, throwing, ThrowsTo, Throws}
-use Rattle.sym_candidates.proofs.Throwing.{handling_each}
+use Rattle.sym_paths.specs.Acting.{ActsTo, ActsAsEach, Acts}
+use Rattle.sym_paths.specs.Calls.{Called, IsFirstStore, waiting, called_frame, entering, fails_to_call, needs_callee, EntersFound, CallsTerm, Calls}
+use Rattle.sym_paths.specs.Cases.{AreResults, failing_with}
+use Rattle.sym_paths.specs.Copies.{AreCopied}
+use Rattle.sym_paths.specs.Guards.{at_label, for_side, turning, Turns}
+use Rattle.sym_paths.specs.Returns.{ResumesAt, returning, resuming, Returns}
+use Rattle.sym_paths.specs.Throws.{Catches, handling, throwing, ThrowsTo, Throws}
+use Rattle.sym_paths.proofs.Throwing.{handling_each}
 
 -- ---- a procedure that is found has no fault
 

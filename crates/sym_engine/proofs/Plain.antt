@@ -30,14 +30,14 @@ use Rattle.sym_paths.specs.Valued.{faulted, failing, assigned, Assigns, Fails, I
 use Rattle.sym_paths.proofs.Binding.{each_bound}
 use Rattle.sym_paths.proofs.Moving.{running_each, advanced_each}
 use Rattle.sym_model.proofs.Wider.{plain_wider, decided_wider, lower_bound, higher_bound}
-use Rattle.sym_candidates.specs.Acting.{taken, branched, ActsTo, ActsAsEach}
-use Rattle.sym_candidates.specs.Calls.{Called, call_cases, terms_bound, IsFirstStore, waiting, entering, fails_to_call, EntersFound, CallsTerm, Calls}
-use Rattle.sym_candidates.specs.Cases.{AreResults, failing_with}
-use Rattle.sym_candidates.specs.Copies.{AreCopied}
-use Rattle.sym_candidates.specs.Guards.{at_label, for_side, turning, turns}
-use Rattle.sym_candidates.specs.Returns.{ResumesAt, returning, resuming, Returns}
-use Rattle.sym_candidates.specs.Throws.{Catches, handling, throwing, ThrowsTo, Throws}
-use Rattle.sym_candidates.proofs.Throwing.{handling_each}
+use Rattle.sym_paths.specs.Acting.{taken, branched, ActsTo, ActsAsEach}
+use Rattle.sym_paths.specs.Calls.{Called, call_cases, terms_bound, IsFirstStore, waiting, entering, fails_to_call, EntersFound, CallsTerm, Calls}
+use Rattle.sym_paths.specs.Cases.{AreResults, failing_with}
+use Rattle.sym_paths.specs.Copies.{AreCopied}
+use Rattle.sym_paths.specs.Guards.{at_label, for_side, turning, turns}
+use Rattle.sym_paths.specs.Returns.{ResumesAt, returning, resuming, Returns}
+use Rattle.sym_paths.specs.Throws.{Catches, handling, throwing, ThrowsTo, Throws}
+use Rattle.sym_paths.proofs.Throwing.{handling_each}
 
 pub within_held_numbers : (b : ℕ) → b + step_growth ≤ narrow_bound → b + text_bound < 2 ^ 127
 within_held_numbers b small = omega (arith, small)

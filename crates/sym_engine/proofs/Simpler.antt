@@ -18,7 +18,7 @@ use Rattle.sym_evaluation.specs.Questions.{MayStandForGuard, IsGuardTerm, OnResu
 use Rattle.sym_evaluation.specs.View.{good_view}
 use Rattle.sym_evaluation.proofs.GuardTerms.{guard_replaces}
 use Rattle.sym_paths.specs.Valued.{IsEvaluated}
-use Rattle.sym_candidates.specs.Guards.{IsGuardEvaluated}
+use Rattle.sym_paths.specs.Guards.{IsGuardEvaluated}
 
 module _ (faults : List PureFaultCase) (g : PureGoodCase PureTerm) (t : PureTerm) (stands : MayStandForGuard g.result t) where
   abbrev before : PureCases PureTerm

@@ -35,13 +35,13 @@ use Rattle.sym_paths.specs.Settling.{Candidate}
 use Rattle.sym_paths.specs.Steps.{step_growth, narrow_bound, IsPlainPath}
 use Rattle.sym_paths.specs.Valued.{faulted, Assigns, Fails, IsResult}
 use Rattle.sym_paths.proofs.Moving.{running_each}
-use Rattle.sym_candidates.specs.Acting.{ActsAsEach}
-use Rattle.sym_candidates.specs.Calls.{Calls, call_cases}
-use Rattle.sym_candidates.specs.Cases.{AreResults}
-use Rattle.sym_candidates.specs.Copies.{AreCopied}
-use Rattle.sym_candidates.specs.Guards.{turns}
-use Rattle.sym_candidates.specs.Returns.{Returns}
-use Rattle.sym_candidates.specs.Throws.{Throws}
+use Rattle.sym_paths.specs.Acting.{ActsAsEach}
+use Rattle.sym_paths.specs.Calls.{Calls, call_cases}
+use Rattle.sym_paths.specs.Cases.{AreResults}
+use Rattle.sym_paths.specs.Copies.{AreCopied}
+use Rattle.sym_paths.specs.Guards.{turns}
+use Rattle.sym_paths.specs.Returns.{Returns}
+use Rattle.sym_paths.specs.Throws.{Throws}
 
 module _ {S : Type 0} (stands : S → List PureValue → Heap → Type 0) (terms : S → StateTerms) (depends : S → List ℕ → List PureTerm → List PureValue → Heap → PureTerm → Type 0) (plain : S → ℤ → ℤ → Type 0)
     (path : PurePath S) (here : Place) where

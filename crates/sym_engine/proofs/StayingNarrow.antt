@@ -41,13 +41,13 @@ use Rattle.sym_paths.specs.Settling.{Candidate}
 use Rattle.sym_paths.specs.Valued.{faulted, Assigns, Fails, IsResult, IsEvaluated}
 use Rattle.sym_paths.proofs.Moving.{running_each}
 use Rattle.pure_terms.specs.Meaning.{IsOver}
-use Rattle.sym_candidates.specs.Acting.{ActsAsEach}
-use Rattle.sym_candidates.specs.Calls.{fault_under, called_with, call_cases, call_cases_by, Calls}
-use Rattle.sym_candidates.specs.Cases.{AreResults, AreEvaluated}
-use Rattle.sym_candidates.specs.Copies.{AreCopied}
-use Rattle.sym_candidates.specs.Guards.{turns}
-use Rattle.sym_candidates.specs.Returns.{Returns}
-use Rattle.sym_candidates.specs.Throws.{Throws}
+use Rattle.sym_paths.specs.Acting.{ActsAsEach}
+use Rattle.sym_paths.specs.Calls.{fault_under, called_with, call_cases, call_cases_by, Calls}
+use Rattle.sym_paths.specs.Cases.{AreResults, AreEvaluated}
+use Rattle.sym_paths.specs.Copies.{AreCopied}
+use Rattle.sym_paths.specs.Guards.{turns}
+use Rattle.sym_paths.specs.Returns.{Returns}
+use Rattle.sym_paths.specs.Throws.{Throws}
 
 -- ---- the parts of a narrow form
 

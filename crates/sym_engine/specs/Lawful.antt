@@ -16,10 +16,10 @@ use Rattle.sym_paths.specs.Moves.{running_store}
 use Rattle.sym_paths.specs.Pure.{PureFrame, PurePath}
 use Rattle.sym_paths.specs.Settling.{Candidate, AreCandidates}
 use Rattle.sym_paths.specs.Valued.{place_at}
-use Rattle.sym_candidates.specs.Acting.{IsAskedByMemory, IsAskedByAction}
-use Rattle.sym_candidates.specs.Calls.{IsAskedByCall}
-use Rattle.sym_candidates.specs.Copies.{AreCopied}
-use Rattle.sym_candidates.specs.Guards.{IsAskedByGuard}
+use Rattle.sym_paths.specs.Acting.{IsAskedByMemory, IsAskedByAction}
+use Rattle.sym_paths.specs.Calls.{IsAskedByCall}
+use Rattle.sym_paths.specs.Copies.{AreCopied}
+use Rattle.sym_paths.specs.Guards.{IsAskedByGuard}
 
 -- a frame runs, and may go to the command after the one at which it stands
 abbrev pub MayAdvance : List PureFrame → Type 0

@@ -5,7 +5,7 @@ use Rattle.sym_engine.specs.declared.calling.Called.{Called}
 use Rattle.sym_engine.specs.declared.candidates.Candidate.{Candidate}
 use Rattle.sym_paths.specs.Settling.{Candidate as PureCandidate}
 use Rattle.sym_paths.specs.View.{path_view}
-use Rattle.sym_candidates.specs.Calls.{Called as PureCalled}
+use Rattle.sym_paths.specs.Calls.{Called as PureCalled}
 
 abbrev pub candidate_view : {S : Type 0} → Candidate S → PureCandidate S
 candidate_view c = record { path = path_view c.path; no_fault = atoms_view c.no_fault }

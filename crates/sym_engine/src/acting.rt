@@ -19,7 +19,7 @@ ghost use Rattle.sym_paths.specs.Meaning.{IsOverTable};
 ghost use Rattle.sym_paths.specs.Moves.{advanced, running_store};
 ghost use Rattle.sym_paths.specs.Settling.{Candidate as PureCandidate};
 ghost use Rattle.sym_paths.specs.View.{end_view, frames_view, path_view};
-ghost use Rattle.sym_candidates.specs.Acting.{taken, fresh_where, ActsTo, ActsAsEach};
+ghost use Rattle.sym_paths.specs.Acting.{taken, fresh_where, ActsTo, ActsAsEach};
 
 use crate::calling::evaluate_all_in;
 use crate::candidates::{Candidate, Candidates, assume, copy_place, require_both};

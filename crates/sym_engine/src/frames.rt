@@ -7,9 +7,9 @@ ghost use Rattle.sym_evaluation.specs.View.{store_view};
 ghost use Rattle.sym_paths.specs.Laws.{IsBound};
 ghost use Rattle.sym_paths.specs.Moves.{running_store, advanced};
 ghost use Rattle.sym_paths.specs.View.{frame_view, frames_view};
-ghost use Rattle.sym_candidates.specs.Calls.{waiting};
-ghost use Rattle.sym_candidates.specs.Guards.{at_label};
-ghost use Rattle.sym_candidates.specs.Returns.{Resumes};
+ghost use Rattle.sym_paths.specs.Calls.{waiting};
+ghost use Rattle.sym_paths.specs.Guards.{at_label};
+ghost use Rattle.sym_paths.specs.Returns.{Resumes};
 
 use gil_values::Text;
 use pure_terms::Term;

@@ -18,8 +18,8 @@ ghost use Rattle.sym_evaluation.specs.Questions.{connects, negates, stands_as_it
 ghost use Rattle.sym_evaluation.specs.View.{good_view, sides_view};
 ghost use Rattle.sym_paths.specs.Moves.{advanced, running_store};
 ghost use Rattle.sym_paths.specs.View.{frames_view, path_view};
-ghost use Rattle.sym_candidates.specs.Cases.{failing_with};
-ghost use Rattle.sym_candidates.specs.Guards.{at_label, for_side, turning, turns};
+ghost use Rattle.sym_paths.specs.Cases.{failing_with};
+ghost use Rattle.sym_paths.specs.Guards.{at_label, for_side, turning, turns};
 
 use crate::candidates::{Candidate, Candidates, assume, fail_with, require_both};
 use crate::frames::{advance, go_to};

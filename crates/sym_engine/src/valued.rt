@@ -16,8 +16,8 @@ ghost use Rattle.sym_paths.specs.Moves.{running_store};
 ghost use Rattle.sym_paths.specs.Valued.{Assigns, Fails, IsEvaluated, faulted};
 ghost use Rattle.sym_paths.specs.Pure.{PureFrame};
 ghost use Rattle.sym_paths.specs.View.{frame_view, frames_view, path_view};
-ghost use Rattle.sym_candidates.specs.Copies.{AreCopied};
-ghost use Rattle.sym_candidates.specs.Returns.{Resumes, Returns, resuming, returning};
+ghost use Rattle.sym_paths.specs.Copies.{AreCopied};
+ghost use Rattle.sym_paths.specs.Returns.{Resumes, Returns, resuming, returning};
 
 use crate::candidates::{Candidate, Candidates, assume, fail_with, proceed, require};
 use crate::frames::{assign, resume, run_in, store_in, take};

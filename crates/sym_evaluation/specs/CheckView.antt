@@ -1,7 +1,7 @@
 -- The pure data of checks and stages.
 use Rattle.std.specs.Option.{option_map}
 use Rattle.pure_terms.specs.View.{atoms_view}
-use Rattle.sym_conditions.specs.Alternatives.{alternatives_view}
+use Rattle.sym_model.specs.Alternatives.{alternatives_view}
 use Rattle.sym_evaluation.specs.declared.checks.Check.{Check}
 use Rattle.sym_evaluation.specs.declared.requiring.Stage.{Stage}
 use Rattle.sym_evaluation.specs.Checks.{PureCheck, passes, fails, asks, PureStage}

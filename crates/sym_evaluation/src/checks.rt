@@ -10,7 +10,7 @@ use pure_terms::{Atom, Atoms, Literal, Term};
 use sequence::Sequence;
 use std::alloc::{AllocError, Global};
 use std::rc::Rc;
-use sym_conditions::{Alternatives, asked};
+use sym_model::{Alternatives, asked};
 
 /// A check passes, fails, or asks.
 #[derive(Debug, Drop)]

@@ -1,7 +1,7 @@
 //! How far an evaluation is, and what it requires to go on.
 ghost use Rattle.std.specs.Prelude.{◌≡◌, ◌++◌, IfOk, Some};
 ghost use Rattle.pure_terms.specs.View.{atoms_view};
-ghost use Rattle.sym_conditions.specs.Alternatives.{alternatives_view};
+ghost use Rattle.sym_model.specs.Alternatives.{alternatives_view};
 ghost use Rattle.sym_evaluation.specs.Checks as checks;
 ghost use Rattle.sym_evaluation.specs.CheckView.{check_view, stage_view};
 ghost use Rattle.sym_evaluation.specs.View.{fault_view, faults_view};
@@ -12,7 +12,7 @@ use crate::faults::Fault;
 use pure_terms::Atoms;
 use sequence::Sequence;
 use std::alloc::{AllocError, Global};
-use sym_conditions::{Alternatives, copy_conditions};
+use sym_model::{Alternatives, copy_conditions};
 
 /// The faults so far, and the conditions under which there is none of them, unless one is sure.
 #[derive(Drop)]

@@ -5,7 +5,7 @@ use Rattle.gil_machine.specs.Step.{leave, resumed}
 use Rattle.mem_model.specs.Heaps.{Heap}
 use Rattle.pure_terms.specs.Meaning.{IsOver}
 use Rattle.pure_terms.specs.Pure.{PureTerm}
-use Rattle.sym_candidates.proofs.Returning.{some_caller, callers_stand, resumed_frame, resumed_over}
+use Rattle.sym_paths.proofs.Returning.{some_caller, callers_stand, resumed_frame, resumed_over}
 use Rattle.sym_engine.specs.Placed.{AreAtCommands}
 use Rattle.sym_engine.proofs.Placing.{resumed_there}
 use Rattle.sym_leaving.specs.Leaving.{HandsDown, StandsWhereGoesOn, IsLeft}

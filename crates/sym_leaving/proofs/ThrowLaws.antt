@@ -8,8 +8,8 @@ use Rattle.gil_machine.specs.Step as machine
 use Rattle.mem_model.specs.Heaps.{Heap}
 use Rattle.pure_terms.specs.Meaning.{value, IsOver}
 use Rattle.pure_terms.specs.Pure.{PureTerm}
-use Rattle.sym_candidates.proofs.Returning.{callers_stand, resumed_frame, resumed_over}
-use Rattle.sym_candidates.proofs.Throwing.{handling_each}
+use Rattle.sym_paths.proofs.Returning.{callers_stand, resumed_frame, resumed_over}
+use Rattle.sym_paths.proofs.Throwing.{handling_each}
 use Rattle.sym_engine.specs.Placed.{IsAtCommand, AreAtCommands}
 use Rattle.sym_engine.proofs.Placing.{caught_there}
 use Rattle.sym_leaving.specs.Leaving.{StandsWhereGoesOn, IsCaught, IsUncaught}

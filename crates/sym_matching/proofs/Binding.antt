@@ -12,8 +12,8 @@ use Rattle.assert_logic.specs.Sorts.{fits_sorts}
 use Rattle.pure_terms.specs.declared.variables.Sort.{Sort}
 use Rattle.pure_terms.specs.Meaning.{value, IsProper, IsOver}
 use Rattle.pure_terms.specs.Pure.{PureTerm}
-use Rattle.sym_conditions.specs.Alternatives.{always}
-use Rattle.sym_conditions.specs.Laws.{HaveBoth}
+use Rattle.sym_model.specs.Alternatives.{always}
+use Rattle.sym_model.specs.ConditionLaws.{HaveBoth}
 use Rattle.sym_evaluation.specs.Meaning.{AreSame, HasValue, StandsFor, IsStoreOver, Serves}
 use Rattle.sym_evaluation.specs.Plainly.{IsPlain, IsPlainStore}
 use Rattle.sym_evaluation.specs.Pure.{PureStore, term_at}

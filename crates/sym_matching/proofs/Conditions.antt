@@ -5,8 +5,8 @@ use Rattle.gil_values.specs.Pure.{PureValue}
 use Rattle.pure_terms.specs.declared.variables.Sort.{Sort}
 use Rattle.pure_terms.specs.Meaning.{all_true}
 use Rattle.pure_terms.specs.Pure.{PureAtom}
-use Rattle.sym_conditions.specs.Alternatives.{Alternatives, Hold}
-use Rattle.sym_conditions.proofs.Combined.{both_from, both_parts}
+use Rattle.sym_model.specs.Alternatives.{Alternatives, Hold}
+use Rattle.sym_model.proofs.Combined.{both_from, both_parts}
 use Rattle.sym_model.specs.Lists.{Each}
 use Rattle.sym_model.proofs.ListLaws.{each_append, each_map, each_to, one_left, one_right, one_parts}
 use Rattle.sym_states.proofs.Conditions.{met_parts, met_both}

@@ -16,9 +16,9 @@ use Rattle.pure_terms.specs.declared.variables.Sort.{Sort}
 use Rattle.pure_terms.specs.Fragment.{is_plain, is_simple, is_flat, names_sort, is_kind_test, has_literals_between}
 use Rattle.pure_terms.specs.Kinds.{kind_of_literal, kind_of_unary, known_kind}
 use Rattle.pure_terms.specs.Pure.{PureTerm, literal, variable, list_of, unary_of, binary_of, PureAtom, positive, negative}
-use Rattle.sym_conditions.specs.declared.comparing.Comparison.{Comparison}
-use Rattle.sym_conditions.specs.Alternatives.{Alternatives, always, never, given, by_comparison, equal, by_kind, kind_is}
-use Rattle.sym_conditions.specs.Comparing.{compared}
+use Rattle.sym_model.specs.declared.comparing.Comparison.{Comparison}
+use Rattle.sym_model.specs.Alternatives.{Alternatives, always, never, given, by_comparison, equal, by_kind, kind_is}
+use Rattle.sym_model.specs.Comparing.{compared}
 use Rattle.sym_evaluation.specs.Plainly.{IsPlain, IsPlainStore, IsPlainGuard, is_plain_comparison, is_plain_guard, is_text_number, has_text_numbers, text_bound}
 use Rattle.sym_evaluation.specs.Pure.{PureStore, PureGoodCase, PureSides}
 use Rattle.sym_evaluation.specs.Questions.{OnSide, EachSide}
@@ -27,7 +27,7 @@ use Rattle.sym_evaluation.proofs.PlainTerms.{plain_parts, plain_kind}
 use Rattle.sym_model.specs.Laws.{IsDecidedWithin}
 use Rattle.sym_model.specs.Lists.{Each}
 use Rattle.sym_model.proofs.ListLaws.{each_append, each_map, each_to}
-use Rattle.plain_evaluation.specs.Plain.{IsPlainItem, as_program}
+use Rattle.sym_paths.specs.Plain.{IsPlainItem, as_program}
 use Rattle.sym_states.proofs.Plainness.{plain_up, decided_up}
 use Rattle.sym_matching.specs.Parts.{Continues, DefinesPlainly}
 use Rattle.sym_matching.specs.Plainly.{AreDecided, AreDecidedIfAny, IsTestDecided, IsFoundDecided, IsSplitDecided, TermStaysDecided, PureStaysPlain}

@@ -11,7 +11,7 @@ use Rattle.gil_syntax.specs.WellMade.{is_spellable}
 use Rattle.pure_terms.specs.declared.variables.Sort.{Sort}
 use Rattle.pure_terms.specs.Meaning.{all_true, IsOver}
 use Rattle.pure_terms.specs.Pure.{PureTerm, PureAtom, term_of}
-use Rattle.sym_conditions.specs.Alternatives.{Alternatives, Hold}
+use Rattle.sym_model.specs.Alternatives.{Alternatives, Hold}
 use Rattle.sym_evaluation.specs.Meaning.{IsTaken, IsClosed, IsGood, SayOutcome, HasValue, AreCasesOf, IsStoreOver}
 use Rattle.sym_evaluation.specs.Plainly.{IsPlain, IsPlainGuard, text_bound}
 use Rattle.sym_evaluation.specs.Pure.{PureStore, PureFaultCase, PureGoodCase, PureCases}
@@ -21,8 +21,8 @@ use Rattle.sym_model.specs.Laws.{IsDecidedWithin}
 use Rattle.sym_model.specs.Lists.{Each, OneOf}
 use Rattle.sym_model.specs.Meaning.{is_open}
 use Rattle.sym_model.proofs.ListLaws.{not_none, each_map, each_to, one_map, one_mapped, one_with}
-use Rattle.plain_evaluation.specs.Laws.{PlainExpressionsAskNothing}
-use Rattle.plain_evaluation.specs.Plain.{AsksNothing}
+use Rattle.sym_paths.specs.PlainLaws.{PlainExpressionsAskNothing}
+use Rattle.sym_paths.specs.Plain.{AsksNothing}
 use Rattle.sym_matching.specs.Meaning.{IsReached, Gives, SaysSplit, IsCondition, AreConditions, IsFoundOver, IsSplitOver}
 use Rattle.sym_matching.specs.Parts.{AreValues}
 use Rattle.sym_matching.specs.Plainly.{AreDecided, IsFoundDecided, IsSplitDecided}

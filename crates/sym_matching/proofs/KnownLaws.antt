@@ -16,7 +16,7 @@ use Rattle.assert_logic.specs.Names.{knows_all}
 use Rattle.pure_terms.specs.declared.variables.Sort.{Sort}
 use Rattle.pure_terms.specs.Meaning.{both, value, values, IsOver}
 use Rattle.pure_terms.specs.Pure.{PureTerm, from_list}
-use Rattle.sym_conditions.specs.Alternatives.{Hold}
+use Rattle.sym_model.specs.Alternatives.{Hold}
 use Rattle.sym_evaluation.specs.Meaning.{AreSame, HasValue, HaveValues, StandsFor, Serves, IsStoreOver}
 use Rattle.sym_evaluation.specs.Plainly.{IsPlain, text_bound, has_text_numbers}
 use Rattle.sym_evaluation.specs.Pure.{PureStore, term_at, PureGoodCase}
@@ -24,7 +24,7 @@ use Rattle.sym_model.specs.Lists.{Each}
 use Rattle.sym_model.proofs.ListLaws.{each_append, same_some}
 use Rattle.sym_states.proofs.Values.{values_append}
 use Rattle.sym_matching.specs.Meaning.{IsReached, Gives, SaysSplit, IsCondition, AreConditions, IsFoundOver, IsSplitOver, AreOuts, IsOutOver, AreOutsOver, AreTermsOfAll, AreEachOverIfAny}
-use Rattle.plain_evaluation.specs.Plain.{is_plain_argument}
+use Rattle.sym_paths.specs.Plain.{is_plain_argument}
 use Rattle.sym_matching.specs.Parts.{AreValues, one_out, AddsOut, Continues}
 use Rattle.sym_matching.specs.Plainly.{IsFoundDecided, OutsStayDecided}
 use Rattle.sym_matching.specs.Pure.{PureSplit, PureOuts}

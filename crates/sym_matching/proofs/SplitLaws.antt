@@ -6,7 +6,7 @@ use Rattle.pure_terms.specs.declared.variables.Sort.{Sort}
 use Rattle.pure_terms.specs.Meaning.{all_true}
 use Rattle.pure_terms.specs.Pure.{PureAtom}
 use Rattle.pure_terms.specs.View.{atoms_view}
-use Rattle.sym_conditions.specs.Alternatives.{Alternatives, Hold, always, alternatives_view}
+use Rattle.sym_model.specs.Alternatives.{Alternatives, Hold, always, alternatives_view}
 use Rattle.sym_evaluation.specs.declared.cases.GoodCase.{GoodCase}
 use Rattle.sym_evaluation.specs.Pure.{PureGoodCase}
 use Rattle.sym_evaluation.specs.View.{good_view}

@@ -12,7 +12,7 @@ use Rattle.assert_logic.specs.Matching.{match_value, match_values, bound_to}
 use Rattle.pure_terms.specs.declared.variables.Sort.{Sort}
 use Rattle.pure_terms.specs.Meaning.{IsOver}
 use Rattle.pure_terms.specs.Pure.{PureTerm}
-use Rattle.sym_conditions.specs.Alternatives.{Alternatives, always}
+use Rattle.sym_model.specs.Alternatives.{Alternatives, always}
 use Rattle.sym_evaluation.specs.Meaning.{AreSame, HasValue, HaveValues, StandsFor, Serves, IsStoreOver}
 use Rattle.sym_evaluation.specs.Plainly.{IsPlain, IsPlainStore, text_bound, has_text_numbers}
 use Rattle.sym_evaluation.specs.Pure.{PureStore, PureGoodCase}
@@ -20,7 +20,7 @@ use Rattle.sym_evaluation.specs.Questions.{AreEachOver}
 use Rattle.sym_model.specs.Lists.{Each}
 use Rattle.sym_model.proofs.ListLaws.{same_some}
 use Rattle.sym_matching.specs.Meaning.{SaysSplit, IsFoundOver, IsSplitOver, AreOuts, IsOutOver, AreOutsOver}
-use Rattle.plain_evaluation.specs.Plain.{is_plain_argument}
+use Rattle.sym_paths.specs.Plain.{is_plain_argument}
 use Rattle.sym_matching.specs.Parts.{AreStores, ByTerm, MatchesTerm, BindsParam, BindsParams, Continues}
 use Rattle.sym_matching.specs.Plainly.{TermsStayPlain}
 use Rattle.sym_matching.specs.Pure.{PureSplit, PureOuts}

@@ -17,12 +17,12 @@ use Rattle.pure_terms.specs.Kinds.{known_kind}
 use Rattle.pure_terms.specs.Meaning.{value, all_true, IsProper, IsOver}
 use Rattle.pure_terms.specs.Pure.{PureTerm, literal, unary_of, binary_of, PureAtom, positive, negative, opening, term_of, variables}
 use Rattle.pure_terms.proofs.KindLaws.{same_kinds}
-use Rattle.sym_conditions.specs.declared.comparing.Comparison.{Comparison}
-use Rattle.sym_conditions.specs.Alternatives.{Alternatives, Hold, always, never, given, equal, by_comparison, same, other, kind_is, by_kind, of_kind, not_of_kind}
-use Rattle.sym_conditions.specs.Comparing.{compared}
-use Rattle.sym_conditions.specs.Laws.{HaveBoth}
-use Rattle.sym_conditions.proofs.Telling.{same_tells, other_tells, of_kind_tells, not_of_kind_tells}
-use Rattle.sym_candidates.proofs.Naming.{guard_over}
+use Rattle.sym_model.specs.declared.comparing.Comparison.{Comparison}
+use Rattle.sym_model.specs.Alternatives.{Alternatives, Hold, always, never, given, equal, by_comparison, same, other, kind_is, by_kind, of_kind, not_of_kind}
+use Rattle.sym_model.specs.Comparing.{compared}
+use Rattle.sym_model.specs.ConditionLaws.{HaveBoth}
+use Rattle.sym_model.proofs.Telling.{same_tells, other_tells, of_kind_tells, not_of_kind_tells}
+use Rattle.sym_paths.proofs.Naming.{guard_over}
 use Rattle.sym_evaluation.specs.Checks.{is_of_kind}
 use Rattle.sym_evaluation.specs.Meaning.{AreSidesOf, IsSideWhere, is_true, is_false, is_no_boolean}
 use Rattle.sym_evaluation.specs.Plainly.{AreDecided}

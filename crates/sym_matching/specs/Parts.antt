@@ -11,12 +11,12 @@ use Rattle.assert_logic.specs.Sorts.{fits_sorts}
 use Rattle.pure_terms.specs.declared.variables.Sort.{Sort}
 use Rattle.pure_terms.specs.Meaning.{IsProper, IsOver}
 use Rattle.pure_terms.specs.Pure.{PureTerm}
-use Rattle.sym_conditions.specs.Alternatives.{Alternatives}
+use Rattle.sym_model.specs.Alternatives.{Alternatives}
 use Rattle.sym_evaluation.specs.Meaning.{AreSame, HasValue, StandsFor, Serves, IsStoreOver}
 use Rattle.sym_evaluation.specs.Plainly.{IsPlain, IsPlainStore, IsPlainGuard, text_bound, has_text_numbers}
 use Rattle.sym_evaluation.specs.Pure.{PureStore, PureGoodCase}
-use Rattle.plain_evaluation.specs.Laws.{IsPlainOver}
-use Rattle.plain_evaluation.specs.Plain.{is_plain_argument, is_plain_form}
+use Rattle.sym_paths.specs.PlainLaws.{IsPlainOver}
+use Rattle.sym_paths.specs.Plain.{is_plain_argument, is_plain_form}
 use Rattle.sym_matching.specs.Matching.{TestsTerm, TermStaysOver}
 use Rattle.sym_matching.specs.Meaning.{SaysSplit, IsSplitOver, AreOuts, IsOutOver, AreOutsOver}
 use Rattle.sym_matching.specs.Plainly.{IsSplitDecided, TermStaysDecided, TermStaysPlain}

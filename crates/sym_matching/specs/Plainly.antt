@@ -9,8 +9,8 @@ use Rattle.sym_evaluation.specs.Pure.{PureStore, PureGoodCase}
 use Rattle.sym_evaluation.specs.Questions.{AreEachOver}
 use Rattle.sym_model.specs.Laws.{IsDecidedWithin}
 use Rattle.sym_model.specs.Lists.{Each}
-use Rattle.plain_evaluation.specs.Laws.{IsPlainOver}
-use Rattle.plain_evaluation.specs.Plain.{is_plain_argument, IsPlainItem}
+use Rattle.sym_paths.specs.PlainLaws.{IsPlainOver}
+use Rattle.sym_paths.specs.Plain.{is_plain_argument, IsPlainItem}
 use Rattle.sym_matching.specs.Pure.{PureTest, PureSplit, PureOuts}
 
 -- each condition has a form of the fragment, with literals from -b to b

@@ -1,7 +1,7 @@
 -- What may come of matching on terms, as pure data.
 use Rattle.std.specs.Prelude.{List, Option}
 use Rattle.pure_terms.specs.Pure.{PureTerm, PureAtom}
-use Rattle.sym_conditions.specs.Alternatives.{Alternatives}
+use Rattle.sym_model.specs.Alternatives.{Alternatives}
 use Rattle.sym_evaluation.specs.Pure.{PureGoodCase}
 
 -- The conditions under which a test is met, if it can be, and those under which it isn't.

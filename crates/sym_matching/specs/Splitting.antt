@@ -7,7 +7,7 @@ use Rattle.gil_syntax.specs.declared.assertions.Param.{Param}
 use Rattle.gil_syntax.specs.declared.assertions.SpecSort.{SpecSort}
 use Rattle.gil_syntax.specs.Pure.{PureExpr, name, logical}
 use Rattle.pure_terms.specs.Pure.{PureTerm, PureAtom}
-use Rattle.sym_conditions.specs.Alternatives.{Alternatives, always, both, same, other, of_kind, not_of_kind}
+use Rattle.sym_model.specs.Alternatives.{Alternatives, always, both, same, other, of_kind, not_of_kind}
 use Rattle.sym_evaluation.specs.Pure.{PureStore, term_at, PureGoodCase}
 use Rattle.sym_matching.specs.Pure.{PureTest, PureSplit, PureOuts}
 

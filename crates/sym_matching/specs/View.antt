@@ -3,7 +3,7 @@ use Rattle.std.specs.Prelude.{List, map, Option}
 use Rattle.std.specs.Option.{option_map}
 use Rattle.pure_terms.specs.declared.terms.Term.{Term}
 use Rattle.pure_terms.specs.View.{term_view, atoms_view}
-use Rattle.sym_conditions.specs.Alternatives.{alternatives_view}
+use Rattle.sym_model.specs.Alternatives.{alternatives_view}
 use Rattle.sym_evaluation.specs.declared.store.SymStore.{SymStore}
 use Rattle.sym_evaluation.specs.Pure.{PureStore}
 use Rattle.sym_evaluation.specs.View.{good_view, store_view}

@@ -19,8 +19,8 @@ use gil_syntax::{Expr, Exprs};
 use pure_terms::Term;
 use sequence::Sequence;
 use std::alloc::{AllocError, Global};
-use sym_conditions::never;
 use sym_evaluation::{GoodCase, SymStore};
+use sym_model::never;
 
 /// The outs, and then one that is known.
 fn add_known(outs: KnownOuts, value: Split<Term>) -> Result<KnownSplit, AllocError>

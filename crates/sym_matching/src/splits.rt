@@ -2,7 +2,7 @@
 ghost use Rattle.std.specs.Prelude.{◌≡◌, ◌++◌, [], IfOk};
 ghost use Rattle.std.specs.Option.{option_map};
 ghost use Rattle.pure_terms.specs.View.{atoms_view};
-ghost use Rattle.sym_conditions.specs.Alternatives.{alternatives_view, always as always_true};
+ghost use Rattle.sym_model.specs.Alternatives.{alternatives_view, always as always_true};
 ghost use Rattle.sym_evaluation.specs.View.{good_view, store_view};
 ghost use Rattle.sym_matching.specs.Splitting.{passed as is_passed, failed as is_failed, last_of as last_alternative, behind_conds, also as both_tests, case_behind as good_behind, behind as comes_behind, where_met as met_by, nothing, sure};
 ghost use Rattle.sym_matching.specs.View.{test_view, stores_view, split_by};
@@ -10,8 +10,8 @@ ghost use Rattle.sym_matching.specs.View.{test_view, stores_view, split_by};
 use pure_terms::{Atoms, Term};
 use sequence::Sequence;
 use std::alloc::{AllocError, Global};
-use sym_conditions::{Alternatives, always, both, copy_conditions, extend, never};
 use sym_evaluation::{GoodCase, SymStore};
+use sym_model::{Alternatives, always, both, copy_conditions, extend, never};
 
 /// Whether something is so: the conditions under which it is, if it can be, and those under which it isn't. Contracts see it as
 /// its pure data, by `test_view`.

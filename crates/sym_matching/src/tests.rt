@@ -4,7 +4,7 @@ ghost use Rattle.std.specs.Option.{option_map};
 ghost use Rattle.gil_values.specs.Equality.{same_value};
 ghost use Rattle.gil_values.specs.Pure.{boolean};
 ghost use Rattle.pure_terms.specs.View.{term_view, terms_view, atoms_view};
-ghost use Rattle.sym_conditions.specs.Alternatives.{alternatives_view};
+ghost use Rattle.sym_model.specs.Alternatives.{alternatives_view};
 ghost use Rattle.sym_matching.specs.Matching.{TestsSorts, TestsElements, TestsOuts, TermStaysOver, ElementsStayOver, AgreementStaysOver};
 ghost use Rattle.sym_matching.specs.Parts.{IsTestOf};
 ghost use Rattle.sym_matching.specs.Plainly.{TermStaysDecided};
@@ -16,8 +16,8 @@ use gil_syntax::{Param, Params, SpecSort};
 use gil_values::{Kind, Text};
 use pure_terms::{Atoms, Term, Terms};
 use std::alloc::{AllocError, Global};
-use sym_conditions::{Alternatives, kind_is, kind_is_not, never, terms_differ, terms_equal};
 use sym_evaluation::{Sides, guard_sides};
+use sym_model::{Alternatives, kind_is, kind_is_not, never, terms_differ, terms_equal};
 
 /// Whether two terms have equal values.
 pub(crate) fn ask_equal(alloc: Global, s: &Term, t: &Term) -> Result<Test, AllocError>

@@ -9,7 +9,7 @@ ghost use Rattle.gil_syntax.specs.Valid.{is_among, param_names};
 ghost use Rattle.gil_syntax.specs.View.{expr_view, exprs_view};
 ghost use Rattle.gil_syntax.specs.WellMade.{is_spellable};
 ghost use Rattle.pure_terms.specs.View.{term_view, terms_view, atoms_view};
-ghost use Rattle.sym_conditions.specs.Alternatives.{alternatives_view};
+ghost use Rattle.sym_model.specs.Alternatives.{alternatives_view};
 ghost use Rattle.sym_evaluation.specs.View.{store_view, faults_view};
 ghost use Rattle.sym_matching.specs.Matching.{SplitsValues, StoresStayOver};
 ghost use Rattle.sym_matching.specs.Parts.{AreValues, ByTerm, GivesTerm, MatchesTerm, Continues};
@@ -21,11 +21,11 @@ use crate::splits::{Split, StoreSplit, behind, no_store, sure_store, where_met};
 use crate::tests::{ask_equal, fits_sorts};
 use gil_syntax::{Expr, Exprs, Params};
 use gil_values::Text;
-use plain_evaluation::plain_expressions_ask_nothing;
 use pure_terms::{Term, Terms};
 use std::alloc::{AllocError, Global};
-use sym_conditions::{Alternatives, never};
 use sym_evaluation::{Cases, FaultCases, GoodCase, SymStore, evaluate};
+use sym_model::{Alternatives, never};
+use sym_paths::plain_expressions_ask_nothing;
 
 /// The conditions of the faults.
 fn conditions_of(alloc: Global, faults: FaultCases) -> Result<Alternatives, AllocError>

@@ -1,11 +1,14 @@
 pub mod Asking
 pub mod ChunkLists
 pub mod ChunkMeaning
+pub mod Combined
 pub mod Fragments
-pub mod Listed
 pub mod ListLaws
+pub mod Listed
 pub mod MadeLaws
 pub mod PlainLaws
+pub mod Stepping
+pub mod Telling
 pub mod Unasked
 pub mod Unions
 pub mod Wider

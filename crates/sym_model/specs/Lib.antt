@@ -1,5 +1,8 @@
+pub mod Alternatives
 pub mod ChunkLaws
 pub mod Chunks
+pub mod Comparing
+pub mod ConditionLaws
 pub mod CoreLaws
 pub mod Cores
 pub mod Fixing

@@ -1,12 +1,20 @@
 //! Paths of symbolic execution: what they stand for, and what a step of one must do.
 #![tactic(auto)]
 
+mod asking;
+mod candidates;
 mod copying;
 mod ends;
 mod frames;
 mod laws;
 mod path;
+mod plain;
 
+pub use asking::{Satisfiability, ask, first_outside, is_inside, needs_form};
+pub use candidates::{
+    actions_keep_the_laws, calls_keep_the_laws, copies_keep_the_laws, guards_keep_the_laws,
+    returns_keep_the_laws, throws_keep_the_laws,
+};
 pub use ends::{PathEnd, copy_place};
 pub use frames::{Frame, Frames, running};
 pub use laws::{
@@ -15,3 +23,4 @@ pub use laws::{
     valued_candidates_keep_the_laws, variables_follow_in_turn,
 };
 pub use path::{Ended, Path, Paths};
+pub use plain::plain_expressions_ask_nothing;

@@ -22,8 +22,7 @@ use gil_values::Text;
 use pure_terms::{Atoms, Choices, Terms, VarTable};
 use sequence::Sequence;
 use std::alloc::{AllocError, Global};
-use sym_conditions::copy_conditions;
-use sym_model::{PathCond, SymMemory};
+use sym_model::{PathCond, SymMemory, copy_conditions};
 
 /// A path of symbolic execution. Contracts see it as its pure data over the memory's states, by `path_view`.
 #[derive(Debug)]

@@ -34,8 +34,8 @@ use Rattle.sym_model.specs.Plain.{IsPlainState, IsNarrowWithin, IsNarrowState}
 use Rattle.sym_model.specs.Pure.{PureBranch}
 use Rattle.sym_model.specs.Terms.{StateTerms, all_of, asked_of, IsOwnCondition, IsMadeOf, AreEachOver}
 use Rattle.sym_model.proofs.ListLaws.{each_append, each_to, each_flat, each_by_place, each_at, one_left, one_right}
-use Rattle.plain_evaluation.specs.Laws.{IsPlainOver}
-use Rattle.plain_evaluation.specs.Plain.{IsPlainItem}
+use Rattle.sym_paths.specs.PlainLaws.{IsPlainOver}
+use Rattle.sym_paths.specs.Plain.{IsPlainItem}
 use Rattle.sym_states.specs.Meaning.{Stands, Serves, IsOverTable}
 use Rattle.sym_states.specs.Narrowly.{IsNarrowWith, IsNarrowUse, StaysNarrow}
 use Rattle.sym_states.specs.Plainly.{IsPlainWith, ProducesPlainStates, StaysPlain, item_growth}

@@ -22,8 +22,8 @@ use Rattle.sym_model.specs.Pure.{PureBranch, result_terms}
 use Rattle.sym_model.specs.Terms.{StateTerms, all_of}
 use Rattle.sym_model.proofs.ListLaws.{each_append, each_to}
 use Rattle.sym_model.proofs.Wider.{plain_wider, decided_wider, lower_bound, higher_bound}
-use Rattle.plain_evaluation.specs.Laws.{IsPlainOver, PlainExpressionsAskNothing}
-use Rattle.plain_evaluation.specs.Plain.{IsPlainItem, AsksNothing, is_plain_argument}
+use Rattle.sym_paths.specs.PlainLaws.{IsPlainOver, PlainExpressionsAskNothing}
+use Rattle.sym_paths.specs.Plain.{IsPlainItem, AsksNothing, is_plain_argument}
 use Rattle.sym_states.specs.Plainly.{IsPlainWith, ProducesPlainStates, item_growth}
 use Rattle.sym_states.specs.Producing.{are_spelled}
 use Rattle.sym_states.specs.Pure.{PureState, PureArguments}

@@ -22,8 +22,8 @@ use Rattle.sym_model.specs.Lists.{Each, OneOf}
 use Rattle.sym_model.specs.Meaning.{has_open}
 use Rattle.sym_model.specs.Terms.{StateTerms}
 use Rattle.sym_model.proofs.ListLaws.{same_some, each_append, each_left, each_right, each_to, one_left, one_right, one_to, one_with}
-use Rattle.plain_evaluation.specs.Laws.{IsPlainOver}
-use Rattle.plain_evaluation.specs.Plain.{IsPlainItem}
+use Rattle.sym_paths.specs.PlainLaws.{IsPlainOver}
+use Rattle.sym_paths.specs.Plain.{IsPlainItem}
 use Rattle.sym_states.specs.Laws.{CoversAddings, AreAddings, ComeFromItems, StayOverTable}
 use Rattle.sym_states.specs.Meaning.{Stands, Serves, IsOverTable}
 use Rattle.sym_states.specs.Narrowly.{IsNarrowWith, IsNarrowItem, StayNarrow}

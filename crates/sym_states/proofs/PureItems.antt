@@ -13,7 +13,7 @@ use Rattle.sym_evaluation.specs.Meaning.{HasValue, AreCasesOf, AreSidesOf, IsSid
 use Rattle.sym_evaluation.specs.Plainly.{IsPlainGuard, AreDecided, text_bound}
 use Rattle.sym_evaluation.specs.Pure.{PureStore, PureGoodCase, PureCases, PureSides}
 use Rattle.sym_evaluation.specs.Questions.{IsAsked, IsTermOf, ComesFrom, NameNoOthers, OnConditions, OnResult, OnSide, IsGuardCondition, SidesComeFrom}
-use Rattle.sym_candidates.proofs.Naming.{guard_over}
+use Rattle.sym_paths.proofs.Naming.{guard_over}
 use Rattle.sym_model.specs.Laws.{IsDecidedWithin}
 use Rattle.sym_model.specs.Lists.{Each}
 use Rattle.sym_model.specs.Terms.{StateTerms}

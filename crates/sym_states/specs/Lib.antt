@@ -1,7 +1,13 @@
 pub mod Laws
 pub mod Meaning
+pub mod Naming
+pub mod NamingLaws
+pub mod NamingView
 pub mod Narrowly
 pub mod Plainly
 pub mod Producing
 pub mod Pure
+pub mod Sorts
+pub mod Standing
+pub mod Stores
 pub mod View

@@ -11,8 +11,8 @@ use Rattle.sym_model.specs.Lists.{Each}
 use Rattle.sym_model.specs.Plain.{IsPlainState}
 use Rattle.sym_model.specs.Pure.{PureBranch}
 use Rattle.sym_model.specs.Terms.{StateTerms, is_literal}
-use Rattle.plain_evaluation.specs.Laws.{IsPlainOver}
-use Rattle.plain_evaluation.specs.Plain.{IsPlainItem}
+use Rattle.sym_paths.specs.PlainLaws.{IsPlainOver}
+use Rattle.sym_paths.specs.Plain.{IsPlainItem}
 use Rattle.sym_states.specs.Pure.{PureState, PureArguments}
 
 -- A state that is plain with numbers up to b: each condition has a form of the fragment, the memory is plain, and there is no fact.

@@ -26,8 +26,8 @@ use Rattle.sym_model.specs.Lists.{Each, OneOf}
 use Rattle.sym_model.specs.Meaning.{has_open}
 use Rattle.sym_model.specs.Pure.{PureBranch}
 use Rattle.sym_model.specs.Terms.{StateTerms, all_of, asked_of, IsOwnCondition, IsMadeOf, AreEachOver}
-use Rattle.plain_evaluation.specs.Laws.{IsPlainOver}
-use Rattle.plain_evaluation.specs.Plain.{IsPlainItem}
+use Rattle.sym_paths.specs.PlainLaws.{IsPlainOver}
+use Rattle.sym_paths.specs.Plain.{IsPlainItem}
 use Rattle.sym_states.specs.Meaning.{Stands, Serves, IsOverTable}
 use Rattle.sym_states.specs.Narrowly.{StaysNarrow}
 use Rattle.sym_states.specs.Plainly.{ArePlainArguments, ProducesPlainStates, StaysPlain}

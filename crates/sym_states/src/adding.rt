@@ -19,11 +19,11 @@ use crate::states::{PredChunk, SymState, require};
 use gil_syntax::{Expr, Item, PredUse};
 use gil_values::Text;
 use mem_model::Core;
-use plain_evaluation::plain_expressions_ask_nothing;
 use pure_terms::{Atom, Atoms, Term};
 use std::alloc::{AllocError, Global};
 use sym_evaluation::{Cases, GoodCase, SymStore, evaluate, guard_sides};
 use sym_model::{Branch, Branches, ListedMemory, SymResult};
+use sym_paths::plain_expressions_ask_nothing;
 
 /// The state where the guard is true, unless it surely isn't.
 fn take_side<M: ListedMemory>(

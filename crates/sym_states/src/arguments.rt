@@ -10,10 +10,10 @@ ghost use Rattle.sym_states.specs.Producing.{are_spelled, arguments_of, AreArgum
 ghost use Rattle.sym_states.specs.View.{arguments_view};
 
 use gil_syntax::PredUse;
-use plain_evaluation::plain_expressions_ask_nothing;
 use pure_terms::{Atoms, Terms};
 use std::alloc::{AllocError, Global};
 use sym_evaluation::{GoodCase, SymStore, evaluate_all};
+use sym_paths::plain_expressions_ask_nothing;
 
 /// The terms of ins and outs, and the conditions under which these have values. Contracts see them as their pure data, by
 /// `arguments_view`.

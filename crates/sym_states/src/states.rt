@@ -9,8 +9,7 @@ use gil_values::{Place, Text};
 use pure_terms::{Atoms, Choices, Terms, VarTable};
 use sequence::Sequence;
 use std::alloc::{AllocError, Global};
-use sym_conditions::copy_conditions;
-use sym_model::PathCond;
+use sym_model::{PathCond, copy_conditions};
 
 /// A user predicate that isn't unfolded, in terms. Contracts see it as its pure data, by `fact_view`.
 #[derive(Debug, Drop)]

@@ -1,4 +1,11 @@
+pub mod ExplorationSteps
+pub mod Exploring
+pub mod Kept
 pub mod Made
+pub mod Narrow
 pub mod Next
+pub mod Plain
+pub mod RunSteps
 pub mod Silent
 pub mod Starting
+pub mod Trails

@@ -1,3 +1,10 @@
+pub mod ExplorationLaws
+pub mod ExplorationView
+pub mod Exploring
+pub mod Narrow
 pub mod Next
+pub mod Plain
+pub mod Runs
 pub mod Stepping
+pub mod Trails
 pub mod View

@@ -1,6 +1,6 @@
 //! What comes next of a path, at each command.
 ghost use Rattle.std.specs.Prelude.{◌≡◌, Some, IfOk};
-ghost use Rattle.gil_program.specs.Program.{prog_view};
+ghost use Rattle.gil_syntax.specs.Program.{prog_view};
 ghost use Rattle.gil_syntax.specs.View.{numbered_command_view};
 ghost use Rattle.sym_engine.specs.Lawful.{MayAdvance};
 ghost use Rattle.sym_paths.specs.Meaning.{command_of_path};
@@ -10,8 +10,7 @@ ghost use Rattle.sym_step.specs.Next.{IsNext};
 ghost use Rattle.sym_step.specs.Stepping.{MayStep};
 ghost use Rattle.sym_step.specs.View.{next_view};
 
-use gil_program::Prog;
-use gil_syntax::{Command, NumberedCommand};
+use gil_syntax::{Command, NumberedCommand, Prog};
 use gil_values::{Kind, Place};
 use pure_terms::Sort;
 use rewrite_book::RuleBook;

@@ -1,6 +1,6 @@
 //! The next paths of a path.
 ghost use Rattle.std.specs.Prelude.{◌≡◌, ◌∷◌, [], Some, None, IfOk, IsTrue};
-ghost use Rattle.gil_program.specs.Program.{prog_view};
+ghost use Rattle.gil_syntax.specs.Program.{prog_view};
 ghost use Rattle.gil_syntax.specs.Simple.{is_simple_command};
 ghost use Rattle.gil_syntax.specs.View.{numbered_command_view};
 ghost use Rattle.sym_engine.specs.Lawful.{IsOwnAt, IsAskedByMemoryAt, MayAdvance};
@@ -15,8 +15,7 @@ ghost use Rattle.sym_step.specs.Next.{AreStepped};
 
 use crate::finding::{command_of, place_of};
 use crate::following::{Next, next_of};
-use gil_program::Prog;
-use gil_syntax::NumberedCommand;
+use gil_syntax::{NumberedCommand, Prog};
 use pure_terms::Decider;
 use rewrite_book::RuleBook;
 use sequence::Sequence;

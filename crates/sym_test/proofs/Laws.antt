@@ -5,9 +5,9 @@ use Rattle.gil_syntax.specs.Pure.{PureParts}
 use Rattle.mem_model.specs.Actions.{Actions}
 use Rattle.mem_model.specs.Heaps.{Heap}
 use Rattle.pure_terms.specs.Pure.{PureTerm}
-use Rattle.sym_explore.specs.Plain.{TrailsStayPlain}
-use Rattle.sym_explore.proofs.Plain.{trails_stay_plain}
-use Rattle.sym_explore.proofs.Kept.{trails_keep, trails_replay, trails_hold_along, trails_may_end_before, ends_of_runs}
+use Rattle.sym_step.specs.Plain.{TrailsStayPlain}
+use Rattle.sym_step.proofs.Plain.{trails_stay_plain}
+use Rattle.sym_step.proofs.Kept.{trails_keep, trails_replay, trails_hold_along, trails_may_end_before, ends_of_runs}
 use Rattle.sym_model.specs.Terms.{StateTerms}
 use Rattle.sym_test.proofs.Trailing.{TrailLaws}
 

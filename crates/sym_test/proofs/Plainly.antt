@@ -16,10 +16,10 @@ use Rattle.pure_terms.specs.Fragment.{is_simple, names_sort, has_literals_betwee
 use Rattle.pure_terms.specs.Meaning.{Satisfies}
 use Rattle.pure_terms.proofs.FragmentLaws.{passes_at}
 use Rattle.pure_terms.specs.Pure.{PureTerm, PureAtom, term_of}
-use Rattle.sym_explore.specs.Laws.{IsBeside}
-use Rattle.sym_explore.specs.Plain.{IsAtSimple}
-use Rattle.sym_explore.specs.Runs.{StandsAfter}
-use Rattle.sym_explore.specs.Trails.{IsTrail}
+use Rattle.sym_step.specs.ExplorationLaws.{IsBeside}
+use Rattle.sym_step.specs.Plain.{IsAtSimple}
+use Rattle.sym_step.specs.Runs.{StandsAfter}
+use Rattle.sym_step.specs.Trails.{IsTrail}
 use Rattle.sym_model.specs.Laws.{IsPlainWithin, IsDecidedWithin}
 use Rattle.sym_model.specs.Lists.{Each}
 use Rattle.sym_model.specs.Terms.{StateTerms}

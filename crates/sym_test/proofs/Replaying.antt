@@ -12,10 +12,10 @@ use Rattle.mem_model.specs.Heaps.{Heap}
 use Rattle.pure_terms.specs.Meaning.{value, all_true, Satisfies}
 use Rattle.pure_terms.specs.Pure.{PureTerm, PureAtom}
 use Rattle.sym_engine.specs.Lawful.{IsOwnAt}
-use Rattle.sym_explore.specs.Laws.{IsTraced}
-use Rattle.sym_explore.specs.Plain.{EachStep, IsAtSimple}
-use Rattle.sym_explore.specs.Runs.{EndsAfter, StandsAfter}
-use Rattle.sym_explore.specs.Trails.{IsNextPath, IsTrail, IsAssumedOn}
+use Rattle.sym_step.specs.ExplorationLaws.{IsTraced}
+use Rattle.sym_step.specs.Plain.{EachStep, IsAtSimple}
+use Rattle.sym_step.specs.Runs.{EndsAfter, StandsAfter}
+use Rattle.sym_step.specs.Trails.{IsNextPath, IsTrail, IsAssumedOn}
 use Rattle.sym_model.specs.Lists.{Each, OneOf, IsAmong}
 use Rattle.sym_model.specs.Meaning.{is_open, has_open}
 use Rattle.sym_model.specs.Pure.{PureKey}
@@ -27,7 +27,7 @@ use Rattle.sym_paths.specs.Pure.{PureFrame, PureEnd, PurePath}
 use Rattle.sym_paths.specs.Pure as path_end
 use Rattle.sym_paths.specs.Steps.{IsUnknown, IsPlaceOf}
 use Rattle.sym_paths.proofs.Silent.{stands_at}
-use Rattle.sym_candidates.proofs.Following.{both_true, first_true}
+use Rattle.sym_paths.proofs.Following.{both_true, first_true}
 use Rattle.sym_test.specs.Canonical.{HaveValuation, draws_among, IsCanonical}
 use Rattle.sym_test.specs.Judged.{Begins}
 use Rattle.sym_test.specs.Undecided.{first_state, ComesAlong, MeetsOther, IsWay, AsksAlong, IsOutsideAt, IsUndecided}

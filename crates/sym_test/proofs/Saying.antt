@@ -19,11 +19,11 @@ use Rattle.pure_terms.specs.Meaning.{value, truth, all_true, IsOver as IsOverVar
 use Rattle.pure_terms.specs.Pure.{PureTerm, PureAtom, opening}
 use Rattle.pure_terms.specs.Wide.{has_wide_part}
 use Rattle.pure_terms.proofs.FragmentLaws.{fragment_atom_by_atom}
-use Rattle.sym_explore.specs.Exploring.{IsFrom, IsEndedFrom}
-use Rattle.sym_explore.specs.Laws.{IsBeside}
-use Rattle.sym_explore.specs.Plain.{EachStep, IsAtSimple, TrailsStayPlain, grown}
-use Rattle.sym_explore.specs.Runs.{EndsAfter, StandsAfter, AccountsFor}
-use Rattle.sym_explore.specs.Trails.{IsNextPath, IsTrail}
+use Rattle.sym_step.specs.Exploring.{IsFrom, IsEndedFrom}
+use Rattle.sym_step.specs.ExplorationLaws.{IsBeside}
+use Rattle.sym_step.specs.Plain.{EachStep, IsAtSimple, TrailsStayPlain, grown}
+use Rattle.sym_step.specs.Runs.{EndsAfter, StandsAfter, AccountsFor}
+use Rattle.sym_step.specs.Trails.{IsNextPath, IsTrail}
 use Rattle.sym_model.specs.Laws.{IsPlainWithin, IsDecidedWithin}
 use Rattle.sym_model.specs.Lists.{Each}
 use Rattle.sym_model.specs.Terms.{StateTerms, AreEachOver}

@@ -15,9 +15,9 @@ use Rattle.mem_model.specs.Heaps.{Heap}
 use Rattle.pure_terms.specs.declared.variables.Sort.{Sort}
 use Rattle.pure_terms.specs.Meaning.{all_true, IsOver, AreOver, Satisfies}
 use Rattle.pure_terms.specs.Pure.{PureTerm, PureAtom, term_of, variables, variables_of_atoms}
-use Rattle.sym_explore.specs.Laws.{EndsAreOfRuns, IsBeside, TrailsKeep, TrailsReplay, TrailsHoldAlong, TrailsMayEndBefore}
-use Rattle.sym_explore.specs.Runs.{ComesTo, MakesChoices, StandsAfter, draw_count}
-use Rattle.sym_explore.specs.Trails.{IsNextPath, IsTrail}
+use Rattle.sym_step.specs.ExplorationLaws.{EndsAreOfRuns, IsBeside, TrailsKeep, TrailsReplay, TrailsHoldAlong, TrailsMayEndBefore}
+use Rattle.sym_step.specs.Runs.{ComesTo, MakesChoices, StandsAfter, draw_count}
+use Rattle.sym_step.specs.Trails.{IsNextPath, IsTrail}
 use Rattle.sym_model.specs.Lists.{Each}
 use Rattle.sym_model.specs.Meaning.{has_open}
 use Rattle.sym_model.specs.Terms.{StateTerms}

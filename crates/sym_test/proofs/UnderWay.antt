@@ -11,9 +11,9 @@ use Rattle.gil_machine.specs.State as machine
 use Rattle.mem_model.specs.Actions.{Actions}
 use Rattle.mem_model.specs.Heaps.{Heap}
 use Rattle.pure_terms.specs.Pure.{PureTerm}
-use Rattle.sym_explore.specs.Exploring.{MayGoOn, IsFrom, IsEndedFrom, KeepTrails, KeepAccounts}
-use Rattle.sym_explore.specs.Plain.{TrailsStayPlain}
-use Rattle.sym_explore.specs.Runs.{StandsAfter, AccountsFor}
+use Rattle.sym_step.specs.Exploring.{MayGoOn, IsFrom, IsEndedFrom, KeepTrails, KeepAccounts}
+use Rattle.sym_step.specs.Plain.{TrailsStayPlain}
+use Rattle.sym_step.specs.Runs.{StandsAfter, AccountsFor}
 use Rattle.sym_model.specs.Lists.{Each, OneOf}
 use Rattle.sym_model.specs.Terms.{StateTerms}
 use Rattle.sym_model.proofs.ListLaws.{not_none}

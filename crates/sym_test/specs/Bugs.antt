@@ -7,8 +7,8 @@ use Rattle.mem_model.specs.Actions.{Actions}
 use Rattle.mem_model.specs.Heaps.{Heap}
 use Rattle.pure_terms.specs.Meaning.{value}
 use Rattle.pure_terms.specs.Pure.{PureTerm}
-use Rattle.sym_explore.specs.Plain.{EachStep}
-use Rattle.sym_explore.specs.Trails.{IsTrail}
+use Rattle.sym_step.specs.Plain.{EachStep}
+use Rattle.sym_step.specs.Trails.{IsTrail}
 use Rattle.sym_model.specs.Terms.{StateTerms}
 use Rattle.sym_paths.specs.Forms.{NeedsWhatMatters}
 use Rattle.sym_paths.specs.Meaning.{EndsAt, IsFirstPath}

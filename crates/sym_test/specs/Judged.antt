@@ -15,7 +15,7 @@ use Rattle.pure_terms.specs.declared.variables.Sort.{Sort}
 use Rattle.pure_terms.specs.Meaning.{value, AreOver, Satisfies}
 use Rattle.pure_terms.specs.Pure.{PureTerm, PureAtom, opening}
 use Rattle.pure_terms.specs.Wide.{has_wide_part}
-use Rattle.sym_explore.specs.Runs.{AccountsFor}
+use Rattle.sym_step.specs.Runs.{AccountsFor}
 use Rattle.sym_model.specs.Lists.{Each}
 use Rattle.sym_model.specs.Terms.{StateTerms}
 use Rattle.sym_paths.specs.Meaning.{Stands, IsOverTable, IsFirstPath}

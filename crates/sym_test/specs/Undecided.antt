@@ -19,8 +19,8 @@ use Rattle.pure_terms.specs.Meaning.{value, all_true}
 use Rattle.pure_terms.specs.Pure.{PureTerm, PureAtom, opening}
 use Rattle.pure_terms.specs.Wide.{has_wide_part}
 use Rattle.sym_engine.specs.Lawful.{IsOwnAt}
-use Rattle.sym_explore.specs.Plain.{EachStep}
-use Rattle.sym_explore.specs.Trails.{IsNextPath, IsTrail, IsAssumedOn}
+use Rattle.sym_step.specs.Plain.{EachStep}
+use Rattle.sym_step.specs.Trails.{IsNextPath, IsTrail, IsAssumedOn}
 use Rattle.sym_model.specs.Lists.{Each, OneOf}
 use Rattle.sym_model.specs.Meaning.{has_open}
 use Rattle.sym_model.specs.Terms.{StateTerms}

@@ -2,7 +2,7 @@
 ghost use Rattle.std.specs.Prelude.{◌≡◌, ◌≤◌, List, IfOk, IsTrue};
 ghost use Rattle.std.specs.Option.{option_map};
 ghost use Rattle.gil_machine.specs.Run.{IsEntry};
-ghost use Rattle.gil_program.specs.Program.{prog_view};
+ghost use Rattle.gil_syntax.specs.Program.{prog_view};
 ghost use Rattle.gil_syntax.specs.Simple.{is_simple};
 ghost use Rattle.gil_values.specs.Pure.{PureValue};
 ghost use Rattle.sym_test.specs.Judged.{first_query, verdict_of};
@@ -11,15 +11,14 @@ ghost use Rattle.sym_test.specs.View.{query_view, verdict_view};
 
 use crate::judging::{Judgement, judge};
 use crate::verdicts::Verdict;
-use gil_program::Prog;
+use gil_syntax::Prog;
 use gil_values::Text;
 use pure_terms::{Decider, Query};
 use rewrite_book::RuleBook;
 use std::alloc::{AllocError, Global};
-use sym_explore::Exploration;
 use sym_model::SymMemory;
 use sym_paths::Path;
-use sym_step::starts_may_step;
+use sym_step::{Exploration, starts_may_step};
 
 /// The query that is kept, or else this one.
 fn first_query(kept: Option<Query>, query: Query) -> Option<Query>

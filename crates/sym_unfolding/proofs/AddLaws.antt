@@ -27,10 +27,10 @@ use Rattle.sym_model.specs.Lists.{Each, OneOf}
 use Rattle.sym_model.specs.Meaning.{is_open, has_open}
 use Rattle.sym_model.specs.Terms.{StateTerms, all_of, AreEachOver}
 use Rattle.sym_model.proofs.ListLaws.{same_some, not_none, each_append, each_left, each_right, each_to, each_map, one_left, one_right, one_map, one_to}
-use Rattle.sym_naming.specs.Naming.{PureNamed, MayName, IsNamedAs, IsNaming, NamesAll}
-use Rattle.sym_naming.proofs.NamingLaws.{proper_sorts, store_longer}
-use Rattle.sym_naming.proofs.AddedNames.{added_known, added_same}
-use Rattle.sym_naming.proofs.Names.{or_left, or_right, same_name}
+use Rattle.sym_states.specs.Naming.{PureNamed, MayName, IsNamedAs, IsNaming, NamesAll}
+use Rattle.sym_states.proofs.NamingLaws.{proper_sorts, store_longer}
+use Rattle.sym_states.proofs.AddedNames.{added_known, added_same}
+use Rattle.sym_states.proofs.Names.{or_left, or_right, same_name}
 use Rattle.sym_states.proofs.Conditions.{none_open}
 use Rattle.sym_states.specs.Laws.{ComeFromItems}
 use Rattle.sym_states.specs.Meaning.{Stands, Serves, IsOverTable, AreFacts}

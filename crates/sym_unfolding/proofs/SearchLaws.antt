@@ -11,8 +11,8 @@ use Rattle.assert_logic.specs.Matching.{FoundFact, found_after, first_fact, fits
 use Rattle.pure_terms.specs.declared.variables.Sort.{Sort}
 use Rattle.pure_terms.specs.Meaning.{truth, all_true, IsOver}
 use Rattle.pure_terms.specs.Pure.{PureTerm, PureAtom}
-use Rattle.sym_conditions.specs.Alternatives.{Alternatives, Hold, both, always}
-use Rattle.sym_conditions.proofs.Combined.{both_from, both_parts}
+use Rattle.sym_model.specs.Alternatives.{Alternatives, Hold, both, always}
+use Rattle.sym_model.proofs.Combined.{both_from, both_parts}
 use Rattle.sym_matching.specs.Matching.{TestsElements, TestsOuts, ElementsStayOver, AgreementStaysOver}
 use Rattle.sym_matching.specs.Meaning.{AreMet, SaysTest, IsCondition, AreConditions, AreConditionsIfAny, IsTestOver}
 use Rattle.sym_matching.specs.Pure.{PureTest, PureOuts}

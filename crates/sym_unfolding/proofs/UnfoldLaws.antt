@@ -23,8 +23,8 @@ use Rattle.pure_terms.specs.declared.deciders.Reason.{Reason}
 use Rattle.pure_terms.specs.declared.variables.Sort.{Sort}
 use Rattle.pure_terms.specs.Meaning.{value, values, all_true, IsProper, IsOver, IsUnsatisfiable}
 use Rattle.pure_terms.specs.Pure.{PureTerm, PureAtom, term_of, from_list}
-use Rattle.sym_asking.specs.Asking.{IsSolution, IsOutside}
-use Rattle.sym_conditions.specs.Alternatives.{Alternatives, Hold}
+use Rattle.sym_paths.specs.Asking.{IsSolution, IsOutside}
+use Rattle.sym_model.specs.Alternatives.{Alternatives, Hold}
 use Rattle.sym_evaluation.specs.Meaning.{StandsFor, HaveValues, IsStoreOver}
 use Rattle.sym_evaluation.specs.Pure.{PureStore, PureGoodCase}
 use Rattle.sym_matching.specs.Matching.{SplitsCase, CaseStaysOver}
@@ -36,7 +36,7 @@ use Rattle.sym_model.specs.Terms.{StateTerms, all_of, AreEachOver}
 use Rattle.sym_model.proofs.Asking.{both_parts}
 use Rattle.sym_model.proofs.ListLaws.{same_some, not_none, each_append, each_left, each_right, each_to, each_at, one_at, one_left, one_right, one_parts}
 use Rattle.sym_states.specs.Meaning.{Stands, IsOverTable, IsFact, AreFacts}
-use Rattle.sym_naming.proofs.Names.{names_same}
+use Rattle.sym_states.proofs.Names.{names_same}
 use Rattle.sym_states.proofs.Conditions.{none_open}
 use Rattle.sym_states.specs.Producing.{added_conds}
 use Rattle.sym_states.specs.Pure.{PureFact, PureState}

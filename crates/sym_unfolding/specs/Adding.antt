@@ -17,7 +17,7 @@ use Rattle.sym_evaluation.specs.Pure.{PureStore}
 use Rattle.sym_model.specs.Lists.{Each, OneOf}
 use Rattle.sym_model.specs.Meaning.{has_open}
 use Rattle.sym_model.specs.Terms.{StateTerms}
-use Rattle.sym_naming.specs.Naming.{PureNamed}
+use Rattle.sym_states.specs.Naming.{PureNamed}
 use Rattle.sym_states.specs.Laws.{CoversAddings, AreAddings, ComeFromItems, StayOverTable, AreKept}
 use Rattle.sym_states.specs.Meaning.{Stands, IsOverTable}
 use Rattle.sym_states.specs.Producing.{added_conds}

@@ -11,8 +11,8 @@ use Rattle.pure_terms.specs.declared.deciders.Reason.{Reason}
 use Rattle.pure_terms.specs.declared.variables.Sort.{Sort}
 use Rattle.pure_terms.specs.Meaning.{all_true, IsUnsatisfiable, IsOver}
 use Rattle.pure_terms.specs.Pure.{PureTerm, PureAtom, term_of}
-use Rattle.sym_asking.specs.Asking.{IsSolution, IsOutside}
-use Rattle.sym_conditions.specs.Alternatives.{Alternatives}
+use Rattle.sym_paths.specs.Asking.{IsSolution, IsOutside}
+use Rattle.sym_model.specs.Alternatives.{Alternatives}
 use Rattle.sym_model.specs.Lists.{Each, OneOf}
 use Rattle.sym_model.specs.Terms.{StateTerms}
 use Rattle.sym_states.specs.Meaning.{IsOverTable}

@@ -7,7 +7,7 @@ use Rattle.assert_logic.specs.Matching.{FoundFact, first_fact, fits_fact, all_ag
 use Rattle.pure_terms.specs.declared.variables.Sort.{Sort}
 use Rattle.pure_terms.specs.Meaning.{all_true, IsProper}
 use Rattle.pure_terms.specs.Pure.{PureTerm, PureAtom}
-use Rattle.sym_conditions.specs.Alternatives.{Alternatives, Hold, both}
+use Rattle.sym_model.specs.Alternatives.{Alternatives, Hold, both}
 use Rattle.sym_evaluation.specs.Meaning.{HaveValues}
 use Rattle.sym_matching.specs.Meaning.{SaysTest, AreOuts, AreOutsOver, AreConditions, IsTestOver}
 use Rattle.sym_matching.specs.Pure.{PureTest, PureOuts}

@@ -2,7 +2,7 @@
 use Rattle.std.specs.Prelude.{List, map}
 use Rattle.gil_values.specs.View.{values_view}
 use Rattle.pure_terms.specs.View.{atoms_view}
-use Rattle.sym_conditions.specs.Alternatives.{alternatives_view}
+use Rattle.sym_model.specs.Alternatives.{alternatives_view}
 use Rattle.sym_states.specs.View.{state_view}
 use Rattle.sym_unfolding.specs.declared.adding.UnfoldedCase.{UnfoldedCase}
 use Rattle.sym_unfolding.specs.declared.searching.FoundAt.{FoundAt}

@@ -4,7 +4,7 @@ ghost use Rattle.gil_syntax.specs.View.{assertion_view, pred_def_view};
 ghost use Rattle.pure_terms.specs.View.{atoms_view};
 ghost use Rattle.sym_evaluation.specs.View.{store_view};
 ghost use Rattle.sym_model.specs.Lists.{Each};
-ghost use Rattle.sym_naming.specs.View.{named_view};
+ghost use Rattle.sym_states.specs.NamingView.{named_view};
 ghost use Rattle.sym_states.specs.Producing.{MayAdd};
 ghost use Rattle.sym_states.specs.View.{state_view, states_view};
 ghost use Rattle.sym_unfolding.specs.Adding.{AddsItems, AddsOver, AddsCases, numbered};
@@ -17,8 +17,7 @@ use sequence::Sequence;
 use std::alloc::{AllocError, Global};
 use sym_evaluation::SymStore;
 use sym_model::ListedMemory;
-use sym_naming::{Named, names_in, with_variables};
-use sym_states::{SymState, SymStates, produce_items};
+use sym_states::{Named, SymState, SymStates, names_in, produce_items, with_variables};
 
 /// A state with a case of a predicate in place of a fact, and the number of the case.
 #[derive(Debug, Drop)]

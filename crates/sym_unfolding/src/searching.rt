@@ -1,7 +1,7 @@
 //! Searching the first fact with given ins and outs.
 ghost use Rattle.std.specs.Prelude.{◌≡◌, ◌++◌, ◌∷◌, [], map, length, IfOk, Some};
 ghost use Rattle.pure_terms.specs.View.{atoms_view, term_view, terms_view};
-ghost use Rattle.sym_conditions.specs.Alternatives.{alternatives_view};
+ghost use Rattle.sym_model.specs.Alternatives.{alternatives_view};
 ghost use Rattle.sym_matching.specs.View.{test_view, outs_view};
 ghost use Rattle.sym_states.specs.View.{fact_view, facts_view};
 ghost use Rattle.sym_unfolding.specs.Searching.{both_tests, found_behind, looked_at, TestsFact, LooksAt, Searches};
@@ -11,8 +11,8 @@ use gil_values::Text;
 use pure_terms::{Atoms, Terms};
 use sequence::Sequence;
 use std::alloc::{AllocError, Global};
-use sym_conditions::{Alternatives, always, both, copy_conditions, extend};
 use sym_matching::{KnownOuts, Test, elements_equal, outs_agree};
+use sym_model::{Alternatives, always, both, copy_conditions, extend};
 use sym_states::{PredChunk, PredChunks};
 
 /// A place in a list of facts, and conditions under which the first fact that is sought stands there.

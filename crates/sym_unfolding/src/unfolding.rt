@@ -5,7 +5,7 @@ ghost use Rattle.gil_syntax.specs.View.{pred_def_view};
 ghost use Rattle.pure_terms.specs.Meaning.{IsOver};
 ghost use Rattle.pure_terms.specs.Pure.{PureTerm, term_of};
 ghost use Rattle.pure_terms.specs.View.{terms_view, atoms_view};
-ghost use Rattle.sym_conditions.specs.Alternatives.{alternatives_view};
+ghost use Rattle.sym_model.specs.Alternatives.{alternatives_view};
 ghost use Rattle.sym_model.specs.Lists.{Each};
 ghost use Rattle.sym_model.specs.Terms.{AreEachOver};
 ghost use Rattle.sym_model.specs.View.{path_view};
@@ -23,10 +23,9 @@ use gil_syntax::PredDef;
 use pure_terms::{Atoms, Decider, Reason, Terms, Valuation, VarTable};
 use sequence::Sequence;
 use std::alloc::{AllocError, Global};
-use sym_asking::{Satisfiability, ask};
-use sym_conditions::{Alternatives, copy_conditions};
 use sym_matching::{case_store, scope_of};
-use sym_model::{ListedMemory, PathCond};
+use sym_model::{Alternatives, ListedMemory, PathCond, copy_conditions};
+use sym_paths::{Satisfiability, ask};
 use sym_states::SymState;
 
 /// What unfolding comes to. Contracts see it as its pure data, by `unfolding_view`.

@@ -1,12 +1,12 @@
 //! Calls the program as a case says, and compares what it answers.
 ghost use Rattle.std.specs.Prelude.{◌≡◌, ◌↔◌, IsTrue};
-ghost use Rattle.tests_rows.specs.Wanted.{IsWanted};
+ghost use Rattle.row_cases.specs.Wanted.{IsWanted};
 
-use crate::cases::{Case, Output, Rules, SourceFault};
 use gil_io::{MemSink, MemSource};
 use gillian_core::gillian;
 use pure_terms::Term;
 use rewrite_book::{Rule, RuleBook, ShippedRule};
+use row_cases::{Case, Output, Rules, SourceFault};
 use std::alloc::{AllocError, AllocFailed, Global};
 use thiserror::Error;
 

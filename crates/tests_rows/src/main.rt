@@ -3,11 +3,9 @@
 #![tactic(auto)]
 
 mod calling;
-mod cases;
-mod many;
 
 use calling::{agrees, call};
-use cases::{Case, Cases};
+use row_cases::{Case, Cases};
 use std::process::ExitCode;
 use std::{env, fs, io};
 

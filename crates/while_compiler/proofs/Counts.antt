@@ -3,7 +3,7 @@ use Rattle.std.proofs.Common.{◌≡◌, ℕ, zero, suc, ◌+◌, ◌<◌, ◌�
 use Rattle.std.specs.Prelude.{max}
 use Rattle.std.proofs.lemmas.List.{append-nil}
 use Rattle.gil_values.proofs.Lists.{slice_get-read}
-use Rattle.gil_program.proofs.NameLemmas.{map-take_read}
+use Rattle.gil_syntax.proofs.NameLemmas.{map-take_read}
 use Rattle.while_lang.specs.declared.tree.PlacedStatement.{PlacedStatement, the_lemmas}
 use Rattle.while_lang.specs.View.{statement_view, placed_view}
 use Rattle.while_lang.specs.Pure.{PureStatement, if_else, while, PureBlock, no_statements, statement_and, PurePlacedStatement, from_placed}

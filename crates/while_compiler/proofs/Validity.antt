@@ -5,7 +5,7 @@ use Rattle.std.specs.List.{list_any}
 use Rattle.gil_syntax.specs.declared.validity.InvalidKind.{InvalidKind}
 use Rattle.gil_syntax.specs.Pure.{name, assign, act, list_of, from_list, PureNumberedCommand}
 use Rattle.gil_syntax.specs.Valid.{a_proc, has_bad_label, has_no_end, IsNamedFault}
-use Rattle.gil_program.specs.Uncounted.{IsValidButLength}
+use Rattle.gil_syntax.specs.Uncounted.{IsValidButLength}
 use Rattle.source_language.specs.Names.{temporaries_from}
 use Rattle.source_language.specs.Names.{temporary}
 use Rattle.source_language.specs.Procedures.{placed}

@@ -1,6 +1,6 @@
 //! Compiling a source.
 ghost use Rattle.std.specs.Prelude.{◌≡◌, None, IfOk, IfErr, OnOk};
-ghost use Rattle.gil_program.specs.Program.{prog_view};
+ghost use Rattle.gil_syntax.specs.Program.{prog_view};
 ghost use Rattle.source_language.specs.Limits.{IsLimitOf};
 ghost use Rattle.while_compiler.specs.Compiled.{compiled};
 ghost use Rattle.while_compiler.specs.SameEnds.{HasSameEnds};
@@ -9,8 +9,7 @@ ghost use Rattle.while_compiler.specs.Valid.{first_too_long};
 
 use crate::programs::compiled_parts;
 use crate::source::Source;
-use gil_program::Prog;
-use gil_syntax::InvalidKind;
+use gil_syntax::{InvalidKind, Prog};
 use source_language::TooMany;
 use std::alloc::Global;
 

@@ -3,7 +3,7 @@ ghost use Rattle.std.specs.Prelude.{◌≡◌, ◌≢◌, true, IsTrue, IfOk, If
 ghost use Rattle.std.specs.List.{list_all};
 ghost use Rattle.gil_syntax.specs.declared.validity.InvalidKind.TheVariants.{Memory};
 ghost use Rattle.gil_syntax.specs.WellMade.{is_well_made};
-ghost use Rattle.gil_program.specs.Uncounted.{IsNamedButLength};
+ghost use Rattle.gil_syntax.specs.Uncounted.{IsNamedButLength};
 ghost use Rattle.while_lang.specs.Names.{is_source_function};
 ghost use Rattle.while_lang.specs.View.{source_parts_view};
 ghost use Rattle.while_compiler.specs.Compiled.{compiled};
@@ -11,7 +11,7 @@ ghost use Rattle.while_compiler.specs.Source.{source_view};
 
 use crate::programs::parts_of;
 use crate::source::Source;
-use gil_program::{Invalid, check_but_length};
+use gil_syntax::{Invalid, check_but_length};
 use source_language::SourceParts;
 use std::alloc::Global;
 use while_lang::Function;

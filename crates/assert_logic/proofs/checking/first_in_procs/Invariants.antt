@@ -1,5 +1,5 @@
 use Rattle.std.proofs.Common.{◌≡◌, ◌<◌, ℕ, None}
-use Rattle.gil_program.specs.Program.{prog_view}
+use Rattle.gil_syntax.specs.Program.{prog_view}
 use Rattle.assert_logic.specs.declared.checking.ModeItem.TheVariants.{Proc}
 use Rattle.assert_logic.specs.Modes.{fault_of}
 use Rattle.assert_logic.proofs.checking.first_in_procs.Given as goal

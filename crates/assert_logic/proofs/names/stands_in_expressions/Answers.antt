@@ -3,7 +3,7 @@ use Rattle.gil_values.proofs.Lists.{slice_get-read}
 use Rattle.gil_syntax.specs.Subexpressions.{names_of}
 use Rattle.gil_syntax.specs.Valid.{is_among}
 use Rattle.gil_syntax.specs.View.{expr_view}
-use Rattle.gil_program.proofs.ExpressionLemmas.{list_any-element}
+use Rattle.gil_syntax.proofs.ExpressionLemmas.{list_any-element}
 use Rattle.assert_logic.proofs.names.stands_in_expressions.Goals as goal
 
 pub returns-then-stands_in : goal.returns-then-stands_in

@@ -2,7 +2,7 @@ use Rattle.std.proofs.Common.{sym, ap, ◌∙◌}
 use Rattle.std.specs.Str.{bytes_eq}
 use Rattle.gil_values.proofs.Lists.{slice_get-read}
 use Rattle.gil_syntax.specs.Valid.{param_names}
-use Rattle.gil_program.proofs.ExpressionLemmas.{list_any-element}
+use Rattle.gil_syntax.proofs.ExpressionLemmas.{list_any-element}
 use Rattle.assert_logic.proofs.scopes.is_param.Goals as goal
 
 pub returns-then-eq : goal.returns-then-eq

@@ -3,7 +3,7 @@ use Rattle.std.specs.Option.{option_map}
 use Rattle.std.proofs.lemmas.List.{map_push}
 use Rattle.std.proofs.lemmas.Option.{slice_get-map}
 use Rattle.gil_values.proofs.Lists.{slice_get-read}
-use Rattle.gil_program.proofs.NameLemmas.{map-take_read}
+use Rattle.gil_syntax.proofs.NameLemmas.{map-take_read}
 use Rattle.pure_terms.specs.View.{atom_view, atoms_view}
 use Rattle.atom_text.specs.Resolving.{variable_in, atoms_of}
 use Rattle.atom_text.specs.Sources.{stated_view}

@@ -1,6 +1,6 @@
 use Rattle.std.proofs.Common.{◌≡◌, Some, None, slice_get, sym, ap, ◌∙◌, arith}
 use Rattle.std.proofs.lemmas.Option.{slice_get-get_or}
-use Rattle.gil_program.proofs.NameLemmas.{none_there}
+use Rattle.gil_syntax.proofs.NameLemmas.{none_there}
 use Rattle.atom_text.specs.Resolving.{variable_in}
 use Rattle.atom_text.proofs.NamingLemmas.{finds_more, found_again, some_there}
 use Rattle.atom_text.proofs.naming.variables_of.Goals as goal

@@ -1,5 +1,5 @@
 use Rattle.std.proofs.Common.{IsSome}
-use Rattle.gil_program.specs.Program.{prog_view}
+use Rattle.gil_syntax.specs.Program.{prog_view}
 use Rattle.gil_syntax.specs.View.{proc_view}
 use Rattle.sym_model.specs.Lists.{Each}
 use Rattle.sym_paths.specs.View.{paths_view}

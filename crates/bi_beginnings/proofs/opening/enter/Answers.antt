@@ -4,9 +4,9 @@ use Rattle.gil_syntax.specs.View.{proc_view}
 use Rattle.pure_terms.specs.Fragment.{InFragment}
 use Rattle.pure_terms.specs.Meaning.{AreOver}
 use Rattle.pure_terms.specs.View.{terms_view, atoms_view}
-use Rattle.sym_asking.specs.Asking.{IsSolution, IsRightly}
-use Rattle.sym_asking.specs.View.{satisfiability_view}
-use Rattle.sym_asking.proofs.Fragments.{each_over_all}
+use Rattle.sym_paths.specs.Asking.{IsSolution, IsRightly}
+use Rattle.sym_paths.specs.AskingView.{satisfiability_view}
+use Rattle.sym_paths.proofs.AskedFragments.{each_over_all}
 use Rattle.sym_model.specs.View.{path_view as conditions_view}
 use Rattle.sym_paths.specs.View.{path_view}
 use Rattle.sym_states.specs.View.{state_view}

@@ -1,12 +1,12 @@
 use Rattle.std.proofs.Common.{◌≡◌, ⊎_elim, inl, inr, [], ◌∷◌, ◌++◌, IfNone, refl, sym, ap, subst, arith}
 use Rattle.std.specs.Option.{option_map}
 use Rattle.gil_machine.specs.Run.{start as start_state}
-use Rattle.gil_program.specs.Program.{prog_view}
+use Rattle.gil_syntax.specs.Program.{prog_view}
 use Rattle.gil_syntax.specs.View.{proc_view}
-use Rattle.sym_explore.specs.Exploring.{IsFrom, KeepAccounts, KeepTrails, MayGoOn, or_none}
-use Rattle.sym_explore.specs.Narrow.{IsNarrowFrom, IsNarrowEndedFrom, KeepNarrowTrails}
-use Rattle.sym_explore.specs.Runs.{AccountsFor}
-use Rattle.sym_explore.specs.View.{paths_left}
+use Rattle.sym_step.specs.Exploring.{IsFrom, KeepAccounts, KeepTrails, MayGoOn, or_none}
+use Rattle.sym_step.specs.Narrow.{IsNarrowFrom, IsNarrowEndedFrom, KeepNarrowTrails}
+use Rattle.sym_step.specs.Runs.{AccountsFor}
+use Rattle.sym_step.specs.ExplorationView.{paths_left}
 use Rattle.sym_model.specs.Lists.{Each, OneOf}
 use Rattle.sym_paths.specs.View.{path_view}
 use Rattle.bi_beginnings.specs.View.{beginning_view}

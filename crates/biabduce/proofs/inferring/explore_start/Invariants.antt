@@ -1,11 +1,11 @@
 use Rattle.std.proofs.Common.{◌⊎◌, []}
-use Rattle.gil_program.specs.Program.{prog_view}
+use Rattle.gil_syntax.specs.Program.{prog_view}
 use Rattle.gil_syntax.specs.View.{proc_view}
 use Rattle.gil_machine.specs.Run.{start as start_state}
-use Rattle.sym_explore.specs.Exploring.{IsFrom, MayGoOn}
-use Rattle.sym_explore.specs.Narrow.{IsNarrowFrom}
-use Rattle.sym_explore.specs.Runs.{AccountsFor}
-use Rattle.sym_explore.specs.View.{paths_left}
+use Rattle.sym_step.specs.Exploring.{IsFrom, MayGoOn}
+use Rattle.sym_step.specs.Narrow.{IsNarrowFrom}
+use Rattle.sym_step.specs.Runs.{AccountsFor}
+use Rattle.sym_step.specs.ExplorationView.{paths_left}
 use Rattle.sym_model.specs.Lists.{Each, OneOf}
 use Rattle.sym_paths.specs.View.{path_view}
 use Rattle.bi_beginnings.specs.Beginnings.{BeginsWith, BeginsBare}

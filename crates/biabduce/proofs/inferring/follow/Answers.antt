@@ -1,6 +1,6 @@
 use Rattle.std.proofs.Common.{length, IsSome, subst}
 use Rattle.std.proofs.lemmas.Result.{on_ok_weaker}
-use Rattle.gil_program.specs.Program.{prog_view}
+use Rattle.gil_syntax.specs.Program.{prog_view}
 use Rattle.gil_syntax.specs.View.{proc_view}
 use Rattle.sym_paths.specs.View.{paths_view}
 use Rattle.bi_beginnings.specs.View.{beginning_view}

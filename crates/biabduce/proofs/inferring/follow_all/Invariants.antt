@@ -1,6 +1,6 @@
 use Rattle.std.proofs.Common.{◌≤◌, length}
 use Rattle.std.specs.FinMap.{entries}
-use Rattle.gil_program.specs.Program.{prog_view}
+use Rattle.gil_syntax.specs.Program.{prog_view}
 use Rattle.gil_syntax.specs.View.{proc_view}
 use Rattle.biabduce.specs.Covering.{PureRun, IsWanted, IsProvided}
 use Rattle.biabduce.specs.Decided.{IsDecidable, IsDecided}

@@ -5,7 +5,7 @@ use Rattle.sym_chunks.specs.Cases.{choose}
 use Rattle.sym_chunks.specs.View.{chunk_branches_view, cases_view}
 use Rattle.sym_chunks.proofs.CaseLaws.{choose_sure}
 use Rattle.sym_chunks.proofs.Elements.{ok_to}
-use Rattle.sym_conditions.specs.Alternatives.{alternatives_view}
+use Rattle.sym_model.specs.Alternatives.{alternatives_view}
 use Rattle.sym_model.specs.View.{frag_view}
 use Rattle.block_sym.proofs.cells.act_on_cell.Goals as goal
 

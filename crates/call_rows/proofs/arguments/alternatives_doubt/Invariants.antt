@@ -1,7 +1,7 @@
 use Rattle.std.proofs.Common.{◌++◌, take}
 use Rattle.pure_terms.specs.Meaning.{IsUnsatisfiable}
 use Rattle.pure_terms.specs.View.{atoms_view}
-use Rattle.sym_conditions.specs.Alternatives.{alternatives_view}
+use Rattle.sym_model.specs.Alternatives.{alternatives_view}
 use Rattle.sym_model.specs.Lists.{Each}
 use Rattle.call_rows.proofs.arguments.alternatives_doubt.Given as goal
 

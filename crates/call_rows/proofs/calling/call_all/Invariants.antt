@@ -1,6 +1,6 @@
 use Rattle.std.proofs.Common.{◌≡◌, ◌++◌, length}
 use Rattle.std.specs.Vec.Iter.{into_iter_len, into_iter_items}
-use Rattle.gil_program.specs.Program.{prog_view}
+use Rattle.gil_syntax.specs.Program.{prog_view}
 use Rattle.sym_paths.specs.View.{paths_view}
 use Rattle.sym_states.specs.View.{facts_view}
 use Rattle.checked_paths.specs.View.{entry_view, nexts_view, passed_by_view}

@@ -1,5 +1,5 @@
 use Rattle.std.proofs.Common.{◌+◌, IsTrue, sym, ap, subst}
-use Rattle.gil_program.specs.Program.{prog_view}
+use Rattle.gil_syntax.specs.Program.{prog_view}
 use Rattle.gil_syntax.specs.Simple.{is_simple_command}
 use Rattle.sym_model.specs.Lists.{Each}
 use Rattle.sym_model.proofs.ListLaws.{each_to}

@@ -1,5 +1,5 @@
 use Rattle.std.proofs.Common.{IfSome, subst}
-use Rattle.gil_program.specs.Program.{prog_view}
+use Rattle.gil_syntax.specs.Program.{prog_view}
 use Rattle.gil_syntax.specs.View.{spec_view}
 use Rattle.addable_programs.proofs.AddableLaws.{programs_are_addable}
 use Rattle.call_rows.specs.Calling.{IsSpecOf}

@@ -1,6 +1,6 @@
 use Rattle.std.proofs.Common.{◌++◌, ◌∷◌, [], take, sym, ap, subst, ◌∙◌}
 use Rattle.std.proofs.lemmas.List.{take_all}
-use Rattle.gil_program.specs.Program.{prog_view}
+use Rattle.gil_syntax.specs.Program.{prog_view}
 use Rattle.sym_model.specs.Lists.{Each}
 use Rattle.sym_paths.specs.View.{path_view, paths_view}
 use Rattle.sym_unfolding.proofs.AddLaws.{map_more}

@@ -1,5 +1,5 @@
 use Rattle.std.proofs.Common.{subst}
-use Rattle.gil_program.specs.Program.{prog_view}
+use Rattle.gil_syntax.specs.Program.{prog_view}
 use Rattle.pure_terms.specs.View.{term_view}
 use Rattle.sym_leaving.specs.Leaving.{IsLeft}
 use Rattle.sym_paths.specs.View.{path_view}

@@ -1,6 +1,6 @@
 use Rattle.std.proofs.Common.{length, map, sym, ap, ◌∙◌}
 use Rattle.std.specs.Option.{option_map}
-use Rattle.gil_program.specs.Program.{prog_view}
+use Rattle.gil_syntax.specs.Program.{prog_view}
 use Rattle.gil_syntax.specs.Pure.{PureProc}
 use Rattle.gil_syntax.specs.View.{assertion_view, proc_view, spec_view}
 use Rattle.addable_programs.proofs.AddableLaws.{programs_are_addable}

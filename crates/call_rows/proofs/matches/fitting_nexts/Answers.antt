@@ -1,8 +1,8 @@
 use Rattle.std.proofs.Common.{inl, inr, sym, subst}
 use Rattle.gil_values.specs.View.{values_view}
 use Rattle.pure_terms.specs.View.{atoms_view}
-use Rattle.sym_asking.specs.Asking.{IsOutside}
-use Rattle.gil_program.specs.Program.{prog_view}
+use Rattle.sym_paths.specs.Asking.{IsOutside}
+use Rattle.gil_syntax.specs.Program.{prog_view}
 use Rattle.gil_syntax.specs.View.{spec_view}
 use Rattle.footprint.specs.Consuming.{Matches, StopsAt}
 use Rattle.footprint.specs.Leaves.{IsLonger, IsMatch, AreAll, IsUnmatched, IsAnswer}

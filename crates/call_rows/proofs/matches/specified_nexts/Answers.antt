@@ -1,5 +1,5 @@
 use Rattle.std.proofs.Common.{inl, IfSome, sym, subst}
-use Rattle.gil_program.specs.Program.{prog_view}
+use Rattle.gil_syntax.specs.Program.{prog_view}
 use Rattle.gil_syntax.specs.View.{spec_view}
 use Rattle.pure_terms.specs.View.{atoms_view}
 use Rattle.sym_evaluation.specs.View.{store_view}

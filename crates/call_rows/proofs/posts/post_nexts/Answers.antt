@@ -1,5 +1,5 @@
 use Rattle.std.proofs.Common.{ap, subst}
-use Rattle.gil_program.specs.Program.{prog_view}
+use Rattle.gil_syntax.specs.Program.{prog_view}
 use Rattle.gil_syntax.specs.View.{assertion_view}
 use Rattle.pure_terms.specs.View.{atoms_view}
 use Rattle.sym_model.proofs.ListLaws.{each_to}

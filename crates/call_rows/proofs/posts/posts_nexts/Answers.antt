@@ -1,5 +1,5 @@
 use Rattle.std.proofs.Common.{◌≡◌, ◌++◌, ◌∷◌, [], Some, map, take, slice_get, sym, ap, subst}
-use Rattle.gil_program.specs.Program.{prog_view}
+use Rattle.gil_syntax.specs.Program.{prog_view}
 use Rattle.gil_syntax.specs.View.{assertion_view}
 use Rattle.gil_values.proofs.Lists.{slice_get-read}
 use Rattle.sym_model.proofs.ListLaws.{each_at}

@@ -1,5 +1,5 @@
 use Rattle.std.proofs.Common.{map, take}
-use Rattle.gil_program.specs.Program.{prog_view}
+use Rattle.gil_syntax.specs.Program.{prog_view}
 use Rattle.gil_syntax.specs.View.{assertion_view}
 use Rattle.checked_paths.specs.View.{checking_view, entry_view, nexts_view}
 use Rattle.call_rows.specs.Gathering.{GathersNexts}

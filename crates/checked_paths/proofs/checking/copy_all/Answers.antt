@@ -1,6 +1,6 @@
 use Rattle.std.proofs.Common.{[], ◌∷◌, ◌++◌, take, sym, ap, subst, ◌∙◌, arith}
 use Rattle.std.proofs.lemmas.List.{map-append}
-use Rattle.gil_program.proofs.NameLemmas.{map-take_read}
+use Rattle.gil_syntax.proofs.NameLemmas.{map-take_read}
 use Rattle.checked_paths.specs.Meaning.{SaySame}
 use Rattle.checked_paths.specs.View.{all_passed_view, passed_view}
 use Rattle.checked_paths.proofs.Copies.{copy_says, says_pushed}

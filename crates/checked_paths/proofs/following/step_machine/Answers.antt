@@ -1,6 +1,6 @@
 use Rattle.std.proofs.Common.{◌≡◌, ◌<◌, [], sym, ap, subst}
 use Rattle.std.proofs.lemmas.Result.{IfOk-weaker}
-use Rattle.gil_program.specs.Program.{prog_view}
+use Rattle.gil_syntax.specs.Program.{prog_view}
 use Rattle.sym_engine.specs.Lawful.{IsOwnAt}
 use Rattle.sym_model.specs.Lists.{Each}
 use Rattle.sym_paths.specs.Origins.{Follows}

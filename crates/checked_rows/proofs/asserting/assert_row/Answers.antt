@@ -1,5 +1,5 @@
 use Rattle.std.proofs.Common.{[], ◌∷◌, ◌≡◌, subst}
-use Rattle.gil_program.specs.Program.{prog_view}
+use Rattle.gil_syntax.specs.Program.{prog_view}
 use Rattle.gil_syntax.specs.Pure.{assert_that}
 use Rattle.gil_syntax.specs.View.{assertion_view}
 use Rattle.gil_values.specs.View.{values_view}

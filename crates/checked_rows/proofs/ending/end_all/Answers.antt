@@ -1,7 +1,7 @@
 use Rattle.std.proofs.Common.{rules, ◌≡◌, ◌+◌, [], ◌∷◌, ◌++◌, length, ap, sym, subst, ◌∙◌, arith}
 use Rattle.std.specs.Vec.Iter.{into_iter_items}
 use Rattle.std.proofs.lemmas.List.{append-nil, map-append, nil_from_length}
-use Rattle.gil_program.specs.Program.{prog_view}
+use Rattle.gil_syntax.specs.Program.{prog_view}
 use Rattle.sym_engine.proofs.Settled.{rest_more, over_next}
 use Rattle.sym_paths.specs.View.{path_view, paths_view}
 use Rattle.sym_states.specs.View.{facts_view, state_view}

@@ -1,5 +1,5 @@
 use Rattle.std.proofs.Common.{◌++◌, map, IfNone, IfSome, inr, refl, sym, subst}
-use Rattle.gil_program.specs.Program.{prog_view}
+use Rattle.gil_syntax.specs.Program.{prog_view}
 use Rattle.gil_values.specs.View.{values_view}
 use Rattle.gil_syntax.specs.Valid.{param_names}
 use Rattle.gil_syntax.specs.View.{assertion_view, proc_view}

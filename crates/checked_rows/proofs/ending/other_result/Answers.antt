@@ -4,7 +4,7 @@ use Rattle.checked_runs.specs.Specifications.{result_name}
 use Rattle.pure_terms.specs.Meaning.{IsOver, IsUnsatisfiable}
 use Rattle.pure_terms.specs.Pure.{term_of}
 use Rattle.pure_terms.specs.View.{atoms_view, term_view}
-use Rattle.sym_conditions.specs.Alternatives.{other}
+use Rattle.sym_model.specs.Alternatives.{other}
 use Rattle.sym_evaluation.specs.Pure.{term_at}
 use Rattle.sym_evaluation.specs.View.{store_view}
 use Rattle.sym_matching.proofs.TestLaws.{equal_over}

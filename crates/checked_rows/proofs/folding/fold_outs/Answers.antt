@@ -1,5 +1,5 @@
 use Rattle.std.proofs.Common.{inl, inr, subst}
-use Rattle.gil_program.specs.Program.{prog_view}
+use Rattle.gil_syntax.specs.Program.{prog_view}
 use Rattle.gil_syntax.specs.View.{pred_use_view}
 use Rattle.pure_terms.specs.View.{terms_view}
 use Rattle.sym_evaluation.specs.View.{store_view}

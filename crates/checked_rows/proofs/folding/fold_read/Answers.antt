@@ -1,8 +1,8 @@
 use Rattle.std.proofs.Common.{inl, inr, subst}
 use Rattle.gil_values.specs.View.{values_view}
-use Rattle.gil_program.specs.Program.{prog_view}
+use Rattle.gil_syntax.specs.Program.{prog_view}
 use Rattle.pure_terms.specs.View.{atoms_view, terms_view}
-use Rattle.sym_asking.specs.Asking.{IsOutside}
+use Rattle.sym_paths.specs.Asking.{IsOutside}
 use Rattle.sym_model.proofs.ListLaws.{each_to}
 use Rattle.sym_states.specs.Meaning.{IsOverTable}
 use Rattle.checked_paths.specs.declared.nexts.FaultKind.{FaultKind}

@@ -1,5 +1,5 @@
 use Rattle.std.proofs.Common.{◌≡◌, Some, ◌∙◌, sym}
-use Rattle.gil_program.specs.Program.{prog_view}
+use Rattle.gil_syntax.specs.Program.{prog_view}
 use Rattle.gil_syntax.specs.Pure.{fold_use}
 use Rattle.gil_syntax.specs.View.{pred_use_view}
 use Rattle.mem_model.specs.CoreNames.{core_of}

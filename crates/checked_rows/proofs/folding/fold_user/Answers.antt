@@ -1,5 +1,5 @@
 use Rattle.std.proofs.Common.{◌≡◌, [], sym, subst}
-use Rattle.gil_program.specs.Program.{prog_view}
+use Rattle.gil_syntax.specs.Program.{prog_view}
 use Rattle.gil_syntax.specs.Pure.{fold_use}
 use Rattle.gil_syntax.specs.View.{exprs_view, pred_use_view}
 use Rattle.pure_terms.specs.View.{terms_view}

@@ -2,9 +2,9 @@ use Rattle.std.proofs.Common.{inl, inr, refl, sym, subst, ◌∙◌}
 use Rattle.gil_values.specs.View.{values_view}
 use Rattle.pure_terms.specs.Meaning.{AreOver, IsUnsatisfiable}
 use Rattle.pure_terms.specs.View.{atoms_view}
-use Rattle.sym_asking.proofs.Fragments.{each_over_all}
-use Rattle.sym_asking.specs.Asking.{IsOutside, IsRightly, IsSolution}
-use Rattle.sym_asking.specs.View.{satisfiability_view}
+use Rattle.sym_paths.proofs.AskedFragments.{each_over_all}
+use Rattle.sym_paths.specs.Asking.{IsOutside, IsRightly, IsSolution}
+use Rattle.sym_paths.specs.AskingView.{satisfiability_view}
 use Rattle.sym_states.proofs.Values.{ok_to}
 use Rattle.sym_states.specs.View.{fact_view, state_view}
 use Rattle.checked_paths.specs.declared.nexts.FaultKind.{FaultKind}

@@ -1,4 +1,4 @@
-use Rattle.gil_program.specs.Program.{prog_view}
+use Rattle.gil_syntax.specs.Program.{prog_view}
 use Rattle.gil_syntax.specs.View.{assertion_view}
 use Rattle.footprint.specs.View.{matching_view}
 use Rattle.footprint.specs.Consuming.{Matches, StopsAt}

@@ -2,9 +2,9 @@ use Rattle.std.proofs.Common.{◌++◌, sym, subst}
 use Rattle.pure_terms.specs.Meaning.{IsOver, AreOver}
 use Rattle.pure_terms.specs.Pure.{term_of}
 use Rattle.pure_terms.specs.View.{atoms_view}
-use Rattle.sym_asking.proofs.Fragments.{each_over_all}
-use Rattle.sym_asking.specs.Asking.{IsRightly}
-use Rattle.sym_asking.specs.View.{satisfiability_view}
+use Rattle.sym_paths.proofs.AskedFragments.{each_over_all}
+use Rattle.sym_paths.specs.Asking.{IsRightly}
+use Rattle.sym_paths.specs.AskingView.{satisfiability_view}
 use Rattle.sym_model.proofs.ListLaws.{each_append}
 use Rattle.checked_rows.proofs.reading.doubt_there.Goals as goal
 

@@ -1,5 +1,5 @@
 use Rattle.std.proofs.Common.{rules, ◌≡◌, None, Some}
-use Rattle.gil_program.specs.Program.{prog_view}
+use Rattle.gil_syntax.specs.Program.{prog_view}
 use Rattle.gil_syntax.specs.Programs.{find_pred}
 use Rattle.gil_syntax.specs.Pure.{unfold_use}
 use Rattle.gil_syntax.specs.View.{pred_def_view, pred_use_view}

@@ -3,7 +3,7 @@ use Rattle.core_production.specs.Producing.{are_names}
 use Rattle.pure_terms.specs.View.{term_view, terms_view}
 use Rattle.sym_chunks.specs.NameTerms.{distinct_from}
 use Rattle.sym_chunks.proofs.Elements.{ok_to, of_elements, term_view-List}
-use Rattle.sym_conditions.specs.Alternatives.{alternatives_view}
+use Rattle.sym_model.specs.Alternatives.{alternatives_view}
 use Rattle.core_production.proofs.fitting.with_names.Goals as goal
 
 pub returns-in-List : goal.returns-in-List

@@ -1,6 +1,6 @@
 use Rattle.std.proofs.Common.{◌≡◌, ◌++◌, Some, take}
 use Rattle.pure_terms.specs.View.{atoms_view}
-use Rattle.sym_conditions.specs.Alternatives.{alternatives_view}
+use Rattle.sym_model.specs.Alternatives.{alternatives_view}
 use Rattle.footprint.specs.Choosing.{placed_cases}
 use Rattle.footprint.specs.View.{fact_cases_view}
 use Rattle.footprint.proofs.choosing.add_placed.Given as goal

@@ -1,7 +1,7 @@
 use Rattle.std.proofs.Common.{◌≡◌, ◌+◌, [], ◌∷◌, ◌++◌, take, length, sym, subst, ◌∙◌, arith, length-take-le}
 use Rattle.std.proofs.lemmas.List.{take_all, length-map}
 use Rattle.pure_terms.specs.View.{terms_view}
-use Rattle.sym_conditions.specs.Alternatives.{alternatives_view}
+use Rattle.sym_model.specs.Alternatives.{alternatives_view}
 use Rattle.sym_matching.specs.View.{test_view, outs_view}
 use Rattle.sym_states.specs.View.{fact_view, facts_view}
 use Rattle.footprint.specs.Choosing.{PureChoice, ChoosesFact, ChoiceStaysOver}

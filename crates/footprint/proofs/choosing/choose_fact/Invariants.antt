@@ -1,6 +1,6 @@
 use Rattle.std.proofs.Common.{take}
 use Rattle.pure_terms.specs.View.{terms_view}
-use Rattle.sym_conditions.specs.Alternatives.{alternatives_view}
+use Rattle.sym_model.specs.Alternatives.{alternatives_view}
 use Rattle.sym_matching.specs.View.{outs_view}
 use Rattle.sym_states.specs.View.{facts_view}
 use Rattle.footprint.specs.Choosing.{ChoosesFact, ChoiceStaysOver}

@@ -1,5 +1,5 @@
 use Rattle.std.proofs.Common.{map, sym, subst}
-use Rattle.gil_program.specs.Program.{prog_view}
+use Rattle.gil_syntax.specs.Program.{prog_view}
 use Rattle.gil_syntax.specs.View.{assertion_view, pred_def_view}
 use Rattle.pure_terms.specs.Meaning.{AreOver}
 use Rattle.sym_evaluation.specs.View.{store_view}

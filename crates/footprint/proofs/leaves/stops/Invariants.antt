@@ -1,6 +1,6 @@
 use Rattle.std.proofs.Common.{◌≡◌, take}
 use Rattle.pure_terms.specs.View.{atoms_view}
-use Rattle.sym_conditions.specs.Alternatives.{alternatives_view}
+use Rattle.sym_model.specs.Alternatives.{alternatives_view}
 use Rattle.footprint.specs.Spreading.{stops_at}
 use Rattle.footprint.specs.View.{stops_view}
 use Rattle.footprint.proofs.leaves.stops.Given as goal

@@ -1,8 +1,8 @@
 use Rattle.std.proofs.Common.{inl, inr, subst}
 use Rattle.pure_terms.specs.Meaning.{IsUnsatisfiable}
 use Rattle.pure_terms.specs.View.{atoms_view}
-use Rattle.sym_asking.specs.Asking.{IsRightly}
-use Rattle.sym_asking.specs.View.{satisfiability_view}
+use Rattle.sym_paths.specs.Asking.{IsRightly}
+use Rattle.sym_paths.specs.AskingView.{satisfiability_view}
 use Rattle.footprint.specs.View.{match_view}
 use Rattle.footprint.proofs.pruning.prune_match.Goals as goal
 

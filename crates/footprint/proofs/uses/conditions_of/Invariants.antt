@@ -1,5 +1,5 @@
 use Rattle.std.proofs.Common.{◌≡◌, map}
-use Rattle.sym_conditions.specs.Alternatives.{alternatives_view}
+use Rattle.sym_model.specs.Alternatives.{alternatives_view}
 use Rattle.sym_evaluation.specs.View.{faults_view}
 use Rattle.footprint.proofs.uses.conditions_of.Given as goal
 

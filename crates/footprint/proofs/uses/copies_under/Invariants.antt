@@ -1,5 +1,5 @@
 use Rattle.std.proofs.Common.{take}
-use Rattle.sym_conditions.specs.Alternatives.{alternatives_view}
+use Rattle.sym_model.specs.Alternatives.{alternatives_view}
 use Rattle.sym_states.specs.View.{state_view, states_view}
 use Rattle.footprint.specs.Uses.{AreCopiesUnder}
 use Rattle.footprint.proofs.uses.copies_under.Given as goal

@@ -1,5 +1,5 @@
 use Rattle.std.proofs.Common.{List, map, sym, subst}
-use Rattle.gil_program.specs.Program.{prog_view}
+use Rattle.gil_syntax.specs.Program.{prog_view}
 use Rattle.gil_syntax.specs.Pure.{PurePredDef}
 use Rattle.gil_syntax.specs.View.{assertion_view, pred_def_view}
 use Rattle.pure_terms.specs.declared.variables.Sort.{Sort}

@@ -1,7 +1,7 @@
 use Rattle.std.proofs.Common.{◌≡◌, ℕ, List, is_some, ap, map, sym, ◌∙◌, arith}
 use Rattle.std.proofs.lemmas.List.{take_all}
-use Rattle.gil_program.specs.Names.{place_of, first_place}
-use Rattle.gil_program.proofs.NameLemmas.{places_more, places_same, none_there}
+use Rattle.gil_syntax.specs.Names.{place_of, first_place}
+use Rattle.gil_syntax.proofs.NameLemmas.{places_more, places_same, none_there}
 use Rattle.gil_machine.specs.declared.resolved.ResolvedProc.{ResolvedProc}
 use Rattle.gil_machine.proofs.resolving.places_of.Goals as goal
 use Rattle.gil_machine.proofs.resolving.places_of.Goals.{then-not-contains_key+in_ok-insert, else-not-contains_key}

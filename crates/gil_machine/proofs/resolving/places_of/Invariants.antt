@@ -1,5 +1,5 @@
 use Rattle.std.proofs.Common.{◌≡◌, ℕ, List, map, take}
-use Rattle.gil_program.specs.Names.{place_of, first_place}
+use Rattle.gil_syntax.specs.Names.{place_of, first_place}
 use Rattle.gil_machine.proofs.resolving.places_of.Given as goal
 
 abbrev pub invariant-loop-place : goal.invariant-loop-place

@@ -4,7 +4,7 @@ use Rattle.std.specs.Option.{option_map}
 use Rattle.gil_values.specs.View.{values_view}
 use Rattle.gil_syntax.specs.Programs.{find_proc}
 use Rattle.gil_syntax.specs.View.{proc_view}
-use Rattle.gil_program.specs.Program.{prog_view}
+use Rattle.gil_syntax.specs.Program.{prog_view}
 use Rattle.gil_machine.specs.Kept.{Keeps}
 use Rattle.gil_machine.specs.ResolvedWhole.{proc_slots}
 use Rattle.gil_machine.specs.Run.{params_of}

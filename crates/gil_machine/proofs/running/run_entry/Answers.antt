@@ -1,6 +1,6 @@
 -- An entry has no parameters, so its start is proper.
 use Rattle.std.proofs.Common.{[], Some, sym, ap, subst, ◌∙◌}
-use Rattle.gil_program.specs.Program.{prog_view}
+use Rattle.gil_syntax.specs.Program.{prog_view}
 use Rattle.gil_machine.specs.Run.{IsEntry, IsProperStart}
 use Rattle.gil_machine.proofs.Entries.{is_entry, entry_starts}
 use Rattle.gil_machine.proofs.running.run_entry.Goals as goal

@@ -1,7 +1,7 @@
 -- The run is under way until it ends, or no step is left.
 use Rattle.std.proofs.Common.{◌≡◌, ◌+◌, ◌-◌, zero, suc, sym, ap, subst, arith}
 use Rattle.gil_values.specs.View.{values_view}
-use Rattle.gil_program.specs.Program.{prog_view}
+use Rattle.gil_syntax.specs.Program.{prog_view}
 use Rattle.gil_machine.specs.Held.{held_run_of, number_at}
 use Rattle.gil_machine.specs.Standing.{Comes, IsAtNumber, IsUnderWay, unboxed}
 use Rattle.gil_machine.specs.Step.{step}

@@ -1,6 +1,6 @@
 use Rattle.std.proofs.Common.{◌+◌, ◌-◌, ◌≤◌}
 use Rattle.gil_values.specs.View.{values_view}
-use Rattle.gil_program.specs.Program.{prog_view}
+use Rattle.gil_syntax.specs.Program.{prog_view}
 use Rattle.gil_machine.specs.Held.{held_run_of}
 use Rattle.gil_machine.specs.Standing.{IsUnderWay}
 use Rattle.gil_machine.proofs.running.run_resolved.Given as goal

@@ -1,5 +1,5 @@
 use Rattle.std.proofs.Common.{◌≡◌, rules}
-use Rattle.gil_program.specs.Program.{prog_view}
+use Rattle.gil_syntax.specs.Program.{prog_view}
 use Rattle.syntax_print.specs.Programs.{printed_program}
 use Rattle.gil_print.proofs.Renumbering.{renumbered_valid}
 use Rattle.gil_print.proofs.Texts.{printed_spells}

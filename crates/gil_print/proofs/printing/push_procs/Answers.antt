@@ -1,5 +1,5 @@
 use Rattle.std.proofs.Common.{◌<◌, length, arith}
-use Rattle.gil_program.specs.Program.{prog_view}
+use Rattle.gil_syntax.specs.Program.{prog_view}
 use Rattle.syntax_print.specs.Programs.{printed_proc}
 use Rattle.gil_print.proofs.Adding.{one_added}
 use Rattle.gil_print.proofs.printing.push_procs.Goals as goal

@@ -1,6 +1,6 @@
 use Rattle.std.proofs.Common.{◌≡◌, ◌++◌, take, string_bytes}
 use Rattle.std.specs.List.{flat_map}
-use Rattle.gil_program.specs.Program.{prog_view}
+use Rattle.gil_syntax.specs.Program.{prog_view}
 use Rattle.syntax_print.specs.Programs.{printed_proc}
 use Rattle.gil_print.proofs.printing.push_procs.Given as goal
 

@@ -1,5 +1,5 @@
 use Rattle.std.proofs.Common.{List, map, sym, subst}
-use Rattle.gil_program.specs.Program.{prog_view}
+use Rattle.gil_syntax.specs.Program.{prog_view}
 use Rattle.gil_report.specs.View.{answer_view}
 use Rattle.gil_syntax.specs.Pure.{PureSpec}
 use Rattle.gillian_core.specs.Checked.{CanEachBeTold, ReportsEach}

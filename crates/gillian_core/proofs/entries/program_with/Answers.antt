@@ -1,5 +1,5 @@
 use Rattle.std.proofs.lemmas.Result.{err_from_is_err_and}
-use Rattle.gil_program.specs.Program.{prog_view}
+use Rattle.gil_syntax.specs.Program.{prog_view}
 use Rattle.gillian_core.specs.Accepted.{EntersAt}
 use Rattle.gillian_core.specs.Languages.{definition_of}
 use Rattle.gillian_core.proofs.Cases.{not_true}

@@ -1,4 +1,4 @@
-use Rattle.gil_program.specs.Program.{prog_view}
+use Rattle.gil_syntax.specs.Program.{prog_view}
 use Rattle.gillian_core.proofs.Refusing.{gil_program, gil_only, gil_unread}
 use Rattle.gillian_core.proofs.gil.program.Goals as goal
 

@@ -1,5 +1,5 @@
 use Rattle.std.proofs.Common.{map}
-use Rattle.gil_program.specs.Program.{prog_view}
+use Rattle.gil_syntax.specs.Program.{prog_view}
 use Rattle.gil_report.specs.View.{answer_view}
 use Rattle.gillian_core.specs.Definitions.{memory_of}
 use Rattle.gillian_core.proofs.Founds.{right_founds}

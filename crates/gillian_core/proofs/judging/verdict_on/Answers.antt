@@ -1,5 +1,5 @@
 use Rattle.std.proofs.lemmas.Result.{err_from_is_err_and}
-use Rattle.gil_program.specs.Program.{prog_view}
+use Rattle.gil_syntax.specs.Program.{prog_view}
 use Rattle.gillian_words.specs.Tasks.{test}
 use Rattle.gil_report.specs.View.{answer_view}
 use Rattle.gillian_core.proofs.Cases.{if_ok_known}

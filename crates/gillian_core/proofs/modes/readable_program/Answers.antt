@@ -1,7 +1,7 @@
 use Rattle.std.proofs.Common.{subst}
 use Rattle.std.proofs.lemmas.Result.{err_from_is_err_and}
 use Rattle.assert_logic.specs.Modes.{IsNamedModeFault}
-use Rattle.gil_program.specs.Program.{prog_view}
+use Rattle.gil_syntax.specs.Program.{prog_view}
 use Rattle.gillian_core.specs.Languages.{definition_of}
 use Rattle.gillian_core.proofs.Checked.{no_modes}
 use Rattle.gillian_core.proofs.Refusing.{lacks_modes, no_readable_of}

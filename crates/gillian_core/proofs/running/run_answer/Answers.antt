@@ -1,6 +1,6 @@
 -- An entry has no parameters, so its start is proper.
 use Rattle.std.proofs.Common.{[], sym, subst}
-use Rattle.gil_program.specs.Program.{prog_view}
+use Rattle.gil_syntax.specs.Program.{prog_view}
 use Rattle.gil_values.specs.View.{values_view}
 use Rattle.gil_machine.specs.Held.{held_run_of}
 use Rattle.gil_machine.specs.Run.{IsProperStart}

@@ -1,5 +1,5 @@
 use Rattle.std.proofs.Common.{subst, sym}
-use Rattle.gil_program.specs.Program.{prog_view}
+use Rattle.gil_syntax.specs.Program.{prog_view}
 use Rattle.sym_test.specs.View.{verdict_view}
 use Rattle.gillian_core.specs.Definitions.{memory_of}
 use Rattle.gillian_core.specs.Right.{IsRightVerdict}

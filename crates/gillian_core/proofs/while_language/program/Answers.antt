@@ -1,6 +1,6 @@
 use Rattle.std.proofs.Common.{sym}
 use Rattle.std.proofs.lemmas.Result.{err_from_is_err_and}
-use Rattle.gil_program.specs.Program.{prog_view}
+use Rattle.gil_syntax.specs.Program.{prog_view}
 use Rattle.while_compiler.specs.Source.{source_view}
 use Rattle.gillian_core.specs.WhileLanguage.{while_sources}
 use Rattle.gillian_core.proofs.Refusing.{one_compiled, source_unread, source_too_long}

@@ -1,6 +1,6 @@
 use Rattle.std.proofs.Common.{refl}
 use Rattle.std.proofs.lemmas.Result.{err_from_is_err_and}
-use Rattle.gil_program.specs.Program.{prog_view}
+use Rattle.gil_syntax.specs.Program.{prog_view}
 use Rattle.gillian_words.specs.Tasks.{infer}
 use Rattle.gillian_core.proofs.Cases.{if_ok_known}
 use Rattle.gillian_core.proofs.Refusing.{no_output_for_memory, refused_for}

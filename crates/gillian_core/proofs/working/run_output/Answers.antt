@@ -1,6 +1,6 @@
 use Rattle.std.proofs.Common.{refl, sym, subst}
 use Rattle.std.proofs.lemmas.Result.{err_from_is_err_and}
-use Rattle.gil_program.specs.Program.{prog_view}
+use Rattle.gil_syntax.specs.Program.{prog_view}
 use Rattle.gil_values.specs.View.{values_view}
 use Rattle.gillian_words.specs.Tasks.{run}
 use Rattle.gil_report.specs.View.{answer_view}

@@ -4,15 +4,15 @@ use Rattle.std.specs.Option.{option_map}
 use Rattle.pure_terms.specs.Meaning.{IsOver, IsUnsatisfiable}
 use Rattle.pure_terms.specs.Pure.{term_of, opening}
 use Rattle.pure_terms.specs.View.{atoms_view, term_view}
-use Rattle.sym_conditions.specs.Alternatives.{alternatives_view}
+use Rattle.sym_model.specs.Alternatives.{alternatives_view}
 use Rattle.sym_evaluation.specs.View.{store_view}
 use Rattle.sym_model.specs.Lists.{Each}
 use Rattle.sym_states.proofs.Values.{ok_to}
 use Rattle.sym_states.specs.View.{state_view}
 use Rattle.checked_paths.specs.View.{passed_view}
 use Rattle.checked_rows.specs.View.{doubt_view}
-use Rattle.remainders.specs.Differing.{IsOverIfAny}
-use Rattle.remainders.specs.View.{difference_view}
+use Rattle.invariant_rows.specs.Differing.{IsOverIfAny}
+use Rattle.invariant_rows.specs.View.{difference_view}
 use Rattle.invariant_rows.specs.Fitting.{DoubtsOne, NeverMet}
 use Rattle.invariant_rows.specs.Visiting.{DoubtsBefore, IsUndecidedThere, OfBefore}
 use Rattle.invariant_rows.proofs.AgainLaws.{doubts_before, all_before, none_left, undecided_before}

@@ -4,9 +4,9 @@ use Rattle.pure_terms.specs.declared.atoms.Atom.{Atom}
 use Rattle.pure_terms.specs.Meaning.{AreOver, IsOver, IsUnsatisfiable}
 use Rattle.pure_terms.specs.Pure.{opening, term_of}
 use Rattle.pure_terms.specs.View.{atom_view, atoms_view, term_view}
-use Rattle.sym_asking.proofs.Fragments.{each_over_all}
-use Rattle.sym_asking.specs.Asking.{IsRightly}
-use Rattle.sym_asking.specs.View.{satisfiability_view}
+use Rattle.sym_paths.proofs.AskedFragments.{each_over_all}
+use Rattle.sym_paths.specs.Asking.{IsRightly}
+use Rattle.sym_paths.specs.AskingView.{satisfiability_view}
 use Rattle.sym_model.proofs.ListLaws.{each_append}
 use Rattle.sym_states.specs.View.{state_view}
 use Rattle.invariant_rows.proofs.again.doubt_of_form.Goals as goal

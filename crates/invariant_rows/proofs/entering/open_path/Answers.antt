@@ -1,8 +1,8 @@
 use Rattle.std.proofs.Common.{rules, subst}
 use Rattle.std.specs.Option.{option_map}
 use Rattle.sym_evaluation.specs.View.{store_view}
-use Rattle.sym_naming.specs.Naming.{NamesAll}
-use Rattle.sym_naming.specs.View.{named_view}
+use Rattle.sym_states.specs.Naming.{NamesAll}
+use Rattle.sym_states.specs.NamingView.{named_view}
 use Rattle.invariant_rows.proofs.entering.open_path.Goals as goal
 
 pub returns-in-None : goal.returns-in-None

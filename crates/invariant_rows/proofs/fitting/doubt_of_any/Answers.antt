@@ -3,7 +3,7 @@ use Rattle.gil_values.proofs.Lists.{slice_get-read}
 use Rattle.pure_terms.specs.Meaning.{IsOver}
 use Rattle.pure_terms.specs.Pure.{term_of}
 use Rattle.pure_terms.specs.View.{atoms_view}
-use Rattle.sym_conditions.specs.Alternatives.{alternatives_view}
+use Rattle.sym_model.specs.Alternatives.{alternatives_view}
 use Rattle.sym_model.proofs.ListLaws.{each_at, one_at}
 use Rattle.sym_model.specs.Lists.{Each}
 use Rattle.checked_rows.specs.Doubts.{IsToldThere}

@@ -1,6 +1,6 @@
 use Rattle.std.proofs.Common.{take}
 use Rattle.pure_terms.specs.View.{atoms_view}
-use Rattle.sym_conditions.specs.Alternatives.{alternatives_view}
+use Rattle.sym_model.specs.Alternatives.{alternatives_view}
 use Rattle.invariant_rows.specs.Fitting.{NeverMet}
 use Rattle.invariant_rows.proofs.fitting.doubt_of_any.Given as goal
 

@@ -1,7 +1,7 @@
 use Rattle.std.proofs.Common.{◌≡◌, Some, IfNone, IfSome, sym, ap, ◌∙◌}
 use Rattle.std.specs.Option.{option_map}
 use Rattle.pure_terms.specs.View.{atoms_view, term_view}
-use Rattle.sym_conditions.specs.Alternatives.{alternatives_view}
+use Rattle.sym_model.specs.Alternatives.{alternatives_view}
 use Rattle.sym_evaluation.specs.Pure.{term_at}
 use Rattle.sym_evaluation.specs.View.{store_view}
 use Rattle.sym_matching.specs.View.{test_view}

@@ -1,5 +1,5 @@
 use Rattle.std.proofs.Common.{◌≡◌, [], ◌++◌, false, refl, sym, ap, subst, ◌∙◌}
-use Rattle.gil_program.specs.Program.{prog_view}
+use Rattle.gil_syntax.specs.Program.{prog_view}
 use Rattle.gil_syntax.specs.Pure.{loop_invariant}
 use Rattle.gil_syntax.specs.View.{assertion_view}
 use Rattle.sym_engine.specs.Placed.{AreAtCommands}

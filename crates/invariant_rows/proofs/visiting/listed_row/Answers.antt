@@ -3,7 +3,7 @@ use Rattle.pure_terms.specs.Meaning.{IsOver}
 use Rattle.pure_terms.specs.View.{atoms_view}
 use Rattle.sym_evaluation.specs.View.{store_view}
 use Rattle.sym_paths.proofs.Moving.{running_each}
-use Rattle.gil_program.specs.Program.{prog_view}
+use Rattle.gil_syntax.specs.Program.{prog_view}
 use Rattle.gil_syntax.specs.Pure.{loop_invariant}
 use Rattle.gil_syntax.specs.View.{assertion_view}
 use Rattle.sym_states.proofs.Values.{ok_to}

@@ -4,7 +4,7 @@ use Rattle.sym_chunks.specs.ByPlace.{all_by_place}
 use Rattle.sym_chunks.specs.Cases.{case_of}
 use Rattle.sym_chunks.specs.Keys.{other_sub}
 use Rattle.sym_chunks.specs.View.{cases_view}
-use Rattle.sym_conditions.specs.Alternatives.{alternatives_view, both}
+use Rattle.sym_model.specs.Alternatives.{alternatives_view, both}
 use Rattle.sym_model.specs.View.{frag_view, sub_view}
 use Rattle.sym_chunks.proofs.Elements.{ok_to}
 use Rattle.object_sym.proofs.deleting.with_missing.Goals as goal

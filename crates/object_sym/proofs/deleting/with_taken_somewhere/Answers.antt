@@ -5,7 +5,7 @@ use Rattle.pure_terms.specs.View.{term_view}
 use Rattle.sym_chunks.specs.Cases.{case_of, true_term}
 use Rattle.sym_chunks.specs.Keys.{at_key}
 use Rattle.sym_chunks.specs.View.{cases_view}
-use Rattle.sym_conditions.specs.Alternatives.{alternatives_view, both}
+use Rattle.sym_model.specs.Alternatives.{alternatives_view, both}
 use Rattle.sym_model.specs.Pure.{done}
 use Rattle.sym_model.specs.View.{frag_view, sub_view, chunk_view}
 use Rattle.sym_chunks.proofs.Loops.{from_on}

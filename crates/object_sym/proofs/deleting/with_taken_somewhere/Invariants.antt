@@ -2,7 +2,7 @@ use Rattle.std.proofs.Common.{◌≡◌, ◌++◌, drop, map}
 use Rattle.object_sym.specs.Table.{taken_from}
 use Rattle.pure_terms.specs.View.{term_view}
 use Rattle.sym_chunks.specs.View.{cases_view}
-use Rattle.sym_conditions.specs.Alternatives.{alternatives_view}
+use Rattle.sym_model.specs.Alternatives.{alternatives_view}
 use Rattle.sym_model.specs.View.{frag_view, sub_view, chunk_view}
 use Rattle.object_sym.proofs.deleting.with_taken_somewhere.Given as goal
 

@@ -6,7 +6,7 @@ use Rattle.sym_chunks.specs.ByPlace.{all_by_place, any_at}
 use Rattle.sym_chunks.specs.Cases.{case_of}
 use Rattle.sym_chunks.specs.Keys.{same_sub}
 use Rattle.sym_chunks.specs.View.{cases_view}
-use Rattle.sym_conditions.specs.Alternatives.{both}
+use Rattle.sym_model.specs.Alternatives.{both}
 use Rattle.sym_model.specs.Pure.{done}
 use Rattle.sym_model.specs.View.{frag_view}
 use Rattle.sym_chunks.proofs.Elements.{ok_to}

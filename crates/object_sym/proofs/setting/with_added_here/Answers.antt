@@ -5,7 +5,7 @@ use Rattle.pure_terms.specs.View.{term_view, terms_view}
 use Rattle.sym_chunks.specs.Cases.{case_of}
 use Rattle.sym_chunks.specs.NameTerms.{unlisted}
 use Rattle.sym_chunks.specs.View.{cases_view}
-use Rattle.sym_conditions.specs.Alternatives.{both, same}
+use Rattle.sym_model.specs.Alternatives.{both, same}
 use Rattle.sym_model.specs.Pure.{done}
 use Rattle.sym_model.specs.View.{frag_view, sub_view}
 use Rattle.sym_chunks.proofs.Elements.{ok_to, of_elements, term_view-List}

@@ -5,7 +5,7 @@ use Rattle.object_sym.specs.Table.{is_prototype, is_no_prototype, prototype_case
 use Rattle.pure_terms.specs.View.{term_view}
 use Rattle.sym_chunks.specs.Cases.{branches_of, choose, failure}
 use Rattle.sym_chunks.specs.View.{cases_view}
-use Rattle.sym_conditions.specs.Alternatives.{both, of_kind, not_of_kind}
+use Rattle.sym_model.specs.Alternatives.{both, of_kind, not_of_kind}
 use Rattle.sym_model.specs.View.{frag_view}
 use Rattle.sym_chunks.proofs.Elements.{ok_to}
 use Rattle.object_sym.proofs.table.setproto_of.Goals as goal

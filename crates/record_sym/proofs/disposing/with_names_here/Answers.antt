@@ -4,7 +4,7 @@ use Rattle.pure_terms.specs.View.{term_view, terms_view}
 use Rattle.record_sym.specs.Table.{disposed_there}
 use Rattle.sym_chunks.specs.View.{cases_view}
 use Rattle.sym_chunks.specs.Walking.{way_of, walk}
-use Rattle.sym_conditions.specs.Alternatives.{same}
+use Rattle.sym_model.specs.Alternatives.{same}
 use Rattle.sym_model.specs.Pure.{named}
 use Rattle.sym_model.specs.View.{frag_view, sub_view}
 use Rattle.sym_chunks.proofs.Elements.{ok_to, of_elements, term_view-List}

@@ -1,6 +1,6 @@
 use Rattle.std.proofs.Common.{sym, ◌∙◌}
 use Rattle.pure_terms.specs.View.{term_view}
-use Rattle.sym_conditions.specs.Alternatives.{always}
+use Rattle.sym_model.specs.Alternatives.{always}
 use Rattle.record_sym.proofs.LiteralLaws.{surely_distinct}
 use Rattle.record_sym.proofs.making.distinct.Goals as goal
 

@@ -5,7 +5,7 @@ use Rattle.pure_terms.specs.View.{terms_view}
 use Rattle.record_sym.specs.Table.{faulty, created}
 use Rattle.sym_chunks.specs.Cases.{branches_of, failure}
 use Rattle.sym_chunks.specs.NameTerms.{distinct_from}
-use Rattle.sym_conditions.specs.Alternatives.{always}
+use Rattle.sym_model.specs.Alternatives.{always}
 use Rattle.sym_model.specs.Pure.{done}
 use Rattle.sym_model.specs.View.{frag_view}
 use Rattle.sym_chunks.proofs.Elements.{ok_to, of_elements}

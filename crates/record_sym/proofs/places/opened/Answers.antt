@@ -2,7 +2,7 @@ use Rattle.std.proofs.Common.{◌∙◌, ap}
 use Rattle.pure_terms.specs.View.{term_view}
 use Rattle.sym_chunks.specs.ByPlace.{all_by_place}
 use Rattle.sym_chunks.specs.Keys.{other_sub}
-use Rattle.sym_conditions.specs.Alternatives.{both}
+use Rattle.sym_model.specs.Alternatives.{both}
 use Rattle.sym_chunks.proofs.Elements.{ok_to}
 use Rattle.sym_model.specs.View.{chunks_view}
 use Rattle.record_sym.proofs.places.opened.Goals as goal

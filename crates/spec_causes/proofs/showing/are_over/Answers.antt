@@ -1,10 +1,10 @@
 use Rattle.std.proofs.Common.{[], ◌∷◌, map, take, sym, subst, ◌∙◌, arith}
 use Rattle.std.proofs.lemmas.List.{take_all}
-use Rattle.gil_program.proofs.NameLemmas.{map-take_read}
+use Rattle.gil_syntax.proofs.NameLemmas.{map-take_read}
 use Rattle.pure_terms.specs.Meaning.{IsOver}
 use Rattle.pure_terms.specs.Pure.{term_of}
 use Rattle.pure_terms.specs.View.{atom_view, atoms_view}
-use Rattle.sym_asking.proofs.Fragments.{each_over_all}
+use Rattle.sym_paths.proofs.AskedFragments.{each_over_all}
 use Rattle.sym_model.specs.Lists.{Each}
 use Rattle.sym_model.proofs.ListLaws.{each_append}
 use Rattle.spec_causes.proofs.showing.are_over.Goals as goal

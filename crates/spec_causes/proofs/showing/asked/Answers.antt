@@ -1,8 +1,8 @@
 use Rattle.std.proofs.Common.{sym, ap, subst}
 use Rattle.gil_values.specs.View.{values_view}
 use Rattle.pure_terms.specs.View.{atoms_view}
-use Rattle.sym_asking.specs.Asking.{IsRightly}
-use Rattle.sym_asking.specs.View.{satisfiability_view}
+use Rattle.sym_paths.specs.Asking.{IsRightly}
+use Rattle.sym_paths.specs.AskingView.{satisfiability_view}
 use Rattle.spec_causes.proofs.Shown.{told_met}
 use Rattle.spec_causes.proofs.showing.asked.Goals as goal
 

@@ -1,5 +1,5 @@
 use Rattle.std.proofs.lemmas.Result.{IfOk-weaker}
-use Rattle.gil_program.specs.Program.{prog_view}
+use Rattle.gil_syntax.specs.Program.{prog_view}
 use Rattle.spec_checker.proofs.Answered.{answered_each, answered_causes, answered_own, answered_surely, answers_hold}
 use Rattle.spec_checker.proofs.Deciding.{answers_decided, answers_settled}
 use Rattle.spec_checker.proofs.checking.check.Goals as goal

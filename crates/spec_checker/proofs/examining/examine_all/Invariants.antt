@@ -1,4 +1,4 @@
-use Rattle.gil_program.specs.Program.{prog_view}
+use Rattle.gil_syntax.specs.Program.{prog_view}
 use Rattle.spec_checker.proofs.Examined.{ExaminedUntil}
 use Rattle.spec_checker.proofs.examining.examine_all.Given as goal
 

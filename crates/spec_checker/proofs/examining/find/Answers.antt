@@ -1,6 +1,6 @@
 use Rattle.std.proofs.Common.{Option, IfSome, subst}
 use Rattle.std.specs.Option.{option_map}
-use Rattle.gil_program.specs.Program.{prog_view}
+use Rattle.gil_syntax.specs.Program.{prog_view}
 use Rattle.gil_syntax.specs.View.{spec_view}
 use Rattle.solver_proof.specs.declared.proofs.Proof.{Proof}
 use Rattle.solver_proof.specs.Refuting.{RefutesRightly}

@@ -2,8 +2,8 @@ use Rattle.std.proofs.Common.{inl, subst, sym}
 use Rattle.std.proofs.lemmas.Result.{IfOk-weaker}
 use Rattle.gil_values.specs.View.{values_view}
 use Rattle.pure_terms.specs.Meaning.{AreOver}
-use Rattle.sym_asking.specs.Asking.{IsRightly, IsSolution}
-use Rattle.sym_asking.specs.View.{satisfiability_view}
+use Rattle.sym_paths.specs.Asking.{IsRightly, IsSolution}
+use Rattle.sym_paths.specs.AskingView.{satisfiability_view}
 use Rattle.sym_beginning.specs.View.{start_view}
 use Rattle.sym_paths.specs.View.{path_view}
 use Rattle.checked_paths.specs.View.{next_view}

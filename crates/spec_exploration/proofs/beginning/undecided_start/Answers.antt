@@ -1,6 +1,6 @@
 use Rattle.std.proofs.Common.{◌≡◌, inr, true, false, sym, ap, ◌∙◌}
 use Rattle.std.proofs.lemmas.Result.{IfOk-weaker}
-use Rattle.sym_asking.proofs.Fragments.{open_seen}
+use Rattle.sym_paths.proofs.AskedFragments.{open_seen}
 use Rattle.sym_beginning.specs.View.{start_view}
 use Rattle.sym_model.specs.Meaning.{has_open}
 use Rattle.sym_paths.specs.View.{path_view}

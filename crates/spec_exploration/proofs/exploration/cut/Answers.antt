@@ -1,6 +1,6 @@
 use Rattle.std.proofs.Common.{sym, ap, ◌∙◌}
 use Rattle.std.specs.Option.{option_map}
-use Rattle.gil_program.specs.Program.{prog_view}
+use Rattle.gil_syntax.specs.Program.{prog_view}
 use Rattle.gil_syntax.specs.View.{numbered_command_view}
 use Rattle.checked_paths.specs.Causes.{bound}
 use Rattle.spec_exploration.proofs.exploration.cut.Goals as goal

@@ -1,6 +1,6 @@
 use Rattle.std.proofs.Common.{◌≡◌, [], ◌∷◌, ◌++◌, None, map, rules, refl, ap, subst, ◌∙◌}
 use Rattle.std.proofs.lemmas.List.{map-append}
-use Rattle.gil_program.specs.Program.{prog_view}
+use Rattle.gil_syntax.specs.Program.{prog_view}
 use Rattle.gil_syntax.specs.View.{spec_view}
 use Rattle.checked_paths.specs.Meaning.{MayGoOn}
 use Rattle.checked_paths.specs.View.{checking_view, entry_view, nexts_view}

@@ -1,4 +1,4 @@
-use Rattle.gil_program.specs.Program.{prog_view}
+use Rattle.gil_syntax.specs.Program.{prog_view}
 use Rattle.gil_syntax.specs.View.{spec_view}
 use Rattle.plain_specs.specs.Contained.{IsContained}
 use Rattle.sym_model.specs.Lists.{Each}

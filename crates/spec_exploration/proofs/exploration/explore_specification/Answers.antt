@@ -1,4 +1,4 @@
-use Rattle.gil_program.specs.Program.{prog_view}
+use Rattle.gil_syntax.specs.Program.{prog_view}
 use Rattle.gil_syntax.specs.View.{spec_view}
 use Rattle.sym_beginning.specs.View.{beginnings_view}
 use Rattle.addable_programs.proofs.AddableLaws.{programs_are_addable}

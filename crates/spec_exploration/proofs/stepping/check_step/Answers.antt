@@ -1,4 +1,4 @@
-use Rattle.gil_program.specs.Program.{prog_view}
+use Rattle.gil_syntax.specs.Program.{prog_view}
 use Rattle.gil_syntax.specs.View.{spec_view}
 use Rattle.checked_paths.proofs.Exact.{if_ok_both}
 use Rattle.checked_paths.specs.View.{checking_view, entry_view, nexts_view}

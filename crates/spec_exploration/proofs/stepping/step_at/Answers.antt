@@ -1,6 +1,6 @@
 use Rattle.std.proofs.Common.{IsTrue, refl, sym, ap, subst, ◌∙◌, true≢false}
 use Rattle.std.proofs.lemmas.Result.{IfOk-weaker}
-use Rattle.gil_program.specs.Program.{prog_view}
+use Rattle.gil_syntax.specs.Program.{prog_view}
 use Rattle.gil_syntax.specs.View.{command_view, exprs_view, numbered_command_view, spec_view}
 use Rattle.addable_programs.specs.Addable.{IsAddableCommand}
 use Rattle.addable_programs.proofs.AddableLaws.{programs_are_addable}

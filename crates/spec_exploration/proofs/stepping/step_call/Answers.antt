@@ -1,6 +1,6 @@
 use Rattle.std.proofs.Common.{refl}
 use Rattle.std.proofs.lemmas.Result.{IfOk-weaker}
-use Rattle.gil_program.specs.Program.{prog_view}
+use Rattle.gil_syntax.specs.Program.{prog_view}
 use Rattle.gil_syntax.specs.View.{numbered_command_view, spec_view}
 use Rattle.sym_paths.specs.View.{path_view}
 use Rattle.spec_exploration.proofs.Inside.{call_unspecified}

@@ -2,7 +2,7 @@ use Rattle.std.proofs.Common.{◌≡◌, ◌&&◌, sym, ap, ◌∙◌, rules, ar
 use Rattle.gil_syntax.specs.declared.expressions.Expr.{the_lemmas}
 use Rattle.gil_syntax.specs.Pure.{binary_of}
 use Rattle.gil_syntax.specs.View.{expr_view}
-use Rattle.gil_program.proofs.ExpressionLemmas.{element_read, node_count-element}
+use Rattle.gil_syntax.proofs.ExpressionLemmas.{element_read, node_count-element}
 use Rattle.assert_logic.specs.Names.{knows_all, is_other}
 use Rattle.assert_logic.proofs.LoopLemmas.{all_fails}
 use Rattle.assert_logic.proofs.NameLemmas.{list_known, pair_known}

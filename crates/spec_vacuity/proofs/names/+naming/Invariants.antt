@@ -1,7 +1,7 @@
 use Rattle.std.proofs.Common.{◌≡◌, ◌+◌, ◌*◌, map, take, true}
 use Rattle.std.specs.List.{list_all}
 use Rattle.gil_syntax.specs.View.{expr_view, exprs_view}
-use Rattle.gil_program.proofs.ExpressionLemmas.{node_count, nodes_count}
+use Rattle.gil_syntax.proofs.ExpressionLemmas.{node_count, nodes_count}
 use Rattle.assert_logic.specs.Names.{knows_all, is_other}
 use Rattle.spec_vacuity.proofs.names.+naming.Given as goal
 

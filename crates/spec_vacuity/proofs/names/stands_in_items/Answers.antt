@@ -1,7 +1,7 @@
 use Rattle.std.proofs.Common.{sym, ◌∙◌}
 use Rattle.gil_values.proofs.Lists.{slice_get-read}
 use Rattle.gil_syntax.specs.View.{item_view}
-use Rattle.gil_program.proofs.ExpressionLemmas.{list_any-element}
+use Rattle.gil_syntax.proofs.ExpressionLemmas.{list_any-element}
 use Rattle.assert_logic.specs.Names.{named_by_item}
 use Rattle.spec_vacuity.proofs.names.stands_in_items.Goals as goal
 

@@ -1,7 +1,7 @@
 use Rattle.std.proofs.Common.{◌≡◌, ◌+◌, drop, length, sym, ap, subst, arith, length-drop}
 use Rattle.std.proofs.lemmas.List.{length-map}
 use Rattle.std.proofs.lemmas.Result.{err_from_is_err_and}
-use Rattle.gil_program.proofs.ExpressionLemmas.{element_read, node_count-element}
+use Rattle.gil_syntax.proofs.ExpressionLemmas.{element_read, node_count-element}
 use Rattle.gil_syntax.specs.Pure.{from_list}
 use Rattle.gil_syntax.specs.View.{expr_view, exprs_view}
 use Rattle.pure_terms.specs.View.{term_view, terms_view}

@@ -1,6 +1,6 @@
 use Rattle.std.proofs.Common.{length, IfSome, sym, ap, subst, ◌∙◌}
 use Rattle.std.specs.Option.{option_map}
-use Rattle.gil_program.specs.Program.{prog_view}
+use Rattle.gil_syntax.specs.Program.{prog_view}
 use Rattle.gil_syntax.specs.Programs.{find_proc}
 use Rattle.gil_syntax.specs.Valid.{param_names}
 use Rattle.gil_syntax.specs.View.{proc_view, spec_view}

@@ -6,8 +6,8 @@ use Rattle.gil_syntax.specs.WellMade.{has_hash}
 use Rattle.assert_logic.specs.Modes.{is_variable_of}
 use Rattle.pure_terms.specs.View.{terms_view}
 use Rattle.sym_evaluation.specs.View.{store_view}
-use Rattle.sym_naming.specs.Naming.{IsNaming, NamesAll}
-use Rattle.sym_naming.specs.View.{named_view}
+use Rattle.sym_states.specs.Naming.{IsNaming, NamesAll}
+use Rattle.sym_states.specs.NamingView.{named_view}
 use Rattle.sym_beginning.specs.Entering.{AreTermsAt}
 use Rattle.sym_beginning.proofs.EntryLaws.{among_logical, ordered_among, no_params, no_variables, enters, named_from}
 use Rattle.sym_beginning.proofs.Plainness.{plain_entry}

@@ -1,6 +1,6 @@
 use Rattle.std.proofs.Common.{◌≡◌, drop, map}
 use Rattle.sym_chunks.specs.View.{case_view}
-use Rattle.sym_conditions.specs.Alternatives.{is_empty}
+use Rattle.sym_model.specs.Alternatives.{is_empty}
 use Rattle.std.specs.List.{list_any}
 use Rattle.sym_chunks.specs.Cases.{PureCase}
 use Rattle.sym_chunks.proofs.cases.has_sure_case.Given as goal

@@ -1,7 +1,7 @@
 use Rattle.std.proofs.Common.{sym, ap, ◌∙◌}
 use Rattle.std.specs.List.{list_any}
-use Rattle.sym_conditions.specs.Alternatives.{alternatives_view, is_empty}
-use Rattle.sym_conditions.proofs.Stepping.{found_empty}
+use Rattle.sym_model.specs.Alternatives.{alternatives_view, is_empty}
+use Rattle.sym_model.proofs.Stepping.{found_empty}
 use Rattle.sym_chunks.proofs.cases.is_sure.Goals as goal
 
 pub returns-then-len-eq0 : goal.returns-then-len-eq0

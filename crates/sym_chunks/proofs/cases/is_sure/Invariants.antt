@@ -1,5 +1,5 @@
 use Rattle.std.proofs.Common.{◌≡◌, take, false}
-use Rattle.sym_conditions.specs.Alternatives.{alternatives_view, is_empty}
+use Rattle.sym_model.specs.Alternatives.{alternatives_view, is_empty}
 use Rattle.std.specs.List.{list_any}
 use Rattle.sym_chunks.proofs.cases.is_sure.Given as goal
 

@@ -1,6 +1,6 @@
 use Rattle.std.proofs.Common.{◌≡◌, ◌++◌}
 use Rattle.sym_chunks.specs.View.{cases_view, chunk_branches_view}
-use Rattle.sym_conditions.specs.Alternatives.{alternatives_view}
+use Rattle.sym_model.specs.Alternatives.{alternatives_view}
 use Rattle.std.specs.List.{flat_map}
 use Rattle.sym_chunks.specs.Cases.{case_branches}
 use Rattle.sym_chunks.proofs.cases.with_each.Given as goal

@@ -1,7 +1,7 @@
 use Rattle.std.proofs.Common.{◌≡◌, ◌++◌, take, map}
 use Rattle.sym_chunks.specs.Cases.{branch_with}
 use Rattle.sym_chunks.specs.View.{chunk_branches_view}
-use Rattle.sym_conditions.specs.Alternatives.{alternatives_view}
+use Rattle.sym_model.specs.Alternatives.{alternatives_view}
 use Rattle.sym_model.specs.View.{frag_view, result_view}
 use Rattle.sym_chunks.proofs.cases.with_each_alternative.Given as goal
 

@@ -1,6 +1,6 @@
 use Rattle.std.proofs.Common.{sym, ap, ◌∙◌}
 use Rattle.pure_terms.specs.View.{term_view}
-use Rattle.sym_conditions.specs.Alternatives.{both, same}
+use Rattle.sym_model.specs.Alternatives.{both, same}
 use Rattle.sym_chunks.proofs.Loops.{nothing_left, nothing}
 use Rattle.sym_chunks.proofs.keys.key_here.Goals as goal
 

@@ -1,5 +1,5 @@
 use Rattle.std.proofs.Common.{◌≡◌, drop, map}
-use Rattle.sym_conditions.specs.Alternatives.{alternatives_view}
+use Rattle.sym_model.specs.Alternatives.{alternatives_view}
 use Rattle.pure_terms.specs.View.{term_view}
 use Rattle.sym_chunks.specs.NameTerms.{distinct_from}
 use Rattle.sym_chunks.proofs.names.distinct_names.Given as goal

@@ -1,5 +1,5 @@
 use Rattle.std.proofs.Common.{◌≡◌, take, map}
-use Rattle.sym_conditions.specs.Alternatives.{alternatives_view, any, same}
+use Rattle.sym_model.specs.Alternatives.{alternatives_view, any, same}
 use Rattle.pure_terms.specs.View.{term_view}
 use Rattle.sym_chunks.proofs.names.equal_to_one.Given as goal
 

@@ -1,7 +1,7 @@
 use Rattle.std.proofs.Common.{sym, ap, ◌∙◌}
 use Rattle.pure_terms.specs.View.{term_view, terms_view}
 use Rattle.sym_chunks.specs.NameTerms.{listed}
-use Rattle.sym_conditions.specs.Alternatives.{any, same}
+use Rattle.sym_model.specs.Alternatives.{any, same}
 use Rattle.sym_chunks.proofs.Elements.{ok_to, of_elements, term_view-List}
 use Rattle.sym_chunks.proofs.names.listed.Goals as goal
 

@@ -2,7 +2,7 @@ use Rattle.std.proofs.Common.{sym, ap, ◌∙◌}
 use Rattle.sym_chunks.specs.NameTerms.{unheld_name, unheld}
 use Rattle.pure_terms.specs.View.{term_view, terms_view}
 use Rattle.sym_chunks.proofs.Elements.{ok_to, of_elements, term_view-List}
-use Rattle.sym_conditions.specs.Alternatives.{any}
+use Rattle.sym_model.specs.Alternatives.{any}
 use Rattle.sym_model.specs.View.{chunks_view}
 use Rattle.sym_chunks.proofs.names.unheld.Goals as goal
 

@@ -1,7 +1,7 @@
 use Rattle.std.proofs.Common.{sym, ap, ◌∙◌, map}
 use Rattle.pure_terms.specs.View.{term_view, terms_view}
 use Rattle.sym_chunks.specs.NameTerms.{unlisted}
-use Rattle.sym_conditions.specs.Alternatives.{all, all_from, other}
+use Rattle.sym_model.specs.Alternatives.{all, all_from, other}
 use Rattle.sym_chunks.proofs.Elements.{ok_to, of_elements, term_view-List}
 use Rattle.sym_chunks.proofs.names.unlisted.Goals as goal
 

@@ -1,8 +1,8 @@
 use Rattle.std.proofs.Common.{map, ap, ◌∙◌}
 use Rattle.pure_terms.specs.View.{term_view}
 use Rattle.sym_chunks.specs.ByPlace.{all_there, all_by_place}
-use Rattle.sym_conditions.specs.Alternatives.{alternatives_view, both}
-use Rattle.sym_conditions.proofs.Stepping.{all_step}
+use Rattle.sym_model.specs.Alternatives.{alternatives_view, both}
+use Rattle.sym_model.proofs.Stepping.{all_step}
 use Rattle.sym_model.specs.View.{chunk_view}
 use Rattle.sym_chunks.proofs.places.all_by_place.Goals as goal
 

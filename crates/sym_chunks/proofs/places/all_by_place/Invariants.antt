@@ -1,5 +1,5 @@
 use Rattle.std.proofs.Common.{◌≡◌, drop, map}
-use Rattle.sym_conditions.specs.Alternatives.{alternatives_view, all_from}
+use Rattle.sym_model.specs.Alternatives.{alternatives_view, all_from}
 use Rattle.pure_terms.specs.View.{term_view}
 use Rattle.sym_model.specs.View.{chunk_view}
 use Rattle.sym_chunks.specs.ByPlace.{all_there, all_by_place}

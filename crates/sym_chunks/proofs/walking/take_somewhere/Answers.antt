@@ -4,7 +4,7 @@ use Rattle.pure_terms.specs.View.{term_view}
 use Rattle.sym_chunks.specs.Keys.{at_key}
 use Rattle.sym_chunks.specs.View.{way_view, ways_view}
 use Rattle.sym_chunks.specs.Walking.{way_of, ways_from}
-use Rattle.sym_conditions.specs.Alternatives.{both}
+use Rattle.sym_model.specs.Alternatives.{both}
 use Rattle.sym_model.specs.View.{frag_view, chunk_view, sub_view}
 use Rattle.sym_chunks.proofs.Loops.{from_on}
 use Rattle.sym_chunks.proofs.walking.take_somewhere.Goals as goal

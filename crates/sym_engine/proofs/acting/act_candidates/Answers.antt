@@ -26,7 +26,7 @@ use Rattle.sym_model.specs.View.{branches_view}
 use Rattle.sym_paths.specs.Settling.{Candidate}
 use Rattle.sym_paths.proofs.Moving.{running_each}
 use Rattle.sym_paths.specs.View.{path_view}
-use Rattle.sym_candidates.specs.Acting.{fresh_where, ActsAsEach, Acts, ActsByForms}
+use Rattle.sym_paths.specs.Acting.{fresh_where, ActsAsEach, Acts, ActsByForms}
 
 pub returns-in-None-clause-lawful : goal.returns-in-None-clause-lawful
 returns-in-None-clause-lawful g c =

@@ -10,7 +10,7 @@ use Rattle.sym_model.specs.View.{branch_view, result_view}
 use Rattle.sym_paths.specs.Laws.{IsBound}
 use Rattle.sym_paths.specs.Moves.{advanced, running_store}
 use Rattle.sym_paths.specs.View.{path_view}
-use Rattle.sym_candidates.specs.Acting.{ActsTo}
+use Rattle.sym_paths.specs.Acting.{ActsTo}
 
 pub returns-in-Done : goal.returns-in-Done
 returns-in-Done g c =

@@ -9,7 +9,7 @@ use Rattle.sym_engine.proofs.acting.add_copies.Goals as goal
 use Rattle.sym_evaluation.specs.View.{good_view}
 use Rattle.sym_model.specs.View.{branch_view, branches_view, result_view}
 use Rattle.sym_paths.specs.View.{path_view}
-use Rattle.sym_candidates.specs.Acting.{ActsAsEach}
+use Rattle.sym_paths.specs.Acting.{ActsAsEach}
 
 pub loop-branch-init : goal.loop-branch-init
 loop-branch-init g c = record {

@@ -6,7 +6,7 @@ use Rattle.sym_evaluation.specs.View.{good_view}
 use Rattle.sym_model.specs.View.{branches_view}
 use Rattle.sym_paths.specs.Settling.{Candidate}
 use Rattle.sym_paths.specs.View.{path_view}
-use Rattle.sym_candidates.specs.Acting.{ActsAsEach}
+use Rattle.sym_paths.specs.Acting.{ActsAsEach}
 use Rattle.sym_engine.proofs.acting.add_copies.Given as goal
 
 abbrev pub invariant-loop-branch : goal.invariant-loop-branch

@@ -8,7 +8,7 @@ use Rattle.sym_engine.proofs.acting.add_each.Goals as goal
 use Rattle.sym_evaluation.specs.View.{good_view}
 use Rattle.sym_model.specs.View.{branch_view, branches_view}
 use Rattle.sym_paths.specs.View.{path_view}
-use Rattle.sym_candidates.specs.Acting.{ActsAsEach}
+use Rattle.sym_paths.specs.Acting.{ActsAsEach}
 
 pub returns-in-None : goal.returns-in-None
 returns-in-None g c =

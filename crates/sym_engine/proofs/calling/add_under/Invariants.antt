@@ -1,7 +1,7 @@
 use Rattle.std.proofs.Common.{◌≡◌, ◌++◌, map, take}
 use Rattle.pure_terms.specs.View.{atoms_view}
 use Rattle.sym_evaluation.specs.View.{faults_view}
-use Rattle.sym_candidates.specs.Calls.{fault_under}
+use Rattle.sym_paths.specs.Calls.{fault_under}
 use Rattle.sym_engine.proofs.calling.add_under.Given as goal
 
 abbrev pub invariant-loop-fault : goal.invariant-loop-fault

@@ -1,6 +1,6 @@
 use Rattle.std.proofs.Common.{◌∷◌, [], map, refl, ap, sym, subst, ◌∙◌}
 use Rattle.std.proofs.lemmas.List.{append-nil, map-append}
-use Rattle.gil_program.specs.Program.{prog_view}
+use Rattle.gil_syntax.specs.Program.{prog_view}
 use Rattle.gil_syntax.specs.Pure.{call as pure_call}
 use Rattle.gil_syntax.specs.View.{expr_view, exprs_view}
 use Rattle.gil_machine.specs.Step.{handler_label}
@@ -17,9 +17,9 @@ use Rattle.pure_terms.specs.View.{term_view}
 use Rattle.sym_evaluation.specs.View.{cases_view, all_cases_view, good_view}
 use Rattle.sym_paths.specs.Valued.{faulted}
 use Rattle.sym_paths.specs.View.{path_view}
-use Rattle.sym_candidates.specs.Calls.{Calls, CallsTerm}
-use Rattle.sym_candidates.specs.Cases.{AreResults}
-use Rattle.sym_candidates.specs.Copies.{AreCopied}
+use Rattle.sym_paths.specs.Calls.{Calls, CallsTerm}
+use Rattle.sym_paths.specs.Cases.{AreResults}
+use Rattle.sym_paths.specs.Copies.{AreCopied}
 
 pub returns-in_ok-push-in-Some-clause-lawful : goal.returns-in_ok-push-in-Some-clause-lawful
 returns-in_ok-push-in-Some-clause-lawful g c =

@@ -8,7 +8,7 @@ use Rattle.sym_engine.proofs.calling.enter.Goals as goal
 use Rattle.sym_evaluation.specs.Pure.{PureStore}
 use Rattle.sym_evaluation.specs.View.{good_view}
 use Rattle.sym_paths.specs.View.{frames_view, path_view}
-use Rattle.sym_candidates.specs.Calls.{IsFirstStore, waiting, called_frame, entering}
+use Rattle.sym_paths.specs.Calls.{IsFirstStore, waiting, called_frame, entering}
 
 pub returns : goal.returns
 returns g c =

@@ -9,7 +9,7 @@ use Rattle.sym_evaluation.specs.Questions.{AllComeFrom, NameNoOthers, AreEachOve
 use Rattle.sym_evaluation.specs.View.{store_view, all_cases_view}
 use Rattle.sym_paths.specs.Moves.{running_store}
 use Rattle.sym_paths.specs.View.{frames_view}
-use Rattle.sym_candidates.specs.Cases.{AreEvaluated}
+use Rattle.sym_paths.specs.Cases.{AreEvaluated}
 
 pub returns-clause-evaluated : goal.returns-clause-evaluated
 returns-clause-evaluated c =

@@ -2,7 +2,7 @@ use Rattle.std.proofs.Common.{map, None, ap, subst}
 use Rattle.pure_terms.specs.View.{term_view}
 use Rattle.sym_engine.proofs.calling.first_frame.Goals as goal
 use Rattle.sym_evaluation.specs.View.{store_view}
-use Rattle.sym_candidates.specs.Calls.{IsFirstStore}
+use Rattle.sym_paths.specs.Calls.{IsFirstStore}
 
 pub returns : goal.returns
 returns c =

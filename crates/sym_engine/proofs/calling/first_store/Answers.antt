@@ -6,7 +6,7 @@ use Rattle.sym_engine.proofs.Arguments.{first_more}
 use Rattle.sym_engine.proofs.calling.first_store.Goals as goal
 use Rattle.sym_evaluation.specs.View.{store_view}
 use Rattle.sym_paths.specs.Laws.{IsBound}
-use Rattle.sym_candidates.specs.Calls.{IsFirstStore}
+use Rattle.sym_paths.specs.Calls.{IsFirstStore}
 
 pub loop-place-preserved : goal.loop-place-preserved
 loop-place-preserved c =

@@ -11,8 +11,8 @@ use Rattle.sym_engine.proofs.guarded.add_false.Goals as goal
 use Rattle.sym_evaluation.specs.View.{good_view}
 use Rattle.sym_paths.specs.Moves.{advanced, running_store}
 use Rattle.sym_paths.specs.View.{path_view}
-use Rattle.sym_candidates.specs.Cases.{failing_with}
-use Rattle.sym_candidates.specs.Guards.{for_side, turning}
+use Rattle.sym_paths.specs.Cases.{failing_with}
+use Rattle.sym_paths.specs.Guards.{for_side, turning}
 
 pub returns-in-None-when_no_boolean : goal.returns-in-None-when_no_boolean
 returns-in-None-when_no_boolean g c =

@@ -7,7 +7,7 @@ use Rattle.sym_engine.proofs.Adding.{same_one, side_added, side_missing}
 use Rattle.sym_engine.proofs.guarded.add_no_boolean.Goals as goal
 use Rattle.sym_evaluation.specs.View.{good_view}
 use Rattle.sym_paths.specs.View.{path_view}
-use Rattle.sym_candidates.specs.Cases.{failing_with}
+use Rattle.sym_paths.specs.Cases.{failing_with}
 
 pub returns-in_ok-push-in-Some : goal.returns-in_ok-push-in-Some
 returns-in_ok-push-in-Some g c =

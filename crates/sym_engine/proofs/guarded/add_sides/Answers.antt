@@ -9,8 +9,8 @@ use Rattle.sym_engine.proofs.guarded.add_sides.Goals as goal
 use Rattle.sym_evaluation.specs.View.{good_view, sides_view}
 use Rattle.sym_paths.specs.Moves.{advanced, running_store}
 use Rattle.sym_paths.specs.View.{path_view}
-use Rattle.sym_candidates.specs.Cases.{failing_with}
-use Rattle.sym_candidates.specs.Guards.{at_label, for_side, turning, turns}
+use Rattle.sym_paths.specs.Cases.{failing_with}
+use Rattle.sym_paths.specs.Guards.{at_label, for_side, turning, turns}
 
 pub returns-in-None : goal.returns-in-None
 returns-in-None g c =

@@ -20,7 +20,7 @@ use Rattle.sym_evaluation.specs.View.{cases_view, faults_view, good_view, sides_
 use Rattle.sym_paths.specs.Moves.{running_store}
 use Rattle.sym_paths.specs.Valued.{IsEvaluated}
 use Rattle.sym_paths.specs.View.{path_view}
-use Rattle.sym_candidates.specs.Guards.{IsGuardEvaluated, Turns, turns}
+use Rattle.sym_paths.specs.Guards.{IsGuardEvaluated, Turns, turns}
 
 pub returns-in-None-clause-lawful : goal.returns-in-None-clause-lawful
 returns-in-None-clause-lawful g c =

@@ -1,5 +1,5 @@
 use Rattle.std.proofs.Common.{◌≡◌, length}
-use Rattle.sym_candidates.specs.Throws.{handling}
+use Rattle.sym_paths.specs.Throws.{handling}
 use Rattle.sym_engine.proofs.throwing.take_catcher.Given as goal
 use Rattle.sym_paths.specs.View.{frames_view}
 

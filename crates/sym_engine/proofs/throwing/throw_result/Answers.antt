@@ -1,8 +1,8 @@
 use Rattle.pure_terms.specs.View.{term_view}
 use Rattle.sym_evaluation.specs.View.{good_view}
 use Rattle.sym_paths.specs.View.{frame_view, frames_view, path_view}
-use Rattle.sym_candidates.specs.Throws.{Throws}
-use Rattle.sym_candidates.specs.Returns.{Resumes, resuming}
+use Rattle.sym_paths.specs.Throws.{Throws}
+use Rattle.sym_paths.specs.Returns.{Resumes, resuming}
 use Rattle.sym_paths.specs.Pure.{PureFrame}
 use Rattle.std.proofs.Common.{◌≡◌, ◌∷◌, []}
 use Rattle.sym_engine.specs.View.{candidate_view}

@@ -1,13 +1,13 @@
 use Rattle.std.proofs.Common.{◌∷◌, ◌++◌, [], map, take, ap, sym, subst, ◌∙◌}
 use Rattle.std.proofs.lemmas.List.{map-append}
-use Rattle.gil_program.proofs.NameLemmas.{map-take_read}
+use Rattle.gil_syntax.proofs.NameLemmas.{map-take_read}
 use Rattle.sym_engine.specs.View.{candidate_view, candidates_view}
 use Rattle.sym_engine.proofs.Copied.{copied_more, faulted_copied}
 use Rattle.sym_engine.proofs.valued.fail_each.Goals as goal
 use Rattle.sym_evaluation.specs.View.{fault_case_view, faults_view}
 use Rattle.sym_paths.specs.Valued.{faulted, failing}
 use Rattle.sym_paths.specs.View.{path_view}
-use Rattle.sym_candidates.specs.Copies.{AreCopied, IsCopied}
+use Rattle.sym_paths.specs.Copies.{AreCopied, IsCopied}
 
 pub loop-fault-preserved : goal.loop-fault-preserved
 loop-fault-preserved g c =

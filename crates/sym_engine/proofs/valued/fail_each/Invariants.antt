@@ -3,7 +3,7 @@ use Rattle.sym_engine.specs.View.{candidates_view}
 use Rattle.sym_evaluation.specs.View.{faults_view}
 use Rattle.sym_paths.specs.Valued.{faulted}
 use Rattle.sym_paths.specs.View.{path_view}
-use Rattle.sym_candidates.specs.Copies.{AreCopied}
+use Rattle.sym_paths.specs.Copies.{AreCopied}
 use Rattle.sym_engine.proofs.valued.fail_each.Given as goal
 
 abbrev pub invariant-loop-fault : goal.invariant-loop-fault

@@ -12,7 +12,7 @@ use Rattle.sym_engine.proofs.StayingNarrow.{return_narrow}
 use Rattle.sym_engine.proofs.valued.return_candidates.Goals as goal
 use Rattle.sym_evaluation.specs.View.{cases_view}
 use Rattle.sym_paths.specs.View.{path_view}
-use Rattle.sym_candidates.specs.Returns.{Returns}
+use Rattle.sym_paths.specs.Returns.{Returns}
 
 pub returns-in_ok-push-in-Some-clause-lawful : goal.returns-in_ok-push-in-Some-clause-lawful
 returns-in_ok-push-in-Some-clause-lawful g c =

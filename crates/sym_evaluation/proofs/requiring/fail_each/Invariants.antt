@@ -1,6 +1,6 @@
 use Rattle.std.proofs.Common.{◌≡◌, ◌++◌, take}
 use Rattle.pure_terms.specs.View.{atoms_view}
-use Rattle.sym_conditions.specs.Alternatives.{alternatives_view}
+use Rattle.sym_model.specs.Alternatives.{alternatives_view}
 use Rattle.sym_evaluation.specs.Checks.{failing}
 use Rattle.sym_evaluation.specs.View.{fault_view, faults_view}
 use Rattle.sym_evaluation.proofs.requiring.fail_each.Given as goal

@@ -3,7 +3,7 @@ use Rattle.std.proofs.lemmas.List.{map-append}
 use Rattle.gil_syntax.specs.View.{expr_view}
 use Rattle.pure_terms.specs.View.{term_view, atoms_view}
 use Rattle.std.specs.Option.{option_map}
-use Rattle.sym_conditions.specs.Alternatives.{Alternatives}
+use Rattle.sym_model.specs.Alternatives.{Alternatives}
 use Rattle.sym_evaluation.specs.View.{store_view}
 use Rattle.sym_states.proofs.Values.{ok_to}
 use Rattle.sym_matching.specs.Parts.{AddsOut}

@@ -2,7 +2,7 @@ use Rattle.std.proofs.Common.{◌≡◌, List, [], ◌∷◌, ◌++◌, map, Opt
 use Rattle.std.specs.Option.{option_map}
 use Rattle.pure_terms.specs.declared.atoms.Atom.{Atom}
 use Rattle.pure_terms.specs.View.{atoms_view}
-use Rattle.sym_conditions.specs.Alternatives.{alternatives_view}
+use Rattle.sym_model.specs.Alternatives.{alternatives_view}
 use Rattle.sym_matching.specs.Splitting.{last_of}
 use Rattle.sym_matching.proofs.splits.last_of.Goals as goal
 

@@ -3,7 +3,7 @@ use Rattle.gil_values.specs.Equality.{same_value}
 use Rattle.gil_values.specs.Pure.{boolean}
 use Rattle.pure_terms.specs.View.{term_view, atoms_view}
 use Rattle.std.specs.Option.{option_map}
-use Rattle.sym_conditions.specs.Alternatives.{Alternatives}
+use Rattle.sym_model.specs.Alternatives.{Alternatives}
 use Rattle.sym_evaluation.specs.View.{sides_view}
 use Rattle.sym_matching.specs.Parts.{IsTestOf}
 use Rattle.sym_matching.specs.Pure.{PureTest}

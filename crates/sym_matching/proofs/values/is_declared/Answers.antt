@@ -1,7 +1,7 @@
 use Rattle.std.proofs.Common.{sym, ap, ◌∙◌}
 use Rattle.std.specs.Str.{bytes_eq}
 use Rattle.gil_syntax.specs.Valid.{param_names}
-use Rattle.gil_program.proofs.ExpressionLemmas.{list_any-element}
+use Rattle.gil_syntax.proofs.ExpressionLemmas.{list_any-element}
 use Rattle.sym_matching.proofs.Reading.{seen_at}
 use Rattle.sym_matching.proofs.values.is_declared.Goals as goal
 

@@ -1,5 +1,5 @@
 use Rattle.std.proofs.Common.{[], inl, inr, sym, ap, subst, ◌∙◌}
-use Rattle.gil_program.specs.Program.{prog_view}
+use Rattle.gil_syntax.specs.Program.{prog_view}
 use Rattle.gil_syntax.specs.Pure.{assign, call, act, ifgoto, return, fail, throw}
 use Rattle.gil_syntax.specs.Subexpressions.{exprs_of}
 use Rattle.gil_syntax.specs.View.{command_view, expr_view, exprs_view, numbered_command_view}

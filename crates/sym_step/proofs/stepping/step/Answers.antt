@@ -1,6 +1,6 @@
 use Rattle.std.proofs.Common.{IsTrue}
 use Rattle.std.proofs.lemmas.Result.{IfOk-weaker}
-use Rattle.gil_program.specs.Program.{prog_view}
+use Rattle.gil_syntax.specs.Program.{prog_view}
 use Rattle.gil_syntax.specs.Simple.{is_simple_command}
 use Rattle.sym_engine.specs.Narrow.{StaysNarrow}
 use Rattle.sym_paths.specs.Steps.{IsPlainPath, StaysWithin}

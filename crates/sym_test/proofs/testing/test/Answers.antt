@@ -1,9 +1,9 @@
 use Rattle.std.proofs.Common.{◌≡◌, [], ◌∷◌, ◌++◌, None, IfNone, sym, ap, subst, ◌∙◌}
 use Rattle.std.specs.Option.{option_map}
 use Rattle.gil_values.specs.View.{value_view, values_view}
-use Rattle.gil_program.specs.Program.{prog_view}
-use Rattle.sym_explore.specs.Exploring.{MayGoOn, KeepTrails, KeepAccounts, or_none}
-use Rattle.sym_explore.specs.View.{paths_left}
+use Rattle.gil_syntax.specs.Program.{prog_view}
+use Rattle.sym_step.specs.Exploring.{MayGoOn, KeepTrails, KeepAccounts, or_none}
+use Rattle.sym_step.specs.ExplorationView.{paths_left}
 use Rattle.sym_paths.specs.View.{path_view}
 use Rattle.sym_test.specs.Judged.{Begins, judgement_view}
 use Rattle.sym_test.specs.Undecided.{IsRightVerdict}

@@ -1,6 +1,6 @@
 use Rattle.std.specs.Option.{option_map}
-use Rattle.gil_program.specs.Program.{prog_view}
-use Rattle.sym_explore.specs.View.{paths_left}
+use Rattle.gil_syntax.specs.Program.{prog_view}
+use Rattle.sym_step.specs.ExplorationView.{paths_left}
 use Rattle.sym_test.specs.View.{query_view}
 use Rattle.sym_test.proofs.UnderWay.{IsUnderWay}
 use Rattle.sym_test.proofs.testing.test.Given as goal

@@ -3,8 +3,8 @@ use Rattle.std.specs.Option.{option_map}
 use Rattle.gil_syntax.specs.View.{assertion_view}
 use Rattle.pure_terms.specs.View.{atoms_view}
 use Rattle.sym_evaluation.specs.View.{store_view}
-use Rattle.sym_naming.specs.Naming.{NamesAll}
-use Rattle.sym_naming.specs.View.{named_view}
+use Rattle.sym_states.specs.Naming.{NamesAll}
+use Rattle.sym_states.specs.NamingView.{named_view}
 use Rattle.sym_states.specs.View.{state_view, states_view}
 use Rattle.sym_unfolding.specs.Adding.{AddsItems}
 use Rattle.sym_unfolding.proofs.AddLaws.{ok_to, none_added, items_added}

@@ -1,6 +1,6 @@
 use Rattle.std.proofs.Common.{◌≡◌, ◌++◌, map, take}
 use Rattle.pure_terms.specs.View.{atoms_view}
-use Rattle.sym_conditions.specs.Alternatives.{alternatives_view}
+use Rattle.sym_model.specs.Alternatives.{alternatives_view}
 use Rattle.sym_unfolding.specs.Searching.{found_behind}
 use Rattle.sym_unfolding.specs.View.{found_view}
 use Rattle.sym_unfolding.proofs.searching.add_found.Given as goal

@@ -1,6 +1,6 @@
 use Rattle.std.proofs.Common.{take}
 use Rattle.std.specs.Option.{option_map}
-use Rattle.sym_conditions.specs.Alternatives.{alternatives_view}
+use Rattle.sym_model.specs.Alternatives.{alternatives_view}
 use Rattle.sym_model.specs.View.{path_view}
 use Rattle.sym_unfolding.specs.Answering.{ToldOfAll}
 use Rattle.sym_unfolding.specs.View.{told_view}

@@ -2,7 +2,7 @@ use Rattle.std.proofs.Common.{sym, subst}
 use Rattle.pure_terms.specs.Meaning.{IsOver}
 use Rattle.pure_terms.specs.Pure.{term_of}
 use Rattle.pure_terms.specs.View.{atoms_view}
-use Rattle.sym_asking.proofs.Fragments.{each_over_all}
+use Rattle.sym_paths.proofs.AskedFragments.{each_over_all}
 use Rattle.sym_model.specs.Lists.{Each}
 use Rattle.sym_model.specs.View.{path_view}
 use Rattle.sym_model.proofs.ListLaws.{each_append}

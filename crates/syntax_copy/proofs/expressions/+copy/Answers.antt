@@ -1,5 +1,5 @@
 use Rattle.std.proofs.Common.{arith}
-use Rattle.gil_program.proofs.ExpressionLemmas.{element_read, node_count-element}
+use Rattle.gil_syntax.proofs.ExpressionLemmas.{element_read, node_count-element}
 use Rattle.syntax_copy.proofs.expressions.+copy.Goals as goal
 
 pub copy_exprs-copy_expr-requires : goal.copy_exprs-copy_expr-requires

@@ -1,6 +1,6 @@
 use Rattle.std.proofs.Common.{◌≡◌, ◌+◌, ◌*◌, take, map}
 use Rattle.gil_syntax.specs.View.{expr_view, exprs_view}
-use Rattle.gil_program.proofs.ExpressionLemmas.{node_count, nodes_count}
+use Rattle.gil_syntax.proofs.ExpressionLemmas.{node_count, nodes_count}
 use Rattle.syntax_copy.proofs.expressions.+copy.Given as goal
 
 abbrev pub decreases-copy_expr : goal.decreases-copy_expr

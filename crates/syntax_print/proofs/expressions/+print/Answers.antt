@@ -3,7 +3,7 @@ use Rattle.std.specs.Prelude.{codes}
 use Rattle.gil_syntax.specs.declared.expressions.Expr.{the_lemmas}
 use Rattle.gil_syntax.specs.Pure.{list_of, unary_of, binary_of, from_list}
 use Rattle.gil_syntax.specs.View.{expr_view, exprs_view}
-use Rattle.gil_program.proofs.ExpressionLemmas.{element_read, node_count-element}
+use Rattle.gil_syntax.proofs.ExpressionLemmas.{element_read, node_count-element}
 use Rattle.gil_values.proofs.Joined.{pushed}
 use Rattle.syntax_print.specs.Expressions.{printed_expr}
 use Rattle.syntax_print.proofs.Forms.{list_added, unary_added, binary_added}

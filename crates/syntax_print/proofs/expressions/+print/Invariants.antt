@@ -2,7 +2,7 @@ use Rattle.std.proofs.Common.{◌≡◌, ◌+◌, ◌*◌, ◌++◌, take, strin
 use Rattle.std.specs.Prelude.{codes}
 use Rattle.std.specs.List.{join_by}
 use Rattle.gil_syntax.specs.View.{expr_view, exprs_view}
-use Rattle.gil_program.proofs.ExpressionLemmas.{node_count, nodes_count}
+use Rattle.gil_syntax.proofs.ExpressionLemmas.{node_count, nodes_count}
 use Rattle.syntax_print.specs.Expressions.{printed_expr}
 use Rattle.syntax_print.proofs.expressions.+print.Given as goal
 

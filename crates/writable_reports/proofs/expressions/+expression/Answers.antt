@@ -1,5 +1,5 @@
 use Rattle.std.proofs.Common.{arith}
-use Rattle.gil_program.proofs.ExpressionLemmas.{element_read, node_count-element}
+use Rattle.gil_syntax.proofs.ExpressionLemmas.{element_read, node_count-element}
 use Rattle.writable_reports.proofs.expressions.+expression.Goals as goal
 
 pub are_writable_exprs-is_writable_expr-requires : goal.are_writable_exprs-is_writable_expr-requires

@@ -1,5 +1,5 @@
 use Rattle.std.proofs.Common.{◌≡◌, ◌+◌, ◌*◌, drop, map}
-use Rattle.gil_program.proofs.ExpressionLemmas.{node_count, nodes_count}
+use Rattle.gil_syntax.proofs.ExpressionLemmas.{node_count, nodes_count}
 use Rattle.gil_syntax.specs.Pure.{from_list}
 use Rattle.gil_syntax.specs.View.{expr_view, exprs_view}
 use Rattle.writable_reports.specs.Tests.{are_writable_exprs}

@@ -8,7 +8,7 @@ use Rattle.gil_values.specs.Pure.{procedure, text}
 use Rattle.gil_values.specs.View.{value_view, values_view}
 use Rattle.gil_syntax.specs.Programs.{find_proc}
 use Rattle.gil_syntax.specs.View.{proc_view}
-use Rattle.gil_program.specs.Program.{prog_view}
+use Rattle.gil_syntax.specs.Program.{prog_view}
 use Rattle.gil_machine.specs.SlotNames.{name_at}
 use Rattle.gil_machine.specs.Standing.{place_of, Comes, slots_of}
 use Rattle.gil_machine.proofs.Outcomes.{enters, misses_arity, proc_seen, fails_here}

@@ -3,7 +3,7 @@ use Rattle.std.proofs.Common.{sym, ap, subst}
 use Rattle.std.proofs.lemmas.Result.{IfOk-weaker}
 use Rattle.gil_values.specs.View.{values_view}
 use Rattle.gil_machine.specs.ResolvedView.{resolved_command_view}
-use Rattle.gil_program.specs.Program.{prog_view}
+use Rattle.gil_syntax.specs.Program.{prog_view}
 use Rattle.gil_machine.specs.Standing.{Does, place_of, slots_of}
 use Rattle.gil_machine.proofs.control.Control.do_any_command.Goals as goal
 

@@ -3,7 +3,7 @@ use Rattle.std.proofs.Common.{None, subst}
 use Rattle.std.proofs.lemmas.Result.{IfOk-weaker}
 use Rattle.gil_values.specs.View.{value_view, values_view}
 use Rattle.gil_syntax.specs.Pure.{from_list}
-use Rattle.gil_program.specs.Program.{prog_view}
+use Rattle.gil_syntax.specs.Program.{prog_view}
 use Rattle.gil_machine.specs.ResolvedView.{resolved_view, resolved_list_view}
 use Rattle.gil_machine.specs.SlotNames.{name_at}
 use Rattle.gil_machine.specs.Held.{evaluate_held, evaluate_all_held}

@@ -3,7 +3,7 @@ use Rattle.std.proofs.Common.{None, sym, ap, subst}
 use Rattle.gil_values.specs.Pure.{boolean}
 use Rattle.gil_values.specs.View.{value_view, values_view}
 use Rattle.gil_syntax.specs.Pure.{assign, ifgoto}
-use Rattle.gil_program.specs.Program.{prog_view}
+use Rattle.gil_syntax.specs.Program.{prog_view}
 use Rattle.gil_machine.specs.Held.{evaluate_held}
 use Rattle.gil_machine.specs.ResolvedView.{resolved_command_view, resolved_view}
 use Rattle.gil_machine.specs.SlotNames.{name_at}

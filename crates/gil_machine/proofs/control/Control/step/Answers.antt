@@ -2,7 +2,7 @@
 use Rattle.std.proofs.Common.{◌≡◌, Some, sym, ap, ap₂, subst, ◌∙◌}
 use Rattle.std.specs.Option.{option_map}
 use Rattle.gil_syntax.specs.Programs.{find_proc}
-use Rattle.gil_program.specs.Program.{prog_view}
+use Rattle.gil_syntax.specs.Program.{prog_view}
 use Rattle.gil_machine.specs.ResolvedView.{resolved_numbered_view}
 use Rattle.gil_machine.specs.Standing.{slots_of}
 use Rattle.gil_machine.specs.Step.{command_of}

@@ -1,9 +1,9 @@
 use Rattle.std.proofs.Common.{◌≡◌, None, Some, map, sym, ap, ◌∙◌}
 use Rattle.std.specs.Option.{option_map, option_copied}
-use Rattle.gil_program.specs.Names.{place_of, first_place}
+use Rattle.gil_syntax.specs.Names.{place_of, first_place}
 use Rattle.gil_syntax.specs.Programs.{find_proc}
 use Rattle.gil_syntax.specs.View.{proc_view}
-use Rattle.gil_program.proofs.ByNameLemmas.{map-seen, not_found, found, found_proc}
+use Rattle.gil_syntax.proofs.ByNameLemmas.{map-seen, not_found, found, found_proc}
 use Rattle.gil_machine.specs.declared.resolved.ResolvedProc.{ResolvedProc}
 use Rattle.gil_machine.proofs.resolved.ResolvedProg.proc.Goals as goal
 

@@ -1,7 +1,7 @@
 use Rattle.std.proofs.Common.{◌≡◌, [], ◌∷◌, ◌++◌, cond, length, Some, sym, ap, subst, ◌∙◌, rules}
 use Rattle.std.specs.Str.{bytes_eq}
 use Rattle.std.proofs.lemmas.List.{length-map, map-append}
-use Rattle.gil_program.specs.Names.{place_of, first_place}
+use Rattle.gil_syntax.specs.Names.{place_of, first_place}
 use Rattle.gil_machine.specs.SlotNames.{IsTable, names_of}
 use Rattle.gil_machine.proofs.SlotLemmas.{key_of, table-push, places-push}
 use Rattle.gil_machine.proofs.slots.SlotNames.add.Goals as goal

@@ -1,6 +1,6 @@
 use Rattle.std.proofs.Common.{◌≡◌, Some, sym, ap, ◌∙◌}
 use Rattle.std.specs.Option.{option_copied}
-use Rattle.gil_program.specs.Names.{place_of, first_place}
+use Rattle.gil_syntax.specs.Names.{place_of, first_place}
 use Rattle.gil_machine.specs.SlotNames.{names_of}
 use Rattle.gil_machine.proofs.SlotLemmas.{place_found}
 use Rattle.gil_machine.proofs.slots.SlotNames.slot.Goals as goal

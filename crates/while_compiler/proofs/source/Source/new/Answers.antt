@@ -1,5 +1,5 @@
 use Rattle.std.proofs.Common.{subst}
-use Rattle.gil_program.specs.Uncounted.{IsValidButLength}
+use Rattle.gil_syntax.specs.Uncounted.{IsValidButLength}
 use Rattle.source_language.proofs.Validity.{source_is_valid}
 use Rattle.while_lang.specs.View.{source_parts_view}
 use Rattle.while_compiler.specs.Compiled.{compiled}

@@ -1,7 +1,0 @@
--- A program as its parts.
-use Rattle.gil_syntax.specs.Pure.{PureParts}
-use Rattle.gil_program.specs.declared.program.Prog.{Prog}
-use Rattle.gil_program.specs.Parts.{parts_seen}
-
-abbrev pub prog_view : Prog → PureParts
-prog_view p = parts_seen p.procs.entries p.specs p.preds

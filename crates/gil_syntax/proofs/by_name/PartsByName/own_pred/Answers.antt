@@ -1,0 +1,13 @@
+use Rattle.std.proofs.Common.{sym, ap, ◌∙◌}
+use Rattle.std.specs.Option.{option_map, option_copied}
+use Rattle.gil_syntax.specs.View.{pred_def_view}
+use Rattle.gil_syntax.proofs.ByNameLemmas.{not_found, found, found_pred}
+use Rattle.gil_syntax.proofs.by_name.PartsByName.own_pred.Goals as goal
+
+pub returns-in_err-place : goal.returns-in_err-place
+returns-in_err-place c = found_pred _ c.args.name.now _ (ap (option_map (λ d. pred_def_view d.now)) c.from_residual.ensures
+    ∙ sym (not_found (λ d. d.name) _ c.args.name.now (sym (ap (λ f. f c.args.name.now) c.requires.preds) ∙ sym c.get.ensures.value ∙ ap option_copied c.in_err-place.was)))
+
+pub returns : goal.returns
+returns c = found_pred _ c.args.name.now _ (found pred_def_view (λ d. d.name) c.args.self.now.parts.now.preds c.args.name.now c.in_ok-place.place.now c.get-2.result
+    (sym (ap (λ f. f c.args.name.now) c.requires.preds) ∙ sym c.get.ensures.value ∙ ap option_copied c.in_ok-place.was) c.get-2.ensures)

@@ -1,0 +1,26 @@
+use Rattle.std.proofs.Common.{[], ◌+◌, take, sym, subst}
+use Rattle.std.proofs.lemmas.List.{take_all}
+use Rattle.sym_model.specs.Alternatives.{alternatives_view}
+use Rattle.sym_evaluation.specs.View.{bindings_view, store_view}
+use Rattle.invariant_rows.specs.Differing.{TellsNames}
+use Rattle.invariant_rows.proofs.DifferenceLaws.{no_names, names_from}
+use Rattle.invariant_rows.proofs.differing.names_differ.Goals as goal
+
+pub loop-binding-init : goal.loop-binding-init
+loop-binding-init c =
+    let bs = store_view c.args.left.now in
+    let cs = store_view c.args.right.now in
+    subst (TellsNames bs cs []) (sym c.never-found.ensures) (no_names bs cs)
+
+pub loop-binding-preserved : goal.loop-binding-preserved
+loop-binding-preserved c =
+    let bs = store_view c.args.left.now in
+    let cs = store_view c.args.right.now in
+    subst (TellsNames bs cs (bindings_view (take (c.loop-binding.binding-index + 1) c.args.names.now))) (sym c.in_ok-found.ensures)
+    (names_from bs cs c.args.names.now c.loop-binding.binding-index c.binding-item.result (alternatives_view c.loop-binding.found) (alternatives_view c.in_ok-here.here) c.loop-binding-test.true c.binding-item.is c.loop-binding.invariant c.in_ok-here.ensures)
+
+pub returns : goal.returns
+returns c =
+    let bs = store_view c.args.left.now in
+    let cs = store_view c.args.right.now in
+    subst (λ names. TellsNames bs cs (bindings_view names) (alternatives_view c.loop-binding.found)) (take_all c.loop-binding.binding-index c.args.names.now c.loop-binding-test.false) c.loop-binding.invariant

@@ -1,4 +1,0 @@
-pub mod Reading
-pub mod Asking
-pub mod Valuing
-pub mod Answering

@@ -1,8 +1,0 @@
-use Rattle.std.proofs.Common.{drop}
-use Rattle.sym_conditions.specs.Alternatives.{alternatives_view}
-use Rattle.sym_states.specs.View.{facts_view}
-use Rattle.remainders.specs.Differing.{TellsFacts}
-use Rattle.remainders.proofs.differing.facts_differ.Given as goal
-
-abbrev pub invariant-loop-place : goal.invariant-loop-place
-invariant-loop-place l = TellsFacts (drop l.place (facts_view l.left)) (drop l.place (facts_view l.right)) (alternatives_view l.found)

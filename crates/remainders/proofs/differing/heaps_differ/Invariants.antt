@@ -1,8 +1,0 @@
-use Rattle.std.proofs.Common.{drop}
-use Rattle.sym_model.specs.View.{uses_view}
-use Rattle.remainders.specs.Differing.{TellsHeaps}
-use Rattle.remainders.specs.View.{difference_view}
-use Rattle.remainders.proofs.differing.heaps_differ.Given as goal
-
-abbrev pub invariant-loop-place : goal.invariant-loop-place
-invariant-loop-place l = TellsHeaps (drop l.place (uses_view l.left)) (drop l.place (uses_view l.right)) (difference_view l.found)

@@ -1,7 +1,0 @@
-use Rattle.pure_terms.specs.View.{terms_view}
-use Rattle.sym_matching.specs.View.{test_view}
-use Rattle.remainders.proofs.DifferenceLaws.{terms_tell}
-use Rattle.remainders.proofs.differing.values_differ.Goals as goal
-
-pub returns : goal.returns
-returns c = terms_tell (terms_view c.args.left.now) (terms_view c.args.right.now) (test_view c.in_ok-test.test) c.in_ok-test.ensures.says c.in_ok-test.ensures.names

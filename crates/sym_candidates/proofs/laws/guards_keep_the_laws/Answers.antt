@@ -1,5 +1,0 @@
-use Rattle.sym_candidates.proofs.Turning.{guards_keep_the_laws}
-use Rattle.sym_candidates.proofs.laws.guards_keep_the_laws.Goals as goal
-
-pub returns : goal.returns
-returns g c = guards_keep_the_laws g.M.SymMemory.stands g.M.SymMemory.terms

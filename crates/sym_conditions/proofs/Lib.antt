@@ -1,3 +1,0 @@
-pub mod Combined
-pub mod Stepping
-pub mod Telling

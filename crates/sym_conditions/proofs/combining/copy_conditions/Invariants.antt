@@ -1,6 +1,0 @@
-use Rattle.std.proofs.Common.{◌≡◌, ◌++◌, map, take, false}
-use Rattle.pure_terms.specs.View.{atoms_view}
-use Rattle.sym_conditions.proofs.combining.copy_conditions.Given as goal
-
-abbrev pub invariant-loop-condition : goal.invariant-loop-condition
-invariant-loop-condition l = atoms_view l.copied ≡ atoms_view (take l.condition-index l.condition-items)

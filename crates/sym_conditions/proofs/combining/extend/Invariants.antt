@@ -1,6 +1,0 @@
-use Rattle.std.proofs.Common.{◌≡◌, ◌++◌, map, take, false}
-use Rattle.sym_conditions.specs.Alternatives.{alternatives_view, both, is_empty}
-use Rattle.sym_conditions.proofs.combining.extend.Given as goal
-
-abbrev pub invariant-loop-conditions : goal.invariant-loop-conditions
-invariant-loop-conditions l = alternatives_view l.alternatives ≡ alternatives_view l.fn.first ++ alternatives_view (take l.conditions-index l.conditions-items)

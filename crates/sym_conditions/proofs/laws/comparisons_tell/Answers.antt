@@ -1,5 +1,0 @@
-use Rattle.sym_conditions.proofs.Telling.{same_tells, other_tells}
-use Rattle.sym_conditions.proofs.laws.comparisons_tell.Goals as goal
-
-pub returns : goal.returns
-returns c = record { equal = same_tells; different = other_tells }

@@ -1,3 +1,0 @@
-pub mod Alternatives
-pub mod Comparing
-pub mod Laws

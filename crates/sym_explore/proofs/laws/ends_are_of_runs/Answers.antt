@@ -1,5 +1,0 @@
-use Rattle.sym_explore.proofs.Kept.{ends_of_runs}
-use Rattle.sym_explore.proofs.laws.ends_are_of_runs.Goals as goal
-
-pub returns : goal.returns
-returns c = ends_of_runs

@@ -1,5 +1,0 @@
-use Rattle.sym_naming.proofs.AddedNames.{adding_reads_names}
-use Rattle.sym_naming.proofs.laws.adding_reads_names.Goals as goal
-
-pub returns : goal.returns
-returns c = adding_reads_names
