@@ -1,4 +1,4 @@
-//! Checked paths: what a path of the checker stands for, and what a step of one must do.
+//! Checked paths: what a path of the checker stands for, what a step of one must do, and the checked runs that follow its trail.
 #![tactic(auto)]
 
 mod checking;

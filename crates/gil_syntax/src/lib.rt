@@ -1,4 +1,4 @@
-//! The syntax of GIL programs: expressions, commands, assertions, procedures, specifications and predicates.
+//! GIL programs: their syntax, when parts are valid and well made, and the first fault of parts that are not.
 #![tactic(auto)]
 
 mod arities;

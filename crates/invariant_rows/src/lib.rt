@@ -1,4 +1,4 @@
-//! The row of `invariant`: what a checked path comes to where it reaches a loop, and where it reaches it again.
+//! The row of `invariant`: what a checked path comes to at a loop, and again, where what is left is compared with what was left before.
 #![tactic(auto)]
 
 mod adding;

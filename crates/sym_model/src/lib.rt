@@ -1,4 +1,4 @@
-//! Symbolic memories: their interface and laws, and lists of symbolic chunks.
+//! Symbolic memories: their interface and laws, lists of symbolic chunks, and conditions of branches as alternatives.
 #![tactic(auto)]
 
 mod branches;

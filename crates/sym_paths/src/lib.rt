@@ -1,4 +1,4 @@
-//! Paths of symbolic execution: what they stand for, and what a step of one must do.
+//! Paths of symbolic execution: what they stand for, what a step of one must do, its candidates, and asking a decider of conditions.
 #![tactic(auto)]
 
 mod asking;

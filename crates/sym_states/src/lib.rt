@@ -1,4 +1,4 @@
-//! Symbolic states with facts, and adding the items of an assertion to them.
+//! Symbolic states with facts, adding the items of an assertion to them, and new variables for names that have no term.
 #![tactic(auto)]
 
 mod adding;

@@ -1,4 +1,4 @@
-//! A step of a path of symbolic execution, over any memory and any decider: when one may be done, and the paths that come next.
+//! A step of a path of symbolic execution, over any memory and any decider, and exploration: steps until each path has an end.
 #![tactic(auto)]
 
 mod exploration;
