@@ -16,7 +16,7 @@ use Rattle.gil_values.proofs.OperatorSymbols.{none_contained}
 use Rattle.pure_terms.specs.declared.literals.Literal.{Literal}
 use Rattle.pure_terms.specs.declared.terms.Term.{Term}
 use Rattle.pure_terms.specs.declared.variables.Sort.{Sort}
-use Rattle.pure_terms.specs.Equality.{same_term}
+use Rattle.pure_terms.specs.Equality.{same_term, same_unary}
 use Rattle.pure_terms.specs.EqualityLaws.{same_term-same}
 use Rattle.pure_terms.specs.Folding.{element_term, term_or}
 use Rattle.pure_terms.specs.Fragment.{is_shift, is_variable_of, is_integer_literal, is_simple}
@@ -24,8 +24,13 @@ use Rattle.pure_terms.specs.Meaning.{both, value, values}
 use Rattle.pure_terms.specs.Pure.{PureTerm, literal, variable, list_of, unary_of, binary_of, PureTerms, no_terms, term_and, to_list, size, sizes, variables}
 use Rattle.pure_terms.specs.Rewriting.{NamesNoMore, Replaces}
 use Rattle.pure_terms.specs.View.{term_view}
-use Rattle.rewrite_book.specs.Answers.{Simplifies, AnswersWell}
-use Rattle.rewrite_book.specs.Forms.{number, left_of, other_of, of_operands, plus_zero, minus_zero, times_zero, times_one, not_not, neg_neg, same_equal, len_list, nth_list}
+use Rattle.rewrite_book.specs.Answers.{Simplifies, AnswersWell, AnswersNoTerm}
+use Rattle.rewrite_book.specs.declared.rules.Head.{Head}
+use Rattle.rewrite_book.specs.declared.shipped_rules.ShippedRule.{ShippedRule}
+use Rattle.rewrite_book.specs.declared.shipped_rules.ShippedRule.TheVariants.{PlusZero, MinusZero, TimesZero, TimesOne, NotNot, NegNeg, SameEqual, LenList, NthList}
+use Rattle.rewrite_book.specs.Heads.{is_headed}
+use Rattle.rewrite_book.specs.ShippedRules.{answer_of, head_of}
+use Rattle.rewrite_book.specs.Forms.{number, left_of, other_of, of_operands, of_twice, plus_zero, minus_zero, times_zero, times_one, not_not, neg_neg, same_equal, len_list, nth_list}
 use Rattle.rewrite_book.proofs.Congruence.{names-tests}
 
 -- an answer of this form answers well, where that form simplifies
@@ -325,3 +330,53 @@ element-simplifies ts i u replaces is =
 pub nth_list_simplifies : ((ts : PureTerms) (i : ℤ) → Replaces (nth_of ts i) (term_or (nth_of ts i) (element_term ts i))) → (t u : PureTerm) → nth_list t ≡ Some u → Simplifies t u
 nth_list_simplifies law (binary_of BinOp.Nth (list_of ts) (literal (Literal.Int i))) u is = element-simplifies ts i u (law ts i) is
 nth_list_simplifies law t u is = cc
+
+-- ---- terms with another head
+
+no_term : {X : Type 0} (x : X) → Some x ≡ None → ⊥
+no_term x is = cc
+
+-- an answer of this form is no term, where that form answers none
+pub answers_no_term : (t : Term) (r : Result (Option Term) AllocError) (form : PureTerm → Option PureTerm)
+    → form (term_view t) ≡ None → IfOk r (λ o. option_map term_view o ≡ form (term_view t)) → AnswersNoTerm r
+answers_no_term t (Ok (Some u)) form none is = absurd (no_term (term_view u) (is ∙ none))
+answers_no_term t (Ok None) form none is = refl
+answers_no_term t (Err e) form none is = tt
+
+operands-headed : (op : BinOp) (f : PureTerm → PureTerm → Option PureTerm) (t : PureTerm) → is_headed (Head.Op2 op) t ≡ false → of_operands op f t ≡ None
+operands-headed op f (binary_of other s t) not = ap (λ b. cond b (f s t) None) not
+operands-headed op f (literal l) not = refl
+operands-headed op f (variable x) not = refl
+operands-headed op f (list_of ts) not = refl
+operands-headed op f (unary_of other t) not = refl
+
+twice-headed : (op : UnOp) (t : PureTerm) → is_headed (Head.Op1 op) t ≡ false → of_twice op t ≡ None
+twice-headed op (unary_of outer (unary_of inner t)) not = ap (λ b. cond (b && same_unary op inner) (Some t) None) not
+twice-headed op (unary_of outer (literal l)) not = refl
+twice-headed op (unary_of outer (variable x)) not = refl
+twice-headed op (unary_of outer (list_of ts)) not = refl
+twice-headed op (unary_of outer (binary_of other s t)) not = refl
+twice-headed op (literal l) not = refl
+twice-headed op (variable x) not = refl
+twice-headed op (list_of ts) not = refl
+twice-headed op (binary_of other s t) not = refl
+
+len-headed : (t : PureTerm) → is_headed (Head.Op1 UnOp.Len) t ≡ false → len_list t ≡ None
+len-headed (unary_of UnOp.Len (list_of ts)) not = absurd (false≢true (sym not))
+len-headed t not = refl
+
+nth-headed : (t : PureTerm) → is_headed (Head.Op2 BinOp.Nth) t ≡ false → nth_list t ≡ None
+nth-headed (binary_of BinOp.Nth (list_of ts) (literal (Literal.Int i))) not = absurd (false≢true (sym not))
+nth-headed t not = refl
+
+-- a shipped rule answers no term that hasn't its head
+pub other_heads : (rule : ShippedRule) (t : PureTerm) → is_headed (head_of rule) t ≡ false → answer_of rule t ≡ None
+other_heads PlusZero t not = operands-headed BinOp.Add (other_of (pos 0)) t not
+other_heads MinusZero t not = operands-headed BinOp.Subtract (left_of (pos 0)) t not
+other_heads TimesZero t not = operands-headed BinOp.Multiply (λ s t. option_map (λ _. number (pos 0)) (other_of (pos 0) s t)) t not
+other_heads TimesOne t not = operands-headed BinOp.Multiply (other_of (pos 1)) t not
+other_heads NotNot t not = twice-headed UnOp.Not t not
+other_heads NegNeg t not = twice-headed UnOp.Neg t not
+other_heads SameEqual t not = operands-headed BinOp.Equal (λ s t. if same_term s t then Some (literal (Literal.Bool true)) else None) t not
+other_heads LenList t not = len-headed t not
+other_heads NthList t not = nth-headed t not

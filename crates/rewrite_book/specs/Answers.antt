@@ -1,7 +1,8 @@
 -- What the answers of a rule keep.
-use Rattle.std.specs.Prelude.{◌<◌, Option, Some, None, Result, Ok, Err, IfOk, IfSome, IsTrue}
+use Rattle.std.specs.Prelude.{◌<◌, Option, Some, None, Result, Ok, Err, IfOk, IfSome, IsNone, IsTrue, false, is_some}
 use Rattle.std.specs.declared.alloc.AllocError.{AllocError}
 use Rattle.std.specs.Coded.{Unit-prop}
+use mathlib.Core.Bool.{Bool-set}
 use Rattle.std.specs.List.{list_any}
 use Rattle.std.proofs.Props.{props}
 use Rattle.pure_terms.specs.declared.terms.Term.{Term}
@@ -34,3 +35,11 @@ pub AnswersWell-prop : (t : Term) (r : Result (Option Term) AllocError) → IsPr
 AnswersWell-prop t (Ok (Some u)) = Simplifies-prop (term_view t) (term_view u)
 AnswersWell-prop t (Ok None) = Unit-prop
 AnswersWell-prop t (Err e) = Unit-prop
+
+-- no term is answered
+abbrev pub AnswersNoTerm : Result (Option Term) AllocError → Type 0
+AnswersNoTerm r = IfOk r IsNone
+
+pub AnswersNoTerm-prop : (r : Result (Option Term) AllocError) → IsProp (AnswersNoTerm r)
+AnswersNoTerm-prop (Ok o) = Bool-set (is_some o) false
+AnswersNoTerm-prop (Err e) = Unit-prop

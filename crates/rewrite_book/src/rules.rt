@@ -1,8 +1,8 @@
 //! Rules: closures beside what is known of their answers.
-ghost use Rattle.std.specs.Prelude.{◌≡◌};
+ghost use Rattle.std.specs.Prelude.{◌≡◌, IsFalse};
 ghost use Rattle.std.specs.Coded.{Π_prop, →_prop};
 ghost use Rattle.pure_terms.specs.View.{term_view};
-ghost use Rattle.rewrite_book.specs.Answers.{AnswersWell, AnswersWell-prop};
+ghost use Rattle.rewrite_book.specs.Answers.{AnswersNoTerm, AnswersNoTerm-prop, AnswersWell, AnswersWell-prop};
 ghost use Rattle.rewrite_book.specs.Heads.{is_headed};
 
 use crate::operands::{are_same_binary, are_same_unary};
@@ -35,8 +35,8 @@ impl Head {
     }
 }
 
-/// A rule. Its closure may be called on every term, and each term that it answers may stand in the place of the one that
-/// it was asked of.
+/// A rule. Its closure may be called on every term, each term that it answers may stand in the place of the one that it was asked of,
+/// and it answers none on a term with another head.
 #[derive(Drop)]
 pub struct Rule {
     pub name: Text,
@@ -44,6 +44,7 @@ pub struct Rule {
     pub simplifier: Simplifier,
     pub ghost callable: { Simplifier.IsAlwaysCallable simplifier },
     pub ghost answers: { (a : _) (t : _) (r : _) → Simplifier.post simplifier a t r → AnswersWell t.now r } by { Π_prop (λ a. Π_prop (λ t. Π_prop (λ r. →_prop (AnswersWell-prop t.now r)))) },
+    pub ghost headed: { (a : _) (t : _) (r : _) → Simplifier.post simplifier a t r → IsFalse (is_headed head (term_view t.now)) → AnswersNoTerm r } by { Π_prop (λ a. Π_prop (λ t. Π_prop (λ r. →_prop (→_prop (AnswersNoTerm-prop r))))) },
 }
 
 impl Rule {
@@ -51,6 +52,7 @@ impl Rule {
     pub fn new(name: Text, head: Head, simplifier: Simplifier) -> Rule
         requires callable { Simplifier.IsAlwaysCallable simplifier }
         requires answers { (a : _) (t : _) (r : _) → Simplifier.post simplifier a t r → AnswersWell t.now r }
+        requires headed { (a : _) (t : _) (r : _) → Simplifier.post simplifier a t r → IsFalse (is_headed head (term_view t.now)) → AnswersNoTerm r }
         ensures name { result.name ≡ name }
         ensures head { result.head ≡ head }
         ensures simplifier { result.simplifier ≡ simplifier }

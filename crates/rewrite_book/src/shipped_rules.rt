@@ -1,9 +1,10 @@
 //! The shipped rules.
-ghost use Rattle.std.specs.Prelude.{◌≡◌, IfOk};
+ghost use Rattle.std.specs.Prelude.{◌≡◌, IfOk, IsFalse};
 ghost use Rattle.std.specs.Option.{option_map};
 ghost use Rattle.gil_values.specs.Characters.{IsText};
 ghost use Rattle.pure_terms.specs.View.{term_view};
-ghost use Rattle.rewrite_book.specs.Answers.{AnswersWell};
+ghost use Rattle.rewrite_book.specs.Answers.{AnswersNoTerm, AnswersWell};
+ghost use Rattle.rewrite_book.specs.Heads.{is_headed};
 
 use crate::booleans::{not_not, same_equal};
 use crate::lists::{len_list, nth_list};
@@ -97,6 +98,14 @@ impl ShippedRule {
 
     /// The term to put in a term's place, or None where the rule doesn't apply.
     pub fn answer(self, alloc: Global, t: &Term) -> Result<Option<Term>, AllocError>
+        ensures form { IfOk result (λ o. option_map term_view o ≡ answer_of self (term_view t.now)) }
+        ensures well { AnswersWell t.now result }
+        ensures headed { IsFalse (is_headed (head_of self) (term_view t.now)) → AnswersNoTerm result }
+    {
+        self.answer_by_form(alloc, t)
+    }
+
+    fn answer_by_form(self, alloc: Global, t: &Term) -> Result<Option<Term>, AllocError>
         ensures form { IfOk result (λ o. option_map term_view o ≡ answer_of self (term_view t.now)) }
         ensures well { AnswersWell t.now result }
     {

@@ -1,10 +1,10 @@
 //! Simplifying: the parts of a term first, then the term by the first rule that answers, until none does.
-ghost use Rattle.std.specs.Prelude.{◌≡◌, IfOk, IsNone, IsTrue, None, Ok};
+ghost use Rattle.std.specs.Prelude.{◌≡◌, IfOk, IsFalse, IsNone, IsTrue, None, Ok};
 ghost use Rattle.std.specs.List.{All, AllZip, Contains};
 ghost use Rattle.pure_terms.specs.Pure.{from_list, subterms, subterms_of_all};
 ghost use Rattle.pure_terms.specs.Rewriting.{Replaces};
 ghost use Rattle.pure_terms.specs.View.{term_view, terms_view};
-ghost use Rattle.rewrite_book.specs.Answers.{AnswersWell};
+ghost use Rattle.rewrite_book.specs.Answers.{AnswersNoTerm, AnswersWell};
 ghost use Rattle.rewrite_book.specs.Books.{rules_of};
 ghost use Rattle.rewrite_book.specs.Heads.{is_headed};
 ghost use Rattle.rewrite_book.specs.Nodes.{below};
@@ -53,11 +53,14 @@ fn answer_of(alloc: Global, rule: &Rule, term: &Term) -> Result<Option<Term>, Al
     }
 }
 
-/// Simplifies a term by a book. At each node of the answer, each rule with that node's head has answered None.
+/// Simplifies a term by a book. At each node of the answer, each rule with that node's head has answered None, and no other rule
+/// answers a term there.
 pub fn simplify(alloc: Global, book: &RuleBook, term: Term) -> Result<Term, AllocError>
     ensures replaces { IfOk result (λ u. Replaces (term_view term) (term_view u)) }
     ensures done { IfOk result (λ u. All (λ t. (rule : _) → Contains (rules_of book.now) rule → IsTrue (is_headed rule.head t)
         → (a : _) × (s : _) × (term_view s.now ≡ t) × Simplifier.post rule.simplifier a s (Ok None)) (subterms (term_view u))) }
+    ensures others { IfOk result (λ u. All (λ t. (rule : _) → Contains (rules_of book.now) rule → IsFalse (is_headed rule.head t)
+        → (a : _) (s : _) (r : _) → term_view s.now ≡ t → Simplifier.post rule.simplifier a s r → AnswersNoTerm r) (subterms (term_view u))) }
 {
     simplified(alloc, book, &term)
 }
