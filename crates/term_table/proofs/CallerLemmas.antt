@@ -1,5 +1,5 @@
 -- What callers of a table need of the numbers that they hold.
-use Rattle.std.proofs.Common.{◌≡◌, ℕ, ◌<◌, List, [], ◌∷◌, map, length, refl, subst}
+use Rattle.std.proofs.Common.{◌≡◌, ℕ, ◌<◌, List, [], ◌∷◌, map, length, refl, subst, ap, suc}
 use Rattle.std.proofs.lemmas.List.{length-map}
 use Rattle.std.proofs.lemmas.List.Elements.{All-nil, All-cons}
 use Rattle.std.proofs.lemmas.Option.{get_or_from_slice_get, slice_get_within}
@@ -8,7 +8,7 @@ use Rattle.pure_terms.specs.declared.terms.Term.{Term}
 use Rattle.pure_terms.specs.Pure.{PureTerm}
 use Rattle.pure_terms.specs.View.{term_view}
 use Rattle.term_table.specs.Nodes.{no_part}
-use Rattle.term_table.specs.Tables.{Keeps, Names, term_at, terms_of}
+use Rattle.term_table.specs.Tables.{Keeps, Names, NamesBelow, term_at, terms_of}
 
 -- a number that names a term has it at its place
 pub at_named : (ts : List PureTerm) (p : ℕ) (u : PureTerm) → Names ts p u → term_at ts p ≡ u
@@ -39,3 +39,10 @@ all_keep old ts [] [] keeps a = a
 all_keep old ts (p ∷ ps) (u ∷ us) keeps a = (keeps p u a.0, all_keep old ts ps us keeps a.1)
 all_keep old ts [] (u ∷ us) keeps a = absurd a
 all_keep old ts (p ∷ ps) [] keeps a = absurd a
+
+-- there are as many numbers of parts as parts
+pub parts_long : (ts : List PureTerm) (i : ℕ) (ps : List ℕ) (us : List PureTerm) → AllZip (NamesBelow ts i) ps us → length us ≡ length ps
+parts_long ts i [] [] a = refl
+parts_long ts i (p ∷ ps) (u ∷ us) a = ap suc (parts_long ts i ps us a.1)
+parts_long ts i [] (u ∷ us) a = absurd a
+parts_long ts i (p ∷ ps) [] a = absurd a
