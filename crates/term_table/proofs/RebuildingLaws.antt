@@ -9,11 +9,11 @@ use Rattle.gil_values.specs.declared.operators.BinOp.{BinOp}
 use Rattle.gil_values.specs.declared.operators.UnOp.{UnOp}
 use Rattle.pure_terms.proofs.Evaluated.{take-push}
 use Rattle.pure_terms.specs.declared.terms.Term.{Term}
-use Rattle.pure_terms.specs.Pure.{PureTerm, literal, variable, list_of, unary_of, binary_of, from_list, to_list}
+use Rattle.pure_terms.specs.Pure.{PureTerm, literal, variable, list_of, unary_of, binary_of, to_list}
 use Rattle.pure_terms.specs.View.{term_view}
 use Rattle.term_table.specs.declared.nodes.Root.{Root}
 use Rattle.term_table.specs.Nodes.{no_part, root_from}
-use Rattle.term_table.specs.Tables.{IsBuilt, Names, NamesBelow, parts_of, term_at, with_parts}
+use Rattle.term_table.specs.Tables.{IsBuilt, NamesBelow, parts_of, term_at, with_parts}
 
 -- a term that was read
 pub term_read : (ts : List Term) (i : ℕ) (t : Term) → i < length ts → t ≡ get_or ts i t → term_at (map term_view ts) i ≡ term_view t

@@ -1,13 +1,10 @@
 -- Nodes: what stands at the root of a term, and the numbers of its parts.
 use Rattle.std.specs.Prelude.{◌≡◌, ℕ, List, [], ◌∷◌, ◌++◌, map, Bool, true, refl}
 use Rattle.std.specs.Hash as fed
-use Rattle.std.proofs.Common.{ap, eqb}
+use Rattle.std.proofs.Common.{ap}
 use Rattle.std.proofs.lemmas.Bool.{and_parts, false≢true}
-use Rattle.std.proofs.lemmas.Bool.Decides.{Decides-eqb}
-use Rattle.gil_values.specs.declared.kinds.Kind.{Kind}
 use Rattle.pure_terms.specs.declared.literals.Literal.{Literal}
 use Rattle.pure_terms.specs.declared.variables.Sort.{Sort}
-use Rattle.pure_terms.specs.declared.variables.Var.{Var}
 use Rattle.pure_terms.specs.Equality.{same_term, same_terms}
 use Rattle.pure_terms.specs.EqualityLaws.{same_literal-same, same_variable-same}
 use Rattle.pure_terms.specs.Pure.{PureTerm, literal, variable, list_of, unary_of, binary_of, no_terms, term_and, from_list}
