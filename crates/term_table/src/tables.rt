@@ -82,7 +82,8 @@ impl TermTable {
         requires named { id < length self.old }
         requires parts_named { All (λ part. part < length self.old) parts.now }
         requires one_each { length parts.now ≡ length (to_list (parts_of (term_at (terms_of self.old) id))) }
-        ensures named { IfOk result (λ new. Names (terms_of self.new) new (with_parts (term_at (terms_of self.old) id) (map (term_at (terms_of self.old)) parts.now))) }
+        ensures named { IfOk result (λ new. Names (terms_of self.new) new
+            (with_parts (term_at (terms_of self.old) id) (map (term_at (terms_of self.old)) parts.now))) }
         ensures kept { Keeps (terms_of self.old) (terms_of self.new) }
     {
         put_rebuilt(alloc, &mut self.tables, id, parts)
