@@ -1,0 +1,4 @@
+pub mod CallerLemmas
+pub mod NodeLaws
+pub mod RebuildingLaws
+pub mod TableLaws
