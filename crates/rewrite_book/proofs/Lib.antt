@@ -1,3 +1,4 @@
 pub mod Congruence
+pub mod NormalForms
 pub mod OneMore
 pub mod Shipped

@@ -4,6 +4,7 @@
 mod book;
 mod booleans;
 mod lists;
+mod normals;
 mod numbers;
 mod operands;
 mod rules;
