@@ -1,7 +1,8 @@
 //! Symbolic chunks, and lists of them.
-ghost use Rattle.std.specs.Prelude.{◌≡◌, ◌<◌, [], ◌∷◌, ◌++◌, length, remove, slice_get, IfOk, OnOk, OnErr, Some};
+ghost use Rattle.std.specs.Prelude.{◌≡◌, ◌<◌, ◌↔◌, [], ◌∷◌, ◌++◌, length, remove, slice_get, IfOk, IsTrue, OnOk, OnErr, Some};
 ghost use Rattle.pure_terms.specs.View.{term_view};
 ghost use Rattle.sym_model.specs.Chunks.{with_held};
+ghost use Rattle.sym_model.specs.Pure.{PureChunk};
 ghost use Rattle.sym_model.specs.View.{chunk_view, chunks_view, frag_view};
 
 use crate::keys::SymSub;
@@ -64,6 +65,16 @@ impl SymFrag {
         ensures { chunks_view result.now ≡ frag_view self.now }
     {
         self.chunks.as_slice()
+    }
+
+    /// Whether the chunks at two places, counted from 0, are at one location, by its term. It takes no memory.
+    pub fn same_loc(&self, first: usize, second: usize) -> bool
+        requires first { first < length (frag_view self.now) }
+        requires second { second < length (frag_view self.now) }
+        ensures { (c d : PureChunk) → slice_get (frag_view self.now) first ≡ Some c → slice_get (frag_view self.now) second ≡ Some d
+            → IsTrue result ↔ (c.loc ≡ d.loc) }
+    {
+        self.chunks[first].loc == self.chunks[second].loc
     }
 
     /// Adds a chunk at the end.
