@@ -30,3 +30,9 @@ IsSolved vars atoms (Solved.Clash proof) = Closes vars atoms (proof_view proof)
 abbrev pub IsLinked : List PureAtom → PureTerm → PureTerm → Option PureProof → Type 0
 IsLinked atoms s t (Some proof) = Equates atoms s t × ((vars : List Sort) → Closes vars (atoms ++ negative (equals s t) ∷ []) proof)
 IsLinked atoms s t None = HaveFragmentForms atoms → Equates atoms s t → ⊥
+
+-- the second form is one of the first one's list with the atom appended, over the table; or a proof closes that list, and the
+-- form stays
+abbrev pub IsExtended : SolvedForm → List Sort → PureAtom → SolvedForm → Option PureProof → Type 0
+IsExtended old vars a new None = IsSolved vars (equalities old ++ a ∷ []) (Solved.Form new)
+IsExtended old vars a new (Some proof) = Closes vars (equalities old ++ a ∷ []) proof × (new ≡ old)

@@ -1,7 +1,7 @@
-//! Equalities that clash, and terms that others link, with memory to spare.
+//! Equalities that clash, terms that others link, and forms that grow, with memory to spare.
 use crate::reading::list;
 use equality_core::{Solved, equal};
-use pure_terms::Atom;
+use pure_terms::{Atom, Atoms, VarTable};
 use std::alloc::Global;
 use std::test::Fail;
 
@@ -33,5 +33,30 @@ fn equal_terms_are_linked(rt: HostRuntime) -> Result<(), Fail> {
         let found = is_linked(rt.alloc(), stated, sides.atoms.as_slice())?;
         assert!(rt; found == linked, "{stated}");
     }
+    Ok(())
+}
+
+#[test]
+fn forms_grow_until_they_clash(rt: HostRuntime) -> Result<(), Fail> {
+    let text = list(rt.alloc(), "(x = 1); (x = 2);")?;
+    let [one, two] = text.atoms.as_slice() else {
+        return Err("no equalities".into());
+    };
+    let Solved::Form(mut form) = equal(
+        rt.alloc(),
+        &VarTable::new(rt.alloc()),
+        &Atoms::new(rt.alloc()),
+    )?
+    else {
+        return Err("no form".into());
+    };
+    assert!(rt;
+        form.extend(rt.alloc(), &text.vars, one)?.is_none(),
+        "(x = 1)"
+    );
+    assert!(rt;
+        form.extend(rt.alloc(), &text.vars, two)?.is_some(),
+        "(x = 2)"
+    );
     Ok(())
 }
