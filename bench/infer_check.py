@@ -58,7 +58,7 @@ def rows():
     data = tomllib.loads((TOP / "crates/tests_rows/data/infer.toml").read_text())
     for case in data["case"]:
         words = [word for word in case["words"][3:] if word != "--json"]
-        name = words[words.index("--entry") + 1]
+        name = words[words.index("--entry") + 1] if "--entry" in words else "main"
         bound = words[words.index("--bound") :][:2] if "--bound" in words else []
         yield f"infer.toml: {case['name']}", case["words"][2], bound, plain(case["source"]), name
 
