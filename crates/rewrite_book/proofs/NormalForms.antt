@@ -258,7 +258,7 @@ pub parts_kept : (old table : List Term) (i id : ℕ) (ps : List ℕ) → Keeps 
 parts_kept old table i id ps keeps below parts =
     subst (λ t. AllZip (Names (terms_of table)) ps (to_list (parts_of t))) (sym (at_kept old table id keeps below))
     (all_keep (terms_of old) (terms_of table) ps (to_list (parts_of (term_at (terms_of old) id))) keeps
-        (names-only (terms_of old) i ps (to_list (parts_of (term_at (terms_of old) id))) parts))
+    (names-only (terms_of old) i ps (to_list (parts_of (term_at (terms_of old) id))) parts))
 
 pub rebuilt_form : (P : PureTerm → Type 0) (mid : List Term) (ts : List PureTerm) (id whole : ℕ) (ps ms : List ℕ) → id < length mid → Keeps (terms_of mid) ts
     → AllZip (IsForm P (terms_of mid)) ps ms → AllZip (Names (terms_of mid)) ps (to_list (parts_of (term_at (terms_of mid) id)))

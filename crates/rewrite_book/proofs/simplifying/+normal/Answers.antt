@@ -18,13 +18,19 @@ normal-normal_at_root-requires g t c κs within =
     let P = g.B.Asked.has_none c.args.book.now in
     let table = c.with_normal_parts.new.normals.table in
     let less : size (term_at (terms_of table) c.in_ok-whole.whole) ≤ size (term_at (terms_of c.args.normals.now.table) c.args.id)
-    = root_smaller P c.args.normals.now.table table c.args.id c.in_ok-whole.whole c.in_ok-whole.ensures.kept c.requires.named c.in_ok-whole.ensures.form in
-    (
+    = root_smaller P c.args.normals.now.table table c.args.id c.in_ok-whole.whole c.in_ok-whole.ensures.kept c.requires.named c.in_ok-whole.ensures.form in (
       omega (arith, less, c.decreases),
-      (within,
-      (c.in_ok-whole.ensures.known,
-      (named_below table c.in_ok-whole.whole c.in_ok-whole.ensures.form.form c.in_ok-whole.ensures.form.formed,
-      root_done P (terms_of table) c.args.id c.in_ok-whole.whole c.in_ok-whole.ensures.form))))
+      (
+        within,
+        (
+          c.in_ok-whole.ensures.known,
+          (
+            named_below table c.in_ok-whole.whole c.in_ok-whole.ensures.form.form c.in_ok-whole.ensures.form.formed,
+            root_done P (terms_of table) c.args.id c.in_ok-whole.whole c.in_ok-whole.ensures.form,
+          ),
+        ),
+      ),
+    )
 
 pub normal-returns-in_err-note-clause-known : goal.normal-returns-in_err-note-clause-known
 normal-returns-in_err-note-clause-known g t c =
@@ -58,12 +64,16 @@ normal_at_root-normal-requires g t c κs within =
     let here = term_view c.get.result.now in
     let simpler : Simplifies here (term_view c.in-Some.smaller) = subst (λ o. IfSome o (λ u. Simplifies here (term_view u))) c.in-Some.is c.in_ok-smaller.ensures.well in
     let less : size (term_at (terms_of c.put.new.self) c.in_ok-id-in-Some.id) < size (term_at (terms_of c.args.normals.now.table) c.args.whole)
-    = answer_smaller (terms_of c.args.normals.now.table) (terms_of c.put.new.self) c.args.whole c.in_ok-id-in-Some.id here (term_view c.in-Some.smaller) c.get.ensures c.in_ok-id-in-Some.ensures.named simpler in
-    (
+    = answer_smaller (terms_of c.args.normals.now.table) (terms_of c.put.new.self) c.args.whole c.in_ok-id-in-Some.id here (term_view c.in-Some.smaller) c.get.ensures c.in_ok-id-in-Some.ensures.named simpler in (
       omega (arith, less, c.decreases),
-      (within,
-      (forms-kept (g.B.Asked.has_none c.args.book.now) (terms_of c.args.normals.now.table) (terms_of c.put.new.self) c.args.normals.now.forms.items c.put.ensures.kept c.requires.known,
-      named_below c.put.new.self c.in_ok-id-in-Some.id (term_view c.in-Some.smaller) c.in_ok-id-in-Some.ensures.named)))
+      (
+        within,
+        (
+          forms-kept (g.B.Asked.has_none c.args.book.now) (terms_of c.args.normals.now.table) (terms_of c.put.new.self) c.args.normals.now.forms.items c.put.ensures.kept c.requires.known,
+          named_below c.put.new.self c.in_ok-id-in-Some.id (term_view c.in-Some.smaller) c.in_ok-id-in-Some.ensures.named,
+        ),
+      ),
+    )
 
 pub normal_at_root-returns-in_ok-id-in-Some-clause-form : goal.normal_at_root-returns-in_ok-id-in-Some-clause-form
 normal_at_root-returns-in_ok-id-in-Some-clause-form g t c =
@@ -86,12 +96,16 @@ normal_parts-normal-requires g t c κs within =
     let table = c.loop-part.normals.table in
     let below : c.loop-part.part-index < length c.args.parts.now = omega (arith, c.loop-part-test.true) in
     let less : size (term_at (terms_of table) c.part-item.result) ≤ sizes (from_list (map (term_at (terms_of old)) c.args.parts.now))
-    = part_smaller old table c.args.parts.now c.loop-part.part-index c.part-item.result c.loop-part.invariant.kept c.requires.named below c.part-item.is in
-    (
+    = part_smaller old table c.args.parts.now c.loop-part.part-index c.part-item.result c.loop-part.invariant.kept c.requires.named below c.part-item.is in (
       omega (arith, less, c.decreases),
-      (within,
-      (c.loop-part.invariant.known,
-      part_below old table c.args.parts.now c.loop-part.part-index c.part-item.result c.loop-part.invariant.kept c.requires.named below c.part-item.is)))
+      (
+        within,
+        (
+          c.loop-part.invariant.known,
+          part_below old table c.args.parts.now c.loop-part.part-index c.part-item.result c.loop-part.invariant.kept c.requires.named below c.part-item.is,
+        ),
+      ),
+    )
 
 pub normal_parts-loop-part-preserved : goal.normal_parts-loop-part-preserved
 normal_parts-loop-part-preserved g t c =
@@ -113,12 +127,16 @@ with_normal_parts-normal_parts-requires g t c κs within =
     let parts : AllZip (NamesBelow (terms_of old) c.args.id) c.as_slice.result.now (to_list (parts_of (term_at (terms_of old) c.args.id)))
     = subst (λ ps. AllZip (NamesBelow (terms_of old) c.args.id) ps (to_list (parts_of (term_at (terms_of old) c.args.id)))) (sym (c.as_slice.ensures.value ∙ c.in_ok-parts.ensures)) c.parts.ensures in
     let less : sizes (from_list (map (term_at (terms_of old)) c.as_slice.result.now)) < size (term_at (terms_of old) c.args.id)
-    = whole_smaller (terms_of old) c.args.id c.args.id c.as_slice.result.now parts in
-    (
+    = whole_smaller (terms_of old) c.args.id c.args.id c.as_slice.result.now parts in (
       omega (arith, less, c.decreases),
-      (within,
-      (c.requires.known,
-      all_below old c.as_slice.result.now (to_list (parts_of (term_at (terms_of old) c.args.id))) (names-only (terms_of old) c.args.id c.as_slice.result.now (to_list (parts_of (term_at (terms_of old) c.args.id))) parts))))
+      (
+        within,
+        (
+          c.requires.known,
+          all_below old c.as_slice.result.now (to_list (parts_of (term_at (terms_of old) c.args.id))) (names-only (terms_of old) c.args.id c.as_slice.result.now (to_list (parts_of (term_at (terms_of old) c.args.id))) parts),
+        ),
+      ),
+    )
 
 pub with_normal_parts-rebuilt-requires-clause-named : goal.with_normal_parts-rebuilt-requires-clause-named
 with_normal_parts-rebuilt-requires-clause-named g t c =
@@ -138,7 +156,7 @@ with_normal_parts-rebuilt-requires-clause-one_each g t c =
     = subst (λ ps. AllZip (NamesBelow (terms_of old) c.args.id) ps (to_list (parts_of (term_at (terms_of old) c.args.id)))) (sym (c.as_slice.ensures.value ∙ c.in_ok-parts.ensures)) c.parts.ensures in
     subst (λ ms. length ms ≡ length (to_list (parts_of (term_at (terms_of table) c.args.id)))) (sym c.as_slice-2.ensures.value)
     (as_many (g.B.Asked.has_none c.args.book.now) (terms_of table) c.as_slice.result.now c.in_ok-forms.forms.items (to_list (parts_of (term_at (terms_of table) c.args.id))) c.in_ok-forms.ensures.forms
-        (parts_kept old table c.args.id c.args.id c.as_slice.result.now c.in_ok-forms.ensures.kept c.requires.named parts))
+    (parts_kept old table c.args.id c.args.id c.as_slice.result.now c.in_ok-forms.ensures.kept c.requires.named parts))
 
 pub with_normal_parts-returns-clause-known : goal.with_normal_parts-returns-clause-known
 with_normal_parts-returns-clause-known g t c =
@@ -155,5 +173,5 @@ with_normal_parts-returns-clause-form g t c =
     let named = subst (λ ms. IfOk c.rebuilt.result (λ new. Names last new (with_parts (term_at (terms_of table) c.args.id) (map (term_at (terms_of table)) ms)))) c.as_slice-2.ensures.value c.rebuilt.ensures.named in
     if_ok c.rebuilt.result (λ new. Names last new (with_parts (term_at (terms_of table) c.args.id) (map (term_at (terms_of table)) c.in_ok-forms.forms.items))) (IsFormBelow P last c.args.id)
     (λ new h. rebuilt_form P table last c.args.id new c.as_slice.result.now c.in_ok-forms.forms.items (still_below old table c.args.id c.in_ok-forms.ensures.kept c.requires.named) c.rebuilt.ensures.kept
-        c.in_ok-forms.ensures.forms (parts_kept old table c.args.id c.args.id c.as_slice.result.now c.in_ok-forms.ensures.kept c.requires.named parts) h)
+    c.in_ok-forms.ensures.forms (parts_kept old table c.args.id c.args.id c.as_slice.result.now c.in_ok-forms.ensures.kept c.requires.named parts) h)
     named

@@ -17,8 +17,7 @@ returns c = λ first second at_first at_second.
     let one : first.loc ≡ s
     = ap (λ x. x.loc) (same_Some first (chunk_view c.index.result.now) (sym at_first ∙ slice_get-read chunk_view items c.args.first c.index.result.now one_below c.index.ensures)) in
     let other : second.loc ≡ t
-    = ap (λ x. x.loc) (same_Some second (chunk_view c.index-2.result.now) (sym at_second ∙ slice_get-read chunk_view items c.args.second c.index-2.result.now other_below c.index-2.ensures)) in
-    (
+    = ap (λ x. x.loc) (same_Some second (chunk_view c.index-2.result.now) (sym at_second ∙ slice_get-read chunk_view items c.args.second c.index-2.result.now other_below c.index-2.ensures)) in (
       λ is. one ∙ (same_term-same s t (sym c.eq.ensures ∙ is) ∙ sym other),
       λ same. c.eq.ensures ∙ (same_term-Decides s t).1 (sym one ∙ (same ∙ other)),
     )
