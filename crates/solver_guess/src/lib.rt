@@ -2,6 +2,7 @@
 //! fails nothing is said.
 #![tactic(auto)]
 
+mod comparing;
 mod facts;
 mod graphs;
 mod guessing;

@@ -5,6 +5,7 @@ ghost use Rattle.pure_terms.specs.Meaning.{truth, all_true};
 ghost use Rattle.pure_terms.specs.View.{atom_view, atoms_view};
 ghost use Rattle.solver_guess.specs.Guesses.{IsModel};
 
+use crate::comparing::is_true_comparison;
 use crate::proper::are_tame;
 use pure_terms::{Atom, Atoms, HoldsFault, Valuation, VarTable, holds};
 use std::alloc::{AllocError, Global};
@@ -13,6 +14,9 @@ use std::alloc::{AllocError, Global};
 fn is_true(alloc: Global, atom: &Atom, valuation: &Valuation) -> Result<bool, AllocError>
     ensures { IfOk result (λ b. IsTrue b → truth (values_view valuation.now) (atom_view atom.now) ≡ true) }
 {
+    if is_true_comparison(atom, valuation) {
+        return Ok(true);
+    }
     match holds(alloc, atom, valuation) {
         Ok(truth) => Ok(truth),
         Err(HoldsFault::Number) => Ok(false),
