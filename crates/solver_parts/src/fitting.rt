@@ -60,8 +60,21 @@ fn empty_text(alloc: Global) -> Result<Value, AllocError> {
     }
 }
 
-/// So many atoms before the new ones are gone over before the whole list is.
-const NEAR: usize = 32;
+/// The values themselves, if they satisfy a list.
+fn same_values(
+    alloc: Global,
+    vars: &VarTable,
+    atoms: &Atoms,
+    values: &Valuation,
+) -> Result<Option<Valuation>, AllocError>
+    ensures { IfOk result (λ found. IfSome found (λ v. IsModel vars.now (atoms_view atoms.now) (values_view v))) }
+{
+    if is_model(alloc, vars, atoms, values)? {
+        Ok(Some(values.copy(alloc)?))
+    } else {
+        Ok(None)
+    }
+}
 
 /// Values that satisfy a list and are near to these: the same, or some of them moved. These values are taken to satisfy so many first
 /// atoms, which aren't gone over to find those that they break.
@@ -76,8 +89,7 @@ pub fn near_values(
 {
     let broken = broken_since(alloc, atoms, values, held)?;
     if broken.len() == 0 {
-        let same = values.copy(alloc)?;
-        return tested(alloc, vars, atoms, same);
+        return same_values(alloc, vars, atoms, values);
     }
     for side in SIDES.as_slice() {
         let found = moved_values(alloc, vars, atoms, values, broken.as_slice(), *side)?;
@@ -89,7 +101,7 @@ pub fn near_values(
 }
 
 /// The places, from one on, of the atoms that values break.
-fn broken_since(
+pub(crate) fn broken_since(
     alloc: Global,
     atoms: &Atoms,
     values: &Valuation,
@@ -116,33 +128,9 @@ fn moved_values(
     ensures { IfOk result (λ found. IfSome found (λ v. IsModel vars.now (atoms_view atoms.now) (values_view v))) }
 {
     match moved(alloc, atoms, values, broken, side)? {
-        Some(found) => {
-            if breaks_near(alloc, atoms, &found, broken)? {
-                return Ok(None);
-            }
-            tested(alloc, vars, atoms, found)
-        }
+        Some(found) => tested(alloc, vars, atoms, found),
         None => Ok(None),
     }
-}
-
-/// Whether values break an atom from shortly before the first of these places on.
-fn breaks_near(
-    alloc: Global,
-    atoms: &Atoms,
-    values: &Valuation,
-    broken: &[usize],
-) -> Result<bool, AllocError> {
-    let first = match broken.get(0) {
-        Some(place) => place.saturating_sub(NEAR),
-        None => 0,
-    };
-    for place in first..atoms.len() {
-        if is_broken_at(alloc, atoms, values, place)? {
-            return Ok(true);
-        }
-    }
-    Ok(false)
 }
 
 /// The values, if they satisfy a list.

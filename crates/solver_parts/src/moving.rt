@@ -1,4 +1,7 @@
 //! Moving the numbers of values so that comparisons which they break hold. What is made here is only proposed.
+ghost use Rattle.std.specs.Prelude.{◌≤◌};
+ghost use Rattle.std.specs.Vec.{vec_len};
+
 use gil_values::{BinOp, Value};
 use pure_terms::{Atom, Atoms, HoldsFault, Literal, Sort, Term, Valuation, holds};
 use std::alloc::{AllocError, Global};
@@ -25,7 +28,78 @@ struct Comparison<'a> {
     more: i128,
 }
 
-/// The values with each comparison that they break mended once, where each of these could be. They stand at these places.
+/// The number that a variable has instead of its value.
+#[derive(Clone, Copy)]
+struct Move {
+    variable: usize,
+    number: i128,
+}
+
+/// Values of which some are moved.
+#[derive(Drop)]
+struct MovedValues<'a> {
+    values: &'a [Value],
+    /// In the order of the variables.
+    moves: Vec<Move>,
+}
+
+impl MovedValues<'_> {
+    /// How many moves are of variables with lower numbers.
+    fn moves_below(&self, variable: usize) -> usize
+        ensures { result ≤ vec_len self.now.moves }
+    {
+        for place in 0..self.moves.len() {
+            if variable <= self.moves[place].variable {
+                return place;
+            }
+        }
+        self.moves.len()
+    }
+
+    /// The number that a variable has.
+    fn number(&self, variable: usize) -> Option<i128> {
+        match self.moves.get(self.moves_below(variable)) {
+            Some(item) if item.variable == variable => Some(item.number),
+            _ => match self.values.get(variable) {
+                Some(Value::Int(number)) => Some(*number),
+                _ => None,
+            },
+        }
+    }
+
+    /// Gives a variable a number.
+    fn put(&mut self, variable: usize, number: i128) -> Result<(), AllocError> {
+        let place = self.moves_below(variable);
+        if place < self.moves.len() && self.moves[place].variable == variable {
+            self.moves[place].number = number;
+        } else {
+            self.moves.insert(place, Move { variable, number })?;
+        }
+        Ok(())
+    }
+
+    /// The values with the moved ones in their places.
+    fn all(&self, alloc: Global) -> Result<Valuation, AllocError> {
+        let mut all = Valuation::new(alloc);
+        let mut next: usize = 0;
+        for (variable, value) in self.values.iter().enumerate() {
+            match self.moves.get(next) {
+                Some(item) if item.variable == variable => {
+                    all.push(Value::Int(item.number))?;
+                    next = next.saturating_add(1);
+                }
+                _ => all.push(value.copy(alloc)?)?,
+            }
+        }
+        Ok(all)
+    }
+}
+
+/// So many atoms before the first that is mended are looked at before values are made.
+const NEAR: usize = 32;
+
+/// The values with each comparison that they break mended once, where each of these could be. They stand at these places. Where
+/// the moved numbers break a comparison near to these nothing is answered.
 pub(crate) fn moved(
     alloc: Global,
     atoms: &Atoms,
@@ -33,31 +107,73 @@ pub(crate) fn moved(
     broken: &[usize],
     side: Side,
 ) -> Result<Option<Valuation>, AllocError> {
-    let mut all: Vec<Value> = Vec::with_capacity(alloc, values.len())?;
-    for value in values.as_slice() {
-        all.push(value.copy(alloc)?)?;
-    }
+    let mut moved = MovedValues {
+        values: values.as_slice(),
+        moves: Vec::new(alloc),
+    };
     for place in broken {
-        if !move_at(atoms, *place, side, all.as_mut_slice()) {
+        if !move_at(atoms, *place, side, &mut moved)? {
             return Ok(None);
         }
     }
-    Ok(Some(valuation_of(alloc, all)?))
+    if breaks_near(atoms, &moved, broken) {
+        return Ok(None);
+    }
+    Ok(Some(moved.all(alloc)?))
 }
 
-fn move_at(atoms: &Atoms, place: usize, side: Side, values: &mut [Value]) -> bool {
+fn move_at(
+    atoms: &Atoms,
+    place: usize,
+    side: Side,
+    moved: &mut MovedValues<'_>,
+) -> Result<bool, AllocError> {
     match atoms.get(place) {
-        Some(atom) => move_atom(atom, side, values),
-        None => false,
+        Some(atom) => move_atom(atom, side, moved),
+        None => Ok(false),
     }
 }
 
-fn valuation_of(alloc: Global, all: Vec<Value>) -> Result<Valuation, AllocError> {
-    let mut values = Valuation::new(alloc);
-    for value in all {
-        values.push(value)?;
+/// Whether moved values break a comparison from shortly before the first of these places on.
+fn breaks_near(atoms: &Atoms, moved: &MovedValues<'_>, broken: &[usize]) -> bool {
+    let first = match broken.get(0) {
+        Some(place) => place.saturating_sub(NEAR),
+        None => 0,
+    };
+    for place in first..atoms.len() {
+        if let Some(atom) = atoms.get(place) {
+            if breaks(atom, moved) {
+                return true;
+            }
+        }
     }
-    Ok(values)
+    false
+}
+
+/// Whether an atom is a comparison of numbers that moved values break.
+fn breaks(atom: &Atom, moved: &MovedValues<'_>) -> bool {
+    match atom {
+        Atom::Holds(term) => compares(term, moved) == Some(false),
+        Atom::Not(term) => compares(term, moved) == Some(true),
+        Atom::Open(_) => false,
+    }
+}
+
+/// Whether a comparison of numbers holds.
+fn compares(term: &Term, moved: &MovedValues<'_>) -> Option<bool> {
+    match term {
+        Term::Op2(op, left, right) => {
+            let first = number_of(left, Some(moved))?;
+            let second = number_of(right, Some(moved))?;
+            match *op {
+                BinOp::LessOrEqual => Some(first <= second),
+                BinOp::Less => Some(first < second),
+                BinOp::Equal => Some(first == second),
+                _ => None,
+            }
+        }
+        _ => None,
+    }
 }
 
 /// Whether an atom isn't surely true under values.
@@ -83,10 +199,10 @@ pub(crate) fn is_broken_at(
 }
 
 /// Moves a number so that a comparison holds, if one can be moved.
-fn move_atom(atom: &Atom, side: Side, values: &mut [Value]) -> bool {
+fn move_atom(atom: &Atom, side: Side, moved: &mut MovedValues<'_>) -> Result<bool, AllocError> {
     match comparison_of(atom, side) {
-        Some(comparison) => move_sides(comparison, side, values),
-        None => false,
+        Some(comparison) => move_sides(comparison, side, moved),
+        None => Ok(false),
     }
 }
 
@@ -121,51 +237,56 @@ fn apart(side: Side) -> i128 {
 }
 
 /// Moves one of two sides.
-fn move_sides(comparison: Comparison<'_>, side: Side, values: &mut [Value]) -> bool {
-    let Some(left) = number_of(comparison.left, values) else {
-        return false;
+fn move_sides(
+    comparison: Comparison<'_>,
+    side: Side,
+    moved: &mut MovedValues<'_>,
+) -> Result<bool, AllocError> {
+    let Some(left) = number_of(comparison.left, Some(moved)) else {
+        return Ok(false);
     };
-    let Some(right) = number_of(comparison.right, values) else {
-        return false;
+    let Some(right) = number_of(comparison.right, Some(moved)) else {
+        return Ok(false);
     };
     match (shift_of(comparison.left), shift_of(comparison.right)) {
-        (Some(shift), None) => put(values, shift, right.checked_add(comparison.more)),
-        (None, Some(shift)) => put(values, shift, left.checked_sub(comparison.more)),
+        (Some(shift), None) => put(moved, shift, right.checked_add(comparison.more)),
+        (None, Some(shift)) => put(moved, shift, left.checked_sub(comparison.more)),
         (Some(shift), Some(other)) => match side {
-            Side::Left => put(values, shift, right.checked_add(comparison.more)),
-            Side::Right => put(values, other, left.checked_sub(comparison.more)),
+            Side::Left => put(moved, shift, right.checked_add(comparison.more)),
+            Side::Right => put(moved, other, left.checked_sub(comparison.more)),
         },
-        (None, None) => false,
+        (None, None) => Ok(false),
     }
 }
 
 /// Gives a variable the value with which it is this number behind the shift.
-fn put(values: &mut [Value], shift: Shift, number: Option<i128>) -> bool {
+fn put(
+    moved: &mut MovedValues<'_>,
+    shift: Shift,
+    number: Option<i128>,
+) -> Result<bool, AllocError> {
     let Some(number) = number else {
-        return false;
+        return Ok(false);
     };
     match number.checked_sub(shift.plus) {
-        Some(number) if shift.variable < values.len() => {
-            values[shift.variable] = Value::Int(number);
-            true
+        Some(number) if shift.variable < moved.values.len() => {
+            moved.put(shift.variable, number)?;
+            Ok(true)
         }
-        _ => false,
+        _ => Ok(false),
     }
 }
 
-/// The number that a sum has under values.
-fn number_of(term: &Term, values: &[Value]) -> Option<i128> {
+/// The number that a sum has under values, or without them where it names no variable.
+fn number_of(term: &Term, moved: Option<&MovedValues<'_>>) -> Option<i128> {
     match term {
         Term::Lit(Literal::Int(number)) => Some(*number),
-        Term::Var(variable) => match values.get(variable.number as usize) {
-            Some(Value::Int(number)) => Some(*number),
-            _ => None,
-        },
+        Term::Var(variable) => moved?.number(variable.number as usize),
         Term::Op2(BinOp::Add, left, right) => {
-            number_of(left, values)?.checked_add(number_of(right, values)?)
+            number_of(left, moved)?.checked_add(number_of(right, moved)?)
         }
         Term::Op2(BinOp::Subtract, left, right) => {
-            number_of(left, values)?.checked_sub(number_of(right, values)?)
+            number_of(left, moved)?.checked_sub(number_of(right, moved)?)
         }
         _ => None,
     }
@@ -180,11 +301,11 @@ fn shift_of(term: &Term) -> Option<Shift> {
         }),
         Term::Op2(BinOp::Add, left, right) => {
             let shift = shift_of(left)?;
-            shifted(shift, shift.plus.checked_add(number_of(right, &[])?))
+            shifted(shift, shift.plus.checked_add(number_of(right, None)?))
         }
         Term::Op2(BinOp::Subtract, left, right) => {
             let shift = shift_of(left)?;
-            shifted(shift, shift.plus.checked_sub(number_of(right, &[])?))
+            shifted(shift, shift.plus.checked_sub(number_of(right, None)?))
         }
         _ => None,
     }

@@ -8,8 +8,7 @@ ghost use Rattle.solver_proof.specs.Closing.{Closes};
 ghost use Rattle.solver_proof.specs.View.{proof_view};
 
 use crate::classes::{Classes, join_atoms};
-use crate::fitting::tested;
-use crate::moving::is_broken_at;
+use crate::fitting::{broken_since, tested};
 use crate::patching::patched;
 use crate::proofs::whole_proof;
 use crate::renaming::renamed_atom;
@@ -53,7 +52,8 @@ pub fn broken_part(
 ) -> Result<Option<Part>, AllocError>
     ensures { IfOk result (λ found. IfSome found (λ part. AreOver part.vars (atoms_view part.atoms))) }
 {
-    let mut hanging = hanging_of(alloc, vars, atoms, values, held)?;
+    let broken = broken_since(alloc, atoms, values, held)?;
+    let mut hanging = hanging_of(alloc, vars, atoms, broken.as_slice())?;
     let numbers = wanted_numbers(alloc, vars, &mut hanging)?;
     if numbers.len() > vars.len() / 2 {
         return Ok(None);
@@ -117,12 +117,11 @@ fn hanging_of(
     alloc: Global,
     vars: &VarTable,
     atoms: &Atoms,
-    values: &Valuation,
-    held: usize,
+    broken: &[usize],
 ) -> Result<Hanging, AllocError> {
     let mut classes = Classes::new(alloc, vars.len())?;
     let firsts = join_atoms(alloc, &mut classes, atoms)?;
-    let broken = broken_atoms(alloc, atoms, values, held)?;
+    let broken = broken_atoms(alloc, atoms.len(), broken)?;
     let wanted = wanted_classes(
         alloc,
         vars.len(),
@@ -138,16 +137,11 @@ fn hanging_of(
     })
 }
 
-/// Which atoms values break, of which the first ones are held.
-fn broken_atoms(
-    alloc: Global,
-    atoms: &Atoms,
-    values: &Valuation,
-    held: usize,
-) -> Result<Vec<bool>, AllocError> {
-    let mut broken: Vec<bool> = Vec::with_capacity(alloc, atoms.len())?;
-    for place in 0..atoms.len() {
-        broken.push(held <= place && is_broken_at(alloc, atoms, values, place)?)?;
+/// Marks for so many atoms at these places.
+fn broken_atoms(alloc: Global, count: usize, places: &[usize]) -> Result<Vec<bool>, AllocError> {
+    let mut broken = none_of(alloc, count)?;
+    for place in places {
+        mark(broken.as_mut_slice(), *place);
     }
     Ok(broken)
 }
