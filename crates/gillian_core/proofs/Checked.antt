@@ -10,6 +10,7 @@ use Rattle.assert_logic.specs.declared.checking.ModeItem.{ModeItem}
 use Rattle.assert_logic.specs.declared.checking.ModeKind.{ModeKind}
 use Rattle.assert_logic.specs.Modes.{HasModes, IsNamedModeFault}
 use Rattle.checked_paths.specs.Causes.{PureCause as PureMet, failure, fault, bound as cut_off, undecided, cause_view}
+use Rattle.checked_paths.specs.Plainly.{IsSureCause}
 use Rattle.checked_paths.specs.Pure.{PureEntry}
 use Rattle.checked_runs.specs.Specifications.{SpecHolds}
 use Rattle.solver_proof.specs.View.{proof_view}
@@ -19,13 +20,14 @@ use Rattle.spec_answers.specs.Holding as holding
 use Rattle.spec_answers.specs.Holding.{AreTrue, is_verified, is_verified_name}
 use Rattle.spec_causes.specs.declared.meeting.Met.{Met}
 use Rattle.spec_causes.specs.Causes.{entry_for, IsCauseOf}
-use Rattle.spec_checker.specs.Answers.{AnswerEach, AreCauses, IsCauseIfUnproved, Shows}
-use Rattle.spec_checker.specs.Deciding.{IsDoubt, ShowsNoFault, AreDecided, IsProved as IsVerdictProved, AreSettled}
+use Rattle.spec_checker.specs.Answers.{AnswerEach, AreCauses, AreFaultless, HasNoFaultUnlessUnproved, IsCauseIfUnproved, IsVacuous as IsVerdictVacuous, Shows}
+use Rattle.spec_checker.specs.Deciding.{IsDoubt, ShowsNoFault, AreDecided, IsProved as IsVerdictProved, IsSureIfUnproved, AreSettled}
 use Rattle.spec_checker.proofs.Found.{found_at}
 use Rattle.gil_report.specs.Pure.{PureAnswer, unproved, PureCause, fails, lacks, undecided_cause, depends}
 use Rattle.report_causes.specs.Telling.{TellsCause}
 use Rattle.report_causes.proofs.Right.{can_be_told, told_right, no_dependence_told}
-use Rattle.gillian_core.specs.Checked.{IsProved, AreRightAnswers, CanEachBeTold, CanVerdictBeTold, IsLed, IsOwn, IsRightAnswer, IsReportOf, LeadsToCause, has_cause, depends_on, ReportsEach, TellsNoFault}
+use Rattle.gillian_core.specs.Checked.{IsProved, AreRightAnswers, CanEachBeTold, CanVerdictBeTold, HasNoFaultUnlessCaused, IsLed, IsOwn, IsRightAnswer, IsReportOf, IsVacuous, LeadsToCause, has_cause, depends_on, ReportsEach, TellsNoDoubt, TellsNoFault}
+use Rattle.gillian_core.proofs.Wide.{sure_asks_of_wide}
 
 some_not_none : {A : Type 0} {x : A} → Some x ≡ None → ⊥
 some_not_none is = cc
@@ -179,7 +181,7 @@ module _ (ss : List PureSpec) (answers : List (SpecAnswer Met)) (many : length a
 -- ---- what is reported is right
 
 module _ (memory : MemoryName) (m : Actions) (keeps : Type 0) (bound : ℕ) (p : PureParts) (valid : IsValid p) (answers : List (SpecAnswer Met))
-    (answered : AnswerEach p.specs answers) (true_ones : AreTrue p memory m answers) (causes : AreCauses p memory m bound answers)
+    (answered : AnswerEach p.specs answers) (true_ones : AreTrue p memory m answers) (faultless : AreFaultless p memory m answers) (causes : AreCauses p memory m bound answers)
     (decided : AreDecided p memory m bound answers) (settled : keeps → AreSettled p memory m bound answers) where
   holds_at : (k : ℕ) (s : PureSpec) (x : SpecAnswer Met) → slice_get p.specs k ≡ Some s → slice_get answers k ≡ Some x → is_verified x.verdict ≡ true
       → SpecHolds p memory m s
@@ -231,6 +233,45 @@ module _ (memory : MemoryName) (m : Actions) (keeps : Type 0) (bound : ℕ) (p :
     proved_by s name (Verdict.Unproved met) a proved is = absurd proved
     proved_by s name (Verdict.DependsOn g) a proved is = absurd proved
 
+    vacuous_by : (s : PureSpec) (name : List ℕ) (v : Verdict Met) (a : PureAnswer) → IsVerdictVacuous v → IsReportOf s name v a → IsVacuous a
+    vacuous_by s name Verdict.Verified a none is = absurd none
+    vacuous_by s name (Verdict.Vacuous proof) a none is = subst IsVacuous (sym is) tt
+    vacuous_by s name (Verdict.Unproved met) a none is = absurd none
+    vacuous_by s name (Verdict.DependsOn g) a none is = absurd none
+
+    abbrev Faultless : PureSpec → PureAnswer → Type 0
+    Faultless s a = HasNoFaultUnlessCaused p memory m s a
+
+    caused_told : (s : PureSpec) (name : List ℕ) (told : PureCause) → IsOwn told → Faultless s (unproved name told)
+    caused_told s name (fails v w) own = tt
+    caused_told s name (lacks lack w) own = tt
+    caused_told s name (undecided_cause q) own = tt
+    caused_told s name (depends g) own = absurd own
+
+    faultless_by : (s : PureSpec) (name : List ℕ) (v : Verdict Met) (a : PureAnswer) → HasNoFaultUnlessUnproved p memory m s v → IsReportOf s name v a → Faultless s a
+    faultless_by s name Verdict.Verified a none is = subst (λ (b : PureAnswer). Faultless s b) (sym is) none
+    faultless_by s name (Verdict.Vacuous proof) a none is = subst (λ (b : PureAnswer). Faultless s b) (sym is) none
+    faultless_by s name (Verdict.Unproved met) a none (told, (is, tells)) =
+        subst (λ (b : PureAnswer). Faultless s b) (sym is) (caused_told s name told (own_told s (entry_for s met.entered) (cause_view met.cause) told tells))
+    faultless_by s name (Verdict.DependsOn g) a none is = subst (λ (b : PureAnswer). Faultless s b) (sym is) none
+
+    abbrev NoDoubt : PureSpec → PureAnswer → Type 0
+    NoDoubt s a = TellsNoDoubt memory m bound p reported s a
+
+    sure_told : (s : PureSpec) (name : List ℕ) (e : PureEntry) (met : PureMet) (told : PureCause) → IsSureCause met → IsCauseOf p memory m s bound e met → TellsCause s e met told
+        → NoDoubt s (unproved name told)
+    sure_told s name e met (fails v w) sure cause tells = tt
+    sure_told s name e met (lacks lack w) sure cause tells = tt
+    sure_told s name e met (undecided_cause q) sure cause tells = sure_asks_of_wide p memory m s bound e met q sure cause tells
+    sure_told s name e met (depends g) sure cause tells = tt
+
+    sure_by : (s : PureSpec) (name : List ℕ) (v : Verdict Met) (a : PureAnswer) → IsSureIfUnproved v → IsCauseIfUnproved p memory m bound s v → IsReportOf s name v a → NoDoubt s a
+    sure_by s name Verdict.Verified a sure cause is = subst (λ (b : PureAnswer). NoDoubt s b) (sym is) tt
+    sure_by s name (Verdict.Vacuous proof) a sure cause is = subst (λ (b : PureAnswer). NoDoubt s b) (sym is) tt
+    sure_by s name (Verdict.Unproved met) a sure cause (told, (is, tells)) =
+        subst (λ (b : PureAnswer). NoDoubt s b) (sym is) (sure_told s name (entry_for s met.entered) (cause_view met.cause) told sure cause tells)
+    sure_by s name (Verdict.DependsOn g) a sure cause is = subst (λ (b : PureAnswer). NoDoubt s b) (sym is) tt
+
     pub right_answers : AreRightAnswers memory m keeps bound p reported
     right_answers = record {
       as_many = reports.as_many;
@@ -239,10 +280,19 @@ module _ (memory : MemoryName) (m : Actions) (keeps : Type 0) (bound : ℕ) (p :
           let answer = answered.each_answered k s x at_s at_x in
           right_by s x.name x.verdict a answer.same_name (λ is. holds_at k s x at_s at_x is) answer.shows (causes.each_right k s x at_s at_x)
           (reports.each_reported k s x a at_s at_x at_a);
+      refuted = λ k s a at_s at_a refutable.
+          let (x, at_x) = at_place answers p.specs k s answered.as_many at_s in
+          vacuous_by s x.name x.verdict a ((answered.each_answered k s x at_s at_x).refuted refutable) (reports.each_reported k s x a at_s at_x at_a);
+      faultless = λ k s a at_s at_a.
+          let (x, at_x) = at_place answers p.specs k s answered.as_many at_s in
+          faultless_by s x.name x.verdict a (faultless.each_faultless k s x at_s at_x) (reports.each_reported k s x a at_s at_x at_a);
       contained = λ k s a at_s at_a contained alone.
           let (x, at_x) = at_place answers p.specs k s answered.as_many at_s in
           no_fault_by s x.name x.verdict a (decided.each_decided k s x at_s at_x contained alone) (causes.each_right k s x at_s at_x) (reports.each_reported k s x a at_s at_x at_a);
       plain = λ kept k s a at_s at_a plain alone.
           let (x, at_x) = at_place answers p.specs k s answered.as_many at_s in
           proved_by s x.name x.verdict a ((settled kept).each_proved k s x at_s at_x plain alone) (reports.each_reported k s x a at_s at_x at_a);
+      sure = λ kept k s a at_s at_a plain.
+          let (x, at_x) = at_place answers p.specs k s answered.as_many at_s in
+          sure_by s x.name x.verdict a ((settled kept).each_sure k s x at_s at_x plain) (causes.each_right k s x at_s at_x) (reports.each_reported k s x a at_s at_x at_a);
     }

@@ -8,3 +8,4 @@ pub mod Refusing
 pub mod Responding
 pub mod Solutions
 pub mod Verdicts
+pub mod Wide

@@ -4,6 +4,7 @@ use Rattle.gil_syntax.specs.Pure.{PureSpec, PureParts}
 use Rattle.mem_model.specs.declared.keys.MemoryName.{MemoryName}
 use Rattle.mem_model.specs.Actions.{Actions}
 use Rattle.checked_paths.specs.Causes.{cause_view}
+use Rattle.checked_runs.specs.Checked.{HasNoFault}
 use Rattle.checked_runs.specs.Specifications.{SpecHolds}
 use Rattle.plain_specs.specs.Contained.{IsContained, RunsAlone}
 use Rattle.solver_proof.specs.Closing.{Closes}
@@ -15,10 +16,11 @@ use Rattle.spec_causes.specs.declared.meeting.Met.{Met}
 use Rattle.spec_causes.specs.Causes.{entry_for}
 use Rattle.spec_vacuity.specs.Translation.{precondition_table, precondition_atoms}
 use Rattle.gil_report.specs.Pure.{PureAnswer, PureCause, verified, vacuous, unproved, fails, lacks, undecided_cause, depends}
-use Rattle.report_causes.specs.Causes.{IsRightCause, IsLeftOpen}
+use Rattle.report_causes.specs.Causes.{IsRightCause, IsLeftOpen, IsTooWide}
 use Rattle.report_causes.specs.Names.{variable_names}
 use Rattle.report_causes.specs.Telling.{CanBeTold, TellsCause}
 use Rattle.spec_checker.specs.Deciding.{IsPlainSpec}
+use Rattle.spec_checker.specs.Examining.{IsRefutable}
 use Rattle.report_names.specs.Named.{proof_of}
 
 -- ---- what depends on others
@@ -61,23 +63,47 @@ module _ (memory : MemoryName) (m : Actions) (bound : ℕ) (p : PureParts) (answ
   TellsNoFault s (unproved name (depends g)) = ⊥
   TellsNoFault s _ = ⊤
 
+  -- nothing is told to be undecided but a cause of which a value leaves 128 bits
+  abbrev pub TellsNoDoubt : PureSpec → PureAnswer → Type 0
+  TellsNoDoubt s (unproved name (undecided_cause q)) = IsTooWide p memory m s bound q
+  TellsNoDoubt s _ = ⊤
+
+-- Unless a cause of its own is told, no checked run of the specification has a fault, however many steps it makes: neither of what is verified
+-- or vacuous, nor of what depends on another one.
+abbrev pub HasNoFaultUnlessCaused : PureParts → MemoryName → Actions → PureSpec → PureAnswer → Type 0
+HasNoFaultUnlessCaused p memory m s (verified name) = HasNoFault p memory m s
+HasNoFaultUnlessCaused p memory m s (vacuous name proof) = HasNoFault p memory m s
+HasNoFaultUnlessCaused p memory m s (unproved name (depends g)) = HasNoFault p memory m s
+HasNoFaultUnlessCaused p memory m s _ = ⊤
+
+abbrev pub IsVacuous : PureAnswer → Type 0
+IsVacuous (vacuous name proof) = ⊤
+IsVacuous _ = ⊥
+
 -- verified, or vacuous
 abbrev pub IsProved : PureAnswer → Type 0
 IsProved (verified name) = ⊤
 IsProved (vacuous name proof) = ⊤
 IsProved _ = ⊥
 
--- One right answer for each specification of the program, in order. Of a contained one whose runs, with nothing beside its precondition's
--- heap, end within the bound and as it tells, no fault is told. A plain one is then verified or vacuous, if the memory keeps the law of plain
--- memories.
+-- One right answer for each specification of the program, in order. One is vacuous where the list of its precondition's pure items is in the
+-- fragment and nothing makes it true. Of a contained one whose runs, with nothing beside its precondition's heap, end within the bound and as
+-- it tells, no fault is told. A plain one is then verified or vacuous, if the memory keeps the law of plain memories, and nothing of it is ever
+-- told to be undecided, but for values that leave 128 bits.
 pub record AreRightAnswers (memory : MemoryName) (m : Actions) (keeps : Type 0) (bound : ℕ) (p : PureParts) (answers : List PureAnswer) : Type 0 where
   pub as_many : length answers ≡ length p.specs
   pub each_right : (k : ℕ) (s : PureSpec) (a : PureAnswer) → slice_get p.specs k ≡ Some s → slice_get answers k ≡ Some a
       → IsRightAnswer memory m bound p answers s a
+  pub refuted : (k : ℕ) (s : PureSpec) (a : PureAnswer) → slice_get p.specs k ≡ Some s → slice_get answers k ≡ Some a
+      → IsRefutable s → IsVacuous a
+  pub faultless : (k : ℕ) (s : PureSpec) (a : PureAnswer) → slice_get p.specs k ≡ Some s → slice_get answers k ≡ Some a
+      → HasNoFaultUnlessCaused p memory m s a
   pub contained : (k : ℕ) (s : PureSpec) (a : PureAnswer) → slice_get p.specs k ≡ Some s → slice_get answers k ≡ Some a
       → IsContained p s → RunsAlone p memory m s bound → TellsNoFault memory m bound p answers s a
   pub plain : keeps → (k : ℕ) (s : PureSpec) (a : PureAnswer) → slice_get p.specs k ≡ Some s → slice_get answers k ≡ Some a
       → IsPlainSpec p s → RunsAlone p memory m s bound → IsProved a
+  pub sure : keeps → (k : ℕ) (s : PureSpec) (a : PureAnswer) → slice_get p.specs k ≡ Some s → slice_get answers k ≡ Some a
+      → IsPlainSpec p s → TellsNoDoubt memory m bound p answers s a
 
 -- ---- what is reported
 

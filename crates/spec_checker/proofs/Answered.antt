@@ -12,12 +12,12 @@ use Rattle.spec_answers.specs.declared.answers.Examined.{Examined}
 use Rattle.spec_answers.specs.declared.answers.Finding.{Finding}
 use Rattle.spec_answers.specs.declared.answers.SpecAnswer.{SpecAnswer}
 use Rattle.spec_answers.specs.declared.answers.Verdict.{Verdict}
-use Rattle.spec_answers.specs.Holding.{Fits, AreFindings, AreTrue, AnswersAreRight}
+use Rattle.spec_answers.specs.Holding.{FindingHolds, Fits, AreFindings, AreTrue, AnswersAreRight}
 use Rattle.spec_causes.specs.declared.meeting.Met.{Met}
-use Rattle.spec_checker.specs.Answers.{Shows, AnswerEach, IsCauseIfUnproved, AreCauses}
+use Rattle.spec_checker.specs.Answers.{Shows, IsVacuous, AnswerEach, IsCauseIfUnproved, AreCauses, HasNoFaultUnlessUnproved, AreFaultless}
 use Rattle.spec_checker.specs.Deciding.{IsOwn, IsSureIfUnproved}
 use Rattle.spec_exploration.specs.Plain.{IsPlainSpec}
-use Rattle.spec_checker.specs.Examining.{ShowsProof, IsCauseIfCaused, IsSureIfCaused, IsExamined, AreExamined, UsesNone}
+use Rattle.spec_checker.specs.Examining.{ShowsProof, IsVacuousFinding, IsCauseIfCaused, IsSureIfCaused, IsExamined, AreExamined, UsesNone}
 use Rattle.spec_checker.proofs.Found.{found_at}
 
 at_place : {A B : Type 0} (xs : List A) (ys : List B) (k : ℕ) (y : B) → length xs ≡ length ys → slice_get ys k ≡ Some y → (x : A) × (slice_get xs k ≡ Some x)
@@ -44,6 +44,20 @@ shows_by answers s (Finding.Clean xs) (Verdict.Unproved c) fits shows = absurd f
 shows_by answers s (Finding.Clean xs) (Verdict.DependsOn g) fits shows = fits.1
 shows_by answers s (Finding.Vacuous proof) v fits shows = subst (λ (w : Verdict Met). Shows answers s w) (sym fits) shows
 shows_by answers s (Finding.Caused c) v fits shows = subst (λ (w : Verdict Met). Shows answers s w) (sym fits) tt
+
+vacuous_by : (answers : List (SpecAnswer Met)) (f : Finding Met) (v : Verdict Met) → Fits answers f v → IsVacuousFinding f → IsVacuous v
+vacuous_by answers (Finding.Clean xs) v fits vacuous = absurd vacuous
+vacuous_by answers (Finding.Vacuous proof) v fits vacuous = subst IsVacuous (sym fits) tt
+vacuous_by answers (Finding.Caused c) v fits vacuous = absurd vacuous
+
+faultless_by : (p : PureParts) (memory : MemoryName) (m : Actions) (answers : List (SpecAnswer Met)) (s : PureSpec) (f : Finding Met) (v : Verdict Met) → Fits answers f v
+    → FindingHolds p memory m s f → HasNoFaultUnlessUnproved p memory m s v
+faultless_by p memory m answers s (Finding.Clean xs) Verdict.Verified fits holds = holds.0
+faultless_by p memory m answers s (Finding.Clean xs) (Verdict.Vacuous proof) fits holds = absurd fits
+faultless_by p memory m answers s (Finding.Clean xs) (Verdict.Unproved c) fits holds = tt
+faultless_by p memory m answers s (Finding.Clean xs) (Verdict.DependsOn g) fits holds = holds.0
+faultless_by p memory m answers s (Finding.Vacuous proof) v fits holds = subst (λ (w : Verdict Met). HasNoFaultUnlessUnproved p memory m s w) (sym fits) holds.0
+faultless_by p memory m answers s (Finding.Caused c) v fits holds = subst (λ (w : Verdict Met). HasNoFaultUnlessUnproved p memory m s w) (sym fits) tt
 
 cause_by : (p : PureParts) (memory : MemoryName) (m : Actions) (most : ℕ) (answers : List (SpecAnswer Met)) (s : PureSpec) (f : Finding Met) (v : Verdict Met) → Fits answers f v
     → IsCauseIfCaused p memory m most s f → IsCauseIfUnproved p memory m most s v
@@ -79,7 +93,11 @@ module _ (p : PureParts) (memory : MemoryName) (m : Actions) (keeps : Type 0) (m
         let (x, at_x) = at_place xs p.specs k s examined.as_many at_s in
         let is = examined.each_examined k s x at_s at_x in
         let answer = right.each_answers k x a at_x at_a in
-        record { same_name = answer.same_name ∙ is.same_name; shows = shows_by answers s x.finding a.verdict answer.fits is.found.shows };
+        record {
+          same_name = answer.same_name ∙ is.same_name;
+          shows = shows_by answers s x.finding a.verdict answer.fits is.found.shows;
+          refuted = λ refutable. vacuous_by answers x.finding a.verdict answer.fits (is.found.refuted refutable);
+        };
   }
 
   pub answered_causes : AreCauses p memory m most answers
@@ -89,6 +107,13 @@ module _ (p : PureParts) (memory : MemoryName) (m : Actions) (keeps : Type 0) (m
         let is = examined.each_examined k s x at_s at_x in
         let answer = right.each_answers k x a at_x at_a in
         cause_by p memory m most answers s x.finding a.verdict answer.fits is.found.cause;
+  }
+
+  pub answered_faultless : AreFaultless p memory m answers
+  answered_faultless = record {
+    each_faultless = λ k s a at_s at_a.
+        let (x, at_x) = at_place xs p.specs k s examined.as_many at_s in
+        faultless_by p memory m answers s x.finding a.verdict (right.each_answers k x a at_x at_a).fits (examined.each_examined k s x at_s at_x).found.holds;
   }
 
   -- a contained specification depends on none

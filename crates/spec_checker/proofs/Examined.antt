@@ -10,31 +10,37 @@ use Rattle.checked_runs.specs.Checked.{HasNoFault, UsesOnly}
 use Rattle.plain_specs.specs.Contained.{IsContained}
 use Rattle.solver_proof.specs.declared.proofs.Proof.{Proof}
 use Rattle.solver_proof.specs.Closing.{Closes}
+use Rattle.solver_proof.specs.Refuting.{RefutesRightly}
 use Rattle.solver_proof.specs.View.{proof_view}
 use Rattle.spec_answers.specs.declared.answers.Examined.{Examined}
 use Rattle.spec_answers.specs.declared.answers.Finding.{Finding}
 use Rattle.spec_causes.specs.Causes.{IsCauseOf, entry_for}
 use Rattle.spec_causes.specs.declared.meeting.Met.{Met}
 use Rattle.spec_exploration.specs.Plain.{IsPlainSpec}
-use Rattle.spec_checker.specs.Examining.{finding_by, IsFound, IsExamined, AreExamined}
+use Rattle.spec_checker.specs.Examining.{finding_by, IsRefutable, IsFound, IsExamined, AreExamined}
 use Rattle.spec_vacuity.specs.Translation.{precondition_table, precondition_atoms}
 use Rattle.spec_vacuity.specs.Vacuity.{HasNoStart, VacuousSpecificationsHaveNoRun}
 
 same_some : {A : Type 0} {x y : A} → Some x ≡ Some y → x ≡ y
 same_some is = cc
 
+-- what a refuter gives no proof of can't be refuted
+not_refutable : (s : PureSpec) → RefutesRightly (precondition_table s) (precondition_atoms s) None → IsRefutable s → ⊥
+not_refutable s (inl outside) refutable = outside refutable.inside
+not_refutable s (inr (v, satisfies)) refutable = refutable.unsatisfiable v satisfies
+
 module _ (p : PureParts) (memory : MemoryName) (m : Actions) (keeps : Type 0) (most : ℕ) (s : PureSpec) where
   pub vacuous_found : VacuousSpecificationsHaveNoRun → (proof : Proof) → HasNoStart s → Closes (precondition_table s) (precondition_atoms s) (proof_view proof)
       → IsFound p memory m keeps most s (Finding.Vacuous proof)
-  vacuous_found law proof none closes = let run = law s none p memory m in record { holds = (run.0, run.1 (is_among [])); shows = closes; cause = tt; contained = λ inside. tt; plain = λ keeps plain. tt }
+  vacuous_found law proof none closes = let run = law s none p memory m in record { holds = (run.0, run.1 (is_among [])); shows = closes; refuted = λ refutable. tt; cause = tt; contained = λ inside. tt; plain = λ keeps plain. tt }
 
-  pub explored_found : (cause : Option Met) (uses : List (List ℕ)) (finding : Finding Met) → finding ≡ finding_by cause uses
+  pub explored_found : RefutesRightly (precondition_table s) (precondition_atoms s) None → (cause : Option Met) (uses : List (List ℕ)) (finding : Finding Met) → finding ≡ finding_by cause uses
       → IfNone cause (HasNoFault p memory m s × UsesOnly p memory m (is_among uses) s) → IfSome cause (λ met. IsCauseOf p memory m s most (entry_for s met.entered) (cause_view met.cause))
       → (IsContained p s → uses ≡ []) → (keeps → IsPlainSpec p s → IfSome cause (λ met. IsSureCause (cause_view met.cause))) → IsFound p memory m keeps most s finding
-  explored_found (Some met) uses finding is none right no_uses sure =
-      subst (λ (f : Finding Met). IsFound p memory m keeps most s f) (sym is) (record { holds = tt; shows = tt; cause = right; contained = λ inside. tt; plain = sure })
-  explored_found None uses finding is holds none no_uses sure =
-      subst (λ (f : Finding Met). IsFound p memory m keeps most s f) (sym is) (record { holds = holds; shows = tt; cause = tt; contained = no_uses; plain = λ keeps plain. tt })
+  explored_found rightly (Some met) uses finding is none right no_uses sure =
+      subst (λ (f : Finding Met). IsFound p memory m keeps most s f) (sym is) (record { holds = tt; shows = tt; refuted = λ refutable. absurd (not_refutable s rightly refutable); cause = right; contained = λ inside. tt; plain = sure })
+  explored_found rightly None uses finding is holds none no_uses sure =
+      subst (λ (f : Finding Met). IsFound p memory m keeps most s f) (sym is) (record { holds = holds; shows = tt; refuted = λ refutable. absurd (not_refutable s rightly refutable); cause = tt; contained = no_uses; plain = λ keeps plain. tt })
 
 -- the last of a list, or one before it
 last_or_before : {A : Type 0} (xs : List A) (x : A) (k : ℕ) (y : A) → slice_get (xs ++ x ∷ []) k ≡ Some y

@@ -3,6 +3,7 @@ use Rattle.std.specs.Prelude.{◌≡◌, ℕ, List, length, Some, slice_get, ⊤
 use Rattle.gil_syntax.specs.Pure.{PureSpec, PureParts}
 use Rattle.mem_model.specs.declared.keys.MemoryName.{MemoryName}
 use Rattle.mem_model.specs.Actions.{Actions}
+use Rattle.checked_runs.specs.Checked.{HasNoFault}
 use Rattle.checked_paths.specs.Causes.{cause_view}
 use Rattle.solver_proof.specs.Closing.{Closes}
 use Rattle.solver_proof.specs.View.{proof_view}
@@ -11,6 +12,7 @@ use Rattle.spec_answers.specs.declared.answers.Verdict.{Verdict}
 use Rattle.spec_answers.specs.Holding.{LeadsToCause}
 use Rattle.spec_causes.specs.Causes.{IsCauseOf, entry_for}
 use Rattle.spec_causes.specs.declared.meeting.Met.{Met}
+use Rattle.spec_checker.specs.Examining.{IsRefutable}
 use Rattle.spec_vacuity.specs.Translation.{precondition_table, precondition_atoms}
 
 -- The proof of a vacuous one closes the atoms of its precondition; what one depends on leads to one with a cause of its own.
@@ -19,9 +21,15 @@ Shows answers s (Verdict.Vacuous proof) = Closes (precondition_table s) (precond
 Shows answers s (Verdict.DependsOn g) = LeadsToCause answers g
 Shows answers s _ = ⊤
 
+abbrev pub IsVacuous : Verdict Met → Type 0
+IsVacuous (Verdict.Vacuous proof) = ⊤
+IsVacuous _ = ⊥
+
+-- A specification is vacuous where the list of its precondition's pure items is in the fragment and nothing makes it true.
 pub record IsAnswered (answers : List (SpecAnswer Met)) (s : PureSpec) (a : SpecAnswer Met) : Type 0 where
   pub same_name : a.name ≡ s.name
   pub shows : Shows answers s a.verdict
+  pub refuted : IsRefutable s → IsVacuous a.verdict
 
 pub record AnswerEach (ss : List PureSpec) (answers : List (SpecAnswer Met)) : Type 0 where
   pub as_many : length answers ≡ length ss
@@ -37,3 +45,13 @@ IsCauseIfUnproved p memory m most s _ = ⊤
 pub record AreCauses (p : PureParts) (memory : MemoryName) (m : Actions) (most : ℕ) (answers : List (SpecAnswer Met)) : Type 0 where
   pub each_right : (k : ℕ) (s : PureSpec) (a : SpecAnswer Met) → slice_get p.specs k ≡ Some s → slice_get answers k ≡ Some a
       → IsCauseIfUnproved p memory m most s a.verdict
+
+-- unless a cause of its own is answered, no checked run of the specification has a fault
+abbrev pub HasNoFaultUnlessUnproved : PureParts → MemoryName → Actions → PureSpec → Verdict Met → Type 0
+HasNoFaultUnlessUnproved p memory m s (Verdict.Unproved met) = ⊤
+HasNoFaultUnlessUnproved p memory m s _ = HasNoFault p memory m s
+
+-- The same of each specification of the program, place by place: of what is verified or vacuous, and of what depends on another one.
+pub record AreFaultless (p : PureParts) (memory : MemoryName) (m : Actions) (answers : List (SpecAnswer Met)) : Type 0 where
+  pub each_faultless : (k : ℕ) (s : PureSpec) (a : SpecAnswer Met) → slice_get p.specs k ≡ Some s → slice_get answers k ≡ Some a
+      → HasNoFaultUnlessUnproved p memory m s a.verdict

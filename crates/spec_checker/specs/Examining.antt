@@ -6,6 +6,8 @@ use Rattle.mem_model.specs.Actions.{Actions}
 use Rattle.checked_paths.specs.Causes.{cause_view}
 use Rattle.checked_paths.specs.Plainly.{IsSureCause}
 use Rattle.plain_specs.specs.Contained.{IsContained}
+use Rattle.pure_terms.specs.Fragment.{InFragment}
+use Rattle.pure_terms.specs.Meaning.{IsUnsatisfiable}
 use Rattle.solver_proof.specs.Closing.{Closes}
 use Rattle.solver_proof.specs.View.{proof_view}
 use Rattle.spec_answers.specs.declared.answers.Examined.{Examined}
@@ -29,6 +31,16 @@ abbrev pub ShowsProof : PureSpec → Finding Met → Type 0
 ShowsProof s (Finding.Vacuous proof) = Closes (precondition_table s) (precondition_atoms s) (proof_view proof)
 ShowsProof s _ = ⊤
 
+-- the list of the precondition's pure items is in the fragment, and nothing makes it true
+pub record IsRefutable (s : PureSpec) : Type 0 where
+  pub inside : InFragment (precondition_atoms s)
+  pub unsatisfiable : IsUnsatisfiable (precondition_table s) (precondition_atoms s)
+
+-- a proof was found
+abbrev pub IsVacuousFinding : Finding Met → Type 0
+IsVacuousFinding (Finding.Vacuous proof) = ⊤
+IsVacuousFinding _ = ⊥
+
 -- a cause that was found isn't that something isn't decided
 abbrev pub IsSureIfCaused : Finding Met → Type 0
 IsSureIfCaused (Finding.Caused met) = IsSureCause (cause_view met.cause)
@@ -49,6 +61,7 @@ module _ (p : PureParts) (memory : MemoryName) (m : Actions) (keeps : Type 0) (m
   pub record IsFound (s : PureSpec) (finding : Finding Met) : Type 0 where
     pub holds : FindingHolds p memory m s finding
     pub shows : ShowsProof s finding
+    pub refuted : IsRefutable s → IsVacuousFinding finding
     pub cause : IsCauseIfCaused p memory m most s finding
     pub contained : IsContained p s → UsesNone finding
     pub plain : keeps → IsPlainSpec p s → IsSureIfCaused finding

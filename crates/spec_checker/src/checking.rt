@@ -3,7 +3,7 @@ ghost use Rattle.std.specs.Prelude.{◌≤◌, IfOk};
 ghost use Rattle.assert_logic.specs.Modes.{HasModes};
 ghost use Rattle.gil_syntax.specs.Program.{prog_view};
 ghost use Rattle.spec_answers.specs.Holding.{AreTrue};
-ghost use Rattle.spec_checker.specs.Answers.{AnswerEach, AreCauses};
+ghost use Rattle.spec_checker.specs.Answers.{AnswerEach, AreCauses, AreFaultless};
 ghost use Rattle.spec_checker.specs.Deciding.{AreDecided, AreSettled};
 
 use crate::examining::examine_all;
@@ -17,7 +17,7 @@ use std::alloc::{AllocError, Global};
 use sym_model::ListedMemory;
 
 /// One answer for each specification of a program, in order. Each that is answered verified or vacuous holds, and uses only such
-/// ones; and the cause of each that is unproved is right.
+/// ones; it is vacuous wherever its precondition's pure items can be refuted; and the cause of each that is unproved is right.
 pub fn check<M: ListedMemory, D: Refuter>(
     alloc: Global,
     prog: &Prog,
@@ -29,6 +29,8 @@ pub fn check<M: ListedMemory, D: Refuter>(
     requires modes { HasModes (prog_view prog.now) M.Local.memory }
     ensures answers { IfOk result (AnswerEach (prog_view prog.now).specs) }
     ensures hold { IfOk result (AreTrue (prog_view prog.now) M.Local.memory M.Local.actions) }
+    // Each that has no cause of its own has no checked run with a fault, also where it depends on another.
+    ensures faultless { IfOk result (AreFaultless (prog_view prog.now) M.Local.memory M.Local.actions) }
     ensures causes { IfOk result (AreCauses (prog_view prog.now) M.Local.memory M.Local.actions bound) }
 
     // A contained specification depends on no other one, and where its runs do as it tells, no fault of it is shown.

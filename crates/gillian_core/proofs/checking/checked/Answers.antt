@@ -16,5 +16,5 @@ pub returns : goal.returns
 returns g c =
     let p = prog_view c.args.prog.now in
     right_answers g.M.Local.LocalMemory.memory g.M.Local.LocalMemory.actions g.M.SymMemory.keeps_plain c.args.bound.steps p c.args.prog.now.valid c.in_ok-answers.answers
-    c.in_ok-answers.ensures.answers c.in_ok-answers.ensures.hold c.in_ok-answers.ensures.causes c.in_ok-answers.ensures.contained c.in_ok-answers.ensures.plain (map answer_view c.in_ok-reported.reported)
+    c.in_ok-answers.ensures.answers c.in_ok-answers.ensures.hold c.in_ok-answers.ensures.faultless c.in_ok-answers.ensures.causes c.in_ok-answers.ensures.contained c.in_ok-answers.ensures.plain (map answer_view c.in_ok-reported.reported)
     (subst (λ (ss : List PureSpec). ReportsEach ss c.in_ok-answers.answers (map answer_view c.in_ok-reported.reported)) c.specs.ensures c.in_ok-reported.ensures)
