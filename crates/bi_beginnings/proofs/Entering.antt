@@ -6,6 +6,7 @@ use Rattle.std.specs.Str.{bytes_eq}
 use Rattle.std.proofs.lemmas.Bool.{and_parts}
 use Rattle.std.proofs.lemmas.List.{length-map}
 use Rattle.std.proofs.lemmas.Option.{slice_get_within}
+use Rattle.gil_values.specs.declared.places.Place.{Place}
 use Rattle.gil_values.specs.Pure.{PureValue, boolean}
 use Rattle.gil_syntax.specs.Evaluation.{Store, bind, value_of}
 use Rattle.gil_syntax.specs.Pure.{PureExpr, literal, name, logical, list_of, unary_of, binary_of, PureItem, pure}
@@ -39,7 +40,7 @@ use Rattle.sym_states.specs.Producing.{are_spelled, FitsCore, IsOfMemory, MayAdd
 use Rattle.sym_states.specs.Pure.{PureFact, PureState, with_conditions}
 use Rattle.sym_states.proofs.Conditions.{met_parts, met_both, open_left, none_open}
 use Rattle.bi_beginnings.specs.Beginnings.{IsEntryTable, PureBeginning, IsBeginning}
-use Rattle.bi_beginnings.specs.Opening.{IsVariableOf, HasVariables, IsFirstState, IsEntryState, IsBareState, IsEnteredWith, AreEntered, IsEnteredExactly, carrying, without_conditions}
+use Rattle.bi_beginnings.specs.Opening.{IsVariableOf, HasVariables, IsFirstState, IsEntryState, IsBareState, IsEnteredWith, AreEntered, IsEnteredExactly, IsAskedThere, carrying, without_conditions}
 use Rattle.bi_beginnings.proofs.Tables.{over_variable}
 use Rattle.bi_beginnings.proofs.Unions.{one_heap}
 
@@ -205,6 +206,11 @@ module _ {S : Type 0} (stands : S → List PureValue → Heap → Type 0) (terms
     ⊎_elim (λ whole. nothing_added items r whole none) (λ (half : IsStopped stands terms bs s items r). absurd (some_there half.before half.item half.later (sym half.are ∙ none))) come.0,
     unchanged items rs none come.1,
   )
+
+  pub none_added : (items : List PureItem) (r : PureState S) → items ≡ [] → IsProduced terms bs s items r ⊎ IsStopped stands terms bs s items r → r.conds ≡ s.conds
+  none_added items r none comes =
+      ⊎_elim (λ whole. (nothing_added items r whole none).conds)
+      (λ (half : IsStopped stands terms bs s items r). absurd (some_there half.before half.item half.later (sym half.are ∙ none))) comes
 
   pub still_table : (items : List PureItem) (rs : List (PureState S)) → ComeFromItems stands terms bs items s rs → Each (λ r. r.vars ≡ s.vars) rs
   still_table items [] come = tt
@@ -413,3 +419,23 @@ pub carried_entered : {S : Type 0} (memory : MemoryName) (stands : S → List Pu
     → AreEntered memory stands (without_conditions b) ss → AreEntered memory stands b (map (carrying b.conds) ss)
 carried_entered memory stands terms kept b ss entered v own meets union is_heap =
     carried_one memory stands terms kept [] b.conds b.vars v own meets.true_there ss (entered v own (record { proper = meets.proper; true_there = refl }) union is_heap)
+
+pub carried_table : {S : Type 0} (conds : List PureAtom) (s : PureState S) {vars : List Sort} → s.vars ≡ vars → (carrying conds s).vars ≡ vars
+carried_table conds s {vars = vars} same = by (has_open s.conds)
+  where
+    by : (b : Bool) → (if b then s else with_conditions conds s).vars ≡ vars
+    by true = same
+    by false = same
+
+-- nothing is asked of a beginning that fixes and assumes nothing
+pub nothing_asked : {S : Type 0} (stands : S → List PureValue → Heap → Type 0) (terms : S → StateTerms) (kept : S → Type 0) (params : List (List ℕ)) (b : PureBeginning) → b.uses ≡ [] → b.conds ≡ []
+    → (place : Place) (choices : List ℕ) (vars : List Sort) (given conds : List PureAtom) → IsAskedThere stands terms kept params b place choices vars given conds → conds ≡ []
+nothing_asked {S = S} stands terms kept params b no_use no_condition place choices vars given conds there =
+    let begun = there.begun in
+    let none : assertion_of begun.names b.uses [] ≡ [] = ap (λ us. assertion_of begun.names us []) no_use in
+    let before : there.state.conds ≡ [] = none_added stands terms begun.store begun.first (assertion_of begun.names b.uses []) there.state none begun.comes ∙ begun.is_first.conds in
+    there.asks ∙ by (has_open there.state.conds) before
+  where
+    by : (needs : Bool) → there.state.conds ≡ [] → (if needs then there.state else with_conditions b.conds there.state).conds ≡ []
+    by true before = before
+    by false before = λ i. before i ++ no_condition i

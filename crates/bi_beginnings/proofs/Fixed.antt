@@ -5,6 +5,7 @@ use Rattle.std.specs.List.{list_all}
 use Rattle.std.proofs.lemmas.Bool.{cases_lt, and_parts, and_from}
 use Rattle.std.proofs.lemmas.List.{length-append}
 use Rattle.std.proofs.lemmas.List.Elements.{Contains-push}
+use Rattle.gil_values.specs.declared.places.Place.{Place}
 use Rattle.gil_values.specs.Pure.{PureValue, symbol}
 use Rattle.gil_syntax.proofs.Symbols.{HoldsOfAll, each_of_all}
 use Rattle.mem_model.specs.declared.cores.Core.{Core}
@@ -39,7 +40,7 @@ use Rattle.sym_paths.specs.Steps.{AreNext, IsNext, counter_after, draws_after}
 use Rattle.sym_paths.proofs.Valuations.{below_both, later_variables_are_proper}
 use Rattle.sym_states.proofs.Values.{values_append}
 use Rattle.bi_beginnings.specs.Beginnings.{any_for_each, variables_from, PureBeginning, IsBeginning, Awaits}
-use Rattle.bi_beginnings.specs.Fixing.{IsFixOver, IsAtNewSymbol, IsKeyAtNewSymbol, with_fix, IsCarried, Carries}
+use Rattle.bi_beginnings.specs.Fixing.{IsFixOver, IsAtNewSymbol, IsKeyAtNewSymbol, with_fix, IsCarried, Carries, IsLed}
 use Rattle.bi_beginnings.specs.Missing.{IsMissed}
 use Rattle.bi_beginnings.proofs.Params.{all_at}
 use Rattle.bi_beginnings.proofs.Tables.{get_back, params_over, carrying, with_use}
@@ -340,3 +341,11 @@ module _ (memory : MemoryName) (params : List (List ℕ)) (b : PureBeginning) (c
     with_use memory params c carrying_is f (subst (λ (xs : List Sort). IsFixOver memory xs f) (sym carries.table) over.0) (with_fix c f) refl refl refl,
     fixed_are fs over.1,
   )
+
+-- ---- place and choices
+
+-- with a use more it has the same place and choices
+pub each_led : (place : Place) (choices : List ℕ) (conds : List PureAtom) (b : PureBeginning) → IsLed place choices conds b → (fs : List PureFix)
+    → Each (λ f. IsLed place choices conds (with_fix b f)) fs
+each_led place choices conds b led [] = tt
+each_led place choices conds b led (f ∷ fs) = (record { there = led.there; chosen = led.chosen; carried = led.carried }, each_led place choices conds b led fs)

@@ -1,5 +1,5 @@
 -- The paths that begin in states in which a procedure may be entered.
-use Rattle.std.proofs.Common.{◌≡◌, ◌⊎◌, ⊎_elim, inl, inr, ◌↔◌, ℕ, ◌≤◌, ◌^◌, ℤ, ◌≤ℤ◌, pos, neg_ℤ, List, [], ◌∷◌, ◌++◌, length, Option, Some, None, IfSome, IsSome, refl, sym, ap, subst, ◌∙◌, arith}
+use Rattle.std.proofs.Common.{◌≡◌, ◌⊎◌, ⊎_elim, inl, inr, ◌↔◌, ℕ, ◌≤◌, ◌^◌, ℤ, ◌≤ℤ◌, pos, neg_ℤ, List, [], ◌∷◌, ◌++◌, map, length, Option, Some, None, Result, Ok, Err, IfOk, IfSome, IsSome, refl, sym, ap, subst, ◌∙◌, true≢false, arith}
 use Rattle.std.specs.Bool.{⊤}
 use Rattle.std.specs.FinMap.{empty}
 use Rattle.std.specs.Option.{option_or}
@@ -10,12 +10,14 @@ use Rattle.gil_syntax.specs.Valid.{IsValid}
 use Rattle.gil_machine.proofs.Placed.{starts_placed}
 use Rattle.mem_model.specs.declared.keys.MemoryName.{MemoryName}
 use Rattle.mem_model.specs.Heaps.{Heap}
+use Rattle.pure_terms.specs.declared.queries.Query.{Query}
 use Rattle.pure_terms.specs.declared.variables.Sort.{Sort}
 use Rattle.pure_terms.specs.Fragment.{InFragment}
 use Rattle.pure_terms.specs.Pure.{PureTerm, PureAtom}
+use Rattle.pure_terms.specs.View.{atoms_view}
 use Rattle.sym_paths.specs.Asking.{IsSolution}
 use Rattle.sym_model.specs.Laws.{IsPlainWithin, IsDecidedWithin}
-use Rattle.sym_model.specs.Lists.{Each}
+use Rattle.sym_model.specs.Lists.{Each, OneOf}
 use Rattle.sym_model.specs.Plain.{IsPlainState}
 use Rattle.sym_model.specs.Terms.{StateTerms}
 use Rattle.sym_model.proofs.ListLaws.{not_none, each_append, each_to}
@@ -24,8 +26,9 @@ use Rattle.sym_paths.specs.Pure.{PurePath}
 use Rattle.sym_paths.proofs.Beginning.{beginnings_stand}
 use Rattle.sym_states.specs.Pure.{PureState}
 use Rattle.sym_step.specs.Stepping.{AreAtCommands, MayStep}
-use Rattle.bi_beginnings.specs.Beginnings.{any_for_each, variables_from, IsOpening, BeginsBare, OpensBare}
-use Rattle.bi_beginnings.specs.Opening.{IsEntryState, IsBareState}
+use Rattle.bi_beginnings.specs.Beginnings.{any_for_each, variables_from, PureBeginning, IsOpening, BeginsBare, OpensBare}
+use Rattle.bi_beginnings.specs.Opening.{IsEntryState, IsBareState, IsEnteredFrom, IsAskedThere, IsQueryOf}
+use Rattle.bi_beginnings.proofs.Entering.{nothing_asked}
 use Rattle.bi_beginnings.proofs.Tables.{as_many_params, as_many_variables, params_over}
 
 -- as many variables as parameters
@@ -120,3 +123,52 @@ bare_further stands plain o p after before more all is are first second = record
   decided = λ there. ⊎_elim first.decided second.decided (of_either o p (subst IsSome is there));
   each_start = each_further (BeginsBare stands plain) before more all are first.each_start second.each_start;
 }
+
+-- ---- queries
+
+pub if_some_to : {A : Type 0} (P Q : A → Type 0) (o : Option A) → ((a : A) → P a → Q a) → IfSome o P → IfSome o Q
+if_some_to P Q (Some x) f here = f x here
+if_some_to P Q None f here = tt
+
+-- an element in the middle of a list
+pub one_among : {A B : Type 0} (P : B → Type 0) (f : A → B) (all xs : List A) (x : A) (ys : List A) → all ≡ xs ++ x ∷ ys → P (f x) → OneOf P (map f all)
+one_among {A = A} P f all xs x ys is here = subst (λ zs. OneOf P (map f zs)) (sym is) (by xs)
+  where
+    by : (zs : List A) → OneOf P (map f (zs ++ x ∷ ys))
+    by [] = inl here
+    by (z ∷ zs) = inr (by zs)
+
+-- what is asked of a state in which the procedure is entered is asked of the beginning
+pub asked_there : {S : Type 0} (stands : S → List PureValue → Heap → Type 0) (terms : S → StateTerms) (kept : S → Type 0) (params : List (List ℕ)) (b : PureBeginning) (ss : List (PureState S)) (q : Query)
+    → Each (λ s. s.vars ≡ b.vars) ss → Each (IsEnteredFrom stands terms kept params b) ss → OneOf (λ s. IsQueryOf b s q) ss
+    → IsAskedThere stands terms kept params b q.place q.path q.vars (atoms_view q.given) (atoms_view q.query)
+asked_there stands terms kept params b [] q tables entered one = absurd one
+asked_there {S = S} stands terms kept params b (s ∷ ss) q tables entered one =
+    ⊎_elim
+    (λ (here : IsQueryOf b s q).
+    let (r, (begun, is)) = entered.0 in
+    record {
+      at_place = here.at_place;
+      same_choices = here.same_choices;
+      table = here.table ∙ tables.0;
+      none_given = here.none_given;
+      state = r;
+      begun = begun;
+      asks = here.asks ∙ ap (λ (x : PureState S). x.conds) is;
+    })
+    (λ later. asked_there stands terms kept params b ss q tables.1 entered.1 later)
+    one
+
+pub ok_to_both : {A E : Type 0} (r : Result A E) (P Q R : A → Type 0) → ((a : A) → P a → Q a → R a) → IfOk r P → IfOk r Q → IfOk r R
+ok_to_both (Ok a) P Q R f first second = f a first second
+ok_to_both (Err e) P Q R f first second = tt
+
+-- of a beginning that fixes and assumes nothing there is no query
+pub nothing_undecided : {S : Type 0} (stands : S → List PureValue → Heap → Type 0) (terms : S → StateTerms) (kept : S → Type 0) (params : List (List ℕ)) (b : PureBeginning) → b.uses ≡ [] → b.conds ≡ []
+    → (ss : List (PureState S)) (o : Option Query) → Each (λ s. s.vars ≡ b.vars) ss → Each (IsEnteredFrom stands terms kept params b) ss → IfSome o (λ x. OneOf (λ s. IsQueryOf b s x) ss)
+    → IfSome o (λ x. ¬ InFragment (atoms_view x.query)) → ¬ IsSome o
+nothing_undecided stands terms kept params b no_use no_condition ss None tables entered asked outside some = true≢false (sym some)
+nothing_undecided stands terms kept params b no_use no_condition ss (Some x) tables entered asked outside some =
+    outside
+    (none_inside (atoms_view x.query)
+    (nothing_asked stands terms kept params b no_use no_condition x.place x.path x.vars (atoms_view x.given) (atoms_view x.query) (asked_there stands terms kept params b ss x tables entered asked)))

@@ -1,7 +1,8 @@
 -- Fixes for which a beginning may have a use.
-use Rattle.std.specs.Prelude.{◌≡◌, List, [], ◌∷◌, ◌++◌, length, slice_get, Some, IsTrue}
+use Rattle.std.specs.Prelude.{◌≡◌, ℕ, List, [], ◌∷◌, ◌++◌, length, slice_get, Some, IsTrue}
 use Rattle.std.specs.List.{list_all}
 use Rattle.fresh_atoms.specs.Laws.{is_any_or_list}
+use Rattle.gil_values.specs.declared.places.Place.{Place}
 use Rattle.mem_model.specs.declared.cores.Core.{Core}
 use Rattle.mem_model.specs.declared.keys.MemoryName.{MemoryName}
 use Rattle.mem_model.specs.CoreNames.{ins_of, outs_of}
@@ -58,3 +59,9 @@ pub record Carries (b : PureBeginning) (conds : List PureAtom) (c : PureBeginnin
   pub table : c.vars ≡ b.vars
   pub same_uses : c.uses ≡ b.uses
   pub carried : Each (IsCarried b.vars conds) c.conds
+
+-- the beginning has this place and these choices, and carries some of these conditions
+pub record IsLed (place : Place) (choices : List ℕ) (conds : List PureAtom) (c : PureBeginning) : Type 0 where
+  pub there : c.place ≡ place
+  pub chosen : c.choices ≡ choices
+  pub carried : Each (λ a. IsAmong a conds) c.conds

@@ -1,15 +1,18 @@
 -- The states in which a procedure may be entered, and what comes of them.
-use Rattle.std.specs.Prelude.{◌≡◌, ◌⊎◌, ◌↔◌, ℕ, ◌<◌, List, [], ◌∷◌, slice_get, false, if◌then◌else◌, Option, Some, None, IsTrue}
+use Rattle.std.specs.Prelude.{◌≡◌, ◌⊎◌, ◌↔◌, ℕ, ◌+◌, ◌<◌, List, [], ◌∷◌, length, slice_get, false, if◌then◌else◌, Option, Some, None, IsTrue}
 use Rattle.std.specs.FinMap.{empty}
 use Rattle.std.specs.Str.{bytes_eq}
+use Rattle.gil_values.specs.declared.places.Place.{Place}
 use Rattle.gil_values.specs.Pure.{PureValue}
 use Rattle.mem_model.specs.declared.keys.MemoryName.{MemoryName}
 use Rattle.mem_model.specs.Heaps.{Heap, IsHeapOf}
+use Rattle.assertion_terms.specs.Named.{table_names, assertion_of}
 use Rattle.pure_terms.specs.declared.queries.Query.{Query}
 use Rattle.pure_terms.specs.declared.variables.Sort.{Sort}
 use Rattle.pure_terms.specs.declared.variables.Var.{Var}
 use Rattle.pure_terms.specs.Meaning.{Satisfies}
 use Rattle.pure_terms.specs.Pure.{PureTerm, variable, PureAtom}
+use Rattle.pure_terms.specs.View.{atoms_view}
 use Rattle.sym_evaluation.specs.Pure.{PureStore, term_at}
 use Rattle.sym_model.specs.Listing.{AreUnion}
 use Rattle.sym_model.specs.Lists.{OneOf}
@@ -18,6 +21,7 @@ use Rattle.sym_model.specs.Terms.{StateTerms, no_state_terms}
 use Rattle.sym_paths.specs.Pure.{PurePath}
 use Rattle.sym_paths.specs.View.{path_view}
 use Rattle.sym_states.specs.Meaning.{IsOverTable}
+use Rattle.sym_states.specs.Producing.{IsProduced, IsStopped}
 use Rattle.sym_states.specs.Pure.{PureState, with_conditions}
 use Rattle.bi_beginnings.specs.declared.opening.Opening.{Opening}
 use Rattle.bi_beginnings.specs.Beginnings.{IsEntryTable, PureBeginning, BeginsWith}
@@ -126,3 +130,43 @@ abbrev pub undecided_of : {S : Type 0} → Opening S → Option Query
 undecided_of (Opening.Start path) = None
 undecided_of Opening.Nowhere = None
 undecided_of (Opening.Undecided query) = Some query
+
+-- ---- what is asked where a beginning begins
+
+module _ {S : Type 0} (stands : S → List PureValue → Heap → Type 0) (terms : S → StateTerms) (kept : S → Type 0) (params : List (List ℕ))
+    (b : PureBeginning) where
+  -- To a state without conditions and keys, the items that say the uses of the beginning were added one after another, all of them, or up to
+  -- one at which a literal form is needed. Each name of the table has its variable.
+  pub record IsBegunFrom (r : PureState S) : Type 0 where
+    pub first : PureState S
+    pub is_first : IsFirstState stands terms kept b.vars first
+    pub others : ℕ
+    pub counted : length params + others ≡ length b.vars
+    pub names : List (List ℕ)
+    pub of_table : names ≡ table_names params others
+    pub store : PureStore
+    pub variables : HasVariables b.vars store
+    pub named : AreNamed names b.vars (length names) store
+    pub comes : IsProduced terms store first (assertion_of names b.uses []) r ⊎ IsStopped stands terms store first (assertion_of names b.uses []) r
+
+  -- the state came of such a one, with the conditions that the beginning carries behind its own, unless a literal form is needed there
+  abbrev pub IsEnteredFrom : PureState S → Type 0
+  IsEnteredFrom s = (r : PureState S) × (IsBegunFrom r × (s ≡ carrying b.conds r))
+
+  -- What is asked of the beginning: at its place, with its choices and its variables, where nothing is assumed, the conditions of such a state.
+  pub record IsAskedThere (place : Place) (choices : List ℕ) (vars : List Sort) (given conds : List PureAtom) : Type 0 where
+    pub at_place : place ≡ b.place
+    pub same_choices : choices ≡ b.choices
+    pub table : vars ≡ b.vars
+    pub none_given : given ≡ []
+    pub state : PureState S
+    pub begun : IsBegunFrom state
+    pub asks : conds ≡ (carrying b.conds state).conds
+
+-- the query has place and choices of the beginning, table and conditions of the state, and assumes nothing
+pub record IsQueryOf {S : Type 0} (b : PureBeginning) (s : PureState S) (q : Query) : Type 0 where
+  pub at_place : q.place ≡ b.place
+  pub same_choices : q.path ≡ b.choices
+  pub table : q.vars ≡ s.vars
+  pub none_given : atoms_view q.given ≡ []
+  pub asks : atoms_view q.query ≡ s.conds

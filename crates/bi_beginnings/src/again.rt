@@ -11,7 +11,7 @@ ghost use Rattle.sym_model.specs.Terms.{AreEachOver};
 ghost use Rattle.sym_model.specs.View.{key_view, sub_view, fix_view, fixes_view};
 ghost use Rattle.bi_beginnings.specs.Beginnings.{IsBeginning};
 ghost use Rattle.bi_beginnings.specs.Conditions.{same_atom, stands_among as is_among_conditions};
-ghost use Rattle.bi_beginnings.specs.Fixing.{IsFixOver, HasCoreNumbers, IsAtNewSymbol, IsKeyAtNewSymbol, with_fix, IsCarried, Carries};
+ghost use Rattle.bi_beginnings.specs.Fixing.{IsFixOver, HasCoreNumbers, IsAtNewSymbol, IsKeyAtNewSymbol, with_fix, IsCarried, Carries, IsLed};
 ghost use Rattle.bi_beginnings.specs.Missing.{AwaitsAgain, LeavesNothing};
 ghost use Rattle.bi_beginnings.specs.Narrowly.{IsKeyOver, IsSymbolTaken, AgainStaysNarrow};
 ghost use Rattle.bi_beginnings.specs.View.{beginning_view, beginnings_view, again_view};
@@ -88,7 +88,9 @@ fn carrying(
     path: &Ended,
     place: &Place,
 ) -> Result<Beginning, AllocError>
-    ensures { IfOk result (λ b. Carries (beginning_view beginning.now) (atoms_view path.now.conds) (beginning_view b)) }
+    ensures carries { IfOk result (λ b. Carries (beginning_view beginning.now) (atoms_view path.now.conds) (beginning_view b)) }
+    ensures there { IfOk result (λ b. b.place ≡ place.now) }
+    ensures chosen { IfOk result (λ b. b.choices ≡ path.now.choices) }
 {
     let vars = copy_table(alloc, &beginning.vars)?;
     let uses = copy_uses(alloc, &beginning.uses)?;
@@ -259,7 +261,8 @@ fn late_term<'a>(vars: &VarTable, key: &'a SymKey) -> Option<&'a Term>
 }
 
 /// What comes of a path that missed a key, which came of a beginning. Each new beginning has one use more, for the key, and carries
-/// those conditions of the path which are in the fragment by themselves and name only variables of the beginning. A run along the path
+/// those conditions of the path which are in the fragment by themselves and name only variables of the beginning; it has the place where the
+/// path missed the key, and the choices that lead there. A run along the path
 /// whose heap has what fixes the key beside what the beginning's uses say is awaited by one of them. Nothing comes of a key of the memory
 /// whose location is a symbol that the run took, or whose part such a symbol names. What comes of a narrow beginning where the path missed a narrow name are narrow
 /// beginnings, and nothing is late.
@@ -279,6 +282,7 @@ pub fn begin_again<M: ListedMemory>(
     ensures narrow { M.keeps_narrow → IfOk result (λ again. AgainStaysNarrow M.Local.memory bound (beginning_view beginning.now) path.now.vars
         (atoms_view path.now.conds) (key_view key.now) again) }
     ensures nothing { IfOk result (λ again. IsKeyAtNewSymbol M.Local.memory path.now.vars (key_view key.now) → LeavesNothing again) }
+    ensures led { IfOk result (λ again. Each (IsLed place.now path.now.choices (atoms_view path.now.conds)) (again_view again)) }
 {
     let fixes = M::empty(alloc)?.fixes(alloc, key)?;
     if are_at_new_symbols(&path.vars, &fixes) {

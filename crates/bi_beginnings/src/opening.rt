@@ -1,5 +1,5 @@
 //! The paths on which the runs of a beginning begin.
-ghost use Rattle.std.specs.Prelude.{◌≡◌, ◌++◌, ℕ, ◌≤◌, length, map, false, Some, IsSome, IfOk, IfSome, IsTrue};
+ghost use Rattle.std.specs.Prelude.{◌≡◌, ◌++◌, [], ℕ, ◌≤◌, length, map, false, Some, IsSome, IfOk, IfSome, IsTrue};
 ghost use Rattle.std.specs.List.{list_all, list_any};
 ghost use Rattle.std.specs.Option.{option_or};
 ghost use Rattle.gil_syntax.specs.Program.{prog_view};
@@ -10,7 +10,7 @@ ghost use Rattle.gil_syntax.specs.WellMade.{is_program_name};
 ghost use Rattle.pure_terms.specs.Fragment.{InFragment};
 ghost use Rattle.pure_terms.specs.View.{terms_view, atom_view, atoms_view};
 ghost use Rattle.sym_evaluation.specs.View.{store_view};
-ghost use Rattle.sym_model.specs.Lists.{Each};
+ghost use Rattle.sym_model.specs.Lists.{Each, OneOf};
 ghost use Rattle.sym_paths.specs.Beginning.{Begins};
 ghost use Rattle.sym_paths.specs.Steps.{narrow_bound, place_of as pure_place};
 ghost use Rattle.sym_paths.specs.View.{path_view, paths_view};
@@ -23,6 +23,10 @@ ghost use Rattle.bi_beginnings.specs.Opening.{
   IsFirstState,
   IsEntryState,
   IsBareState,
+  IsBegunFrom,
+  IsEnteredFrom,
+  IsAskedThere,
+  IsQueryOf,
   HasVariables,
   IsNamedFurther,
   AreNamed,
@@ -140,6 +144,8 @@ fn used_states<M: ListedMemory>(
         → IfOk result (λ ss. AreEntered M.Local.memory M.stands (without_conditions (beginning_view beginning.now)) (states_view ss)) }
     ensures exact { IsTrue (list_all is_program_name (proc_view proc.now).params) → has_twice (proc_view proc.now).params ≡ false
         → IfOk result (λ ss. Each (IsEnteredExactly M.stands (beginning_view beginning.now)) (states_view ss)) }
+    ensures origin { IsTrue (list_all is_program_name (proc_view proc.now).params) → has_twice (proc_view proc.now).params ≡ false
+        → IfOk result (λ ss. Each (IsBegunFrom M.stands M.terms M.kept (proc_view proc.now).params (beginning_view beginning.now)) (states_view ss)) }
     ensures bare { IsBare (beginning_view beginning.now) → IfOk result (λ ss. Each (IsBareState M.stands M.terms) (states_view ss)) }
     ensures narrow { M.keeps_narrow → IfOk result (λ ss. StartNarrow M.terms (beginning_view beginning.now) (states_view ss)) }
 {
@@ -207,6 +213,9 @@ fn entry_states<M: ListedMemory>(
         → IfOk result (λ ss. AreEntered M.Local.memory M.stands (beginning_view beginning.now) (states_view ss)) }
     ensures exact { IsTrue (list_all is_program_name (proc_view proc.now).params) → has_twice (proc_view proc.now).params ≡ false
         → IfOk result (λ ss. Each (IsEnteredExactly M.stands (beginning_view beginning.now)) (states_view ss)) }
+    ensures origin { IsTrue (list_all is_program_name (proc_view proc.now).params) → has_twice (proc_view proc.now).params ≡ false
+        → IfOk result (λ ss. Each (IsEnteredFrom M.stands M.terms M.kept (proc_view proc.now).params (beginning_view beginning.now)) (states_view ss)) }
+    ensures table { IfOk result (λ ss. Each (λ s. s.vars ≡ beginning.now.vars) (states_view ss)) }
     ensures bare { IsBare (beginning_view beginning.now) → IfOk result (λ ss. Each (IsBareState M.stands M.terms) (states_view ss)) }
     ensures narrow { M.keeps_narrow → IfOk result (λ ss. StartNarrow M.terms (beginning_view beginning.now) (states_view ss)) }
 {
@@ -251,13 +260,22 @@ fn place_of(reason: Reason) -> usize
     }
 }
 
-/// The conditions of a state as a query, with the place of an atom that keeps them out of the fragment.
-fn query_of<M: Drop>(alloc: Global, state: SymState<M>, reason: Reason) -> Result<Query, AllocError>
-    ensures { IfOk result (λ q. atoms_view q.query ≡ (state_view state).conds) }
+/// The conditions of a state as a query of a beginning, with the place of an atom that keeps them out of the fragment.
+fn query_of<M: Drop>(
+    alloc: Global,
+    beginning: &Beginning,
+    state: SymState<M>,
+    reason: Reason,
+) -> Result<Query, AllocError>
+    ensures place { IfOk result (λ q. q.place ≡ beginning.now.place) }
+    ensures choices { IfOk result (λ q. q.path ≡ beginning.now.choices) }
+    ensures vars { IfOk result (λ q. q.vars ≡ state.vars) }
+    ensures given { IfOk result (λ q. atoms_view q.given ≡ []) }
+    ensures query { IfOk result (λ q. atoms_view q.query ≡ (state_view state).conds) }
 {
-    let place = copy_place(alloc, &state.place)?;
+    let place = copy_place(alloc, &beginning.place)?;
+    let path = copy_choices(alloc, &beginning.choices)?;
     let mut state = state;
-    let path = replace(&mut state.path, Sequence::new(alloc));
     let vars = replace(&mut state.vars, Sequence::new(alloc));
     let conds = replace(&mut state.conds, PathCond::new(alloc));
     Ok(Query {
@@ -270,10 +288,11 @@ fn query_of<M: Drop>(alloc: Global, state: SymState<M>, reason: Reason) -> Resul
     })
 }
 
-/// What comes of a state: a path where a valuation meets its conditions, as the decider says.
+/// What comes of a state of a beginning: a path where a valuation meets its conditions, as the decider says.
 fn enter<M: ListedMemory, D: Decider>(
     alloc: Global,
     proc: &Proc,
+    beginning: &Beginning,
     args: &Terms,
     state: SymState<M>,
     decider: &mut D,
@@ -284,6 +303,7 @@ fn enter<M: ListedMemory, D: Decider>(
     ensures cover { IfOk result (λ o. IsOpenedBy M.stands (state_view state) (IsSome (undecided_of o)) (starts_of o)) }
     ensures exact { (b : PureBeginning) → IsEnteredExactly M.stands b (state_view state) → IfOk result (λ o. Each (BeginsExactly M.stands b) (starts_of o)) }
     ensures undecided { IfOk result (λ o. IfSome (undecided_of o) (λ q. ¬ InFragment (atoms_view q.query))) }
+    ensures asked { IfOk result (λ o. IfSome (undecided_of o) (IsQueryOf (beginning_view beginning.now) (state_view state))) }
     ensures bare { IsBareState M.stands M.terms (state_view state) → IfOk result (λ o. OpensBare M.stands M.plain (IsSome (undecided_of o)) (starts_of o)) }
     ensures narrow { (n : ℕ) → n ≤ narrow_bound → IsNarrowStart M.terms n (state_view state)
         → IfOk result (λ o. OpensNarrow M.terms n (IsSome (undecided_of o)) (starts_of o)) }
@@ -294,7 +314,7 @@ fn enter<M: ListedMemory, D: Decider>(
         }
         Satisfiability::Unsatisfiable => Ok(Opening::Nowhere),
         Satisfiability::Undecided(reason) => {
-            Ok(Opening::Undecided(query_of(alloc, state, reason)?))
+            Ok(Opening::Undecided(query_of(alloc, beginning, state, reason)?))
         }
     }
 }
@@ -322,10 +342,11 @@ impl<M: Drop> Opened<M> {
     }
 }
 
-/// What comes of each of some states.
+/// What comes of each of some states of a beginning.
 fn enter_each<M: ListedMemory, D: Decider>(
     alloc: Global,
     proc: &Proc,
+    beginning: &Beginning,
     args: &Terms,
     states: SymStates<M>,
     decider: &mut D,
@@ -337,6 +358,7 @@ fn enter_each<M: ListedMemory, D: Decider>(
     ensures exact { (b : PureBeginning) → Each (IsEnteredExactly M.stands b) (states_view states)
         → IfOk result (λ o. Each (BeginsExactly M.stands b) (paths_view o.starts)) }
     ensures undecided { IfOk result (λ o. IfSome o.undecided (λ q. ¬ InFragment (atoms_view q.query))) }
+    ensures asked { IfOk result (λ o. IfSome o.undecided (λ q. OneOf (λ s. IsQueryOf (beginning_view beginning.now) s q) (states_view states))) }
     ensures bare { Each (IsBareState M.stands M.terms) (states_view states) → IfOk result (λ o. OpensBare M.stands M.plain (IsSome o.undecided)
         (paths_view o.starts)) }
     ensures narrow { (n : ℕ) → n ≤ narrow_bound → Each (IsNarrowStart M.terms n) (states_view states)
@@ -347,7 +369,7 @@ fn enter_each<M: ListedMemory, D: Decider>(
         undecided: None,
     };
     for state in states.into_vec() {
-        let opening = enter(alloc, proc, args, state, decider)?;
+        let opening = enter(alloc, proc, beginning, args, state, decider)?;
         opened = opened.with(opening)?;
     }
     Ok(opened)
@@ -355,7 +377,9 @@ fn enter_each<M: ListedMemory, D: Decider>(
 
 /// The paths on which the runs of a beginning begin: with any values, the heaps that its uses fix, and the conditions that it carries.
 /// Of one that no valuation meets there is no path, and of one that the decider doesn't know there is a query. Where there is none, each
-/// heap that the uses have is one with which a path begins. Each path begins with exactly the heap that the uses say.
+/// heap that the uses have is one with which a path begins. Each path begins with exactly the heap that the uses say. A query is of the
+/// beginning's place and choices, over its variables, and asks the conditions of adding its uses, and those that it carries. There is none
+/// of a beginning that fixes and assumes nothing.
 pub fn begin<M: ListedMemory, D: Decider>(
     alloc: Global,
     prog: &Prog,
@@ -371,6 +395,9 @@ pub fn begin<M: ListedMemory, D: Decider>(
     ensures cover { IfOk result (λ o. CoversBeginning M.Local.memory M.stands (beginning_view beginning.now) (IsSome o.undecided)
         (paths_view o.starts)) }
     ensures undecided { IfOk result (λ o. IfSome o.undecided (λ q. ¬ InFragment (atoms_view q.query))) }
+    ensures asked { IfOk result (λ o. IfSome o.undecided (λ q. IsAskedThere M.stands M.terms M.kept (proc_view proc.now).params (beginning_view beginning.now)
+        q.place q.path q.vars (atoms_view q.given) (atoms_view q.query))) }
+    ensures decided { (beginning_view beginning.now).uses ≡ [] → (beginning_view beginning.now).conds ≡ [] → IfOk result (λ o. ¬ IsSome o.undecided) }
     ensures bare { IsBare (beginning_view beginning.now) → IfOk result (λ o. OpensBare M.stands M.plain (IsSome o.undecided) (paths_view o.starts)) }
     ensures narrow { M.keeps_narrow → (n : ℕ) → IsNarrowBeginning n (beginning_view beginning.now)
         → begun_bound n (beginning_view beginning.now) ≤ narrow_bound
@@ -378,5 +405,5 @@ pub fn begin<M: ListedMemory, D: Decider>(
 {
     let states = entry_states(alloc, proc, beginning)?;
     let args = entry_args(alloc, proc)?;
-    enter_each(alloc, proc, &args, states, decider)
+    enter_each(alloc, proc, beginning, &args, states, decider)
 }

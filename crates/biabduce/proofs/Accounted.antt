@@ -1,7 +1,7 @@
 -- What an ended path that accounts for a run without the rest of its heap tells of the run with it.
-use Rattle.std.proofs.Common.{◌≡◌, ◌⊎◌, ⊎_elim, inl, inr, ℕ, zero, suc, ℤ, ◌+◌, ◌-◌, ◌≤◌, List, [], ◌∷◌, ◌++◌, length, take, slice_get, Bool, true, false, Option, Some, None, is_some, IsSome, refl, sym, ap, subst, ◌∙◌, true≢false, arith}
+use Rattle.std.proofs.Common.{◌≡◌, ◌⊎◌, ⊎_elim, inl, inr, ℕ, suc, ℤ, ◌+◌, ◌≤◌, List, [], ◌∷◌, ◌++◌, length, take, slice_get, Bool, true, false, Option, Some, None, IsSome, refl, sym, ap, subst, ◌∙◌, true≢false, arith}
 use Rattle.std.specs.Bool.{⊤}
-use Rattle.std.proofs.lemmas.List.{append_cancel_left, length-append}
+use Rattle.std.proofs.lemmas.List.{append_cancel_left}
 use Rattle.std.proofs.Math.Seq.{take-append_seam}
 use Rattle.gil_values.specs.declared.places.Place.{Place}
 use Rattle.gil_values.specs.Pure.{PureValue}
@@ -16,7 +16,6 @@ use Rattle.gil_machine.specs.State.{State, End, Ending, IsFailed, IsOver, ends}
 use Rattle.gil_machine.specs.State as machine
 use Rattle.gil_machine.specs.Step.{step}
 use Rattle.gil_machine.proofs.Proper.{starts_proper}
-use Rattle.mem_model.specs.declared.keys.Key.{Key}
 use Rattle.mem_model.specs.declared.keys.MemoryName.{MemoryName}
 use Rattle.mem_model.specs.Actions.{Actions, IsMemory}
 use Rattle.mem_model.specs.Heaps.{Heap, Holds, IsWellFormed}
@@ -29,7 +28,7 @@ use Rattle.pure_terms.specs.declared.variables.Sort.{Sort}
 use Rattle.pure_terms.specs.Meaning.{Satisfies}
 use Rattle.pure_terms.specs.Pure.{PureTerm}
 use Rattle.sym_evaluation.specs.Meaning.{HaveValues}
-use Rattle.sym_step.specs.Exploring.{IsFrom, cut_off, IsEndedFrom}
+use Rattle.sym_step.specs.Exploring.{IsFrom, IsEndedFrom}
 use Rattle.sym_step.specs.ExplorationLaws.{IsBeside}
 use Rattle.sym_step.specs.Runs.{EndsAfter, StandsAfter, AccountsFor}
 use Rattle.sym_step.proofs.Exploring.{accounts_first}
@@ -39,10 +38,10 @@ use Rattle.sym_model.specs.Lists.{Each}
 use Rattle.sym_model.specs.Meaning.{key_value}
 use Rattle.sym_model.specs.Pure.{PureKey}
 use Rattle.sym_model.specs.Terms.{StateTerms}
-use Rattle.sym_model.proofs.ListLaws.{same_some, not_none}
-use Rattle.sym_paths.specs.Meaning.{Stands, IsEnding, StandsForEnd}
+use Rattle.sym_model.proofs.ListLaws.{not_none}
+use Rattle.sym_paths.specs.Meaning.{Stands, StandsForEnd}
 use Rattle.sym_paths.specs.Pure.{PureEnd, returned, failed, threw, missed, vanished, cut, unknown, PurePath}
-use Rattle.sym_paths.specs.Steps.{AreNext, IsNext, counter_after, draws_after, drawn_from, IsUnknown, IsInputFault}
+use Rattle.sym_paths.specs.Steps.{AreNext, drawn_from, IsUnknown, IsInputFault}
 use Rattle.sym_paths.proofs.Beginning.{beginnings_stand}
 use Rattle.sym_paths.proofs.Silent.{stands_at}
 use Rattle.bi_beginnings.specs.Beginnings.{any_for_each, variables_from, PureBeginning, IsOpening, BeginsWith, Awaits}

@@ -1,5 +1,5 @@
 -- Runs from a part of a heap: up to a key that is missed they are those from the whole of it, which goes on there.
-use Rattle.std.proofs.Common.{◌≡◌, ◌⊎◌, ⊎_elim, inl, inr, ℕ, suc, ◌≤◌, List, [], Bool, true, false, Option, Some, None, Ok, Err, codes, refl, sym, ap, subst, ◌∙◌, arith}
+use Rattle.std.proofs.Common.{◌≡◌, ◌⊎◌, ⊎_elim, inl, inr, ℕ, suc, ◌≤◌, List, Bool, true, false, Option, Some, None, Ok, Err, codes, refl, sym, ap, subst, ◌∙◌, arith}
 use Rattle.std.specs.Cmp.{first_so, second_so}
 use Rattle.std.specs.List.{list_all}
 use Rattle.std.specs.Option.{option_and_then}
@@ -14,7 +14,7 @@ use Rattle.gil_machine.specs.Beside.{beside, end_beside, step_beside}
 use Rattle.gil_machine.specs.Choices.{of_values, missed_key, result_of, miss_at}
 use Rattle.gil_machine.specs.Laws.{handed}
 use Rattle.gil_machine.specs.Run.{run, reached}
-use Rattle.gil_machine.specs.State.{Ending, returned, threw, failed, vanished, no_input, bad_input, cut, State, End, IsFailed, IsOver, Step, goes_on, ends, end_at}
+use Rattle.gil_machine.specs.State.{Ending, returned, threw, failed, vanished, no_input, bad_input, cut, State, End, IsFailed, IsOver, Step, ends, end_at}
 use Rattle.gil_machine.specs.Step.{action_result, counted, command_at, after_action, do_action, do_command, step_at, step, with_values}
 use Rattle.gil_machine.proofs.Beside.{steps_are_local, misses_fail}
 use Rattle.gil_machine.proofs.Proper.{MadeCommand, command_made, find_made, may_act_where_reached}

@@ -30,7 +30,6 @@ use Rattle.pure_terms.specs.Fragment.{has_fragment_form}
 use Rattle.pure_terms.specs.Kinds.{same_sort}
 use Rattle.pure_terms.specs.Meaning.{truth, all_true, IsProper, IsOver, AreVariablesOf, Satisfies}
 use Rattle.pure_terms.specs.Pure.{PureTerm, PureAtom, term_of, variables}
-use Rattle.pure_terms.specs.View.{atoms_view}
 use Rattle.pure_terms.proofs.VariableLaws.{stay_when_tables_grow}
 use Rattle.sym_evaluation.specs.Meaning.{HaveValues}
 use Rattle.sym_step.specs.Exploring.{IsFrom, IsEndedFrom}
@@ -61,6 +60,7 @@ use Rattle.bi_specifications.proofs.Valuing.{symbols_are_next, symbols_proper, a
 use Rattle.biabduce.specs.Decided.{IsDecidable, IsDecided, IsClosed}
 use Rattle.biabduce.specs.Narrowly.{LeavesAlone}
 use Rattle.biabduce.specs.Sound.{PureInference}
+use Rattle.biabduce.specs.View.{asked_view}
 use Rattle.biabduce.proofs.Missed.{at_new_symbol, missed_own}
 
 -- ---- no value
@@ -291,14 +291,14 @@ pub begun_decided : (i j : PureInference) (more : List PureBeginning) → j ≡ 
 begun_decided i j more is none decided =
     subst IsDecided (sym is) (record { left = each_append IsBare i.left more decided.left (subst (Each IsBare) (sym none) tt); decided = decided.decided })
 
-pub none_of : (o : Option Query) → ¬ (IsSome o) → option_map (λ (x : Query). atoms_view x.query) o ≡ None
+pub none_of : (o : Option Query) → ¬ (IsSome o) → option_map asked_view o ≡ None
 none_of None none = refl
 none_of (Some x) none = absurd (none refl)
 
-pub any_decided : (i j : PureInference) (o : Option Query) → j ≡ record i { undecided = option_or i.undecided (option_map (λ (x : Query). atoms_view x.query) o) } → ¬ (IsSome o) → IsDecided i → IsDecided j
+pub any_decided : (i j : PureInference) (o : Option Query) → j ≡ record i { undecided = option_or i.undecided (option_map asked_view o) } → ¬ (IsSome o) → IsDecided i → IsDecided j
 any_decided i j o is none decided =
     subst IsDecided (sym is)
-    (record { left = decided.left; decided = (λ k. option_or (decided.decided k) (option_map (λ (x : Query). atoms_view x.query) o)) ∙ none_of o none })
+    (record { left = decided.left; decided = (λ k. option_or (decided.decided k) (option_map asked_view o)) ∙ none_of o none })
 
 -- the last beginning is taken out
 pub taken_decided : (i : PureInference) (rest : List PureBeginning) (b : PureBeginning) → i.left ≡ rest ++ b ∷ [] → IsDecided i → IsBare b × IsDecided (record i { left = rest })
@@ -306,6 +306,6 @@ taken_decided i rest b is decided =
     let all = subst (Each IsBare) is decided.left in
     ((each_right IsBare rest (b ∷ []) all).0, record { left = each_left IsBare rest (b ∷ []) all; decided = decided.decided })
 
-pub nothing_left : (o : Option Query) → option_map (λ (x : Query). atoms_view x.query) o ≡ None → o ≡ None
+pub nothing_left : (o : Option Query) → option_map asked_view o ≡ None → o ≡ None
 nothing_left None none = refl
 nothing_left (Some x) none = cc

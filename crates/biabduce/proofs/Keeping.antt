@@ -9,7 +9,6 @@ use Rattle.mem_model.specs.Actions.{Actions}
 use Rattle.mem_model.specs.Heaps.{Heap}
 use Rattle.pure_terms.specs.declared.queries.Query.{Query}
 use Rattle.pure_terms.specs.Fragment.{InFragment}
-use Rattle.pure_terms.specs.Pure.{PureAtom}
 use Rattle.pure_terms.specs.View.{atoms_view}
 use Rattle.sym_model.specs.Cores.{TakesBoth}
 use Rattle.sym_model.specs.Lists.{Each}
@@ -20,7 +19,8 @@ use Rattle.bi_beginnings.specs.Beginnings.{any_for_each, first_beginning, PureBe
 use Rattle.bi_beginnings.proofs.Tables.{first_named}
 use Rattle.bi_specifications.specs.Specified.{IsTrulyFound, IsEntryOf}
 use Rattle.inferred_specs.specs.Inferred.{PureFound}
-use Rattle.biabduce.specs.Sound.{PureInference, IsSound, first_list}
+use Rattle.biabduce.specs.Sound.{PureAsked, PureInference, IsSound, first_asked}
+use Rattle.biabduce.specs.View.{asked_view}
 
 -- an element in the middle, and one at the end
 pub each_middle : {A : Type 0} (P : A → Type 0) (xs : List A) (y : A) (ys : List A) → Each P (xs ++ y ∷ ys) → P y
@@ -35,7 +35,7 @@ pub on_ok_both : {T E P Q U : Type 0} (r : Result T E) → (P → Q → U) → O
 on_ok_both (Ok x) f first second = f first second
 on_ok_both (Err e) f first second = tt
 
-pub seen_back : (o : Option Query) → IfSome (option_map (λ (x : Query). atoms_view x.query) o) (λ kept. ¬ InFragment kept) → IfSome o (λ x. ¬ InFragment (atoms_view x.query))
+pub seen_back : (o : Option Query) → IfSome (option_map asked_view o) (λ kept. ¬ InFragment kept.conds) → IfSome o (λ x. ¬ InFragment (atoms_view x.query))
 seen_back (Some x) outside = outside
 seen_back None outside = tt
 
@@ -71,17 +71,17 @@ module _ (p : PureParts) (memory : MemoryName) (m : Actions) (q : PureProc) (n :
     undecided = sound.undecided;
   }
 
-  first_outside : (o : Option (List PureAtom)) (atoms : List PureAtom) → IfSome o (λ kept. ¬ InFragment kept) → ¬ InFragment atoms
-      → IfSome (first_list o atoms) (λ kept. ¬ InFragment kept)
-  first_outside None atoms none outside = outside
-  first_outside (Some kept) atoms some outside = some
+  first_outside : (o : Option PureAsked) (x : PureAsked) → IfSome o (λ kept. ¬ InFragment kept.conds) → ¬ InFragment x.conds
+      → IfSome (first_asked o x) (λ kept. ¬ InFragment kept.conds)
+  first_outside None x none outside = outside
+  first_outside (Some kept) x some outside = some
 
-  pub left_sound : (i : PureInference) (atoms : List PureAtom) → IsSound p memory m q n i → ¬ InFragment atoms
-      → IsSound p memory m q n (record i { undecided = first_list i.undecided atoms })
-  left_sound i atoms sound outside = record {
+  pub left_sound : (i : PureInference) (x : PureAsked) → IsSound p memory m q n i → ¬ InFragment x.conds
+      → IsSound p memory m q n (record i { undecided = first_asked i.undecided x })
+  left_sound i x sound outside = record {
     left = sound.left;
     founds = sound.founds;
-    undecided = first_outside i.undecided atoms sound.undecided outside;
+    undecided = first_outside i.undecided x sound.undecided outside;
   }
 
   -- the last beginning is taken out
@@ -107,24 +107,25 @@ module _ (p : PureParts) (memory : MemoryName) (m : Actions) (q : PureProc) (n :
       → IsTrulyFound p memory m q.name n found → IsSound p memory m q n j
   after_found i j found is sound truly = subst (IsSound p memory m q n) (sym is) (found_sound i found sound truly)
 
-  pub after_left : (i j : PureInference) (atoms : List PureAtom) → j ≡ record i { undecided = first_list i.undecided atoms } → IsSound p memory m q n i
-      → ¬ InFragment atoms → IsSound p memory m q n j
-  after_left i j atoms is sound outside = subst (IsSound p memory m q n) (sym is) (left_sound i atoms sound outside)
+  pub after_left : (i j : PureInference) (x : PureAsked) → j ≡ record i { undecided = first_asked i.undecided x } → IsSound p memory m q n i
+      → ¬ InFragment x.conds → IsSound p memory m q n j
+  after_left i j x is sound outside = subst (IsSound p memory m q n) (sym is) (left_sound i x sound outside)
 
-  any_outside : (o later : Option (List PureAtom)) → IfSome o (λ kept. ¬ InFragment kept) → IfSome later (λ kept. ¬ InFragment kept) → IfSome (option_or o later) (λ kept. ¬ InFragment kept)
+  any_outside : (o later : Option PureAsked) → IfSome o (λ kept. ¬ InFragment kept.conds) → IfSome later (λ kept. ¬ InFragment kept.conds)
+      → IfSome (option_or o later) (λ kept. ¬ InFragment kept.conds)
   any_outside (Some kept) later first second = first
   any_outside None later first second = second
 
-  seen_outside : (o : Option Query) → IfSome o (λ x. ¬ InFragment (atoms_view x.query)) → IfSome (option_map (λ (x : Query). atoms_view x.query) o) (λ kept. ¬ InFragment kept)
+  seen_outside : (o : Option Query) → IfSome o (λ x. ¬ InFragment (atoms_view x.query)) → IfSome (option_map asked_view o) (λ kept. ¬ InFragment kept.conds)
   seen_outside (Some x) outside = outside
   seen_outside None outside = tt
 
-  pub after_any : (i j : PureInference) (o : Option Query) → j ≡ record i { undecided = option_or i.undecided (option_map (λ (x : Query). atoms_view x.query) o) } → IsSound p memory m q n i
+  pub after_any : (i j : PureInference) (o : Option Query) → j ≡ record i { undecided = option_or i.undecided (option_map asked_view o) } → IsSound p memory m q n i
       → IfSome o (λ x. ¬ InFragment (atoms_view x.query)) → IsSound p memory m q n j
   after_any i j o is sound outside = subst (IsSound p memory m q n) (sym is) (record {
     left = sound.left;
     founds = sound.founds;
-    undecided = any_outside i.undecided (option_map (λ (x : Query). atoms_view x.query) o) sound.undecided (seen_outside o outside);
+    undecided = any_outside i.undecided (option_map asked_view o) sound.undecided (seen_outside o outside);
   })
 
 -- ---- where paths begin

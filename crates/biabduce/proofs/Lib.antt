@@ -1,9 +1,13 @@
 pub mod Accounted
+pub mod Asking
 pub mod Beside
+pub mod Coming
 pub mod Decided
 pub mod Keeping
 pub mod Missed
 pub mod NarrowPaths
+pub mod Others
 pub mod Outside
 pub mod Providing
 pub mod ProvidingNarrowly
+pub mod Renaming

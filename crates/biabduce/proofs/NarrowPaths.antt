@@ -1,9 +1,8 @@
 -- Along paths that begin narrow at commands of narrow form nothing is left undecided.
-use Rattle.std.proofs.Common.{◌≡◌, ◌⊎◌, ⊎_elim, inl, inr, ℕ, suc, ◌+◌, ◌*◌, ◌<◌, ◌≤◌, ◌^◌, pos, neg_ℤ, ℤ, List, [], ◌∷◌, ◌++◌, map, length, slice_get, Bool, true, false, Option, Some, None, IsSome, IsTrue, refl, sym, ap, subst, ◌∙◌, true≢false, arith}
+use Rattle.std.proofs.Common.{◌≡◌, ◌⊎◌, ⊎_elim, inl, inr, ℕ, suc, ◌+◌, ◌<◌, ◌≤◌, ◌^◌, pos, neg_ℤ, ℤ, List, [], ◌∷◌, ◌++◌, length, slice_get, true, Option, Some, None, IsSome, IsTrue, refl, sym, ap, subst, ◌∙◌, true≢false, arith}
 use Rattle.std.specs.List.{list_all}
 use Rattle.std.specs.Option.{option_map, option_or}
 use Rattle.std.proofs.lemmas.List.{append-nil, length-map}
-use Rattle.std.proofs.lemmas.Option.{slice_get_within}
 use Rattle.gil_values.specs.declared.places.Place.{Place}
 use Rattle.gil_values.specs.Pure.{PureValue}
 use Rattle.gil_values.proofs.OperatorSymbols.{none_contained}
@@ -22,8 +21,7 @@ use Rattle.pure_terms.specs.EqualityLaws.{same_sorts}
 use Rattle.pure_terms.specs.Fragment.{has_fragment_form}
 use Rattle.pure_terms.specs.Kinds.{same_sort}
 use Rattle.pure_terms.specs.Meaning.{IsOver}
-use Rattle.pure_terms.specs.Pure.{PureTerm, literal, variable, list_of, unary_of, binary_of, PureAtom}
-use Rattle.pure_terms.specs.View.{atoms_view}
+use Rattle.pure_terms.specs.Pure.{PureTerm, literal, variable, list_of, unary_of, binary_of}
 use Rattle.pure_terms.proofs.KindLaws.{over_variable}
 use Rattle.sym_engine.specs.Narrow.{IsNarrow, IsNarrowEnd, IsNarrowPath}
 use Rattle.sym_engine.proofs.NarrowTerms.{narrow_up}
@@ -39,23 +37,22 @@ use Rattle.sym_model.specs.Plain.{is_narrow, IsNarrowKey}
 use Rattle.sym_model.specs.Pure.{PureSub, named, cell, shape, bound, dom, proto, gone, PureKey, sub_terms}
 use Rattle.sym_model.specs.Terms.{StateTerms, AreEachOver}
 use Rattle.sym_model.proofs.ListLaws.{not_none, each_to, each_append, each_left, each_right}
-use Rattle.sym_paths.specs.Beginning.{Begins}
-use Rattle.sym_paths.specs.Frames.{called_frame}
 use Rattle.sym_paths.specs.Meaning.{OfEachName, command_of_frames, end_terms}
 use Rattle.sym_paths.specs.Pure.{PureFrame, PureEnd, returned, failed, threw, missed, vanished, cut, unknown, PurePath}
 use Rattle.sym_paths.specs.Steps.{IsUnknown, narrow_bound}
 use Rattle.sym_paths.proofs.Beginning.{first_each}
 use Rattle.sym_engine.proofs.Plain.{atom_up}
 use Rattle.bi_beginnings.specs.Beginnings.{any_for_each, variables_from, first_beginning, PureBeginning, IsOpening, BeginsExactly}
-use Rattle.bi_beginnings.specs.Narrowly.{IsAny, IsNarrowCoreUse, IsNarrowBeginning, begun_bound, IsSymbolTaken, MissesNarrowly, IsLarger, BeginsNarrow}
+use Rattle.bi_beginnings.specs.Narrowly.{IsAny, IsNarrowCoreUse, IsNarrowBeginning, begun_bound, IsSymbolTaken, IsLarger, BeginsNarrow}
 use Rattle.bi_beginnings.proofs.Params.{all_at, proc_at}
 use Rattle.bi_beginnings.proofs.Tables.{over_variable as variable_over}
 use Rattle.bi_specifications.specs.Shape.{MayBeSaid}
-use Rattle.bi_specifications.specs.Specified.{PureEntry, IsExplored}
+use Rattle.bi_specifications.specs.Specified.{PureEntry}
 use Rattle.bi_specifications.proofs.Grown.{IsGrown, ended_grown, ended_drew, all_fresh}
 use Rattle.bi_specifications.proofs.Naming.{at_left, at_right, at_either}
-use Rattle.biabduce.specs.Narrowly.{IsNarrowEntry, numbers_at, IsNarrowLeft, IsNarrowlyDecided, StaysNarrowlyDecided, StartsNarrowly, IsNarrowlyClosed, BeginsNarrowly, LeavesAlone}
+use Rattle.biabduce.specs.Narrowly.{IsNarrowEntry, numbers_at, IsNarrowLeft, IsNarrowlyDecided, StaysNarrowlyDecided, IsNarrowAlong, StartsNarrowly, IsNarrowlyClosed, BeginsNarrowly, LeavesAlone}
 use Rattle.biabduce.specs.Sound.{PureInference}
+use Rattle.biabduce.specs.View.{asked_view}
 use Rattle.biabduce.proofs.Decided.{none_of}
 
 -- ---- larger numbers
@@ -206,8 +203,7 @@ module _ {S : Type 0} (p : PureParts) (memory : MemoryName) (m : Actions) (stand
 
   -- the commands on the way to the end have narrow forms
   abbrev pub Along : (path : PurePath S) → IsNarrowEndedFrom p m stands terms asked depends plain keeps_plain n start path → Type 0
-  Along path (inl (come, some)) = Each (IsAtNarrow p) come.from.earlier
-  Along path (inr (before, (come, goes, steps, is))) = Each (IsAtNarrow p) come.from.earlier
+  Along path ended = IsNarrowAlong p m stands terms asked depends plain keeps_plain n start path ended
 
   module _ (path : PurePath S) (ended : IsNarrowEndedFrom p m stands terms asked depends plain keeps_plain n start path) (narrow : Along path ended) where
     pub known_end : ¬ IsUnknown path.ending
@@ -231,7 +227,7 @@ module _ {S : Type 0} (p : PureParts) (memory : MemoryName) (m : Actions) (stand
         by (inl (come, some)) along = missed_narrow path come along key place at
         by (inr (before, (come, goes, steps, is))) along = let no : Some cut ≡ Some (missed key place) = sym (ap (λ (x : PurePath S). x.ending) is) ∙ at in absurd (cc)
 
-    plain_ended : IsEndedFrom p m stands terms asked depends plain keeps_plain n start path
+    pub plain_ended : IsEndedFrom p m stands terms asked depends plain keeps_plain n start path
     plain_ended = by ended
       where
         by : IsNarrowEndedFrom p m stands terms asked depends plain keeps_plain n start path → IsEndedFrom p m stands terms asked depends plain keeps_plain n start path
@@ -344,10 +340,10 @@ begun_narrowly q n b i j left begins decided = record {
 pub left_alone : (q : PureProc) (n : ℕ) (i j : PureInference) → LeavesAlone i j → StaysNarrowlyDecided q n i j
 left_alone q n i j alone decided = record { left = subst (Each (IsNarrowLeft q n)) (sym alone.left) decided.left; decided = alone.undecided ∙ decided.decided }
 
-pub any_narrowly : (q : PureProc) (n : ℕ) (i j : PureInference) (o : Option Query) → j ≡ record i { undecided = option_or i.undecided (option_map (λ (x : Query). atoms_view x.query) o) } → ¬ (IsSome o) → StaysNarrowlyDecided q n i j
+pub any_narrowly : (q : PureProc) (n : ℕ) (i j : PureInference) (o : Option Query) → j ≡ record i { undecided = option_or i.undecided (option_map asked_view o) } → ¬ (IsSome o) → StaysNarrowlyDecided q n i j
 any_narrowly q n i j o is none decided =
     subst (IsNarrowlyDecided q n) (sym is)
-    (record { left = decided.left; decided = (λ k. option_or (decided.decided k) (option_map (λ (x : Query). atoms_view x.query) o)) ∙ none_of o none })
+    (record { left = decided.left; decided = (λ k. option_or (decided.decided k) (option_map asked_view o)) ∙ none_of o none })
 
 -- the last beginning is taken out
 pub taken_narrowly : (q : PureProc) (n : ℕ) (i : PureInference) (rest : List PureBeginning) (b : PureBeginning) → i.left ≡ rest ++ b ∷ [] → IsNarrowlyDecided q n i → IsNarrowLeft q n b × IsNarrowlyDecided q n (record i { left = rest })
@@ -368,3 +364,6 @@ nothing_begun k n b i = record { more = []; left = sym (append-nil i.left); unde
 
 pub begun_more : (k n : ℕ) (b : PureBeginning) (i j : PureInference) (more : List PureBeginning) → j ≡ record i { left = i.left ++ more } → Each (λ c. IsNarrowBeginning k c × IsLarger n b c) more → BeginsNarrowly k n b i j
 begun_more k n b i j more is all = record { more = more; left = ap (λ (x : PureInference). x.left) is; undecided = ap (λ (x : PureInference). x.undecided) is; each = all }
+
+pub alone_begun : (k n : ℕ) (b : PureBeginning) (i j : PureInference) → LeavesAlone i j → BeginsNarrowly k n b i j
+alone_begun k n b i j alone = record { more = []; left = alone.left ∙ sym (append-nil i.left); undecided = alone.undecided; each = tt }

@@ -1,5 +1,5 @@
 -- What is provided as inference goes on.
-use Rattle.std.proofs.Common.{◌≡◌, ◌⊎◌, ⊎_elim, inl, inr, ℕ, zero, suc, ◌+◌, ◌≤◌, List, [], ◌∷◌, ◌++◌, length, slice_get, Bool, true, false, Option, Some, None, is_some, IsSome, refl, sym, ap, subst, ◌∙◌, true≢false, arith}
+use Rattle.std.proofs.Common.{◌≡◌, ◌⊎◌, ⊎_elim, inl, inr, ℕ, zero, suc, ◌+◌, ◌≤◌, List, [], ◌∷◌, ◌++◌, length, slice_get, Bool, true, false, Option, Some, None, IsSome, refl, sym, ap, subst, ◌∙◌, true≢false, arith}
 use Rattle.std.specs.FinMap.{empty, entries}
 use Rattle.std.specs.Option.{option_map, option_or}
 use Rattle.std.proofs.lemmas.List.{length-map}
@@ -19,7 +19,6 @@ use Rattle.pure_terms.specs.declared.queries.Query.{Query}
 use Rattle.pure_terms.specs.declared.variables.Sort.{Sort}
 use Rattle.pure_terms.specs.Kinds.{has_sort}
 use Rattle.pure_terms.specs.Pure.{PureAtom}
-use Rattle.pure_terms.specs.View.{atoms_view}
 use Rattle.pure_terms.proofs.VariableLaws.{slice_get-append}
 use Rattle.sym_model.specs.Lists.{Each, OneOf}
 use Rattle.sym_model.proofs.ListLaws.{same_some, not_none, each_to, one_left, one_right, one_parts, one_with}
@@ -27,11 +26,12 @@ use Rattle.sym_paths.specs.Pure.{PureEnd, PurePath}
 use Rattle.bi_beginnings.specs.Beginnings.{any_for_each, first_beginning, PureBeginning, BeginsWith, CoversBeginning}
 use Rattle.bi_specifications.proofs.Valuing.{have_from}
 use Rattle.biabduce.specs.Covering.{PureRun, IsWanted, IsAwaited, IsCovered, IsProvided, Keeps, CoversEnd, CoversStart, CoversAwaited, CoversAll}
-use Rattle.biabduce.specs.Sound.{PureInference, first_list}
+use Rattle.biabduce.specs.Sound.{PureAsked, PureInference, first_asked}
+use Rattle.biabduce.specs.View.{asked_view}
 
-some_list : (o : Option (List PureAtom)) (atoms : List PureAtom) → IsSome (first_list o atoms)
-some_list None atoms = refl
-some_list (Some kept) atoms = refl
+some_asked : (o : Option PureAsked) (x : PureAsked) → IsSome (first_asked o x)
+some_asked None x = refl
+some_asked (Some kept) x = refl
 
 pub none_left : {A B : Type 0} (f : A → B) (o : Option A) → o ≡ None → ¬ (IsSome (option_map f o))
 none_left f o none some = true≢false (sym (subst (λ (x : Option _). IsSome (option_map f x)) none some))
@@ -76,27 +76,27 @@ module _ (p : PureParts) (memory : MemoryName) (m : Actions) (q : PureProc) (n :
   pub found_covers : (i j : PureInference) (found : PureFound) (r : PureRun) → j ≡ record i { founds = i.founds ++ found ∷ [] } → IsCovered p memory m q n (i.founds ++ found ∷ []) r → Provided j r
   found_covers i j found r is covered = subst (λ k. Provided k r) (sym is) (inr (inr covered))
 
-  pub keeps_left : (i j : PureInference) (atoms : List PureAtom) → j ≡ record i { undecided = first_list i.undecided atoms } → Keeps p memory m q n i j
-  keeps_left i j atoms is r provided = subst (λ k. Provided k r) (sym is) (⊎_elim (λ some. inl (some_list i.undecided atoms)) inr provided)
+  pub keeps_left : (i j : PureInference) (x : PureAsked) → j ≡ record i { undecided = first_asked i.undecided x } → Keeps p memory m q n i j
+  keeps_left i j x is r provided = subst (λ k. Provided k r) (sym is) (⊎_elim (λ some. inl (some_asked i.undecided x)) inr provided)
 
-  pub left_some : (i j : PureInference) (atoms : List PureAtom) → j ≡ record i { undecided = first_list i.undecided atoms } → IsSome j.undecided
-  left_some i j atoms is = subst (λ (k : PureInference). IsSome k.undecided) (sym is) (some_list i.undecided atoms)
+  pub left_some : (i j : PureInference) (x : PureAsked) → j ≡ record i { undecided = first_asked i.undecided x } → IsSome j.undecided
+  left_some i j x is = subst (λ (k : PureInference). IsSome k.undecided) (sym is) (some_asked i.undecided x)
 
   any_some : {A : Type 0} (o later : Option A) → IsSome o ⊎ IsSome later → IsSome (option_or o later)
   any_some (Some x) later is = refl
   any_some None later (inl some) = absurd (true≢false (sym some))
   any_some None later (inr some) = some
 
-  seen_some : (o : Option Query) → IsSome o → IsSome (option_map (λ (x : Query). atoms_view x.query) o)
+  seen_some : (o : Option Query) → IsSome o → IsSome (option_map asked_view o)
   seen_some (Some x) some = refl
   seen_some None some = some
 
-  pub keeps_any : (i j : PureInference) (o : Option Query) → j ≡ record i { undecided = option_or i.undecided (option_map (λ (x : Query). atoms_view x.query) o) } → Keeps p memory m q n i j
+  pub keeps_any : (i j : PureInference) (o : Option Query) → j ≡ record i { undecided = option_or i.undecided (option_map asked_view o) } → Keeps p memory m q n i j
   keeps_any i j o is r provided =
-      subst (λ k. Provided k r) (sym is) (⊎_elim (λ some. inl (any_some i.undecided (option_map (λ (x : Query). atoms_view x.query) o) (inl some))) inr provided)
+      subst (λ k. Provided k r) (sym is) (⊎_elim (λ some. inl (any_some i.undecided (option_map asked_view o) (inl some))) inr provided)
 
-  pub any_left : (i j : PureInference) (o : Option Query) → j ≡ record i { undecided = option_or i.undecided (option_map (λ (x : Query). atoms_view x.query) o) } → IsSome o → IsSome j.undecided
-  any_left i j o is some = subst (λ (k : PureInference). IsSome k.undecided) (sym is) (any_some i.undecided (option_map (λ (x : Query). atoms_view x.query) o) (inr (seen_some o some)))
+  pub any_left : (i j : PureInference) (o : Option Query) → j ≡ record i { undecided = option_or i.undecided (option_map asked_view o) } → IsSome o → IsSome j.undecided
+  any_left i j o is some = subst (λ (k : PureInference). IsSome k.undecided) (sym is) (any_some i.undecided (option_map asked_view o) (inr (seen_some o some)))
 
   -- ---- ends and starts
 

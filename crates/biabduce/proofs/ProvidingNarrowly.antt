@@ -1,5 +1,5 @@
 -- What is provided for narrow runs as inference goes on.
-use Rattle.std.proofs.Common.{◌≡◌, ◌⊎◌, ⊎_elim, inl, inr, ℕ, ◌+◌, ◌≤◌, List, [], ◌∷◌, ◌++◌, length, Option, Some, None, IsSome, true, false, sym, ap, subst, ◌∙◌}
+use Rattle.std.proofs.Common.{◌≡◌, ◌⊎◌, ⊎_elim, inl, inr, ℕ, ◌+◌, ◌≤◌, List, [], ◌∷◌, ◌++◌, length, Option, Some, None, true, false, sym, subst, ◌∙◌}
 use Rattle.std.specs.FinMap.{entries}
 use Rattle.std.specs.Option.{option_map, option_or}
 use Rattle.gil_values.specs.Pure.{PureValue}
@@ -13,7 +13,6 @@ use Rattle.inferred_specs.specs.Inferred.{PureFound}
 use Rattle.pure_terms.specs.declared.queries.Query.{Query}
 use Rattle.pure_terms.specs.declared.variables.Sort.{Sort}
 use Rattle.pure_terms.specs.Pure.{PureAtom}
-use Rattle.pure_terms.specs.View.{atoms_view}
 use Rattle.sym_model.specs.Lists.{Each, OneOf}
 use Rattle.sym_model.specs.Terms.{StateTerms}
 use Rattle.sym_model.proofs.ListLaws.{same_some, each_to, one_left, one_right, one_parts, one_with}
@@ -21,9 +20,10 @@ use Rattle.sym_paths.specs.Pure.{PureEnd, PurePath}
 use Rattle.bi_beginnings.specs.Beginnings.{first_beginning, PureBeginning, BeginsWith, CoversBeginning}
 use Rattle.bi_beginnings.specs.Narrowly.{IsNarrowBeginning, IsLarger}
 use Rattle.biabduce.specs.Covering.{PureRun, IsWanted, IsAwaited, IsCovered}
-use Rattle.biabduce.specs.Narrowly.{IsNarrowEntry, numbers_at, IsNarrowLeft, StartsNarrowly}
+use Rattle.biabduce.specs.Narrowly.{IsNarrowEntry, numbers_at, IsNarrowLeft}
 use Rattle.biabduce.specs.NarrowRuns.{CoversNarrowly, IsNarrowRun, IsAwaitedNarrowly, IsProvidedNarrowly, KeepsNarrowly, CoversNarrowEnd, CoversNarrowStart, CoversNarrowAwaited, CoversNarrowAll}
-use Rattle.biabduce.specs.Sound.{PureInference, first_list}
+use Rattle.biabduce.specs.Sound.{PureAsked, PureInference, first_asked}
+use Rattle.biabduce.specs.View.{asked_view}
 use Rattle.biabduce.proofs.NarrowPaths.{first_left, larger_left}
 use Rattle.biabduce.proofs.Providing.{still_covered, first_awaits, part_proper, met_in_whole}
 
@@ -46,10 +46,10 @@ module _ (p : PureParts) (memory : MemoryName) (m : Actions) (q : PureProc) (n :
   pub found_keeps : (i j : PureInference) (found : PureFound) → j ≡ record i { founds = i.founds ++ found ∷ [] } → KeepsNarrowly p memory m q n i j
   found_keeps i j found is r provided = subst (λ k. Provided k r) (sym is) (⊎_elim inl (λ covered. inr (still_covered p memory m q n i.founds (found ∷ []) r covered)) provided)
 
-  pub left_keeps : (i j : PureInference) (atoms : List PureAtom) → j ≡ record i { undecided = first_list i.undecided atoms } → KeepsNarrowly p memory m q n i j
-  left_keeps i j atoms is r provided = subst (λ k. Provided k r) (sym is) provided
+  pub left_keeps : (i j : PureInference) (x : PureAsked) → j ≡ record i { undecided = first_asked i.undecided x } → KeepsNarrowly p memory m q n i j
+  left_keeps i j x is r provided = subst (λ k. Provided k r) (sym is) provided
 
-  pub any_keeps : (i j : PureInference) (o : Option Query) → j ≡ record i { undecided = option_or i.undecided (option_map (λ (x : Query). atoms_view x.query) o) } → KeepsNarrowly p memory m q n i j
+  pub any_keeps : (i j : PureInference) (o : Option Query) → j ≡ record i { undecided = option_or i.undecided (option_map asked_view o) } → KeepsNarrowly p memory m q n i j
   any_keeps i j o is r provided = subst (λ k. Provided k r) (sym is) provided
 
   pub found_provides : (i j : PureInference) (found : PureFound) (r : PureRun) → j ≡ record i { founds = i.founds ++ found ∷ [] } → IsCovered p memory m q n (i.founds ++ found ∷ []) r → Provided j r

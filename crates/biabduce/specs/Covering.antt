@@ -1,6 +1,6 @@
 -- What inference covers as it goes on: each run of the procedure that is to be covered is covered by what is found, or a beginning that is
 -- left awaits it, or some list of conditions was left undecided.
-use Rattle.std.specs.Prelude.{◌≡◌, ◌⊎◌, ℕ, ◌≤◌, List, [], length, true, false, Option, Some, None, IsSome, ⊤}
+use Rattle.std.specs.Prelude.{◌⊎◌, ℕ, ◌≤◌, List, [], length, true, false, Option, Some, None, IsSome, ⊤}
 use Rattle.std.specs.FinMap.{entries}
 use Rattle.gil_values.specs.Pure.{PureValue}
 use Rattle.gil_syntax.specs.Pure.{PureProc, PureParts}

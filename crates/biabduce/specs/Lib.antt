@@ -1,3 +1,4 @@
+pub mod Asked
 pub mod Covering
 pub mod Decided
 pub mod Narrowly

@@ -23,7 +23,7 @@ use Rattle.bi_beginnings.specs.Beginnings.{PureBeginning, BeginsWith}
 use Rattle.bi_beginnings.specs.Missing.{IsMissed}
 use Rattle.bi_beginnings.specs.Narrowly.{MissesNarrowly}
 use Rattle.biabduce.specs.Covering.{PureRun, IsWanted, IsAwaited, IsCovered}
-use Rattle.biabduce.specs.Narrowly.{IsNarrowEntry, numbers_at, IsNarrowLeft, StartsNarrowly}
+use Rattle.biabduce.specs.Narrowly.{IsNarrowEntry, numbers_at, IsNarrowLeft}
 use Rattle.biabduce.specs.Sound.{PureInference}
 
 module _ (p : PureParts) (memory : MemoryName) (m : Actions) (f : List ℕ) (n : ℕ) where

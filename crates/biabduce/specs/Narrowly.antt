@@ -1,15 +1,20 @@
 -- Where inference leaves nothing undecided of a narrow program: each beginning that is left is narrow, and so is each path.
-use Rattle.std.specs.Prelude.{◌≡◌, ℕ, ◌+◌, ◌*◌, ◌^◌, ◌≤◌, List, ◌++◌, length, false, Option, Some, None, IsTrue, ⊤}
+use Rattle.std.specs.Prelude.{◌≡◌, ℕ, ◌+◌, ◌*◌, ◌^◌, ◌≤◌, ℤ, List, ◌++◌, length, false, Option, Some, None, IsTrue, ⊤}
+use Rattle.std.proofs.Common.{inl, inr}
+use Rattle.gil_values.specs.Pure.{PureValue}
 use Rattle.gil_syntax.specs.Pure.{PureProc, PureParts}
 use Rattle.gil_syntax.specs.Simple.{is_narrow}
 use Rattle.gil_syntax.specs.Valid.{is_among}
 use Rattle.mem_model.specs.declared.cores.Core.{Core}
 use Rattle.mem_model.specs.declared.keys.MemoryName.{MemoryName}
+use Rattle.mem_model.specs.Actions.{Actions}
 use Rattle.mem_model.specs.CoreNames.{has_core}
+use Rattle.mem_model.specs.Heaps.{Heap}
 use Rattle.checked_runs.specs.Specifications.{result_name}
 use Rattle.pure_terms.specs.declared.variables.Sort.{Sort}
-use Rattle.pure_terms.specs.Pure.{PureAtom}
+use Rattle.pure_terms.specs.Pure.{PureTerm, PureAtom}
 use Rattle.sym_evaluation.specs.Plainly.{text_bound}
+use Rattle.sym_step.specs.Narrow.{IsAtNarrow, IsNarrowEndedFrom}
 use Rattle.sym_model.specs.Lists.{Each}
 use Rattle.sym_model.specs.Terms.{StateTerms}
 use Rattle.sym_paths.specs.Pure.{PureEnd, returned, failed, threw, missed, vanished, cut, unknown, PurePath}
@@ -77,3 +82,11 @@ pub record BeginsNarrowly (n bound : ℕ) (b : PureBeginning) (i j : PureInferen
 pub record LeavesAlone (i j : PureInference) : Type 0 where
   pub left : j.left ≡ i.left
   pub undecided : j.undecided ≡ i.undecided
+
+-- each command on the way to the end of the path is of narrow form
+module _ {S : Type 0} (p : PureParts) (m : Actions) (stands : S → List PureValue → Heap → Type 0) (terms : S → StateTerms)
+    (asked : List ℕ → List PureTerm → List PureTerm × List PureTerm) (depends : S → List ℕ → List PureTerm → List PureValue → Heap → PureTerm → Type 0)
+    (plain : S → ℤ → ℤ → Type 0) (keeps_plain : Type 0) (bound : ℕ) (start path : PurePath S) where
+  abbrev pub IsNarrowAlong : IsNarrowEndedFrom p m stands terms asked depends plain keeps_plain bound start path → Type 0
+  IsNarrowAlong (inl (come, some)) = Each (IsAtNarrow p) come.from.earlier
+  IsNarrowAlong (inr (before, (come, goes, steps, is))) = Each (IsAtNarrow p) come.from.earlier

@@ -2,12 +2,11 @@
 ghost use Rattle.std.specs.Prelude.{◌≡◌, ◌++◌, ◌∷◌, [], None, IfOk, OnOk};
 ghost use Rattle.std.specs.Option.{option_map, option_or};
 ghost use Rattle.gil_syntax.specs.View.{proc_view};
-ghost use Rattle.pure_terms.specs.View.{atoms_view};
 ghost use Rattle.bi_beginnings.specs.Beginnings.{first_beginning};
 ghost use Rattle.bi_beginnings.specs.View.{beginnings_view};
 ghost use Rattle.bi_specifications.specs.View.{found_view};
-ghost use Rattle.biabduce.specs.Sound.{first_list};
-ghost use Rattle.biabduce.specs.View.{inference_view};
+ghost use Rattle.biabduce.specs.Sound.{first_asked};
+ghost use Rattle.biabduce.specs.View.{asked_view, inference_view};
 
 use bi_beginnings::{Beginning, Beginnings};
 use bi_specifications::{Found, Founds};
@@ -56,7 +55,7 @@ impl Inference {
 
     /// A list of conditions isn't decided. The first one is kept.
     pub(crate) fn leave(&mut self, query: Query)
-        ensures { inference_view self.new ≡ record (inference_view self.old) { undecided = first_list (inference_view self.old).undecided (atoms_view query.query) } }
+        ensures { inference_view self.new ≡ record (inference_view self.old) { undecided = first_asked (inference_view self.old).undecided (asked_view query) } }
     {
         if self.undecided.is_none() {
             self.undecided = Some(query);
@@ -66,8 +65,7 @@ impl Inference {
     /// A list of conditions isn't decided, if there is one.
     pub(crate) fn leave_any(&mut self, query: Option<Query>)
         ensures { inference_view self.new ≡ record (inference_view self.old) {
-          undecided = option_or (inference_view self.old).undecided
-              (option_map (λ q. atoms_view q.query) query);
+          undecided = option_or (inference_view self.old).undecided (option_map asked_view query);
         } }
     {
         if let Some(query) = query {

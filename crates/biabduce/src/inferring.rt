@@ -1,5 +1,5 @@
 //! The inference of a procedure's specifications.
-ghost use Rattle.std.specs.Prelude.{◌≡◌, ◌≤◌, Some, None, IfOk, IfSome, IsSome, OnOk};
+ghost use Rattle.std.specs.Prelude.{◌≡◌, ◌⊎◌, ◌≤◌, Some, None, IfOk, IfSome, IsSome, OnOk};
 ghost use Rattle.gil_syntax.specs.Program.{prog_view};
 ghost use Rattle.gil_syntax.specs.Programs.{find_proc};
 ghost use Rattle.gil_syntax.specs.Pure.{PureProc};
@@ -14,12 +14,13 @@ ghost use Rattle.bi_beginnings.specs.Beginnings.{IsBeginning, IsOpening, BeginsE
 ghost use Rattle.bi_beginnings.specs.View.{beginning_view};
 ghost use Rattle.bi_specifications.specs.Specified.{IsTrulyFound};
 ghost use Rattle.bi_specifications.specs.View.{founds_view};
+ghost use Rattle.biabduce.specs.Asked.{IsLeftOf, AsksRightly, IsAskedOfRun, IsOtherBegun, AsksOthers, IsOtherOfRun};
 ghost use Rattle.biabduce.specs.Covering.{Keeps, CoversStart, CoversAwaited, CoversAll};
 ghost use Rattle.biabduce.specs.Decided.{IsDecidable, IsDecided, StaysDecided};
 ghost use Rattle.biabduce.specs.NarrowRuns.{CoversNarrowly, KeepsNarrowly, CoversNarrowStart, CoversNarrowAwaited, CoversNarrowAll};
 ghost use Rattle.biabduce.specs.Narrowly.{IsNarrowEntry, IsNarrowlyDecidable, IsNarrowLeft, IsNarrowlyDecided, StaysNarrowlyDecided, StartsNarrowly};
 ghost use Rattle.biabduce.specs.Sound.{IsSound};
-ghost use Rattle.biabduce.specs.View.{inference_view};
+ghost use Rattle.biabduce.specs.View.{asked_view, inference_view};
 
 use crate::ends::take_end;
 use crate::inferences::Inference;
@@ -66,6 +67,19 @@ fn explore_start<M: ListedMemory, D: Decider>(
         (inference_view inference.new)) }
     ensures cover { OnOk result (CoversStart (prog_view prog.now) M.Local.memory M.Local.actions (proc_view proc.now) bound M.stands
         (beginning_view beginning.now) (inference_view inference.new) (path_view start)) }
+    ensures asked { OnOk result (AsksRightly (prog_view prog.now) M.Local.memory M.Local.actions M.stands M.terms M.asked M.depends M.plain M.keeps_plain M.kept
+        (proc_view proc.now) bound (inference_view inference.old)
+        → AsksRightly (prog_view prog.now) M.Local.memory M.Local.actions M.stands M.terms M.asked M.depends M.plain M.keeps_plain M.kept (proc_view proc.now)
+        bound (inference_view inference.new)) }
+    ensures other { M.keeps_narrow → OnOk result (IsNarrowEntry M.Local.memory (proc_view proc.now)
+        → (IsNarrowLeft (proc_view proc.now) bound (beginning_view beginning.now)
+        × StartsNarrowly M.terms (beginning_view beginning.now) (path_view start))
+        ⊎ IsOtherBegun (prog_view prog.now) M.Local.memory M.Local.actions M.stands M.terms M.asked M.depends M.plain M.keeps_plain M.kept (proc_view proc.now) bound
+        (beginning_view beginning.now)
+        → AsksOthers (prog_view prog.now) M.Local.memory M.Local.actions M.stands M.terms M.asked M.depends M.plain M.keeps_plain M.kept (proc_view proc.now)
+        bound (inference_view inference.old)
+        → AsksOthers (prog_view prog.now) M.Local.memory M.Local.actions M.stands M.terms M.asked M.depends M.plain M.keeps_plain M.kept (proc_view proc.now)
+        bound (inference_view inference.new)) }
     ensures decided { OnOk result (IsDecidable M.keeps_plain (prog_view prog.now) M.Local.memory M.Local.actions (proc_view proc.now).name
         → BeginsBare M.stands M.plain (path_view start) → StaysDecided (inference_view inference.old) (inference_view inference.new)) }
     ensures narrow { M.keeps_narrow → OnOk result (IsNarrowlyDecidable (prog_view prog.now) M.Local.memory (proc_view proc.now)
@@ -82,7 +96,7 @@ fn explore_start<M: ListedMemory, D: Decider>(
     for _turn in 0..u64::MAX {
         match exploration.next_ended(alloc, prog, bound, rules, decider)? {
             None => return Ok(()),
-            Some(path) => take_end(alloc, inference, proc, beginning, bound, path)?,
+            Some(path) => take_end(alloc, inference, prog, proc, beginning, bound, path)?,
         }
     }
     Err(AllocError)
@@ -112,6 +126,19 @@ fn explore_starts<M: ListedMemory, D: Decider>(
         (inference_view inference.new)) }
     ensures cover { OnOk result (Each (CoversStart (prog_view prog.now) M.Local.memory M.Local.actions (proc_view proc.now) bound M.stands
         (beginning_view beginning.now) (inference_view inference.new)) (paths_view starts)) }
+    ensures asked { OnOk result (AsksRightly (prog_view prog.now) M.Local.memory M.Local.actions M.stands M.terms M.asked M.depends M.plain M.keeps_plain M.kept
+        (proc_view proc.now) bound (inference_view inference.old)
+        → AsksRightly (prog_view prog.now) M.Local.memory M.Local.actions M.stands M.terms M.asked M.depends M.plain M.keeps_plain M.kept (proc_view proc.now)
+        bound (inference_view inference.new)) }
+    ensures other { M.keeps_narrow → OnOk result (IsNarrowEntry M.Local.memory (proc_view proc.now)
+        → (IsNarrowLeft (proc_view proc.now) bound (beginning_view beginning.now)
+        × Each (StartsNarrowly M.terms (beginning_view beginning.now)) (paths_view starts))
+        ⊎ IsOtherBegun (prog_view prog.now) M.Local.memory M.Local.actions M.stands M.terms M.asked M.depends M.plain M.keeps_plain M.kept (proc_view proc.now) bound
+        (beginning_view beginning.now)
+        → AsksOthers (prog_view prog.now) M.Local.memory M.Local.actions M.stands M.terms M.asked M.depends M.plain M.keeps_plain M.kept (proc_view proc.now)
+        bound (inference_view inference.old)
+        → AsksOthers (prog_view prog.now) M.Local.memory M.Local.actions M.stands M.terms M.asked M.depends M.plain M.keeps_plain M.kept (proc_view proc.now)
+        bound (inference_view inference.new)) }
     ensures decided { OnOk result (IsDecidable M.keeps_plain (prog_view prog.now) M.Local.memory M.Local.actions (proc_view proc.now).name
         → Each (BeginsBare M.stands M.plain) (paths_view starts) → StaysDecided (inference_view inference.old) (inference_view inference.new)) }
     ensures narrow { M.keeps_narrow → OnOk result (IsNarrowlyDecidable (prog_view prog.now) M.Local.memory (proc_view proc.now)
@@ -154,6 +181,20 @@ fn follow<M: ListedMemory, D: Decider>(
         (inference_view inference.new)) }
     ensures cover { OnOk result (CoversAwaited (prog_view prog.now) M.Local.memory M.Local.actions (proc_view proc.now) bound
         (beginning_view beginning.now) (inference_view inference.new)) }
+    ensures asked { OnOk result (IsLeftOf (prog_view prog.now) M.Local.memory M.Local.actions M.stands M.terms M.asked M.depends M.plain M.keeps_plain M.kept
+        (proc_view proc.now) bound (beginning_view beginning.now)
+        → AsksRightly (prog_view prog.now) M.Local.memory M.Local.actions M.stands M.terms M.asked M.depends M.plain M.keeps_plain M.kept (proc_view proc.now)
+        bound (inference_view inference.old)
+        → AsksRightly (prog_view prog.now) M.Local.memory M.Local.actions M.stands M.terms M.asked M.depends M.plain M.keeps_plain M.kept (proc_view proc.now)
+        bound (inference_view inference.new)) }
+    ensures other { M.keeps_narrow → OnOk result (IsNarrowEntry M.Local.memory (proc_view proc.now)
+        → IsNarrowLeft (proc_view proc.now) bound (beginning_view beginning.now)
+        ⊎ IsOtherBegun (prog_view prog.now) M.Local.memory M.Local.actions M.stands M.terms M.asked M.depends M.plain M.keeps_plain M.kept (proc_view proc.now) bound
+        (beginning_view beginning.now)
+        → AsksOthers (prog_view prog.now) M.Local.memory M.Local.actions M.stands M.terms M.asked M.depends M.plain M.keeps_plain M.kept (proc_view proc.now)
+        bound (inference_view inference.old)
+        → AsksOthers (prog_view prog.now) M.Local.memory M.Local.actions M.stands M.terms M.asked M.depends M.plain M.keeps_plain M.kept (proc_view proc.now)
+        bound (inference_view inference.new)) }
     ensures decided { OnOk result (IsDecidable M.keeps_plain (prog_view prog.now) M.Local.memory M.Local.actions (proc_view proc.now).name
         → IsBare (beginning_view beginning.now) → StaysDecided (inference_view inference.old) (inference_view inference.new)) }
     ensures narrow { M.keeps_narrow → OnOk result (IsNarrowlyDecidable (prog_view prog.now) M.Local.memory (proc_view proc.now)
@@ -187,6 +228,11 @@ fn follow_all<M: ListedMemory, D: Decider>(
     requires bounded { bound ≤ 10000 }
     ensures sound { IfOk result (λ i. IsSound (prog_view prog.now) M.Local.memory M.Local.actions (proc_view proc.now) bound (inference_view i)) }
     ensures cover { IfOk result (λ i. CoversAll (prog_view prog.now) M.Local.memory M.Local.actions (proc_view proc.now) bound (inference_view i)) }
+    ensures asked { IfOk result (λ i. AsksRightly (prog_view prog.now) M.Local.memory M.Local.actions M.stands M.terms M.asked M.depends M.plain M.keeps_plain M.kept
+        (proc_view proc.now) bound (inference_view i)) }
+    ensures other { M.keeps_narrow → IfOk result (λ i. IsNarrowEntry M.Local.memory (proc_view proc.now)
+        → AsksOthers (prog_view prog.now) M.Local.memory M.Local.actions M.stands M.terms M.asked M.depends M.plain M.keeps_plain M.kept (proc_view proc.now)
+        bound (inference_view i)) }
     ensures decided { IfOk result (λ i. IsDecidable M.keeps_plain (prog_view prog.now) M.Local.memory M.Local.actions (proc_view proc.now).name
         → IsDecided (inference_view i)) }
     ensures narrow { M.keeps_narrow → IfOk result (λ i. IsNarrowlyDecidable (prog_view prog.now) M.Local.memory (proc_view proc.now)
@@ -215,10 +261,11 @@ fn follow_all<M: ListedMemory, D: Decider>(
 
 /// Specifications of a procedure, found from its code alone. Each of them holds of every run, its runs return or throw or are cut as it is
 /// marked, and it is exact. Where the conditions of a path can't be decided or said, that list of conditions is answered, and what is
-/// found elsewhere all the same. Where there is no such list, the specifications cover the runs of the procedure. There is none of a simple
-/// program, over a memory that keeps the law of plain memories and misses only keys of its own, where the procedure has no parameters; and
+/// found elsewhere all the same. It is asked along a path that drew nothing, or of a beginning that comes of such a path, which missed a
+/// key; and along that path comes some run. Where there is no such list, the specifications cover the runs of the procedure. There is none
+/// of a simple program, over a memory that keeps the law of plain memories and misses only keys of its own, where the procedure has no parameters; and
 /// none of a narrow program, over a memory that keeps the law of narrow memories. Over such a memory the runs whose commands are all of
-/// narrow form are covered whatever list is answered.
+/// narrow form are covered whatever list is answered, and what is asked is asked where some command on the way isn't of narrow form.
 pub fn infer<M: ListedMemory, D: Decider>(
     alloc: Global,
     prog: &Prog,
@@ -233,6 +280,13 @@ pub fn infer<M: ListedMemory, D: Decider>(
     ensures covers { IfOk result (λ i. i.unknown ≡ None → Covers (prog_view prog.now) M.Local.memory M.Local.actions name.now (founds_view i.founds)
         bound) }
     ensures unknown { IfOk result (λ i. IfSome i.unknown (λ q. ¬ InFragment (atoms_view q.query))) }
+    ensures asked { IfOk result (λ i. (q : PureProc) → find_proc (prog_view prog.now).procs name.now ≡ Some q
+        → IfSome i.unknown (λ x. IsAskedOfRun (prog_view prog.now) M.Local.memory M.Local.actions M.stands M.terms M.asked M.depends M.plain
+        M.keeps_plain M.kept q bound (asked_view x))) }
+    ensures other { M.keeps_narrow → IfOk result (λ i. (q : PureProc) → find_proc (prog_view prog.now).procs name.now ≡ Some q
+        → IsNarrowEntry M.Local.memory q
+        → IfSome i.unknown (λ x. IsOtherOfRun (prog_view prog.now) M.Local.memory M.Local.actions M.stands M.terms M.asked M.depends M.plain
+        M.keeps_plain M.kept q bound (asked_view x))) }
     ensures decided { IsDecidable M.keeps_plain (prog_view prog.now) M.Local.memory M.Local.actions name.now → IfOk result (λ i. i.unknown ≡ None) }
     ensures narrow { M.keeps_narrow → (q : PureProc) → find_proc (prog_view prog.now).procs name.now ≡ Some q
         → IsNarrowlyDecidable (prog_view prog.now) M.Local.memory q → IfOk result (λ i. i.unknown ≡ None) }

@@ -2,6 +2,7 @@
 #![tactic(auto)]
 
 mod ends;
+mod finding;
 mod inferences;
 mod inferring;
 mod queries;

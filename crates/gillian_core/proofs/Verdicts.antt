@@ -1,5 +1,5 @@
 -- Verdicts of tests are right, for the text too.
-use Rattle.std.proofs.Common.{ℕ, List, refl}
+use Rattle.std.proofs.Common.{ℕ, ℤ, List, refl}
 use Rattle.gil_values.specs.Pure.{PureValue}
 use Rattle.gil_syntax.specs.Pure.{PureParts}
 use Rattle.mem_model.specs.declared.keys.MemoryName.{MemoryName}
@@ -22,11 +22,11 @@ use Rattle.gillian_core.proofs.MeantTexts.{failure_is_meant}
 -- what a test answers over the symbolic states of a memory is right
 module _ {S : Type 0} (memory : MemoryName) (actions : Actions) (stands : S → List PureValue → Heap → Type 0) (terms : S → StateTerms)
     (asked : List ℕ → List PureTerm → List PureTerm × List PureTerm) (depends : S → List ℕ → List PureTerm → List PureValue → Heap → PureTerm → Type 0)
-    (keeps_plain keeps_narrow : Type 0) where
+    (plain : S → ℤ → ℤ → Type 0) (kept : S → Type 0) (keeps_plain keeps_narrow : Type 0) where
   pub verdict_is_right : (p : PureParts) (entry : List ℕ) (bound : ℕ) (v : PureVerdict)
       → IsRight p actions stands terms asked depends keeps_plain entry bound v
       → (keeps_plain → (inputs : List PureValue) → FailsSimply p actions entry inputs bound → IsBugVerdict v)
-      → IsRightVerdict (memory_of memory actions stands terms asked depends keeps_plain keeps_narrow) p entry bound (verdict_answer v)
+      → IsRightVerdict (memory_of memory actions stands terms asked depends plain kept keeps_plain keeps_narrow) p entry bound (verdict_answer v)
   verdict_is_right p entry bound (verdict.bug place w inputs) right found = right
   verdict_is_right p entry bound verdict.clean right found = right
   verdict_is_right p entry bound (verdict.unknown q) right found = ((q, refl, right), found)

@@ -24,15 +24,18 @@ question_answers None = []
 question_answers (Some q) = undecided (question_of q) ∷ []
 
 -- The answers are specifications, each truly found of the procedure within the bound, and behind them at most one list of conditions that
--- isn't in the fragment. Where there is none, the specifications cover the runs of the procedure. There is none of a procedure without
--- parameters of a simple program, where the memory keeps the law of plain memories; and none of any procedure of a narrow program, where it
--- keeps the law of narrow memories; then runs of narrow commands are covered also where there is one.
+-- isn't in the fragment: it is asked along a path to which a run comes, or of a beginning that comes of such a path. Where there is none, the
+-- specifications cover the runs of the procedure. There is none of a procedure without parameters of a simple program, where the memory keeps
+-- the law of plain memories; and none of any procedure of a narrow program, where it keeps the law of narrow memories; then runs of narrow
+-- commands are covered also where there is one, and it is asked where some command on the way isn't of narrow form.
 pub record AreRightFounds (m : Memory) (p : PureParts) (f : List ℕ) (n : ℕ) (answers : List PureAnswer) : Type 0 where
   pub founds : List PureFound
   pub unknown : Option PureQuery
   pub in_order : answers ≡ found_answers founds ++ question_answers unknown
   pub truly_found : Each (IsTrulyFound p m.name m.actions f n) founds
   pub undecided_one : IfSome unknown (λ q. ¬ InFragment q.query)
+  pub asked : IfSome unknown (m.LeavesUnsaid p f n)
+  pub other : m.keeps_narrow → IfSome unknown (m.MeetsOthers p f n)
   pub covers : unknown ≡ None → Covers p m.name m.actions f founds n
   pub decided : m.keeps_plain → IsTrue (is_simple p) → IsEntry p f → unknown ≡ None
   pub narrow : m.keeps_narrow → (q : PureProc) → find_proc p.procs f ≡ Some q → IsNarrowlyDecidable p m.name q → unknown ≡ None

@@ -34,8 +34,8 @@ pub fn inferred<M: ListedMemory>(
 ) -> Result<Answers, AllocError>
     requires entry { IsSome (find_proc (prog_view prog.now).procs entry.now) }
     requires own_keys { MissesWhatLacks M.Local.memory M.Local.actions }
-    ensures { IfOk result (λ answers. AreRightFounds (memory_of M.Local.memory M.Local.actions M.stands M.terms M.asked M.depends M.keeps_plain M.keeps_narrow)
-        (prog_view prog.now) entry.now bound.steps (map answer_view answers)) }
+    ensures { IfOk result (λ answers. AreRightFounds (memory_of M.Local.memory M.Local.actions M.stands M.terms M.asked M.depends M.plain M.kept
+        M.keeps_plain M.keeps_narrow) (prog_view prog.now) entry.now bound.steps (map answer_view answers)) }
 {
     let mut decider = PathSolver::new(alloc);
     let inferred = infer::<M, PathSolver>(alloc, prog, entry, bound.steps, rules, &mut decider)?;

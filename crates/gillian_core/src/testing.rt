@@ -30,8 +30,8 @@ pub fn verdict<M: SymMemory>(
     rules: &RuleBook,
 ) -> Result<Answer, AllocError>
     requires { IsEntry (prog_view prog.now) entry.now }
-    ensures { IfOk result (λ answer. IsRightVerdict (memory_of M.Local.memory M.Local.actions M.stands M.terms M.asked M.depends M.keeps_plain M.keeps_narrow)
-        (prog_view prog.now) entry.now bound.steps (answer_view answer)) }
+    ensures { IfOk result (λ answer. IsRightVerdict (memory_of M.Local.memory M.Local.actions M.stands M.terms M.asked M.depends M.plain M.kept
+        M.keeps_plain M.keeps_narrow) (prog_view prog.now) entry.now bound.steps (answer_view answer)) }
 {
     let mut decider = PathSolver::new(alloc);
     let tested = test::<M, PathSolver>(alloc, prog, entry, bound.steps, rules, &mut decider)?;

@@ -1,13 +1,14 @@
 use Rattle.std.proofs.Common.{◌<◌, ◌≤◌, ◌++◌, pos, neg_ℤ, length, sym, subst, ◌∙◌, true≢false, arith}
 use Rattle.std.proofs.lemmas.List.{length-map}
 use Rattle.pure_terms.specs.View.{atoms_view}
-use Rattle.sym_model.specs.Lists.{Each, OneOf}
+use Rattle.sym_model.specs.Lists.{Each, OneOf, IsAmong}
 use Rattle.sym_model.specs.View.{key_view, use_view, fixes_view}
+use Rattle.sym_model.proofs.ListLaws.{each_to, each_map}
 use Rattle.bi_beginnings.specs.Beginnings.{IsBeginning, Awaits}
-use Rattle.bi_beginnings.specs.Fixing.{IsFixOver}
+use Rattle.bi_beginnings.specs.Fixing.{IsFixOver, with_fix, IsCarried, IsLed}
 use Rattle.bi_beginnings.specs.Narrowly.{IsNarrowBeginning, IsLarger}
 use Rattle.bi_beginnings.specs.View.{beginning_view}
-use Rattle.bi_beginnings.proofs.Fixed.{not_at_new_symbol, none_new, fewer, awaited_again, fixed_are}
+use Rattle.bi_beginnings.proofs.Fixed.{each_led, not_at_new_symbol, none_new, fewer, awaited_again, fixed_are}
 use Rattle.bi_beginnings.proofs.NarrowAgain.{key_over, fixes_over, all_narrow_with}
 use Rattle.bi_beginnings.proofs.Taken.{none_named, key_placed, narrow_sub}
 use Rattle.bi_beginnings.proofs.again.begin_again.Goals as goal
@@ -32,7 +33,7 @@ returns-clause-beginnings g c = λ params is.
     let fs = fixes_view c.in_ok-fixes.fixes in
     let over = subst (λ m. Each (IsFixOver m c.args.beginning.now.vars) fs) c.name.ensures (c.are_fixes_over.ensures.0 c.if-not-are_fixes_over.false) in
     subst (Each (IsBeginning memory params)) (sym c.in_ok-with_each.ensures)
-    (fixed_are memory params (beginning_view c.args.beginning.now) (atoms_view c.args.path.now.conds) is (beginning_view c.in_ok-carrying.carrying) c.in_ok-carrying.ensures fs over)
+    (fixed_are memory params (beginning_view c.args.beginning.now) (atoms_view c.args.path.now.conds) is (beginning_view c.in_ok-carrying.carrying) c.in_ok-carrying.ensures.carries fs over)
 
 pub returns-clause-cover : goal.returns-clause-cover
 returns-clause-cover g c = λ params is args whole counter missed.
@@ -41,7 +42,7 @@ returns-clause-cover g c = λ params is args whole counter missed.
     let over = subst (λ m. Each (IsFixOver m c.args.beginning.now.vars) fs) c.name.ensures (c.are_fixes_over.ensures.0 c.if-not-are_fixes_over.false) in
     subst (OneOf (Awaits params args whole counter c.args.bound)) (sym c.in_ok-with_each.ensures)
     (awaited_again memory g.M.Local.LocalMemory.actions params c.args.bound (beginning_view c.args.beginning.now) is c.args.path.now.vars (atoms_view c.args.path.now.conds) (key_view c.args.key.now) args whole counter missed
-    fs c.in_ok-fixes.ensures.laws (beginning_view c.in_ok-carrying.carrying) c.in_ok-carrying.ensures over)
+    fs c.in_ok-fixes.ensures.laws (beginning_view c.in_ok-carrying.carrying) c.in_ok-carrying.ensures.carries over)
 
 pub returns-then-is_named_by_symbol-clause-cover : goal.returns-then-is_named_by_symbol-clause-cover
 returns-then-is_named_by_symbol-clause-cover g c = λ params is args whole counter missed.
@@ -80,7 +81,7 @@ returns-clause-narrow g c = λ keeps n misses.
     let counted = length-map c.args.beginning.now.uses use_view in
     let within : length b.uses < c.args.bound = omega (arith, counted, c.len.ensures, c.if-len-bound.false) in
     subst (Each (λ d. IsNarrowBeginning n d × IsLarger c.args.bound b d)) (sym c.in_ok-with_each.ensures)
-    (all_narrow_with n c.args.bound b (atoms_view c.args.path.now.conds) (beginning_view c.in_ok-carrying.carrying) misses.before misses.few misses.decided c.in_ok-carrying.ensures within
+    (all_narrow_with n c.args.bound b (atoms_view c.args.path.now.conds) (beginning_view c.in_ok-carrying.carrying) misses.before misses.few misses.decided c.in_ok-carrying.ensures.carries within
     (fixes_view c.in_ok-fixes.fixes) (c.in_ok-fixes.ensures.narrow keeps (neg_ℤ (pos n)) (pos n) misses.narrow_key))
 
 pub returns-then-len-bound-clause-nothing : goal.returns-then-len-bound-clause-nothing
@@ -104,3 +105,17 @@ pub returns-then-not-are_fixes_over-clause-nothing : goal.returns-then-not-are_f
 returns-then-not-are_fixes_over-clause-nothing g c = λ at.
     not_at_new_symbol g.M.Local.LocalMemory.memory g.M.Local.LocalMemory.actions c.args.path.now.vars (key_view c.args.key.now) (fixes_view c.in_ok-fixes.fixes) c.in_ok-fixes.ensures.laws
     (λ all. true≢false (sym (c.are_at_new_symbols.ensures.1 all) ∙ c.if-are_at_new_symbols.false)) at
+
+pub returns-clause-led : goal.returns-clause-led
+returns-clause-led g c =
+    let b = beginning_view c.in_ok-carrying.carrying in
+    let conds = atoms_view c.args.path.now.conds in
+    let says = c.in_ok-carrying.ensures in
+    let Led = IsLed c.args.place.now c.args.path.now.choices conds in
+    let led : Led b = record {
+      there = says.there;
+      chosen = says.chosen;
+      carried = each_to (IsCarried c.args.beginning.now.vars conds) (λ a. IsAmong a conds) b.conds (λ a is. is.1) says.carries.carried;
+    } in
+    let fs = fixes_view c.in_ok-fixes.fixes in
+    subst (Each Led) (sym c.in_ok-with_each.ensures) (each_map Led (with_fix b) fs (each_led c.args.place.now c.args.path.now.choices conds b led fs))

@@ -83,3 +83,8 @@ pub returns-in_ok-query_of-in-Undecided-clause-narrow : goal.returns-in_ok-query
 returns-in_ok-query_of-in-Undecided-clause-narrow g c = λ n within start.
     let right = subst (λ s. IsRightly c.args.state.vars (atoms_view c.atoms.result.now) (satisfiability_view s)) c.in-Undecided.is c.in_ok-ask.ensures in
     absurd (right.outside (subst InFragment (sym c.atoms.ensures) (start_inside g.M.SymMemory.terms n within (state_view c.args.state) c.requires.entry.over start)))
+
+pub returns-in_ok-query_of-in-Undecided-clause-asked : goal.returns-in_ok-query_of-in-Undecided-clause-asked
+returns-in_ok-query_of-in-Undecided-clause-asked g c =
+    let says = c.in_ok-query_of-in-Undecided.ensures in
+    record { at_place = says.place; same_choices = says.choices; table = says.vars; none_given = says.given; asks = says.query }

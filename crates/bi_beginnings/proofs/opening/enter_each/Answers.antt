@@ -1,19 +1,21 @@
-use Rattle.std.proofs.Common.{◌≡◌, ◌+◌, [], ◌++◌, length, IsSome, append-nil, rules, sym, ap, subst, ◌∙◌, true≢false, arith}
+use Rattle.std.proofs.Common.{◌≡◌, ◌+◌, [], ◌∷◌, ◌++◌, length, IsSome, append-nil, rules, sym, ap, subst, ◌∙◌, true≢false, arith}
 use Rattle.std.specs.Vec.Iter.{into_iter_items}
 use Rattle.gil_syntax.specs.View.{proc_view}
 use Rattle.pure_terms.specs.Fragment.{InFragment}
 use Rattle.pure_terms.specs.View.{atoms_view}
 use Rattle.sym_engine.proofs.Settled.{rest_more, over_next}
 use Rattle.sym_paths.specs.View.{paths_view}
-use Rattle.sym_model.specs.Lists.{Each}
+use Rattle.pure_terms.specs.declared.queries.Query.{Query}
+use Rattle.sym_model.specs.Lists.{Each, OneOf}
 use Rattle.sym_model.proofs.ListLaws.{each_to}
 use Rattle.sym_states.specs.View.{state_view, states_view}
 use Rattle.bi_beginnings.specs.Beginnings.{IsOpening, BeginsExactly, BeginsBare}
 use Rattle.bi_beginnings.specs.Narrowly.{IsNarrowStart, BeginsNarrow}
-use Rattle.bi_beginnings.specs.Opening.{IsEntryState, IsBareState, IsEnteredExactly, IsOpenedBy, starts_of, undecided_of}
+use Rattle.bi_beginnings.specs.Opening.{IsEntryState, IsBareState, IsEnteredExactly, IsOpenedBy, IsQueryOf, starts_of, undecided_of}
+use Rattle.bi_beginnings.specs.View.{beginning_view}
 use Rattle.bi_beginnings.proofs.Covering.{opened_more, opened_last, some_first, some_second}
 use Rattle.bi_beginnings.proofs.Narrowness.{narrow_further}
-use Rattle.bi_beginnings.proofs.Openings.{each_further, first_of_both, bare_further}
+use Rattle.bi_beginnings.proofs.Openings.{each_further, first_of_both, if_some_to, one_among, bare_further}
 use Rattle.bi_beginnings.proofs.Tables.{each_pushed, none_there}
 use Rattle.bi_beginnings.proofs.opening.enter_each.Goals as goal
 
@@ -23,7 +25,7 @@ enter-requires-clause-entry g c =
     (into_iter_items c.loop-state.state-iterator) (into_iter_items c.next.new.self) c.in-Some.state c.loop-state.invariant.rest c.in-Some.ensures.steps.0 c.requires.entries
 
 pub loop-state-init : goal.loop-state-init
-loop-state-init g c = record { counted = search rules; rest = search rules; starts = search rules; cover = search rules; exact = λ b all. subst (λ xs. Each (BeginsExactly g.M.SymMemory.stands b) (paths_view xs)) (sym c.new.ensures) tt; undecided = search rules; bare = λ all. record { decided = λ some. true≢false (sym some); each_start = subst (λ xs. Each (BeginsBare g.M.SymMemory.stands g.M.SymMemory.plain) (paths_view xs)) (sym c.new.ensures) tt }; narrow = λ n within all. record { decided = λ some. true≢false (sym some); each_start = subst (λ xs. Each (BeginsNarrow g.M.SymMemory.terms n) (paths_view xs)) (sym c.new.ensures) tt } }
+loop-state-init g c = record { counted = search rules; rest = search rules; starts = search rules; cover = search rules; exact = λ b all. subst (λ xs. Each (BeginsExactly g.M.SymMemory.stands b) (paths_view xs)) (sym c.new.ensures) tt; undecided = search rules; asked = search rules; bare = λ all. record { decided = λ some. true≢false (sym some); each_start = subst (λ xs. Each (BeginsBare g.M.SymMemory.stands g.M.SymMemory.plain) (paths_view xs)) (sym c.new.ensures) tt }; narrow = λ n within all. record { decided = λ some. true≢false (sym some); each_start = subst (λ xs. Each (BeginsNarrow g.M.SymMemory.terms n) (paths_view xs)) (sym c.new.ensures) tt } }
 
 pub loop-state-preserved : goal.loop-state-preserved
 loop-state-preserved g c = record {
@@ -54,6 +56,15 @@ loop-state-preserved g c = record {
       (into_iter_items c.loop-state.state-iterator) (into_iter_items c.next.new.self) c.in-Some.state c.loop-state.invariant.rest c.in-Some.ensures.steps.0 all));
   undecided = first_of_both (λ q. ¬ InFragment (atoms_view q.query)) c.loop-state.opened.undecided (undecided_of c.in_ok-opening.opening) c.in_ok-opened.opened.undecided
       c.in_ok-opened.ensures.undecided c.loop-state.invariant.undecided c.in_ok-opening.ensures.undecided;
+  asked =
+      let Asked = λ (q : Query). OneOf (λ s. IsQueryOf (beginning_view c.args.beginning.now) s q) (states_view c.args.states) in
+      let there : c.args.states ≡ c.loop-state.yielded ++ c.in-Some.state ∷ into_iter_items c.next.new.self =
+      c.loop-state.invariant.rest ∙ ap (λ xs. c.loop-state.yielded ++ xs) c.in-Some.ensures.steps.0 in
+      first_of_both Asked c.loop-state.opened.undecided (undecided_of c.in_ok-opening.opening) c.in_ok-opened.opened.undecided
+      c.in_ok-opened.ensures.undecided c.loop-state.invariant.asked
+      (if_some_to (IsQueryOf (beginning_view c.args.beginning.now) (state_view c.in-Some.state)) Asked (undecided_of c.in_ok-opening.opening)
+      (λ q is. one_among (λ s. IsQueryOf (beginning_view c.args.beginning.now) s q) state_view c.args.states c.loop-state.yielded c.in-Some.state (into_iter_items c.next.new.self) there is)
+      c.in_ok-opening.ensures.asked);
   bare = λ all.
       bare_further g.M.SymMemory.stands g.M.SymMemory.plain c.loop-state.opened.undecided (undecided_of c.in_ok-opening.opening) c.in_ok-opened.opened.undecided
       (paths_view c.loop-state.opened.starts) (starts_of c.in_ok-opening.opening) (paths_view c.in_ok-opened.opened.starts) c.in_ok-opened.ensures.undecided c.in_ok-opened.ensures.starts

@@ -1,4 +1,4 @@
-use Rattle.std.proofs.Common.{◌≡◌, ◌+◌, ◌-◌, [], length, refl, sym, ap, subst, ◌∙◌, arith}
+use Rattle.std.proofs.Common.{◌≡◌, ◌⊎◌, ◌+◌, ◌-◌, [], length, refl, sym, ap, subst, ◌∙◌, arith}
 use Rattle.gil_syntax.specs.View.{proc_view, assertion_view}
 use Rattle.assert_logic.specs.Adding.{IsAdding}
 use Rattle.assert_logic.specs.LogicStates.{nothing}
@@ -6,11 +6,14 @@ use Rattle.assertion_terms.specs.Named.{assertion_of}
 use Rattle.pure_terms.specs.View.{atoms_view}
 use Rattle.sym_evaluation.specs.View.{store_view}
 use Rattle.sym_model.specs.Lists.{Each, OneOf}
+use Rattle.sym_model.proofs.ListLaws.{each_to}
 use Rattle.sym_states.specs.Narrowly.{StayNarrow}
-use Rattle.sym_states.specs.Producing.{MayAdd}
+use Rattle.sym_states.specs.Laws.{ComeFromItems}
+use Rattle.sym_states.specs.Producing.{MayAdd, IsProduced, IsStopped}
 use Rattle.sym_states.specs.View.{state_view, states_view}
+use Rattle.sym_states.proofs.Values.{ok_to}
 use Rattle.bi_beginnings.specs.Narrowly.{StartNarrow}
-use Rattle.bi_beginnings.specs.Opening.{IsEntryState, IsBareState, IsEnteredWith, AreEntered, IsEnteredExactly, without_conditions}
+use Rattle.bi_beginnings.specs.Opening.{IsEntryState, IsBareState, IsEnteredWith, AreEntered, IsEnteredExactly, IsBegunFrom, without_conditions}
 use Rattle.bi_beginnings.specs.View.{beginning_view}
 use Rattle.bi_beginnings.proofs.Covering.{different_names, is_added, adds_uses}
 use Rattle.bi_beginnings.proofs.Entering.{store_of_values, may_add, ok_of_four, ok_of_five, are_entries, are_exact, are_entered, are_bare, same_tables, without}
@@ -114,3 +117,37 @@ returns-clause-narrow g c = λ keep.
     bs c.in_ok-store.ensures.variables s c.in_ok-state.ensures (assertion_view c.in_ok-items.items) (states_view ss) exact origin over still_kept)
     (subst (λ xs. StayNarrow g.M.SymMemory.terms bs xs s (states_view ss)) items_are stay))
     (c.produce_items.ensures.narrow keep) c.produce_items.ensures.exact c.produce_items.ensures.origin c.produce_items.ensures.over (c.produce_items.ensures.kept c.in_ok-state.ensures.still_kept)
+
+pub returns-clause-origin : goal.returns-clause-origin
+returns-clause-origin g c = λ programs once.
+    let stands = g.M.SymMemory.stands in
+    let terms = g.M.SymMemory.terms in
+    let kept = g.M.SymMemory.kept in
+    let params = (proc_view c.args.proc.now).params in
+    let b = beginning_view c.args.beginning.now in
+    let s = state_view c.in_ok-state.state in
+    let bs = store_view c.in_ok-store.store in
+    let items_are = c.in_ok-items.ensures ∙ ap (λ xs. assertion_of c.in_ok-names.names b.uses (atoms_view xs)) c.new.ensures in
+    let names = c.in_ok-names.names in
+    let different = different_names params _ names c.in_ok-names.ensures programs once in
+    let others = c.len.result - c.len-2.result in
+    let fit = params_fit params b.vars c.requires.table in
+    let counted : length params + others ≡ length b.vars = omega (arith, c.len.ensures, c.len-2.ensures, fit) in
+    let items = assertion_of names b.uses [] in
+    ok_to c.produce_items.result _ (λ ss. Each (IsBegunFrom stands terms kept params b) (states_view ss))
+    (λ ss origin.
+    each_to (λ r. IsProduced terms bs s items r ⊎ IsStopped stands terms bs s items r) (IsBegunFrom stands terms kept params b) (states_view ss)
+    (λ r comes. record {
+      first = s;
+      is_first = c.in_ok-state.ensures;
+      others = others;
+      counted = counted;
+      names = names;
+      of_table = c.in_ok-names.ensures;
+      store = bs;
+      variables = c.in_ok-store.ensures.variables;
+      named = c.in_ok-store.ensures.named different;
+      comes = comes;
+    })
+    (subst (λ xs. ComeFromItems stands terms bs xs s (states_view ss)) items_are origin))
+    c.produce_items.ensures.origin

@@ -1,4 +1,4 @@
-use Rattle.std.proofs.Common.{◌≡◌, Some, rules, sym, subst}
+use Rattle.std.proofs.Common.{◌≡◌, Some, inl, rules, sym, ap, subst, ◌∙◌}
 use Rattle.std.specs.Option.{option_map}
 use Rattle.std.proofs.lemmas.Result.{on_ok_weaker}
 use Rattle.pure_terms.specs.Fragment.{InFragment}
@@ -11,7 +11,8 @@ use Rattle.biabduce.specs.Covering.{Keeps, CoversEnd}
 use Rattle.biabduce.specs.Decided.{IsClosed}
 use Rattle.biabduce.specs.Narrowly.{IsNarrowlyClosed}
 use Rattle.biabduce.specs.NarrowRuns.{KeepsNarrowly, CoversNarrowEnd}
-use Rattle.biabduce.specs.View.{inference_view}
+use Rattle.biabduce.specs.View.{asked_view, inference_view}
+use Rattle.biabduce.proofs.Asking.{adds_left, adds_nothing}
 use Rattle.biabduce.proofs.Keeping.{after_left}
 use Rattle.biabduce.proofs.NarrowPaths.{nothing_begun}
 use Rattle.biabduce.proofs.Providing.{keeps_left, left_some}
@@ -24,8 +25,8 @@ returns-in-Some-Missed-clause-sound g c = on_ok_weaker c.fix.result (λ tells p 
 pub returns-in-Some-Unknown-clause-sound : goal.returns-in-Some-Unknown-clause-sound
 returns-in-Some-Unknown-clause-sound g c = λ p q n sound beginning undecided.
     let end : option_map end_view c.args.path.end ≡ Some (unknown c.in-Some-Unknown.place c.in-Some-Unknown.reason) = search rules in
-    after_left p g.M.Local.LocalMemory.memory g.M.Local.LocalMemory.actions q n (inference_view c.args.inference.now) (inference_view c.leave.new.self) (atoms_view c.ask_conditions.result.query) c.leave.ensures sound
-    (subst (λ atoms. ¬ InFragment atoms) (sym c.ask_conditions.ensures) (undecided c.in-Some-Unknown.place c.in-Some-Unknown.reason end))
+    after_left p g.M.Local.LocalMemory.memory g.M.Local.LocalMemory.actions q n (inference_view c.args.inference.now) (inference_view c.leave.new.self) (asked_view c.ask_conditions.result) c.leave.ensures sound
+    (subst (λ atoms. ¬ InFragment atoms) (sym c.ask_conditions.ensures.query) (undecided c.in-Some-Unknown.place c.in-Some-Unknown.reason end))
 
 pub returns-in-Some-Missed-clause-cover : goal.returns-in-Some-Missed-clause-cover
 returns-in-Some-Missed-clause-cover g c =
@@ -38,8 +39,8 @@ returns-in-Some-Unknown-clause-cover g c = λ p q beginning.
     let end : option_map end_view c.args.path.end ≡ Some (unknown c.in-Some-Unknown.place c.in-Some-Unknown.reason) = search rules in
     let i = inference_view c.args.inference.now in
     let j = inference_view c.leave.new.self in
-    let atoms = atoms_view c.ask_conditions.result.query in
-    subst (λ o. Keeps p g.M.Local.LocalMemory.memory g.M.Local.LocalMemory.actions q c.args.bound (inference_view c.args.inference.now) j × CoversEnd p g.M.Local.LocalMemory.memory g.M.Local.LocalMemory.actions q c.args.bound (beginning_view c.args.beginning.now) c.args.path.vars (atoms_view c.args.path.conds) o j) (sym end) (keeps_left p g.M.Local.LocalMemory.memory g.M.Local.LocalMemory.actions q c.args.bound i j atoms c.leave.ensures, left_some p g.M.Local.LocalMemory.memory g.M.Local.LocalMemory.actions q c.args.bound i j atoms c.leave.ensures)
+    let x = asked_view c.ask_conditions.result in
+    subst (λ o. Keeps p g.M.Local.LocalMemory.memory g.M.Local.LocalMemory.actions q c.args.bound (inference_view c.args.inference.now) j × CoversEnd p g.M.Local.LocalMemory.memory g.M.Local.LocalMemory.actions q c.args.bound (beginning_view c.args.beginning.now) c.args.path.vars (atoms_view c.args.path.conds) o j) (sym end) (keeps_left p g.M.Local.LocalMemory.memory g.M.Local.LocalMemory.actions q c.args.bound i j x c.leave.ensures, left_some p g.M.Local.LocalMemory.memory g.M.Local.LocalMemory.actions q c.args.bound i j x c.leave.ensures)
 
 pub returns-in-Some-Missed-clause-decided : goal.returns-in-Some-Missed-clause-decided
 returns-in-Some-Missed-clause-decided g c =
@@ -76,6 +77,31 @@ returns-in-Some-Unknown-clause-narrow_cover g c = λ keep p q beginning.
     let end : option_map end_view c.args.path.end ≡ Some (unknown c.in-Some-Unknown.place c.in-Some-Unknown.reason) = search rules in
     let i = inference_view c.args.inference.now in
     let j = inference_view c.leave.new.self in
-    let atoms = atoms_view c.ask_conditions.result.query in
+    let x = asked_view c.ask_conditions.result in
     subst (λ o. KeepsNarrowly p g.M.Local.LocalMemory.memory g.M.Local.LocalMemory.actions q c.args.bound i j × CoversNarrowEnd p g.M.Local.LocalMemory.memory g.M.Local.LocalMemory.actions q c.args.bound (beginning_view c.args.beginning.now) c.args.path.vars (atoms_view c.args.path.conds) o j) (sym end)
-    (left_keeps p g.M.Local.LocalMemory.memory g.M.Local.LocalMemory.actions q c.args.bound i j atoms c.leave.ensures, tt)
+    (left_keeps p g.M.Local.LocalMemory.memory g.M.Local.LocalMemory.actions q c.args.bound i j x c.leave.ensures, tt)
+
+pub returns-in-Some-Missed-clause-asked : goal.returns-in-Some-Missed-clause-asked
+returns-in-Some-Missed-clause-asked g c =
+    let end : option_map end_view c.args.path.end ≡ Some (missed (key_view c.in-Some-Missed.key) c.in-Some-Missed.place) = search rules in
+    on_ok_weaker c.fix.result (λ tells p q way same ending. tells p q way same (sym ending ∙ end)) c.fix.ensures.asked
+
+pub returns-in-Some-Unknown-clause-asked : goal.returns-in-Some-Unknown-clause-asked
+returns-in-Some-Unknown-clause-asked g c = λ p q way same ending.
+    let end : option_map end_view c.args.path.end ≡ Some (unknown c.in-Some-Unknown.place c.in-Some-Unknown.reason) = search rules in
+    let says = c.ask_conditions.ensures in
+    adds_left p q way (inference_view c.args.inference.now) (inference_view c.leave.new.self) (asked_view c.ask_conditions.result) c.leave.ensures
+    (record {
+      no_draw = same.no_draw;
+      vars = says.vars ∙ same.vars_same;
+      choices = says.choices ∙ same.choices_same;
+      given = says.given ∙ same.given_same;
+      why = inl (record {
+        reason = c.in-Some-Unknown.reason;
+        ending = sym ending ∙ end ∙ ap (λ here. Some (unknown here c.in-Some-Unknown.reason)) (sym says.place);
+        asks = says.query ∙ same.conds_same;
+      });
+    })
+
+pub returns-in_default-clause-asked : goal.returns-in_default-clause-asked
+returns-in_default-clause-asked g c = λ p q way same ending. adds_nothing p q way (inference_view c.args.inference.now)

@@ -1,6 +1,7 @@
 use Rattle.std.proofs.Common.{◌≡◌, ◌+◌, length, sym, ap, subst, ◌∙◌, true≢false, arith}
 use Rattle.std.specs.Option.{option_map}
 use Rattle.std.proofs.lemmas.Result.{on_ok_weaker}
+use Rattle.gil_syntax.specs.Program.{prog_view}
 use Rattle.gil_syntax.specs.View.{proc_view}
 use Rattle.pure_terms.specs.View.{atoms_view}
 use Rattle.sym_paths.specs.View.{end_view, path_view}
@@ -12,8 +13,9 @@ use Rattle.biabduce.specs.Narrowly.{numbers_at, IsNarrowlyClosed}
 use Rattle.biabduce.specs.Sound.{IsUndecidedIfUnknown}
 use Rattle.biabduce.specs.View.{inference_view}
 use Rattle.biabduce.proofs.Accounted.{no_draw, covered_by_end, narrow_along, covered_narrowly}
+use Rattle.biabduce.proofs.Asking.{adds_nothing}
 use Rattle.biabduce.proofs.Decided.{alone_decided, may_be_said, closed}
-use Rattle.biabduce.proofs.NarrowPaths.{all_along, may_be_said as narrowly_said, narrowly_closed, begun_narrowly, left_alone}
+use Rattle.biabduce.proofs.NarrowPaths.{may_be_said as narrowly_said, narrowly_closed, nothing_begun, alone_begun}
 use Rattle.biabduce.proofs.Outside.{unknown_outside}
 use Rattle.biabduce.proofs.Providing.{end_same}
 use Rattle.biabduce.proofs.ProvidingNarrowly.{narrow_end_same}
@@ -95,7 +97,9 @@ returns-clause-decided g c =
     c.go_on.ensures.decided
 
 pub returns-then-len-gt0-clause-narrow : goal.returns-then-len-gt0-clause-narrow
-returns-then-len-gt0-clause-narrow g c = λ keep p decidable few explored ended left starts decided. decided
+returns-then-len-gt0-clause-narrow g c = λ keep p entry few explored ended along left starts.
+    let b = beginning_view c.args.beginning.now in
+    nothing_begun (numbers_at (length b.uses + 1)) c.args.bound b (inference_view c.args.inference.now)
 
 pub returns-then-is_told-clause-narrow : goal.returns-then-is_told-clause-narrow
 returns-then-is_told-clause-narrow g c = λ keep.
@@ -105,10 +109,10 @@ returns-then-is_told-clause-narrow g c = λ keep.
     let b = beginning_view c.args.beginning.now in
     let path = path_view c.args.path in
     on_ok_weaker c.tell.result
-    (λ tells p decidable few explored ended left starts.
-    left_alone q c.args.bound (inference_view c.args.inference.now) (inference_view c.tell.new.inference)
-    (tells (narrowly_said p g.M.Local.LocalMemory.memory m M.stands M.terms M.asked M.depends M.plain M.keeps_plain M.kept q b explored.start explored.opening c.args.bound few left starts path ended
-    (all_along p decidable.narrow g.M.Local.LocalMemory.memory m M.stands M.terms M.asked M.depends M.plain M.keeps_plain M.kept q b explored.start explored.opening c.args.bound few left starts path ended) (entry_view c.args.beginning.now) decidable.entry)))
+    (λ tells p entry few explored ended along left starts.
+    alone_begun (numbers_at (length b.uses + 1)) c.args.bound b (inference_view c.args.inference.now) (inference_view c.tell.new.inference)
+    (tells (narrowly_said p g.M.Local.LocalMemory.memory m M.stands M.terms M.asked M.depends M.plain M.keeps_plain M.kept q b explored.start explored.opening c.args.bound few left starts path ended along
+    (entry_view c.args.beginning.now) entry)))
     c.tell.ensures.decided
 
 pub returns-clause-narrow : goal.returns-clause-narrow
@@ -124,14 +128,12 @@ returns-clause-narrow g c = λ keep.
     let no_draw = none_there path.drawn none in
     let same_vars = c.into_ended.ensures.vars in
     on_ok_weaker c.go_on.result
-    (λ tells p decidable few explored ended left starts.
-    begun_narrowly q c.args.bound b (inference_view c.args.inference.now) (inference_view c.go_on.new.inference) left
-    (tells last
+    (λ tells p entry few explored ended along left starts.
+    tells last
     (subst (λ vars. IsNarrowlyClosed memory last b vars (atoms_view c.into_ended.result.conds) (option_map end_view c.into_ended.result.end)) (sym same_vars)
     (subst (λ conds. IsNarrowlyClosed memory last b path.vars conds (option_map end_view c.into_ended.result.end)) (sym c.into_ended.ensures.conds)
     (subst (IsNarrowlyClosed memory last b path.vars path.conds) (sym c.into_ended.ensures.end)
-    (narrowly_closed p memory m M.stands M.terms M.asked M.depends M.plain M.keeps_plain M.kept q b explored.start explored.opening c.args.bound few left starts path ended
-    (all_along p decidable.narrow g.M.Local.LocalMemory.memory m M.stands M.terms M.asked M.depends M.plain M.keeps_plain M.kept q b explored.start explored.opening c.args.bound few left starts path ended) decidable.entry no_draw))))))
+    (narrowly_closed p memory m M.stands M.terms M.asked M.depends M.plain M.keeps_plain M.kept q b explored.start explored.opening c.args.bound few left starts path ended along entry no_draw)))))
     (c.go_on.ensures.narrow keep)
 
 pub returns-then-len-gt0-clause-narrow_cover : goal.returns-then-len-gt0-clause-narrow_cover
@@ -186,3 +188,20 @@ returns-clause-narrow_cover g c = λ keep.
           (λ told. true≢false (sym (c.is_told.ensures.1 told) ∙ c.if-is_told.false)),
     ))
     (c.go_on.ensures.narrow_cover keep)
+
+pub returns-then-len-gt0-clause-asked : goal.returns-then-len-gt0-clause-asked
+returns-then-len-gt0-clause-asked g c = λ explored. adds_nothing (prog_view c.args.prog.now) (proc_view c.args.proc.now) (path_view c.args.path) (inference_view c.args.inference.now)
+
+pub returns-then-is_told-clause-asked : goal.returns-then-is_told-clause-asked
+returns-then-is_told-clause-asked g c = on_ok_weaker c.tell.result (λ tells explored. tells c.args.bound explored) c.tell.ensures.asked
+
+pub returns-clause-asked : goal.returns-clause-asked
+returns-clause-asked g c =
+    let path = path_view c.args.path in
+    let none : length path.drawn ≡ 0 = omega (arith, c.len.ensures, c.if-len-gt0.false) in
+    let says = c.into_ended.ensures in
+    on_ok_weaker c.go_on.result
+    (λ tells explored.
+    tells (prog_view c.args.prog.now) (proc_view c.args.proc.now) path
+    (record { vars_same = says.vars; conds_same = says.conds; given_same = says.given; choices_same = says.choices; no_draw = none_there path.drawn none }) says.end)
+    c.go_on.ensures.asked

@@ -1,4 +1,4 @@
-use Rattle.std.proofs.Common.{◌≡◌, ◌+◌, [], ◌∷◌, ◌++◌, length, rules, sym, ap, subst, ◌∙◌, append-nil, arith}
+use Rattle.std.proofs.Common.{◌≡◌, ⊎_elim, inl, inr, ◌+◌, [], ◌∷◌, ◌++◌, length, rules, sym, ap, subst, ◌∙◌, append-nil, arith}
 use Rattle.std.specs.Vec.Iter.{into_iter_items}
 use Rattle.std.proofs.lemmas.List.{map-append}
 use Rattle.gil_syntax.specs.Program.{prog_view}
@@ -20,7 +20,7 @@ use Rattle.biabduce.proofs.ProvidingNarrowly.{still_started_narrowly}
 use Rattle.biabduce.proofs.inferring.explore_starts.Goals as goal
 
 pub loop-start-init : goal.loop-start-init
-loop-start-init g c = record { counted = search rules; rest = search rules; sound = c.requires.sound; keeps = λ r provided. provided; cover = tt; decided = λ decidable bare decided. decided; narrow = λ keep decidable left starts decided. decided; keeps_narrowly = λ keep entry r provided. provided; narrow_cover = λ keep entry left starts. tt }
+loop-start-init g c = record { counted = search rules; rest = search rules; sound = c.requires.sound; keeps = λ r provided. provided; cover = tt; asked = λ before. before; other = λ keep entry from_narrow before. before; decided = λ decidable bare decided. decided; narrow = λ keep decidable left starts decided. decided; keeps_narrowly = λ keep entry r provided. provided; narrow_cover = λ keep entry left starts. tt }
 
 pub explore_start-requires-clause-opening : goal.explore_start-requires-clause-opening
 explore_start-requires-clause-opening g c =
@@ -63,6 +63,19 @@ loop-start-preserved g c =
           each_pushed (CoversStart p g.M.Local.LocalMemory.memory g.M.Local.LocalMemory.actions q c.args.bound g.M.SymMemory.stands b j) path_view c.loop-start.yielded c.in-Some.start
           (still_started p g.M.Local.LocalMemory.memory g.M.Local.LocalMemory.actions q c.args.bound g.M.SymMemory.stands b i j (paths_view c.loop-start.yielded) c.in_ok-explore_start.ensures.keeps c.loop-start.invariant.cover)
           c.in_ok-explore_start.ensures.cover;
+      asked = λ before. c.in_ok-explore_start.ensures.asked (c.loop-start.invariant.asked before);
+      other = λ keep entry from_narrow before.
+          let P = StartsNarrowly g.M.SymMemory.terms (beginning_view c.args.beginning.now) in
+          let is = c.loop-start.invariant.rest ∙ ap (λ xs. c.loop-start.yielded ++ xs) c.in-Some.ensures.steps.0 in
+          c.in_ok-explore_start.ensures.other keep entry
+          (⊎_elim
+          (λ from_here. inl (
+            from_here.0,
+            each_middle P (paths_view c.loop-start.yielded) (path_view c.in-Some.start) (paths_view (into_iter_items c.next.new.self))
+                (subst (Each P) (ap paths_view is ∙ map-append path_view c.loop-start.yielded (c.in-Some.start ∷ into_iter_items c.next.new.self)) from_here.1),
+          ))
+          inr from_narrow)
+          (c.loop-start.invariant.other keep entry from_narrow before);
       decided = λ decidable bare decided.
           let P = BeginsBare g.M.SymMemory.stands g.M.SymMemory.plain in
           let is = c.loop-start.invariant.rest ∙ ap (λ xs. c.loop-start.yielded ++ xs) c.in-Some.ensures.steps.0 in
@@ -107,6 +120,12 @@ returns-clause-cover g c =
     let all : c.args.starts ≡ c.loop-start.yielded = c.loop-start.invariant.rest ∙ ap (λ xs. c.loop-start.yielded ++ xs) none ∙ append-nil c.loop-start.yielded in
     subst (λ xs. Each (CoversStart (prog_view c.args.prog.now) g.M.Local.LocalMemory.memory g.M.Local.LocalMemory.actions (proc_view c.args.proc.now) c.args.bound g.M.SymMemory.stands (beginning_view c.args.beginning.now) (inference_view c.loop-start.inference)) (paths_view xs)) (sym all)
     c.loop-start.invariant.cover
+
+pub returns-clause-asked : goal.returns-clause-asked
+returns-clause-asked g c = c.loop-start.invariant.asked
+
+pub returns-clause-other : goal.returns-clause-other
+returns-clause-other g c = c.loop-start.invariant.other
 
 pub returns-clause-decided : goal.returns-clause-decided
 returns-clause-decided g c = c.loop-start.invariant.decided

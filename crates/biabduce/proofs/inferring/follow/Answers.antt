@@ -1,4 +1,4 @@
-use Rattle.std.proofs.Common.{length, IsSome, subst}
+use Rattle.std.proofs.Common.{⊎_elim, inl, inr, length, IsSome}
 use Rattle.std.proofs.lemmas.Result.{on_ok_weaker}
 use Rattle.gil_syntax.specs.Program.{prog_view}
 use Rattle.gil_syntax.specs.View.{proc_view}
@@ -6,6 +6,8 @@ use Rattle.sym_paths.specs.View.{paths_view}
 use Rattle.bi_beginnings.specs.View.{beginning_view}
 use Rattle.biabduce.specs.Narrowly.{numbers_at}
 use Rattle.biabduce.specs.View.{inference_view}
+use Rattle.biabduce.proofs.Asking.{begun_rightly}
+use Rattle.biabduce.proofs.Others.{begun_others, undecided_none}
 use Rattle.biabduce.proofs.Decided.{any_decided}
 use Rattle.biabduce.proofs.Keeping.{after_any, on_ok_both}
 use Rattle.biabduce.proofs.NarrowPaths.{begun_small, start_narrowly, any_narrowly}
@@ -36,6 +38,39 @@ returns-clause-cover g c =
     (λ keeps covers. begun_covers p g.M.Local.LocalMemory.memory g.M.Local.LocalMemory.actions q c.args.bound g.M.SymMemory.stands b (IsSome c.in_ok-opened.opened.undecided) after j (paths_view c.in_ok-opened.opened.starts) c.in_ok-opened.ensures.cover
     (any_left p g.M.Local.LocalMemory.memory g.M.Local.LocalMemory.actions q c.args.bound i after c.in_ok-opened.opened.undecided c.leave_any.ensures) keeps covers)
     c.explore_starts.ensures.keeps c.explore_starts.ensures.cover
+
+pub returns-clause-asked : goal.returns-clause-asked
+returns-clause-asked g c =
+    let b = beginning_view c.args.beginning.now in
+    let i = inference_view c.args.inference.now in
+    let after = inference_view c.leave_any.new.self in
+    let opened = c.in_ok-opened in
+    on_ok_weaker c.explore_starts.result
+    (λ stays left before.
+    stays
+    (begun_rightly (prog_view c.args.prog.now) g.M.Local.LocalMemory.memory g.M.Local.LocalMemory.actions g.M.SymMemory.stands g.M.SymMemory.terms g.M.SymMemory.asked g.M.SymMemory.depends g.M.SymMemory.plain g.M.SymMemory.keeps_plain g.M.SymMemory.kept (proc_view c.args.proc.now) c.args.bound b c.requires.beginning left i after opened.opened.undecided opened.ensures.decided opened.ensures.asked c.leave_any.ensures before))
+    c.explore_starts.ensures.asked
+
+pub returns-clause-other : goal.returns-clause-other
+returns-clause-other g c = λ keep.
+    let q = proc_view c.args.proc.now in
+    let b = beginning_view c.args.beginning.now in
+    let i = inference_view c.args.inference.now in
+    let after = inference_view c.leave_any.new.self in
+    let opened = c.in_ok-opened in
+    let starts = paths_view opened.opened.starts in
+    on_ok_weaker c.explore_starts.result
+    (λ stays entry left_or_other before.
+    ⊎_elim
+    (λ left.
+    let opens = opened.ensures.narrow keep (numbers_at (length b.uses)) left.narrow (begun_small q c.args.bound b left c.requires.bounded) in
+    stays entry (inl (left, start_narrowly g.M.SymMemory.stands g.M.SymMemory.terms b starts opened.ensures.exact opens.each_start))
+    (undecided_none (prog_view c.args.prog.now) g.M.Local.LocalMemory.memory g.M.Local.LocalMemory.actions g.M.SymMemory.stands g.M.SymMemory.terms g.M.SymMemory.asked g.M.SymMemory.depends g.M.SymMemory.plain g.M.SymMemory.keeps_plain g.M.SymMemory.kept (proc_view c.args.proc.now) c.args.bound i after opened.opened.undecided opens.decided c.leave_any.ensures before))
+    (λ other.
+    stays entry (inr other)
+    (begun_others (prog_view c.args.prog.now) g.M.Local.LocalMemory.memory g.M.Local.LocalMemory.actions g.M.SymMemory.stands g.M.SymMemory.terms g.M.SymMemory.asked g.M.SymMemory.depends g.M.SymMemory.plain g.M.SymMemory.keeps_plain g.M.SymMemory.kept (proc_view c.args.proc.now) c.args.bound b i after opened.opened.undecided other opened.ensures.asked c.leave_any.ensures before))
+    left_or_other)
+    (c.explore_starts.ensures.other keep)
 
 pub returns-clause-decided : goal.returns-clause-decided
 returns-clause-decided g c =

@@ -14,11 +14,13 @@ returns g c =
     let terms = g.M.SymMemory.terms in
     let asked = g.M.SymMemory.asked in
     let depends = g.M.SymMemory.depends in
+    let plain = g.M.SymMemory.plain in
+    let kept = g.M.SymMemory.kept in
     let keeps_plain = g.M.SymMemory.keeps_plain in
     let keeps_narrow = g.M.SymMemory.keeps_narrow in
     let p = prog_view c.args.prog.now in
     let entry = c.args.entry.now in
     let bound = c.args.bound.steps in
-    let right = verdict_is_right memory actions stands terms asked depends keeps_plain keeps_narrow p entry bound (verdict_view c.in_ok-tested.tested)
+    let right = verdict_is_right memory actions stands terms asked depends plain kept keeps_plain keeps_narrow p entry bound (verdict_view c.in_ok-tested.tested)
     c.in_ok-tested.ensures.right c.in_ok-tested.ensures.found in
-    subst (IsRightVerdict (memory_of memory actions stands terms asked depends keeps_plain keeps_narrow) p entry bound) (sym c.in_ok-answer.ensures) right
+    subst (IsRightVerdict (memory_of memory actions stands terms asked depends plain kept keeps_plain keeps_narrow) p entry bound) (sym c.in_ok-answer.ensures) right
