@@ -1,4 +1,6 @@
 pub mod ArgumentLaws
+pub mod AskedLaws
+pub mod AskedRow
 pub mod CallLaws
 pub mod Called
 pub mod CallingLaws
@@ -12,3 +14,4 @@ pub mod PostExact
 pub mod PostLaws
 pub mod RowExact
 pub mod Unspecified
+pub mod UsesLaws

@@ -1,7 +1,9 @@
 pub mod Arguments
+pub mod Asked
 pub mod Calling
 pub mod Gathering
 pub mod Leaving
 pub mod Matches
 pub mod Posts
+pub mod Uses
 pub mod View

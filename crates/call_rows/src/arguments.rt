@@ -1,5 +1,7 @@
 //! The sorts of the arguments of a call.
 ghost use Rattle.std.specs.Prelude.{◌≡◌, ◌++◌, IfNone, IfOk, IfSome};
+ghost use Rattle.call_rows.specs.Asked.{AsksParams};
+ghost use Rattle.checked_rows.specs.Asked.{DoubtAdds};
 ghost use Rattle.call_rows.specs.Arguments.{FitParams, FitsParam, IsDoubtOver, IsUnfit, IsUnfitDoubt};
 ghost use Rattle.checked_rows.specs.Doubts.{IsToldThere};
 ghost use Rattle.checked_rows.specs.View.{doubt_view};
@@ -57,6 +59,7 @@ fn argument_doubt<D: Decider>(
     ensures fit { IfOk result (λ o. IfNone o (FitsParam vars.now (atoms_view conds.now) (store_view store.now) scope.now param.now)) }
     ensures doubt { IfOk result (λ o. IfSome o (λ d. IsDoubtOver vars.now (atoms_view conds.now)
         (IsUnfit vars.now (atoms_view conds.now) (store_view store.now) scope.now param.now) (doubt_view d))) }
+    ensures asked { IfOk result (λ o. IfSome o (λ d. DoubtAdds (AsksParams scope.now (store_view store.now)) (atoms_view conds.now) (doubt_view d))) }
 {
     match store.get(&param.name) {
         Some(term) => {
@@ -81,6 +84,7 @@ pub(crate) fn arguments_doubt<D: Decider>(
     ensures fit { IfOk result (λ o. IfNone o (FitParams vars.now (atoms_view conds.now) (store_view store.now) params.now params.now)) }
     ensures doubt { IfOk result (λ o. IfSome o (λ d. IsUnfitDoubt vars.now (atoms_view conds.now) (store_view store.now) params.now
         (doubt_view d))) }
+    ensures asked { IfOk result (λ o. IfSome o (λ d. DoubtAdds (AsksParams params.now (store_view store.now)) (atoms_view conds.now) (doubt_view d))) }
 {
     for param in params.as_slice() {
         if let Some(doubt) = argument_doubt(alloc, vars, conds, store, params, param, decider)? {

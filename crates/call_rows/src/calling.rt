@@ -2,11 +2,15 @@
 ghost use Rattle.std.specs.Prelude.{◌≡◌, ◌∷◌, ◌++◌, [], map, IfOk, IfSome, Some};
 ghost use Rattle.std.specs.Option.{option_map};
 ghost use Rattle.assert_logic.specs.Modes.{HasModes};
+ghost use Rattle.call_rows.specs.Asked.{AddsToNext, AsksFurther};
 ghost use Rattle.call_rows.specs.Calling.{AnswersFurther, AreNamed, CallsUnspecified, EachIsCalled, IsSpecOf, IsUnspecified, IsAtCall, IsCall, IsCalled, IsNextOver, called_by, name_of, spec_there};
+ghost use Rattle.call_rows.specs.Gathering.{GathersNexts};
+ghost use Rattle.call_rows.specs.Uses.{AreUsedThere, NamesCalled};
 ghost use Rattle.checked_paths.specs.Following.{OfGoing};
 ghost use Rattle.checked_paths.specs.Meaning.{IsCheckedOver};
 ghost use Rattle.checked_paths.specs.Plainly.{LeadsPlainly};
 ghost use Rattle.checked_paths.specs.View.{checking_view, entry_view, next_view, nexts_view, passed_by_view};
+ghost use Rattle.checked_rows.specs.Asking.{AddsTo, AsksOnlyOwn};
 ghost use Rattle.checked_rows.specs.Rows.{AreRowOf, IsExactRowOf};
 ghost use Rattle.gil_syntax.specs.Program.{prog_view};
 ghost use Rattle.gil_syntax.specs.Programs.{find_spec};
@@ -14,6 +18,7 @@ ghost use Rattle.gil_syntax.specs.Pure.{PureCommand};
 ghost use Rattle.gil_syntax.specs.View.{spec_view};
 ghost use Rattle.sym_leaving.specs.Leaving.{HasCaller};
 ghost use Rattle.sym_model.specs.Lists.{Each};
+ghost use Rattle.sym_paths.specs.Frames.{running_store};
 ghost use Rattle.sym_paths.specs.Origins.{Follows};
 ghost use Rattle.sym_paths.specs.View.{frames_view, path_view, paths_view};
 ghost use Rattle.sym_states.specs.View.{facts_view};
@@ -84,6 +89,7 @@ fn names_used<M: ListedMemory>(
     paths: &Paths<M>,
 ) -> Result<Texts, AllocError>
     ensures named { IfOk result (λ names. AreNamed (prog_view prog.now) names (paths_view paths.now)) }
+    ensures called { IfOk result (λ names. NamesCalled (prog_view prog.now) names (paths_view paths.now)) }
     ensures only { Each (IsUnspecified (prog_view prog.now)) (paths_view paths.now) → IfOk result (λ names. names ≡ []) }
 {
     let mut names = Sequence::new(alloc);
@@ -118,8 +124,11 @@ fn further_nexts<M: ListedMemory, D: Decider>(
     requires used { IfSome used (λ s. IsSpecOf (prog_view prog.now) (spec_view s.now)) }
     requires caller { HasCaller (frames_view checking.path.stack) }
     requires over { IsCheckedOver M.terms (entry_view spec.now entered.now) (checking_view checking) }
-    ensures { IfOk result (λ ns. AnswersFurther (prog_view prog.now) M.Local.memory M.stands M.terms M.kept
+    ensures answers { IfOk result (λ ns. AnswersFurther (prog_view prog.now) M.Local.memory M.stands M.terms M.kept
         (entry_view spec.now entered.now) here.now (option_map (λ s. spec_view s.now) used.entry) (checking_view checking) (nexts_view ns)) }
+    ensures asked { IfOk result (λ ns. Each (AddsTo (AsksFurther (prog_view prog.now) (entry_view spec.now entered.now)
+        (option_map (λ s. spec_view s.now) used.entry) (running_store (frames_view checking.path.stack))) (checking_view checking).path.conds)
+        (nexts_view ns)) }
 {
     match used {
         Some(used) => specified_nexts(alloc, prog, spec, entered, used, &checking, here, decider),
@@ -142,8 +151,9 @@ fn call_one<M: ListedMemory, D: Decider>(
     requires found { find_spec (prog_view prog.now).specs (spec_view spec.now).name ≡ Some (spec_view spec.now) }
     requires modes { HasModes (prog_view prog.now) M.Local.memory }
     requires over { IsNextOver M.terms (entry_view spec.now entered.now) (facts_view preds.now) (passed_by_view passed.now) (path_view path) }
-    ensures { IfOk result (λ ns. IsCalled (prog_view prog.now) M.Local.memory M.stands M.terms M.kept (entry_view spec.now entered.now)
+    ensures answers { IfOk result (λ ns. IsCalled (prog_view prog.now) M.Local.memory M.stands M.terms M.kept (entry_view spec.now entered.now)
         here.now (facts_view preds.now) (passed_by_view passed.now) (path_view path) (nexts_view ns)) }
+    ensures asked { IfOk result (λ ns. AddsToNext (prog_view prog.now) (entry_view spec.now entered.now) (path_view path) (nexts_view ns)) }
 {
     let used = used_by(prog, &path);
     match follow(alloc, preds, passed, here, path)? {
@@ -171,8 +181,10 @@ fn call_all<M: ListedMemory, D: Decider>(
     requires modes { HasModes (prog_view prog.now) M.Local.memory }
     requires over { Each (IsNextOver M.terms (entry_view spec.now entered.now) (facts_view preds.now) (passed_by_view passed.now))
         (paths_view paths) }
-    ensures { IfOk result (λ ns. EachIsCalled (prog_view prog.now) M.Local.memory M.stands M.terms M.kept (entry_view spec.now entered.now)
+    ensures answers { IfOk result (λ ns. EachIsCalled (prog_view prog.now) M.Local.memory M.stands M.terms M.kept (entry_view spec.now entered.now)
         here.now (facts_view preds.now) (passed_by_view passed.now) (paths_view paths) (nexts_view ns)) }
+    ensures asked { IfOk result (λ ns. GathersNexts (AddsToNext (prog_view prog.now) (entry_view spec.now entered.now)) (paths_view paths)
+        (nexts_view ns)) }
 {
     let mut nexts = Sequence::new(alloc);
     for path in paths.into_vec() {
@@ -186,7 +198,8 @@ fn call_all<M: ListedMemory, D: Decider>(
 
 /// The answers at a call, and the names of the specifications that it uses. Where the procedure has one, its body isn't gone into: the
 /// precondition is matched and taken with the arguments for the parameters, and each postcondition comes back in its place, with any
-/// result; each error postcondition is thrown.
+/// result; each error postcondition is thrown. Conditions that are added are the call's own: what its expressions ask, and what the
+/// specification asks of the arguments' terms.
 pub fn call_row<M: ListedMemory, D: Decider>(
     alloc: Global,
     prog: &Prog,
@@ -210,6 +223,10 @@ pub fn call_row<M: ListedMemory, D: Decider>(
         M.stands M.terms (entry_view spec.now entered.now) (checking_view checking) command s.uses (nexts_view s.nexts)) }
     ensures exact { IfOk result (λ s. (command : PureCommand) → IsCall command → IsExactRowOf (prog_view prog.now) M.Local.memory
         M.Local.actions M.stands M.terms (entry_view spec.now entered.now) (checking_view checking) command here.now (nexts_view s.nexts)) }
+    ensures asked { IfOk result (λ s. (command : PureCommand) → IsCall command → AsksOnlyOwn (prog_view prog.now)
+        (entry_view spec.now entered.now) (checking_view checking) command (nexts_view s.nexts)) }
+    ensures used { IfOk result (λ s. AreUsedThere (prog_view prog.now) M.Local.actions M.stands (entry_view spec.now entered.now)
+        (checking_view checking) s.uses) }
 {
     let (path, preds, passed) = checking.into_parts();
     let paths = step(alloc, prog, path, rules, decider)?;

@@ -1,10 +1,12 @@
 //! Where a called procedure has ended by its specification.
 ghost use Rattle.std.specs.Prelude.{◌≡◌, Some, IfOk};
 ghost use Rattle.assert_logic.specs.Modes.{HasModes};
+ghost use Rattle.call_rows.specs.Asked.{AsksCompleting};
 ghost use Rattle.call_rows.specs.Leaving.{EndsEntry, EndsOver, GoesOnAfter, IsCompleted, MayComplete, with_number};
 ghost use Rattle.call_rows.specs.declared.leaving.Completion.TheVariants.{Returns, Throws};
 ghost use Rattle.checked_paths.specs.declared.nexts.FaultKind.TheVariants.{CallPrecondition};
 ghost use Rattle.checked_paths.specs.View.{checking_view, entry_view, next_view};
+ghost use Rattle.checked_rows.specs.Asking.{AddsTo, AsksEntryEnd};
 ghost use Rattle.checked_rows.specs.Doubts.{beyond, IsDoubtNext};
 ghost use Rattle.checked_rows.specs.States.{with_state};
 ghost use Rattle.gil_syntax.specs.Program.{prog_view};
@@ -45,8 +47,10 @@ fn returned_next<M: ListedMemory>(
     term: &Term,
 ) -> Result<Next<M>, AllocError>
     requires { HasCaller (frames_view checking.now.path.stack) }
-    ensures { IfOk result (λ n. GoesOnAfter (prog_view prog.now) M.stands M.terms (entry_view spec.now entered.now)
+    ensures answer { IfOk result (λ n. GoesOnAfter (prog_view prog.now) M.stands M.terms (entry_view spec.now entered.now)
         (checking_view checking.now) here.now Returns (term_view term.now) (state_view state) (next_view n)) }
+    ensures asked { IfOk result (λ n. AddsTo (AsksCompleting (prog_view prog.now) (entry_view spec.now entered.now) Returns) (state_view state).conds
+        (next_view n)) }
 {
     let _prog = prog;
     let _spec = spec;
@@ -71,8 +75,10 @@ fn uncaught_next<M: ListedMemory, D: Decider>(
     requires found { find_spec (prog_view prog.now).specs (spec_view spec.now).name ≡ Some (spec_view spec.now) }
     requires modes { HasModes (prog_view prog.now) M.Local.memory }
     requires over { EndsOver M.terms (entry_view spec.now entered.now) (term_view term.now) (facts_view preds.now) (path_view path.now) }
-    ensures { IfOk result (λ n. EndsEntry (prog_view prog.now) M.stands M.terms (entry_view spec.now entered.now) here.now
+    ensures answer { IfOk result (λ n. EndsEntry (prog_view prog.now) M.stands M.terms (entry_view spec.now entered.now) here.now
         (facts_view preds.now) (term_view term.now) (path_view path.now) (next_view n)) }
+    ensures asked { IfOk result (λ n. AddsTo (AsksEntryEnd (prog_view prog.now) (entry_view spec.now entered.now) (spec_view spec.now).errors)
+        (path_view path.now).conds (next_view n)) }
 {
     let Some(proc) = prog.proc(&spec.name) else {
         unreachable!();
@@ -100,8 +106,10 @@ fn thrown_next<M: ListedMemory, D: Decider>(
     requires modes { HasModes (prog_view prog.now) M.Local.memory }
     requires caller { HasCaller (frames_view checking.now.path.stack) }
     requires may { MayComplete M.terms (entry_view spec.now entered.now) (checking_view checking.now).path.given (term_view term.now) (state_view state) }
-    ensures { IfOk result (λ n. GoesOnAfter (prog_view prog.now) M.stands M.terms (entry_view spec.now entered.now)
+    ensures answer { IfOk result (λ n. GoesOnAfter (prog_view prog.now) M.stands M.terms (entry_view spec.now entered.now)
         (checking_view checking.now) here.now Throws (term_view term.now) (state_view state) (next_view n)) }
+    ensures asked { IfOk result (λ n. AddsTo (AsksCompleting (prog_view prog.now) (entry_view spec.now entered.now) Throws) (state_view state).conds
+        (next_view n)) }
 {
     let (path, preds) = path_with(alloc, &checking.path, state)?;
     match throw_with(alloc, path, term)? {
@@ -129,8 +137,10 @@ fn next_after<M: ListedMemory, D: Decider>(
     requires modes { HasModes (prog_view prog.now) M.Local.memory }
     requires caller { HasCaller (frames_view checking.now.path.stack) }
     requires may { MayComplete M.terms (entry_view spec.now entered.now) (checking_view checking.now).path.given (term_view term.now) (state_view state) }
-    ensures { IfOk result (λ n. GoesOnAfter (prog_view prog.now) M.stands M.terms (entry_view spec.now entered.now)
+    ensures answer { IfOk result (λ n. GoesOnAfter (prog_view prog.now) M.stands M.terms (entry_view spec.now entered.now)
         (checking_view checking.now) here.now how (term_view term.now) (state_view state) (next_view n)) }
+    ensures asked { IfOk result (λ n. AddsTo (AsksCompleting (prog_view prog.now) (entry_view spec.now entered.now) how) (state_view state).conds
+        (next_view n)) }
 {
     match how {
         Completion::Returns => {
@@ -186,8 +196,10 @@ pub(crate) fn completed_next<M: ListedMemory, D: Decider>(
     requires modes { HasModes (prog_view prog.now) M.Local.memory }
     requires caller { HasCaller (frames_view checking.now.path.stack) }
     requires may { MayComplete M.terms (entry_view spec.now entered.now) (checking_view checking.now).path.given (term_view term.now) (state_view state) }
-    ensures { IfOk result (λ n. IsCompleted (prog_view prog.now) M.stands M.terms (entry_view spec.now entered.now)
+    ensures answer { IfOk result (λ n. IsCompleted (prog_view prog.now) M.stands M.terms (entry_view spec.now entered.now)
         (checking_view checking.now) here.now how choice (term_view term.now) (state_view state) (next_view n)) }
+    ensures asked { IfOk result (λ n. AddsTo (AsksCompleting (prog_view prog.now) (entry_view spec.now entered.now) how) (state_view state).conds
+        (next_view n)) }
 {
     match ask(alloc, decider, &state.vars, state.conds.atoms())? {
         Satisfiability::Satisfiable(_) => {

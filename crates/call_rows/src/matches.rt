@@ -2,10 +2,12 @@
 ghost use Rattle.std.specs.Prelude.{◌≡◌, length, map, Some, IfOk};
 ghost use Rattle.addable_programs.specs.Addable.{IsAddableSpec};
 ghost use Rattle.assert_logic.specs.Modes.{HasModes};
+ghost use Rattle.call_rows.specs.Asked.{AddsToMatch, AsksFitting, AsksSpecified};
 ghost use Rattle.call_rows.specs.Gathering.{GathersNexts};
 ghost use Rattle.call_rows.specs.Matches.{AnswersCall, AnswersFitting, AnswersMatch, MatchOver, scope_of as names_of};
 ghost use Rattle.checked_paths.specs.Meaning.{IsCheckedOver};
 ghost use Rattle.checked_paths.specs.View.{checking_view, entry_view, nexts_view};
+ghost use Rattle.checked_rows.specs.Asking.{AddsTo};
 ghost use Rattle.footprint.specs.Consuming.{CasesMayMatch};
 ghost use Rattle.footprint.specs.View.{match_view, matches_view};
 ghost use Rattle.gil_syntax.specs.Program.{prog_view};
@@ -68,8 +70,10 @@ fn match_nexts<M: ListedMemory, D: Decider>(
     requires addable { IsAddableSpec M.Local.memory (spec_view used.now) }
     requires caller { HasCaller (frames_view checking.now.path.stack) }
     requires over { MatchOver M.terms (entry_view spec.now entered.now) (checking_view checking.now).path.given (match_view found) }
-    ensures { IfOk result (λ ns. AnswersMatch (prog_view prog.now) M.Local.memory M.stands M.terms M.kept (entry_view spec.now entered.now)
+    ensures answers { IfOk result (λ ns. AnswersMatch (prog_view prog.now) M.Local.memory M.stands M.terms M.kept (entry_view spec.now entered.now)
         (spec_view used.now) (checking_view checking.now) here.now (match_view found) (nexts_view ns)) }
+    ensures asked { IfOk result (λ ns. AddsToMatch (prog_view prog.now) (entry_view spec.now entered.now) (spec_view used.now)
+        (match_view found) (nexts_view ns)) }
 {
     let Some(ready) = with_result(alloc, found, scope)? else {
         return nothing(alloc);
@@ -127,8 +131,10 @@ fn matches_nexts<M: ListedMemory, D: Decider>(
     requires addable { IsAddableSpec M.Local.memory (spec_view used.now) }
     requires caller { HasCaller (frames_view checking.now.path.stack) }
     requires over { Each (MatchOver M.terms (entry_view spec.now entered.now) (checking_view checking.now).path.given) (matches_view matches) }
-    ensures { IfOk result (λ ns. GathersNexts (AnswersMatch (prog_view prog.now) M.Local.memory M.stands M.terms M.kept
+    ensures answers { IfOk result (λ ns. GathersNexts (AnswersMatch (prog_view prog.now) M.Local.memory M.stands M.terms M.kept
         (entry_view spec.now entered.now) (spec_view used.now) (checking_view checking.now) here.now) (matches_view matches) (nexts_view ns)) }
+    ensures asked { IfOk result (λ ns. GathersNexts (AddsToMatch (prog_view prog.now) (entry_view spec.now entered.now) (spec_view used.now))
+        (matches_view matches) (nexts_view ns)) }
 {
     let mut nexts = Sequence::new(alloc);
     for found in matches.into_vec() {
@@ -157,8 +163,10 @@ fn fitting_nexts<M: ListedMemory, D: Decider>(
     requires cases { CasesMayMatch M.Local.memory (prog_view prog.now).preds }
     requires caller { HasCaller (frames_view checking.now.path.stack) }
     requires over { IsCheckedOver M.terms (entry_view spec.now entered.now) (checking_view checking.now) }
-    ensures { IfOk result (λ ns. AnswersFitting (prog_view prog.now) M.Local.memory M.stands M.terms M.kept (entry_view spec.now entered.now)
+    ensures answers { IfOk result (λ ns. AnswersFitting (prog_view prog.now) M.Local.memory M.stands M.terms M.kept (entry_view spec.now entered.now)
         (spec_view used.now) (checking_view checking.now) here.now (nexts_view ns)) }
+    ensures asked { IfOk result (λ ns. Each (AddsTo (AsksFitting (prog_view prog.now) (entry_view spec.now entered.now) (spec_view used.now)
+        (running_store (frames_view checking.now.path.stack))) (checking_view checking.now).path.conds) (nexts_view ns)) }
 {
     let scope = scope_of(alloc, used)?;
     let store = store_there(alloc, &checking.path.stack)?;
@@ -211,8 +219,10 @@ pub(crate) fn specified_nexts<M: ListedMemory, D: Decider>(
     requires cases { CasesMayMatch M.Local.memory (prog_view prog.now).preds }
     requires caller { HasCaller (frames_view checking.now.path.stack) }
     requires over { IsCheckedOver M.terms (entry_view spec.now entered.now) (checking_view checking.now) }
-    ensures { IfOk result (λ ns. AnswersCall (prog_view prog.now) M.Local.memory M.stands M.terms M.kept (entry_view spec.now entered.now)
+    ensures answers { IfOk result (λ ns. AnswersCall (prog_view prog.now) M.Local.memory M.stands M.terms M.kept (entry_view spec.now entered.now)
         (spec_view used.now) (checking_view checking.now) here.now (nexts_view ns)) }
+    ensures asked { IfOk result (λ ns. Each (AddsTo (AsksSpecified (prog_view prog.now) (entry_view spec.now entered.now) (spec_view used.now)
+        (running_store (frames_view checking.now.path.stack))) (checking_view checking.now).path.conds) (nexts_view ns)) }
 {
     let path = &checking.path;
     let store = store_there(alloc, &path.stack)?;

@@ -2,11 +2,13 @@
 ghost use Rattle.std.specs.Prelude.{◌≡◌, ◌+◌, ◌++◌, map, Some, IfOk};
 ghost use Rattle.std.specs.Option.{option_map};
 ghost use Rattle.assert_logic.specs.Modes.{HasModes};
+ghost use Rattle.call_rows.specs.Asked.{AddsToState, AsksCompleting, AsksPost, AsksPosts};
 ghost use Rattle.call_rows.specs.Posts.{AnswersPost, AnswersPosts, IsReadyIfAny, ReadyOver, only_result};
 ghost use Rattle.call_rows.specs.Leaving.{IsCompleted, MayComplete};
 ghost use Rattle.call_rows.specs.View.{ready_view};
 ghost use Rattle.checked_paths.specs.Meaning.{EachWith};
 ghost use Rattle.checked_paths.specs.View.{checking_view, entry_view, nexts_view};
+ghost use Rattle.checked_rows.specs.Asking.{AddsTo};
 ghost use Rattle.footprint.specs.View.{match_view};
 ghost use Rattle.gil_syntax.specs.Program.{prog_view};
 ghost use Rattle.gil_syntax.specs.Programs.{find_spec};
@@ -108,8 +110,10 @@ fn each_completed<M: ListedMemory, D: Decider>(
     requires modes { HasModes (prog_view prog.now) M.Local.memory }
     requires caller { HasCaller (frames_view checking.now.path.stack) }
     requires may { Each (MayComplete M.terms (entry_view spec.now entered.now) (checking_view checking.now).path.given (term_view term.now)) (states_view states) }
-    ensures { IfOk result (λ ns. EachWith (IsCompleted (prog_view prog.now) M.stands M.terms (entry_view spec.now entered.now)
+    ensures answers { IfOk result (λ ns. EachWith (IsCompleted (prog_view prog.now) M.stands M.terms (entry_view spec.now entered.now)
         (checking_view checking.now) here.now how choice (term_view term.now)) (states_view states) (nexts_view ns)) }
+    ensures asked { IfOk result (λ ns. EachWith (AddsToState (AsksCompleting (prog_view prog.now) (entry_view spec.now entered.now) how))
+        (states_view states) (nexts_view ns)) }
 {
     let mut nexts = Sequence::new(alloc);
     for state in states.into_vec() {
@@ -140,8 +144,10 @@ fn post_nexts<M: ListedMemory, D: Decider>(
     requires caller { HasCaller (frames_view checking.now.path.stack) }
     requires over { ReadyOver M.terms (entry_view spec.now entered.now) (checking_view checking.now).path.given (ready_view ready.now) }
     requires addable { Each (MayAdd M.Local.memory) (assertion_view items.now) }
-    ensures { IfOk result (λ ns. AnswersPost (prog_view prog.now) M.Local.memory M.stands M.terms M.kept (entry_view spec.now entered.now)
+    ensures answers { IfOk result (λ ns. AnswersPost (prog_view prog.now) M.Local.memory M.stands M.terms M.kept (entry_view spec.now entered.now)
         (checking_view checking.now) here.now scope.now (ready_view ready.now) how choice (assertion_view items.now) (nexts_view ns)) }
+    ensures asked { IfOk result (λ ns. Each (AddsTo (AsksPost (prog_view prog.now) (entry_view spec.now entered.now) how
+        (ready_view ready.now).store (assertion_view items.now)) (ready_view ready.now).state.conds) (nexts_view ns)) }
 {
     let none = Sequence::new(alloc);
     let states = add_items(alloc, &ready.state, &ready.store, &none, scope, items)?;
@@ -181,8 +187,10 @@ pub(crate) fn posts_nexts<M: ListedMemory, D: Decider>(
     requires caller { HasCaller (frames_view checking.now.path.stack) }
     requires over { ReadyOver M.terms (entry_view spec.now entered.now) (checking_view checking.now).path.given (ready_view ready.now) }
     requires addable { Each (Each (MayAdd M.Local.memory)) (map assertion_view posts.now) }
-    ensures { IfOk result (λ ns. AnswersPosts (prog_view prog.now) M.Local.memory M.stands M.terms M.kept (entry_view spec.now entered.now)
+    ensures answers { IfOk result (λ ns. AnswersPosts (prog_view prog.now) M.Local.memory M.stands M.terms M.kept (entry_view spec.now entered.now)
         (checking_view checking.now) here.now scope.now (ready_view ready.now) how first (map assertion_view posts.now) (nexts_view ns)) }
+    ensures asked { IfOk result (λ ns. Each (AddsTo (AsksPosts (prog_view prog.now) (entry_view spec.now entered.now) how
+        (ready_view ready.now).store (map assertion_view posts.now)) (ready_view ready.now).state.conds) (nexts_view ns)) }
 {
     let mut nexts = Sequence::new(alloc);
     let bodies = posts.as_slice();

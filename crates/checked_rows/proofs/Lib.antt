@@ -3,6 +3,9 @@ pub mod EndRowLaws
 pub mod EndExactLaws
 pub mod EndLaws
 pub mod FoldLaws
+pub mod AskedLaws
+pub mod AskedRowLaws
+pub mod AskedStates
 pub mod AssertLaws
 pub mod ExactLaws
 pub mod MatchLaws

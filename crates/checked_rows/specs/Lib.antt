@@ -1,3 +1,5 @@
+pub mod Asked
+pub mod Asking
 pub mod Doubts
 pub mod Ending
 pub mod Folding

@@ -2,6 +2,7 @@
 ghost use Rattle.std.specs.Prelude.{◌≡◌, ◌+◌, ◌<◌, ◌^◌, [], IfOk};
 ghost use Rattle.checked_paths.specs.Meaning.{IsCheckedOver};
 ghost use Rattle.checked_paths.specs.View.{checking_view, entry_view, nexts_view};
+ghost use Rattle.checked_rows.specs.Asking.{AsksOnlyOwn};
 ghost use Rattle.checked_rows.specs.Rows.{AreRowOf, IsExactRowOf};
 ghost use Rattle.footprint.specs.Consuming.{MayMatch, CasesMayMatch};
 ghost use Rattle.gil_syntax.specs.Program.{prog_view};
@@ -42,6 +43,8 @@ pub fn assert_row<M: ListedMemory, D: Decider>(
         (entry_view spec.now entered.now) (checking_view checking) (assert_that (assertion_view items.now)) [] (nexts_view ns)) }
     ensures exact { IfOk result (λ ns. IsExactRowOf (prog_view prog.now) M.Local.memory M.Local.actions M.stands M.terms
         (entry_view spec.now entered.now) (checking_view checking) (assert_that (assertion_view items.now)) here.now (nexts_view ns)) }
+    ensures asked { IfOk result (λ ns. AsksOnlyOwn (prog_view prog.now) (entry_view spec.now entered.now) (checking_view checking)
+        (assert_that (assertion_view items.now)) (nexts_view ns)) }
 {
     let none = Sequence::new(alloc);
     let scope = logicals_in(&checking.path.stack, &spec.logicals, &none);

@@ -4,6 +4,8 @@ ghost use Rattle.std.specs.Option.{option_map};
 ghost use Rattle.checked_paths.specs.Following.{OfGoing};
 ghost use Rattle.checked_paths.specs.Meaning.{IsCheckedOver, IsEntryOver};
 ghost use Rattle.checked_paths.specs.View.{checking_view, entry_view, next_view, nexts_view, passed_by_view};
+ghost use Rattle.checked_rows.specs.Asked.{EachEndAsks, EndAsks};
+ghost use Rattle.checked_rows.specs.Asking.{AddsTo, AsksEntryEnd, AsksOnlyOwn};
 ghost use Rattle.checked_rows.specs.Doubts.{IsToldThere};
 ghost use Rattle.checked_rows.specs.Ending.{AreEntryNames, DoubtsAResult, EachIsEnded, Finishes, HasNoOther, IsEnded};
 ghost use Rattle.checked_rows.specs.Ending.{EachIsExactlyEnded, FinishesExactly, IsExactlyEnded, IsLeaving, IsThere, MayEnd, at_end, finish_at};
@@ -183,6 +185,8 @@ pub fn finish<M: ListedMemory, D: Decider>(
         (map assertion_view posts.now) (term_view term.now) here.now (path_view path.now) (state_view state) (next_view n)) }
     ensures plain { IfOk result (λ n. FinishesPlainly (IsPlainMemory M.Local.memory M.keeps_plain M.terms) (entry_view spec.now entered.now)
         (map assertion_view posts.now) (term_view term.now) (state_view state) (next_view n)) }
+    ensures asked { IfOk result (λ n. AddsTo (AsksEntryEnd (prog_view prog.now) (entry_view spec.now entered.now)
+        (map assertion_view posts.now)) (state_view state).conds (next_view n)) }
 {
     let names = entry_names(alloc, proc, entered)?;
     let conds = state.conds.atoms();
@@ -268,6 +272,8 @@ fn finish_there<M: ListedMemory, D: Decider>(
         (next_view n)) }
     ensures plain { IfOk result (λ n. FinishesPlainly (IsPlainMemory M.Local.memory M.keeps_plain M.terms) (entry_view spec.now entered.now)
         (map assertion_view posts.now) (term_view term.now) (at_end (state_view state.now) (path_view path.now)) (next_view n)) }
+    ensures asked { IfOk result (λ n. AddsTo (AsksEntryEnd (prog_view prog.now) (entry_view spec.now entered.now)
+        (map assertion_view posts.now)) (path_view path.now).conds (next_view n)) }
 {
     let there = state_there(alloc, state, path)?;
     finish(
@@ -301,6 +307,7 @@ fn end_one<M: ListedMemory, D: Decider>(
         (state_view state.now) (facts_view preds.now) (passed_by_view passed.now) here.now (path_view path) (next_view n)) }
     ensures plain { IfOk result (λ n. EndsSurely M.plain (IsPlainMemory M.Local.memory M.keeps_plain M.terms) (state_view state.now)
         (entry_view spec.now entered.now) (path_view path) (next_view n)) }
+    ensures asked { IfOk result (λ n. EndAsks (prog_view prog.now) (entry_view spec.now entered.now) (path_view path) (next_view n)) }
 {
     match finish_of(alloc, &path.end)? {
         Some(EntryEnd::Return(term)) => {
@@ -345,6 +352,8 @@ fn end_all<M: ListedMemory, D: Decider>(
         (state_view state.now) (facts_view preds.now) (passed_by_view passed.now) here.now (paths_view paths) (nexts_view ns)) }
     ensures plain { IfOk result (λ ns. EachEndsSurely M.plain (IsPlainMemory M.Local.memory M.keeps_plain M.terms) (state_view state.now)
         (entry_view spec.now entered.now) (paths_view paths) (nexts_view ns)) }
+    ensures asked { IfOk result (λ ns. EachEndAsks (prog_view prog.now) (entry_view spec.now entered.now) (paths_view paths)
+        (nexts_view ns)) }
 {
     let mut nexts = Sequence::new(alloc);
     for path in paths.into_vec() {
@@ -382,6 +391,8 @@ pub fn end_row<M: ListedMemory, D: Decider>(
         M.Local.actions M.stands M.terms (entry_view spec.now entered.now) (checking_view checking) command here.now (nexts_view ns)) }
     ensures plain { M.keeps_plain → IfOk result (λ ns. EndsPlainly (prog_view prog.now) M.plain (entry_view spec.now entered.now)
         (path_view checking.path) (nexts_view ns)) }
+    ensures asked { IfOk result (λ ns. (command : PureCommand) → IsLeaving command → AsksOnlyOwn (prog_view prog.now)
+        (entry_view spec.now entered.now) (checking_view checking) command (nexts_view ns)) }
 {
     let state = state_of(alloc, &checking.path, &checking.preds, here)?;
     let (path, preds, passed) = checking.into_parts();

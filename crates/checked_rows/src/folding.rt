@@ -1,7 +1,9 @@
 //! `fold`: a case of the predicate is matched, and a fact stands in its place.
 ghost use Rattle.std.specs.Prelude.{◌≡◌, ◌+◌, ◌<◌, ◌^◌, ◌∷◌, ◌++◌, [], map, IfOk, IsTrue, None};
-ghost use Rattle.checked_paths.specs.Meaning.{IsCheckedOver};
+ghost use Rattle.checked_paths.specs.Meaning.{EachWith, IsCheckedOver};
 ghost use Rattle.checked_paths.specs.View.{checking_view, entry_view, next_view, nexts_view};
+ghost use Rattle.checked_rows.specs.Asked.{AddsIn, AsksAfterIns, HasConds};
+ghost use Rattle.checked_rows.specs.Asking.{AsksFolding, AsksOnlyOwn};
 ghost use Rattle.checked_rows.specs.Folding.{AreFoldings, EachFolded, FoldsOuts, GoesOnIn, IsFoldedNext, fact_of};
 ghost use Rattle.sym_model.specs.Lists.{Each};
 ghost use Rattle.sym_model.specs.Terms.{AreEachOver};
@@ -49,8 +51,9 @@ fn go_on_with<M: ListedMemory>(
 ) -> Result<Next<M>, AllocError>
     requires steps { checking.now.path.steps + 1 < 2 ^ 32 }
     requires next { MayAdvance (frames_view checking.now.path.stack) }
-    ensures { IfOk result (λ n. GoesOnIn M.stands M.terms (checking_view checking.now) (state_view state)
+    ensures goes { IfOk result (λ n. GoesOnIn M.stands M.terms (checking_view checking.now) (state_view state)
         ((state_view state).facts ++ fact_view fact ∷ []) (next_view n)) }
+    ensures same { IfOk result (λ n. HasConds (state_view state).conds (next_view n)) }
 {
     let (path, preds) = path_with(alloc, &checking.path, state)?;
     let mut preds = preds;
@@ -70,7 +73,8 @@ fn folded_next<M: ListedMemory, D: Decider>(
     requires steps { checking.now.path.steps + 1 < 2 ^ 32 }
     requires next { MayAdvance (frames_view checking.now.path.stack) }
     requires over { IsOverTable M.terms (state_view state) }
-    ensures { IfOk result (λ n. IsFoldedNext M.stands M.terms here.now (checking_view checking.now) (fact_view fact) (state_view state) (next_view n)) }
+    ensures folded { IfOk result (λ n. IsFoldedNext M.stands M.terms here.now (checking_view checking.now) (fact_view fact) (state_view state) (next_view n)) }
+    ensures same { IfOk result (λ n. HasConds (state_view state).conds (next_view n)) }
 {
     match ask(alloc, decider, &state.vars, state.conds.atoms())? {
         Satisfiability::Satisfiable(_) => go_on_with(alloc, here, checking, state, fact),
@@ -115,8 +119,9 @@ fn go_on_folded<M: ListedMemory, D: Decider>(
     requires steps { checking.now.path.steps + 1 < 2 ^ 32 }
     requires next { MayAdvance (frames_view checking.now.path.stack) }
     requires over { Each (λ k. IsOverTable M.terms k.state) (matches_view matches) }
-    ensures { IfOk result (λ ns. EachFolded M.stands M.terms here.now (checking_view checking.now)
+    ensures folded { IfOk result (λ ns. EachFolded M.stands M.terms here.now (checking_view checking.now)
         (fact_of name.now (terms_view ins.now) (terms_view outs.now)) (matches_view matches) (nexts_view ns)) }
+    ensures same { IfOk result (λ ns. EachWith (λ k n. HasConds k.state.conds n) (matches_view matches) (nexts_view ns)) }
 {
     let mut nexts = Sequence::new(alloc);
     for found in matches.into_vec() {
@@ -145,8 +150,10 @@ fn fold_read<M: ListedMemory, D: Decider>(
     requires ins_over { AreEachOver (state_view state).vars (terms_view ins.now) }
     requires outs_over { AreEachOver (state_view state).vars (terms_view outs.now) }
     requires cases { CasesMayMatch M.Local.memory (prog_view prog.now).preds }
-    ensures { IfOk result (λ ns. AreFoldings M.stands M.terms M.kept here.now (prog_view prog.now).preds (checking_view checking.now) (state_view state)
+    ensures foldings { IfOk result (λ ns. AreFoldings M.stands M.terms M.kept here.now (prog_view prog.now).preds (checking_view checking.now) (state_view state)
         name.now (terms_view ins.now) (terms_view outs.now) (nexts_view ns)) }
+    ensures asked { IfOk result (λ ns. Each (AddsIn (AsksFolding (prog_view prog.now).preds name.now (terms_view ins.now) (terms_view outs.now))
+        (checking_view checking.now) (state_view state)) (nexts_view ns)) }
 {
     match fold(alloc, state, prog, name, ins, outs, decider)? {
         Matching::All(matches) => {
@@ -186,8 +193,10 @@ fn fold_outs<M: ListedMemory, D: Decider>(
     requires store_over { IsStoreOver (state_view state).vars (store_view names.now) }
     requires ins_over { AreEachOver (state_view state).vars (terms_view ins.now) }
     requires cases { CasesMayMatch M.Local.memory (prog_view prog.now).preds }
-    ensures { IfOk result (λ ns. FoldsOuts M.stands M.terms M.kept here.now (prog_view prog.now).preds (checking_view checking.now) (store_view names.now)
+    ensures folds { IfOk result (λ ns. FoldsOuts M.stands M.terms M.kept here.now (prog_view prog.now).preds (checking_view checking.now) (store_view names.now)
         (pred_use_view used.now) (state_view state) (terms_view ins.now) (nexts_view ns)) }
+    ensures asked { IfOk result (λ ns. Each (AddsIn (AsksAfterIns (AsksFolding (prog_view prog.now).preds) (store_view names.now)
+        (pred_use_view used.now) (terms_view ins.now)) (checking_view checking.now) (state_view state)) (nexts_view ns)) }
 {
     match read_all(alloc, state, names, &used.outs, decider)? {
         Reading::Values(state, outs) => fold_read(
@@ -222,6 +231,8 @@ fn fold_user<M: ListedMemory, D: Decider>(
         (entry_view spec.now entered.now) (checking_view checking) (fold_use (pred_use_view used.now)) [] (nexts_view ns)) }
     ensures exact { IfOk result (λ ns. IsExactRowOf (prog_view prog.now) M.Local.memory M.Local.actions M.stands M.terms
         (entry_view spec.now entered.now) (checking_view checking) (fold_use (pred_use_view used.now)) here.now (nexts_view ns)) }
+    ensures asked { IfOk result (λ ns. AsksOnlyOwn (prog_view prog.now) (entry_view spec.now entered.now) (checking_view checking)
+        (fold_use (pred_use_view used.now)) (nexts_view ns)) }
 {
     let _spec = spec;
     let names = names_in(alloc, &checking.path.stack, &entered.variables)?;
@@ -258,6 +269,8 @@ pub fn fold_row<M: ListedMemory, D: Decider>(
         (entry_view spec.now entered.now) (checking_view checking) (fold_use (pred_use_view used.now)) [] (nexts_view ns)) }
     ensures exact { IfOk result (λ ns. IsExactRowOf (prog_view prog.now) M.Local.memory M.Local.actions M.stands M.terms
         (entry_view spec.now entered.now) (checking_view checking) (fold_use (pred_use_view used.now)) here.now (nexts_view ns)) }
+    ensures asked { IfOk result (λ ns. AsksOnlyOwn (prog_view prog.now) (entry_view spec.now entered.now) (checking_view checking)
+        (fold_use (pred_use_view used.now)) (nexts_view ns)) }
 {
     match Core::from_name(&used.pred) {
         Some(_) => doubted(

@@ -2,6 +2,7 @@
 ghost use Rattle.std.specs.Prelude.{◌≡◌, IfOk};
 ghost use Rattle.checked_paths.specs.Meaning.{IsCheckedOver};
 ghost use Rattle.checked_paths.specs.View.{checking_view, entry_view};
+ghost use Rattle.checked_rows.specs.Asked.{MatchingAsks};
 ghost use Rattle.checked_rows.specs.Matching.{MatchesThere};
 ghost use Rattle.footprint.specs.Consuming.{MayMatch, CasesMayMatch};
 ghost use Rattle.footprint.specs.View.{matching_view};
@@ -33,7 +34,9 @@ pub fn match_there<M: ListedMemory, D: Decider>(
     requires over { IsCheckedOver M.terms (entry_view spec.now entered.now) (checking_view checking.now) }
     requires may { MayMatch M.Local.memory (assertion_view items.now) }
     requires cases { CasesMayMatch M.Local.memory (prog_view prog.now).preds }
-    ensures { IfOk result (λ r. MatchesThere M.stands M.terms (entry_view spec.now entered.now) (checking_view checking.now)
+    ensures says { IfOk result (λ r. MatchesThere M.stands M.terms (entry_view spec.now entered.now) (checking_view checking.now)
+        (prog_view prog.now).preds scope.now (assertion_view items.now) (matching_view r)) }
+    ensures origin { IfOk result (λ r. MatchingAsks M.terms (entry_view spec.now entered.now) (checking_view checking.now)
         (prog_view prog.now).preds scope.now (assertion_view items.now) (matching_view r)) }
 {
     let _spec = spec;

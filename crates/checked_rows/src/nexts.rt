@@ -4,9 +4,11 @@ ghost use Rattle.checked_paths.specs.Covering.{IsCaused};
 ghost use Rattle.checked_paths.specs.Following.{IsAnswered};
 ghost use Rattle.checked_paths.specs.Pure.{PureNext};
 ghost use Rattle.checked_paths.specs.View.{checking_view, next_view, nexts_view};
+ghost use Rattle.checked_rows.specs.Asked.{HasConds};
 ghost use Rattle.checked_rows.specs.Doubts.{IsDoubtAlone, IsDoubtNext, ShowsDoubt};
 ghost use Rattle.checked_rows.specs.Rows.{IsCauseAlone};
 ghost use Rattle.checked_rows.specs.View.{doubt_view};
+ghost use Rattle.sym_model.specs.Lists.{Each};
 ghost use Rattle.sym_paths.specs.Moves.{passing};
 ghost use Rattle.sym_engine.specs.Lawful.{MayAdvance};
 ghost use Rattle.sym_paths.specs.View.{frames_view, path_view};
@@ -111,8 +113,9 @@ pub(crate) fn go_on<M: SymMemory>(
 ) -> Result<Nexts<M>, AllocError>
     requires steps { checking.path.steps + 1 < 2 ^ 32 }
     requires next { MayAdvance (frames_view checking.path.stack) }
-    ensures { IfOk result (λ ns. (n : PureNext M) × ((nexts_view ns ≡ n ∷ []) × IsAnswered M.stands M.terms (checking_view checking).facts
+    ensures next { IfOk result (λ ns. (n : PureNext M) × ((nexts_view ns ≡ n ∷ []) × IsAnswered M.stands M.terms (checking_view checking).facts
         (checking_view checking).passed (passing (checking_view checking).path) n)) }
+    ensures same { IfOk result (λ ns. Each (HasConds (checking_view checking).path.conds) (nexts_view ns)) }
 {
     let (path, preds, passed) = checking.into_parts();
     let next = follow(alloc, &preds, &passed, here, pass(path)?)?;

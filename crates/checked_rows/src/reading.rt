@@ -1,6 +1,7 @@
 //! The terms of expressions in a state, under conditions under which they have values.
 ghost use Rattle.std.specs.Prelude.{◌≡◌, ◌++◌, IfNone, IfOk, IfSome, IsTrue, OnOk};
 ghost use Rattle.std.specs.Option.{option_map};
+ghost use Rattle.checked_rows.specs.Asked.{ReadingAsks};
 ghost use Rattle.checked_rows.specs.Doubts.{IsToldThere};
 ghost use Rattle.checked_rows.specs.Reading.{DoubtsFault, NeverTaken, Reads, taken};
 ghost use Rattle.checked_rows.specs.View.{doubt_view, reading_view};
@@ -128,7 +129,8 @@ pub(crate) fn read_all<M: ListedMemory, D: Decider>(
     requires spelled { IsTrue (are_spelled (exprs_view expressions.now)) }
     requires over { IsOverTable M.terms (state_view state) }
     requires store_over { IsStoreOver (state_view state).vars (store_view store.now) }
-    ensures { IfOk result (λ r. Reads M.stands M.terms (state_view state) (store_view store.now) (exprs_view expressions.now) (reading_view r)) }
+    ensures reads { IfOk result (λ r. Reads M.stands M.terms (state_view state) (store_view store.now) (exprs_view expressions.now) (reading_view r)) }
+    ensures asked { IfOk result (λ r. ReadingAsks (state_view state).conds (store_view store.now) (exprs_view expressions.now) (reading_view r)) }
 {
     let Cases { faults, good } = evaluate_all(alloc, store, expressions)?;
     let conds = state.conds.atoms();

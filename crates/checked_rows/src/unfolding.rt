@@ -2,8 +2,10 @@
 ghost use Rattle.std.specs.Prelude.{◌≡◌, ◌+◌, ◌<◌, ◌^◌, [], map, IfOk, IsTrue, None, Some};
 ghost use Rattle.std.specs.Option.{option_map};
 ghost use Rattle.assert_logic.specs.Modes.{HasModes};
-ghost use Rattle.checked_paths.specs.Meaning.{IsCheckedOver};
+ghost use Rattle.checked_paths.specs.Meaning.{EachWith, IsCheckedOver};
 ghost use Rattle.checked_paths.specs.View.{checking_view, entry_view, next_view, nexts_view};
+ghost use Rattle.checked_rows.specs.Asked.{AddsIn, AsksAfterIns, AsksUnfoldingAny, HasConds};
+ghost use Rattle.checked_rows.specs.Asking.{AsksOnlyOwn};
 ghost use Rattle.checked_rows.specs.Folding.{GoesOnIn};
 ghost use Rattle.checked_rows.specs.Rows.{AreRowOf, IsExactRowOf};
 ghost use Rattle.checked_rows.specs.Unfolding.{AreUnfoldings, EachUnfolded, IsUnfoldedNext, IsUndecidedIn, UnfoldsOuts, chosen_case};
@@ -23,6 +25,7 @@ ghost use Rattle.sym_paths.specs.View.{frames_view};
 ghost use Rattle.sym_states.specs.Meaning.{IsOverTable};
 ghost use Rattle.sym_states.specs.Producing.{MayAdd, are_spelled};
 ghost use Rattle.sym_states.specs.View.{state_view};
+ghost use Rattle.sym_unfolding.specs.Origins.{AsksUnfolding};
 ghost use Rattle.sym_unfolding.specs.View.{cases_view};
 
 use crate::names::names_in;
@@ -64,8 +67,9 @@ pub fn go_on_in<M: ListedMemory>(
 ) -> Result<Next<M>, AllocError>
     requires steps { checking.now.path.steps + 1 < 2 ^ 32 }
     requires next { MayAdvance (frames_view checking.now.path.stack) }
-    ensures { IfOk result (λ n. GoesOnIn M.stands M.terms (checking_view checking.now) (state_view state) (state_view state).facts
+    ensures goes { IfOk result (λ n. GoesOnIn M.stands M.terms (checking_view checking.now) (state_view state) (state_view state).facts
         (next_view n)) }
+    ensures same { IfOk result (λ n. HasConds (state_view state).conds (next_view n)) }
 {
     let (path, preds) = path_with(alloc, &checking.path, state)?;
     follow(alloc, &preds, &checking.passed, here, pass(path)?)
@@ -111,7 +115,8 @@ fn case_next<M: ListedMemory, D: Decider>(
     requires steps { checking.now.path.steps + 1 < 2 ^ 32 }
     requires next { MayAdvance (frames_view checking.now.path.stack) }
     requires over { IsOverTable M.terms (state_view state) }
-    ensures { IfOk result (λ n. IsUnfoldedNext M.stands M.terms here.now (checking_view checking.now) number (state_view state) (next_view n)) }
+    ensures unfolded { IfOk result (λ n. IsUnfoldedNext M.stands M.terms here.now (checking_view checking.now) number (state_view state) (next_view n)) }
+    ensures same { IfOk result (λ n. HasConds (state_view state).conds (next_view n)) }
 {
     match ask(alloc, decider, &state.vars, state.conds.atoms())? {
         Satisfiability::Satisfiable(_) => {
@@ -145,8 +150,9 @@ fn each_case<M: ListedMemory, D: Decider>(
     requires steps { checking.now.path.steps + 1 < 2 ^ 32 }
     requires next { MayAdvance (frames_view checking.now.path.stack) }
     requires over { Each (λ r. IsOverTable M.terms r.state) (cases_view cases) }
-    ensures { IfOk result (λ ns. EachUnfolded M.stands M.terms here.now (checking_view checking.now) (cases_view cases)
+    ensures unfolded { IfOk result (λ ns. EachUnfolded M.stands M.terms here.now (checking_view checking.now) (cases_view cases)
         (nexts_view ns)) }
+    ensures same { IfOk result (λ ns. EachWith (λ r n. HasConds r.state.conds n) (cases_view cases) (nexts_view ns)) }
 {
     let mut nexts = Sequence::new(alloc);
     for case in cases.into_vec() {
@@ -174,8 +180,10 @@ fn unfold_read<M: ListedMemory, D: Decider>(
     requires ins_over { AreEachOver (state_view state).vars (terms_view ins.now) }
     requires outs_over { AreEachOver (state_view state).vars (terms_view outs.now) }
     requires addable { Each (Each (MayAdd M.Local.memory)) (pred_def_view pred.now).cases }
-    ensures { IfOk result (λ ns. AreUnfoldings M.Local.memory M.stands M.terms M.kept here.now (pred_def_view pred.now)
+    ensures unfoldings { IfOk result (λ ns. AreUnfoldings M.Local.memory M.stands M.terms M.kept here.now (pred_def_view pred.now)
         (checking_view checking.now) (state_view state) (terms_view ins.now) (terms_view outs.now) (nexts_view ns)) }
+    ensures asked { IfOk result (λ ns. Each (AddsIn (AsksUnfolding (pred_def_view pred.now) (terms_view ins.now) (terms_view outs.now)
+        (state_view state).facts) (checking_view checking.now) (state_view state)) (nexts_view ns)) }
 {
     let fits = ins.len() == pred.ins.len() && outs.len() == pred.outs.len();
     if !fits {
@@ -214,8 +222,10 @@ fn unfold_outs<M: ListedMemory, D: Decider>(
     requires store_over { IsStoreOver (state_view state).vars (store_view names.now) }
     requires ins_over { AreEachOver (state_view state).vars (terms_view ins.now) }
     requires addable { Each (Each (MayAdd M.Local.memory)) (pred_def_view pred.now).cases }
-    ensures { IfOk result (λ ns. UnfoldsOuts M.Local.memory M.stands M.terms M.kept here.now (pred_def_view pred.now)
+    ensures unfolds { IfOk result (λ ns. UnfoldsOuts M.Local.memory M.stands M.terms M.kept here.now (pred_def_view pred.now)
         (checking_view checking.now) (store_view names.now) (pred_use_view used.now) (state_view state) (terms_view ins.now) (nexts_view ns)) }
+    ensures asked { IfOk result (λ ns. Each (AddsIn (AsksAfterIns (AsksUnfoldingAny (pred_def_view pred.now)) (store_view names.now)
+        (pred_use_view used.now) (terms_view ins.now)) (checking_view checking.now) (state_view state)) (nexts_view ns)) }
 {
     match read_all(alloc, state, names, &used.outs, decider)? {
         Reading::Values(state, outs) => {
@@ -253,6 +263,8 @@ fn unfold_own<M: ListedMemory, D: Decider>(
         (entry_view spec.now entered.now) (checking_view checking) (unfold_use (pred_use_view used.now)) [] (nexts_view ns)) }
     ensures exact { IfOk result (λ ns. IsExactRowOf (prog_view prog.now) M.Local.memory M.Local.actions M.stands M.terms
         (entry_view spec.now entered.now) (checking_view checking) (unfold_use (pred_use_view used.now)) here.now (nexts_view ns)) }
+    ensures asked { IfOk result (λ ns. AsksOnlyOwn (prog_view prog.now) (entry_view spec.now entered.now) (checking_view checking)
+        (unfold_use (pred_use_view used.now)) (nexts_view ns)) }
 {
     let _prog = prog;
     let _spec = spec;
@@ -292,6 +304,8 @@ fn unfold_user<M: ListedMemory, D: Decider>(
         (entry_view spec.now entered.now) (checking_view checking) (unfold_use (pred_use_view used.now)) [] (nexts_view ns)) }
     ensures exact { IfOk result (λ ns. IsExactRowOf (prog_view prog.now) M.Local.memory M.Local.actions M.stands M.terms
         (entry_view spec.now entered.now) (checking_view checking) (unfold_use (pred_use_view used.now)) here.now (nexts_view ns)) }
+    ensures asked { IfOk result (λ ns. AsksOnlyOwn (prog_view prog.now) (entry_view spec.now entered.now) (checking_view checking)
+        (unfold_use (pred_use_view used.now)) (nexts_view ns)) }
 {
     match pred_of(prog.preds(), &used.pred) {
         Some(pred) => unfold_own(
@@ -329,6 +343,8 @@ pub fn unfold_row<M: ListedMemory, D: Decider>(
         (entry_view spec.now entered.now) (checking_view checking) (unfold_use (pred_use_view used.now)) [] (nexts_view ns)) }
     ensures exact { IfOk result (λ ns. IsExactRowOf (prog_view prog.now) M.Local.memory M.Local.actions M.stands M.terms
         (entry_view spec.now entered.now) (checking_view checking) (unfold_use (pred_use_view used.now)) here.now (nexts_view ns)) }
+    ensures asked { IfOk result (λ ns. AsksOnlyOwn (prog_view prog.now) (entry_view spec.now entered.now) (checking_view checking)
+        (unfold_use (pred_use_view used.now)) (nexts_view ns)) }
 {
     match Core::from_name(&used.pred) {
         Some(_) => doubted(

@@ -398,7 +398,7 @@ module _ {S : Type 0} (stands : S → List PureValue → Heap → Type 0) (terms
 
       with_outs : (ts : List PureTerm) (leaves : PureLeaves S) → AreTermsAt m.store (param_names d.outs) (Some ts) → TermsStayOver m.store (Some ts) → SpreadsValues n scope u.outs bs m.state ts leaves
           → IsPart stands terms kept s Used Found Ends (λ v t l. IsTrue (all_true v m.state.conds)) leaves
-      with_outs ts leaves at names (x, (says, stays, plainly, leaves_are)) =
+      with_outs ts leaves at names (x, (says, stays, plainly, origin, leaves_are)) =
           let ts_over : AreEachOver m.state.vars ts = names m.state.vars (subst (λ vars. IsStoreOver vars m.store) (sym table) is.store_over) in
           subst (IsPart stands terms kept s Used Found Ends (λ v t l. IsTrue (all_true v m.state.conds))) (sym leaves_are)
           (lifted stands terms kept s m.state Used (Holding stands terms m.state bs ts) Found (OutsGive scope u.outs ts) Ends (OutsStop n scope u.outs ts) is.later
@@ -451,8 +451,8 @@ module _ {S : Type 0} (stands : S → List PureValue → Heap → Type 0) (terms
       })
 
       finish_part : (leaves : PureLeaves S) → FinishesMatch n scope u.outs bs d.outs m leaves → IsPart stands terms kept s Used Found Ends (λ v t l. IsTrue (all_true v m.state.conds)) leaves
-      finish_part leaves (Some ts, (at, names, here)) = with_outs ts leaves at names here
-      finish_part leaves (None, (at, names, here)) = without_outs leaves at here
+      finish_part leaves (Some ts, (at, names, are_terms, here)) = with_outs ts leaves at names here
+      finish_part leaves (None, (at, names, are_terms, here)) = without_outs leaves at here
 
     pub finish_leaves : (before after : PureLeaves S) → PredTried stands terms kept n cases d a s before → Finishes n scope u.outs bs d.outs before after → PredMatched stands terms kept n cases scope d u bs a s after
     finish_leaves before after are (next, (gathers, is)) =

@@ -261,7 +261,7 @@ module _ {S : Type 0} (memory : MemoryName) (stands : S → List PureValue → H
           })
 
       done_part : (leaves : PureLeaves S) → SpreadsValues n scope u.outs bs q outs leaves → IsPart stands terms kept s If Gives Stops (λ v t l. IsTrue (all_true v b.conds)) leaves
-      done_part leaves (x, (says, names, plainly, is)) =
+      done_part leaves (x, (says, names, plainly, origin, is)) =
           part_where stands terms kept s If Gives Stops (λ v t l. IsTrue (all_true v q.conds)) (λ v t l. IsTrue (all_true v b.conds)) leaves
           (λ v t l asks met. met_both v s.conds b.conds asks.serves.state.meets met)
           (subst (IsPart stands terms kept s If Gives Stops (λ v t l. IsTrue (all_true v q.conds))) (sym is)

@@ -1,7 +1,6 @@
 -- What matching plain uses of core predicates leaves is plain.
 use Rattle.std.proofs.Common.{◌≡◌, ◌↔◌, ℕ, ◌+◌, ◌^◌, ◌<◌, ◌≤◌, ℤ, pos, neg_ℤ, ◌-ℤ◌, ◌+ℤ◌, List, [], ◌∷◌, ◌++◌, map, Option, Some, None, IsTrue, is_some, refl, sym, ap, subst, ◌∙◌, true≢false, arith}
 use Rattle.std.specs.Prelude.{⊤}
-use Rattle.gil_values.specs.Pure.{PureValue}
 use Rattle.gil_syntax.specs.declared.assertions.Param.{Param}
 use Rattle.gil_syntax.specs.Pure.{PurePredUse, uses}
 use Rattle.mem_model.specs.declared.keys.MemoryName.{MemoryName}
@@ -130,7 +129,7 @@ module _ {S : Type 0} (memory : MemoryName) (keeps : Type 0) (terms : S → Stat
       stopped leaves stop = stop_plain w d (taken_within b) q there.decided leaves stop
 
       outs_plain : (ts : PureTerms) (leaves : PureLeaves S) → IsPlain w (list_of ts) → IsOver s.vars (list_of ts) → SpreadsValues n scope u.outs bs q (to_list ts) leaves → ArePlainLeaves Plain d leaves
-      outs_plain ts leaves plain over (split, (says, names, plainly, spreads)) =
+      outs_plain ts leaves plain over (split, (says, names, plainly, origin, spreads)) =
           let decided = plainly s.vars w (record { over = store_over; plain = there.store; small = small_there b narrow }) (elements_over s.vars ts over) (plain_elements w ts plain) item.form.outs (number_parts u item).1 in
           subst (ArePlainLeaves Plain d) (sym spreads)
           (leaves_up memory keeps terms (w + text_bound) d (matched_within b) (spread n q split)

@@ -246,7 +246,7 @@ module _ {S : Type 0} (stands : S → List PureValue → Heap → Type 0) (terms
         }
 
     taken_part : (leaves : PureLeaves S) → SpreadsValues n scope u.outs bs q fact.outs leaves → IsPart stands terms kept s If (FactGives scope u a) (FactStops n scope u a) Met leaves
-    taken_part leaves (x, (says, names, plainly, is)) =
+    taken_part leaves (x, (says, names, plainly, origin, is)) =
         part_where stands terms kept s If (FactGives scope u a) (FactStops n scope u a) (λ v t l. IsTrue (all_true v q.conds)) Met leaves
         (λ v t l asks met. met_both v s.conds c.conds asks.serves.state.meets met)
         (subst (IsPart stands terms kept s If (FactGives scope u a) (FactStops n scope u a) (λ v t l. IsTrue (all_true v q.conds))) (sym is)

@@ -13,6 +13,7 @@ use Rattle.pure_terms.specs.Meaning.{IsOver}
 use Rattle.pure_terms.specs.Pure.{PureTerm, PureAtom, term_of}
 use Rattle.sym_evaluation.specs.Pure.{PureStore}
 use Rattle.sym_matching.specs.Matching.{AreTermsAt, TermsStayOver}
+use Rattle.sym_matching.specs.Origins.{terms_at}
 use Rattle.sym_model.specs.Lists.{Each}
 use Rattle.sym_model.specs.Terms.{StateTerms}
 use Rattle.sym_states.specs.Meaning.{Stands, Serves, IsOverTable}
@@ -60,7 +61,8 @@ FinishesAs n scope es bs m None leaves = leaves ≡ all_stop n m.state
 
 abbrev pub FinishesMatch : {S : Type 0} → ℕ → List Param → List PureExpr → PureStore → List Param → PureMatch S → PureLeaves S → Type 0
 FinishesMatch n scope es bs outs m leaves =
-    (o : Option (List PureTerm)) × (AreTermsAt m.store (param_names outs) o × TermsStayOver m.store o × FinishesAs n scope es bs m o leaves)
+    (o : Option (List PureTerm)) × (AreTermsAt m.store (param_names outs) o × TermsStayOver m.store o × (o ≡ terms_at m.store (param_names outs))
+    × FinishesAs n scope es bs m o leaves)
 
 abbrev pub Finishes : {S : Type 0} → ℕ → List Param → List PureExpr → PureStore → List Param → PureLeaves S → PureLeaves S → Type 0
 Finishes {S} n scope es bs outs before after =

@@ -12,6 +12,7 @@ use Rattle.pure_terms.specs.Pure.{PureTerm, list_of, to_list}
 use Rattle.sym_evaluation.specs.Meaning.{HaveValues}
 use Rattle.sym_evaluation.specs.Pure.{PureStore}
 use Rattle.sym_matching.specs.Matching.{SplitsValues, StoresStayOver}
+use Rattle.sym_matching.specs.Origins.{ValuesComeFrom}
 use Rattle.sym_matching.specs.Plainly.{TermsStayPlain}
 use Rattle.sym_matching.specs.Pure.{PureSplit}
 use Rattle.sym_model.specs.Pure.{PureResult, done, failed, missed, PureBranch}
@@ -44,7 +45,8 @@ PureStops n scope e v t l k = (k ≡ n) × (match_pure scope e t ≡ None)
 -- the leaves are those of matching the outs with terms
 abbrev pub SpreadsValues : {S : Type 0} → ℕ → List Param → List PureExpr → PureStore → PureState S → List PureTerm → PureLeaves S → Type 0
 SpreadsValues n scope es bs s ts leaves =
-    (x : PureSplit PureStore) × (SplitsValues scope es ts bs x × StoresStayOver bs ts x × TermsStayPlain es ts bs x × (leaves ≡ spread n s x))
+    (x : PureSplit PureStore) × (SplitsValues scope es ts bs x × StoresStayOver bs ts x × TermsStayPlain es ts bs x
+    × ValuesComeFrom scope es ts bs x × (leaves ≡ spread n s x))
 
 abbrev pub MatchesDone : {S : Type 0} → ℕ → List Param → List PureExpr → PureStore → PureState S → PureTerm → PureLeaves S → Type 0
 MatchesDone n scope es bs s (list_of ts) leaves = SpreadsValues n scope es bs s (to_list ts) leaves

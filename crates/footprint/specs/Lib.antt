@@ -2,9 +2,11 @@ pub mod Answers
 pub mod Assertions
 pub mod Cases
 pub mod Choosing
+pub mod Coming
 pub mod Consuming
 pub mod Items
 pub mod Leaves
+pub mod Origins
 pub mod Plainly
 pub mod Pure
 pub mod Spreading

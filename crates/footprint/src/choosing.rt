@@ -6,6 +6,7 @@ ghost use Rattle.sym_model.specs.Alternatives.{alternatives_view};
 ghost use Rattle.sym_matching.specs.View.{test_view, outs_view};
 ghost use Rattle.sym_states.specs.View.{fact_view, facts_view};
 ghost use Rattle.footprint.specs.Choosing.{TestsFact, FactStaysOver, ChoosesFact, ChoiceStaysOver, both_met, both_tests, placed_cases};
+ghost use Rattle.footprint.specs.Coming.{FactComesFrom, ChoiceComesFrom};
 ghost use Rattle.footprint.specs.View.{fact_cases_view, choice_view};
 
 use crate::leaves::join;
@@ -66,6 +67,7 @@ fn test_fact(
 ) -> Result<Test, AllocError>
     ensures says { IfOk result (λ x. TestsFact (fact_view fact.now) pred.now (terms_view ins.now) (outs_view known.now) (test_view x)) }
     ensures names { IfOk result (λ x. FactStaysOver (fact_view fact.now) (terms_view ins.now) (outs_view known.now) (test_view x)) }
+    ensures origin { IfOk result (λ x. FactComesFrom (fact_view fact.now) pred.now (terms_view ins.now) (outs_view known.now) (test_view x)) }
 {
     if fact.pred != *pred {
         return Ok(Test {
@@ -124,6 +126,7 @@ pub(crate) fn choose_fact(
 ) -> Result<FactChoice, AllocError>
     ensures says { IfOk result (λ c. ChoosesFact (facts_view facts.now) pred.now (terms_view ins.now) (outs_view known.now) (choice_view c)) }
     ensures names { IfOk result (λ c. ChoiceStaysOver (facts_view facts.now) (terms_view ins.now) (outs_view known.now) (choice_view c)) }
+    ensures origin { IfOk result (λ c. ChoiceComesFrom (facts_view facts.now) pred.now (terms_view ins.now) (outs_view known.now) (choice_view c)) }
 {
     let mut found = Sequence::new(alloc);
     let mut none = always(alloc)?;

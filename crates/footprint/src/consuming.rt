@@ -1,5 +1,5 @@
 //! Consuming assertions.
-ghost use Rattle.std.specs.Prelude.{◌≡◌, IfOk};
+ghost use Rattle.std.specs.Prelude.{◌≡◌, [], ◌∷◌, IfOk};
 ghost use Rattle.gil_syntax.specs.View.{assertion_view};
 ghost use Rattle.gil_syntax.specs.Program.{prog_view};
 ghost use Rattle.sym_evaluation.specs.Meaning.{IsStoreOver};
@@ -8,6 +8,7 @@ ghost use Rattle.sym_states.specs.Meaning.{Serves, IsOverTable};
 ghost use Rattle.sym_states.specs.View.{state_view};
 ghost use Rattle.footprint.specs.Leaves.{IsAnswer};
 ghost use Rattle.footprint.specs.Consuming.{MayMatch, CasesMayMatch, Matches, StopsAt};
+ghost use Rattle.footprint.specs.Origins.{AnswerComesFrom, IsOneOf, origin_of};
 ghost use Rattle.footprint.specs.View.{matching_view};
 
 use crate::answering::answer;
@@ -46,9 +47,12 @@ pub fn consume_all<M: ListedMemory, D: Decider>(
     requires store_over { IsStoreOver (state_view state).vars (store_view store) }
     requires may { MayMatch M.Local.memory (assertion_view items.now) }
     requires cases { CasesMayMatch M.Local.memory (prog_view prog.now).preds }
-    ensures { IfOk result (λ r. IsAnswer M.stands M.terms M.kept (state_view state) (Serves M.stands M.terms (state_view state) (store_view store))
+    ensures says { IfOk result (λ r. IsAnswer M.stands M.terms M.kept (state_view state) (Serves M.stands M.terms (state_view state) (store_view store))
         (Matches (prog_view prog.now).preds scope.now (assertion_view items.now))
         (StopsAt (prog_view prog.now).preds scope.now (assertion_view items.now)) (matching_view r)) }
+    ensures origin { IfOk result (λ r. AnswerComesFrom M.terms
+        (origin_of M.terms (prog_view prog.now).preds scope.now (assertion_view items.now ∷ []) (store_view store) (state_view state))
+        (IsOneOf scope.now (assertion_view items.now ∷ [])) (state_view state).conds (matching_view r)) }
 {
     let vars = copy_table(alloc, &state.vars)?;
     let start = Match { state, store };

@@ -7,8 +7,10 @@ ghost use Rattle.sym_matching.specs.View.{outs_view};
 ghost use Rattle.sym_model.specs.Terms.{AreEachOver};
 ghost use Rattle.sym_states.specs.Meaning.{IsOverTable};
 ghost use Rattle.sym_states.specs.View.{state_view};
+ghost use Rattle.footprint.specs.Coming.{FoldComesFrom};
 ghost use Rattle.footprint.specs.Consuming.{CasesMayMatch, IsFolding, Folds, FoldsNever, asked_all};
 ghost use Rattle.footprint.specs.Leaves.{AreLeaves, IsAnswer};
+ghost use Rattle.footprint.specs.Origins.{AnswerComesFrom, IsCaseOf, fold_origin};
 ghost use Rattle.footprint.specs.View.{asked_view, leaves_view, matching_view};
 
 use crate::answering::answer;
@@ -60,10 +62,12 @@ fn fold_leaves<M: ListedMemory, D: Decider>(
     requires ins_over { AreEachOver (state_view state).vars (terms_view ins.now) }
     requires outs_over { AreEachOver (state_view state).vars (terms_view outs.now) }
     requires cases { CasesMayMatch M.Local.memory (map pred_def_view preds.now) }
-    ensures { IfOk result (λ r. AreLeaves M.stands M.terms M.kept (state_view state)
+    ensures says { IfOk result (λ r. AreLeaves M.stands M.terms M.kept (state_view state)
         (IsFolding M.stands M.terms (state_view state) (terms_view ins.now) (terms_view outs.now))
         (Folds (map pred_def_view preds.now) name.now (terms_view ins.now) (terms_view outs.now))
         (FoldsNever (map pred_def_view preds.now) name.now (terms_view ins.now) (terms_view outs.now)) (leaves_view r)) }
+    ensures origin { IfOk result (λ r. FoldComesFrom M.terms (map pred_def_view preds.now) name.now (terms_view ins.now) (terms_view outs.now)
+        (state_view state) (leaves_view r)) }
 {
     match pred_of(preds, name) {
         Some(pred) => {
@@ -88,10 +92,13 @@ pub fn fold<M: ListedMemory, D: Decider>(
     requires ins_over { AreEachOver (state_view state).vars (terms_view ins.now) }
     requires outs_over { AreEachOver (state_view state).vars (terms_view outs.now) }
     requires cases { CasesMayMatch M.Local.memory (prog_view prog.now).preds }
-    ensures { IfOk result (λ r. IsAnswer M.stands M.terms M.kept (state_view state)
+    ensures says { IfOk result (λ r. IsAnswer M.stands M.terms M.kept (state_view state)
         (IsFolding M.stands M.terms (state_view state) (terms_view ins.now) (terms_view outs.now))
         (Folds (prog_view prog.now).preds pred.now (terms_view ins.now) (terms_view outs.now))
         (FoldsNever (prog_view prog.now).preds pred.now (terms_view ins.now) (terms_view outs.now)) (matching_view r)) }
+    ensures origin { IfOk result (λ r. AnswerComesFrom M.terms
+        (fold_origin M.terms (prog_view prog.now).preds pred.now (terms_view ins.now) (terms_view outs.now) (state_view state))
+        (IsCaseOf (prog_view prog.now).preds pred.now) (state_view state).conds (matching_view r)) }
 {
     let vars = copy_table(alloc, &state.vars)?;
     let preds = prog.preds();

@@ -15,6 +15,7 @@ ghost use Rattle.sym_model.specs.View.{branches_view, result_view};
 ghost use Rattle.sym_states.specs.Meaning.{Serves, IsOverTable};
 ghost use Rattle.sym_states.specs.Producing.{are_spelled};
 ghost use Rattle.sym_states.specs.View.{state_view};
+ghost use Rattle.footprint.specs.Coming.{GuardComesFrom, CoreComesFrom};
 ghost use Rattle.footprint.specs.Items.{PureGives, PureStops, SpreadsValues, MatchesDone, MatchesResult, MatchesBranch, AsksIns, CoreGives, CoreStops};
 ghost use Rattle.footprint.specs.Leaves.{AreLeaves};
 ghost use Rattle.footprint.specs.Plainly.{IsPlainMemory, CoreStaysPlain, ItemStaysPlain};
@@ -86,11 +87,12 @@ pub(crate) fn match_guard<M: ListedMemory>(
     requires spelled { IsTrue (list_all is_spellable (literals_of (expr_view expression.now))) }
     requires over { IsOverTable M.terms (state_view state) }
     requires store_over { IsStoreOver (state_view state).vars (store_view store.now) }
-    ensures { IfOk result (λ r. AreLeaves M.stands M.terms M.kept (state_view state)
+    ensures says { IfOk result (λ r. AreLeaves M.stands M.terms M.kept (state_view state)
         (Serves M.stands M.terms (state_view state) (store_view store.now)) (PureGives scope.now (expr_view expression.now))
         (PureStops number scope.now (expr_view expression.now)) (leaves_view r)
         × ItemStaysPlain (IsPlainMemory M.Local.memory M.keeps_plain M.terms) (pure (expr_view expression.now))
         (record { state = state_view state; store = store_view store.now }) (leaves_view r)) }
+    ensures origin { IfOk result (λ r. GuardComesFrom M.terms scope.now (expr_view expression.now) (store_view store.now) (state_view state) (leaves_view r)) }
 {
     let split = match_pure(alloc, scope, expression, store)?;
     spread_split(alloc, number, state, split)
@@ -197,11 +199,13 @@ pub(crate) fn match_core<M: ListedMemory>(
     requires over { IsOverTable M.terms (state_view state.now) }
     requires store_over { IsStoreOver (state_view state.now).vars (store_view store.now) }
     requires ins_over { AreEachOver (state_view state.now).vars (terms_view ins.now) }
-    ensures { IfOk result (λ r. AreLeaves M.stands M.terms M.kept (state_view state.now)
+    ensures says { IfOk result (λ r. AreLeaves M.stands M.terms M.kept (state_view state.now)
         (AsksIns M.stands M.terms (state_view state.now) (store_view store.now) (terms_view ins.now))
         (CoreGives scope.now (pred_use_view used.now) (terms_view ins.now))
         (CoreStops number scope.now (pred_use_view used.now) (terms_view ins.now)) (leaves_view r)
         × CoreStaysPlain (IsPlainMemory M.Local.memory M.keeps_plain M.terms) (pred_use_view used.now) (terms_view ins.now) (store_view store.now)
+        (state_view state.now) (leaves_view r)) }
+    ensures origin { IfOk result (λ r. CoreComesFrom M.terms scope.now (pred_use_view used.now) (terms_view ins.now) (store_view store.now)
         (state_view state.now) (leaves_view r)) }
 {
     let branches = state.memory.consume(alloc, &used.pred, ins)?;

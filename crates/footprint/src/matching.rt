@@ -3,6 +3,7 @@ ghost use Rattle.std.specs.Prelude.{◌≡◌, length, map, None, IfOk, IsTrue};
 ghost use Rattle.std.specs.Option.{option_map};
 ghost use Rattle.gil_syntax.specs.Programs.{find_pred};
 ghost use Rattle.gil_syntax.specs.Pure.{uses};
+ghost use Rattle.assert_logic.specs.Matching.{scope_of as scope_names};
 ghost use Rattle.pure_terms.specs.View.{atoms_view};
 ghost use Rattle.gil_syntax.specs.View.{assertion_view, item_view, pred_use_view, pred_def_view};
 ghost use Rattle.sym_evaluation.specs.Meaning.{IsStoreOver};
@@ -14,6 +15,7 @@ ghost use Rattle.sym_states.specs.View.{state_view, states_view};
 ghost use Rattle.mem_model.specs.CoreNames.{core_of};
 ghost use Rattle.footprint.specs.Assertions.{cases_at, ItemsGive, ItemsStop, IsMatchable, NextMatched, AreAskedOver, UseGives, UseStops, IsOpen, CasesMatched};
 ghost use Rattle.footprint.specs.Cases.{PredMatched, PredTried, CasesGive, CasesStop, StopsIn, NextCase, CaseTried, AreOverTable};
+ghost use Rattle.footprint.specs.Coming.{ItemComesFrom, ItemsComeFrom, NextComesFrom, UseComesFrom, PredComesFrom, TryComesFrom, NextTryComesFrom, TriesComeFrom, CasesComeFrom};
 ghost use Rattle.footprint.specs.Consuming.{MayMatch, CasesMayMatch};
 ghost use Rattle.footprint.specs.Items.{ItemGives, ItemStops};
 ghost use Rattle.footprint.specs.Leaves.{AreLeaves};
@@ -55,11 +57,12 @@ pub(crate) fn match_items<M: ListedMemory, D: Decider>(
     requires start { IsMatchable M.terms (match_view start) }
     requires may { MayMatch M.Local.memory (assertion_view items.now) }
     requires cases { CasesMayMatch M.Local.memory (map pred_def_view preds.now) }
-    ensures { IfOk result (λ r. AreLeaves M.stands M.terms M.kept (state_view start.state)
+    ensures says { IfOk result (λ r. AreLeaves M.stands M.terms M.kept (state_view start.state)
         (Serves M.stands M.terms (state_view start.state) (store_view start.store))
         (ItemsGive (cases_at (map pred_def_view preds.now) depth) scope.now (assertion_view items.now))
         (ItemsStop (cases_at (map pred_def_view preds.now) depth) scope.now (assertion_view items.now)) (leaves_view r)
         × ItemsStayPlain (IsPlainMemory M.Local.memory M.keeps_plain M.terms) (assertion_view items.now) (match_view start) (leaves_view r)) }
+    ensures origin { IfOk result (λ r. ItemsComeFrom M.terms (map pred_def_view preds.now) scope.now (assertion_view items.now) (match_view start) (leaves_view r)) }
 {
     let mut leaves = Leaves::of_match(alloc, start)?;
     let items = items.as_slice();
@@ -93,8 +96,9 @@ fn match_next<M: ListedMemory, D: Decider>(
     requires each { Each (IsMatchable M.terms) (leaves_view leaves).matched }
     requires may { MayAdd M.Local.memory (item_view item.now) }
     requires cases { CasesMayMatch M.Local.memory (map pred_def_view preds.now) }
-    ensures { IfOk result (λ r. NextMatched M.stands M.terms M.kept (IsPlainMemory M.Local.memory M.keeps_plain M.terms) number
+    ensures says { IfOk result (λ r. NextMatched M.stands M.terms M.kept (IsPlainMemory M.Local.memory M.keeps_plain M.terms) number
         (cases_at (map pred_def_view preds.now) depth) scope.now (item_view item.now) (leaves_view leaves) (leaves_view r)) }
+    ensures origin { IfOk result (λ r. NextComesFrom M.terms (map pred_def_view preds.now) scope.now (item_view item.now) (leaves_view leaves) (leaves_view r)) }
 {
     let Leaves {
         matched,
@@ -130,11 +134,12 @@ fn match_item<M: ListedMemory, D: Decider>(
     requires found { IsMatchable M.terms (match_view found) }
     requires may { MayAdd M.Local.memory (item_view item.now) }
     requires cases { CasesMayMatch M.Local.memory (map pred_def_view preds.now) }
-    ensures { IfOk result (λ r. AreLeaves M.stands M.terms M.kept (state_view found.state)
+    ensures says { IfOk result (λ r. AreLeaves M.stands M.terms M.kept (state_view found.state)
         (Serves M.stands M.terms (state_view found.state) (store_view found.store))
         (ItemGives (cases_at (map pred_def_view preds.now) depth) scope.now (item_view item.now))
         (ItemStops number (cases_at (map pred_def_view preds.now) depth) scope.now (item_view item.now)) (leaves_view r)
         × ItemStaysPlain (IsPlainMemory M.Local.memory M.keeps_plain M.terms) (item_view item.now) (match_view found) (leaves_view r)) }
+    ensures origin { IfOk result (λ r. ItemComesFrom M.terms (map pred_def_view preds.now) scope.now (item_view item.now) (match_view found) (leaves_view r)) }
 {
     let Match { state, store } = found;
     match item {
@@ -162,11 +167,13 @@ fn match_use<M: ListedMemory, D: Decider>(
     requires store_over { IsStoreOver (state_view state).vars (store_view store.now) }
     requires may { MayAdd M.Local.memory (uses (pred_use_view used.now)) }
     requires cases { CasesMayMatch M.Local.memory (map pred_def_view preds.now) }
-    ensures { IfOk result (λ r. AreLeaves M.stands M.terms M.kept (state_view state)
+    ensures says { IfOk result (λ r. AreLeaves M.stands M.terms M.kept (state_view state)
         (Serves M.stands M.terms (state_view state) (store_view store.now))
         (ItemGives (cases_at (map pred_def_view preds.now) depth) scope.now (uses (pred_use_view used.now)))
         (ItemStops number (cases_at (map pred_def_view preds.now) depth) scope.now (uses (pred_use_view used.now))) (leaves_view r)
         × ItemStaysPlain (IsPlainMemory M.Local.memory M.keeps_plain M.terms) (uses (pred_use_view used.now))
+        (record { state = state_view state; store = store_view store.now }) (leaves_view r)) }
+    ensures origin { IfOk result (λ r. ItemComesFrom M.terms (map pred_def_view preds.now) scope.now (uses (pred_use_view used.now))
         (record { state = state_view state; store = store_view store.now }) (leaves_view r)) }
 {
     let Split { found, none } = ask_use(alloc, store, used)?;
@@ -213,7 +220,7 @@ fn match_asked<M: ListedMemory, D: Decider>(
     requires ins_number { length (asked_view asked.now).ins ≡ length (pred_use_view used.now).ins }
     requires may { MayAdd M.Local.memory (uses (pred_use_view used.now)) }
     requires cases { CasesMayMatch M.Local.memory (map pred_def_view preds.now) }
-    ensures { IfOk result (λ r. AreLeaves M.stands M.terms M.kept (state_view state.now)
+    ensures says { IfOk result (λ r. AreLeaves M.stands M.terms M.kept (state_view state.now)
         (AsksUse M.stands M.terms (state_view state.now) (store_view store.now) (asked_view asked.now))
         (UseGives (cases_at (map pred_def_view preds.now) depth) scope.now (core_of used.now.pred) (pred_use_view used.now)
         (asked_view asked.now))
@@ -222,6 +229,8 @@ fn match_asked<M: ListedMemory, D: Decider>(
         (leaves_view r)
         × CoreStaysPlain (IsPlainMemory M.Local.memory M.keeps_plain M.terms) (pred_use_view used.now) (asked_view asked.now).ins
         (store_view store.now) (state_view state.now) (leaves_view r)) }
+    ensures origin { IfOk result (λ r. UseComesFrom M.terms (map pred_def_view preds.now) scope.now (pred_use_view used.now) (store_view store.now)
+        (asked_view asked.now) (state_view state.now) (leaves_view r)) }
 {
     match Core::from_name(&used.pred) {
         Some(_) => match_core(alloc, number, state, scope, used, &asked.ins, store),
@@ -250,11 +259,13 @@ fn match_user<M: ListedMemory, D: Decider>(
     requires asked { AreAskedOver (state_view state.now).vars (asked_view asked.now) }
     requires may { IsTrue (are_spelled (pred_use_view used.now).outs) }
     requires cases { CasesMayMatch M.Local.memory (map pred_def_view preds.now) }
-    ensures { IfOk result (λ r. AreLeaves M.stands M.terms M.kept (state_view state.now)
+    ensures says { IfOk result (λ r. AreLeaves M.stands M.terms M.kept (state_view state.now)
         (AsksUse M.stands M.terms (state_view state.now) (store_view store.now) (asked_view asked.now))
         (UseGives (cases_at (map pred_def_view preds.now) depth) scope.now None (pred_use_view used.now) (asked_view asked.now))
         (UseStops number (cases_at (map pred_def_view preds.now) depth) scope.now None (pred_use_view used.now) (asked_view asked.now))
         (leaves_view r)) }
+    ensures origin { IfOk result (λ r. UseComesFrom M.terms (map pred_def_view preds.now) scope.now (pred_use_view used.now) (store_view store.now)
+        (asked_view asked.now) (state_view state.now) (leaves_view r)) }
 {
     let choice = choose_fact(alloc, &state.preds, &used.pred, &asked.ins, &asked.known)?;
     let leaves = take_facts(
@@ -290,8 +301,10 @@ fn match_open<M: ListedMemory, D: Decider>(
     requires each { Each (IsOpen M.terms (store_view store.now) (asked_view asked.now)) (states_view states) }
     requires may { IsTrue (are_spelled (pred_use_view used.now).outs) }
     requires cases { CasesMayMatch M.Local.memory (map pred_def_view preds.now) }
-    ensures { IfOk result (λ r. Gathers (CasesMatched M.stands M.terms M.kept number (cases_at (map pred_def_view preds.now) depth) scope.now
+    ensures says { IfOk result (λ r. Gathers (CasesMatched M.stands M.terms M.kept number (cases_at (map pred_def_view preds.now) depth) scope.now
         (pred_use_view used.now) (store_view store.now) (asked_view asked.now)) (states_view states) (leaves_view r)) }
+    ensures origin { IfOk result (λ r. Gathers (UseComesFrom M.terms (map pred_def_view preds.now) scope.now (pred_use_view used.now) (store_view store.now)
+        (asked_view asked.now)) (states_view states) (leaves_view r)) }
 {
     let mut leaves = Leaves::new(alloc);
     for state in states.into_vec() {
@@ -320,8 +333,10 @@ fn match_cases<M: ListedMemory, D: Decider>(
     requires open { IsOpen M.terms (store_view store.now) (asked_view asked.now) (state_view state) }
     requires may { IsTrue (are_spelled (pred_use_view used.now).outs) }
     requires cases { CasesMayMatch M.Local.memory (map pred_def_view preds.now) }
-    ensures { IfOk result (λ r. CasesMatched M.stands M.terms M.kept number (cases_at (map pred_def_view preds.now) depth) scope.now
+    ensures says { IfOk result (λ r. CasesMatched M.stands M.terms M.kept number (cases_at (map pred_def_view preds.now) depth) scope.now
         (pred_use_view used.now) (store_view store.now) (asked_view asked.now) (state_view state) (leaves_view r)) }
+    ensures origin { IfOk result (λ r. UseComesFrom M.terms (map pred_def_view preds.now) scope.now (pred_use_view used.now) (store_view store.now)
+        (asked_view asked.now) (state_view state) (leaves_view r)) }
 {
     if depth == 0 {
         return stop_in(alloc, number, state);
@@ -375,8 +390,10 @@ fn match_found<M: ListedMemory, D: Decider>(
     requires may { IsTrue (are_spelled (pred_use_view used.now).outs) }
     requires pred { Each (MayMatch M.Local.memory) (pred_def_view pred.now).cases }
     requires cases { CasesMayMatch M.Local.memory (map pred_def_view preds.now) }
-    ensures { IfOk result (λ r. PredMatched M.stands M.terms M.kept number (cases_at (map pred_def_view preds.now) depth) scope.now
+    ensures says { IfOk result (λ r. PredMatched M.stands M.terms M.kept number (cases_at (map pred_def_view preds.now) depth) scope.now
         (pred_def_view pred.now) (pred_use_view used.now) (store_view store.now) (asked_view asked.now) (state_view state) (leaves_view r)) }
+    ensures origin { IfOk result (λ r. PredComesFrom M.terms (map pred_def_view preds.now) scope.now (pred_def_view pred.now) (pred_use_view used.now)
+        (store_view store.now) (asked_view asked.now) (state_view state) (leaves_view r)) }
 {
     let tried = try_pred(alloc, state, asked, number, preds, pred, depth, decider)?;
     finish(alloc, tried, store, number, pred, scope, &used.outs)
@@ -398,8 +415,10 @@ pub(crate) fn try_pred<M: ListedMemory, D: Decider>(
     requires asked { AreAskedOver (state_view state).vars (asked_view asked.now) }
     requires pred { Each (MayMatch M.Local.memory) (pred_def_view pred.now).cases }
     requires cases { CasesMayMatch M.Local.memory (map pred_def_view preds.now) }
-    ensures { IfOk result (λ r. PredTried M.stands M.terms M.kept number (cases_at (map pred_def_view preds.now) depth) (pred_def_view pred.now)
+    ensures says { IfOk result (λ r. PredTried M.stands M.terms M.kept number (cases_at (map pred_def_view preds.now) depth) (pred_def_view pred.now)
         (asked_view asked.now) (state_view state) (leaves_view r)) }
+    ensures origin { IfOk result (λ r. CasesComeFrom M.terms (map pred_def_view preds.now) (pred_def_view pred.now) (asked_view asked.now) (state_view state)
+        (leaves_view r)) }
 {
     let Split { found, none } = case_store(alloc, pred, &asked.ins, &asked.known)?;
     let stopped = stops(alloc, number, state.conds.atoms(), &none)?;
@@ -438,11 +457,13 @@ fn try_cases<M: ListedMemory, D: Decider>(
     requires over { IsMatchable M.terms (record { state = state_view state.now; store = store_view start.now }) }
     requires pred { Each (MayMatch M.Local.memory) (pred_def_view pred.now).cases }
     requires cases { CasesMayMatch M.Local.memory (map pred_def_view preds.now) }
-    ensures { IfOk result (λ r. AreLeaves M.stands M.terms M.kept (state_view state.now)
+    ensures says { IfOk result (λ r. AreLeaves M.stands M.terms M.kept (state_view state.now)
         (Serves M.stands M.terms (state_view state.now) (store_view start.now))
         (CasesGive (cases_at (map pred_def_view preds.now) depth) (pred_def_view pred.now) (pred_def_view pred.now).cases)
         (CasesStop number (cases_at (map pred_def_view preds.now) depth) (pred_def_view pred.now) (pred_def_view pred.now).cases)
         (leaves_view r)) }
+    ensures origin { IfOk result (λ r. TriesComeFrom M.terms (map pred_def_view preds.now) (scope_names (pred_def_view pred.now)) (pred_def_view pred.now).cases
+        (state_view state.now) (store_view start.now) (leaves_view r)) }
 {
     let scope = scope_of(alloc, pred)?;
     let mut leaves = Leaves::of_stops(alloc, one_stop(alloc, number, state)?);
@@ -474,8 +495,10 @@ fn next_case<M: ListedMemory, D: Decider>(
     requires each { Each (StopsIn (state_view state.now).vars) (leaves_view leaves).stopped }
     requires may { MayMatch M.Local.memory (assertion_view case.now) }
     requires cases { CasesMayMatch M.Local.memory (map pred_def_view preds.now) }
-    ensures { IfOk result (λ r. NextCase M.stands M.terms M.kept number (cases_at (map pred_def_view preds.now) depth) (pred_def_view pred.now) scope.now
+    ensures says { IfOk result (λ r. NextCase M.stands M.terms M.kept number (cases_at (map pred_def_view preds.now) depth) (pred_def_view pred.now) scope.now
         (assertion_view case.now) (state_view state.now) (store_view start.now) (leaves_view leaves) (leaves_view r)) }
+    ensures origin { IfOk result (λ r. NextTryComesFrom M.terms (map pred_def_view preds.now) scope.now (assertion_view case.now) (state_view state.now)
+        (store_view start.now) (leaves_view leaves) (leaves_view r)) }
 {
     let Leaves {
         matched,
@@ -526,8 +549,10 @@ fn try_case<M: ListedMemory, D: Decider>(
     requires conds { AreOverTable (state_view state.now).vars (atoms_view conds.now) }
     requires may { MayMatch M.Local.memory (assertion_view case.now) }
     requires cases { CasesMayMatch M.Local.memory (map pred_def_view preds.now) }
-    ensures { IfOk result (λ r. CaseTried M.stands M.terms M.kept number (cases_at (map pred_def_view preds.now) depth) (pred_def_view pred.now) scope.now
+    ensures says { IfOk result (λ r. CaseTried M.stands M.terms M.kept number (cases_at (map pred_def_view preds.now) depth) (pred_def_view pred.now) scope.now
         (assertion_view case.now) (state_view state.now) (store_view start.now) (atoms_view conds.now) (leaves_view r)) }
+    ensures origin { IfOk result (λ r. TryComesFrom M.terms (map pred_def_view preds.now) scope.now (assertion_view case.now) (state_view state.now)
+        (store_view start.now) (atoms_view conds.now) (leaves_view r)) }
 {
     let state = renewed(alloc, state, conds)?;
     let store = start.copy(alloc)?;

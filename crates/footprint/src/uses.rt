@@ -8,6 +8,7 @@ ghost use Rattle.sym_evaluation.specs.View.{good_view, faults_view, store_view};
 ghost use Rattle.sym_matching.specs.View.{split_by, outs_view};
 ghost use Rattle.sym_states.specs.Producing.{are_spelled};
 ghost use Rattle.sym_states.specs.View.{facts_view, state_view, states_view};
+ghost use Rattle.footprint.specs.Coming.{AskedComesFrom};
 ghost use Rattle.footprint.specs.Spreading.{Gathers};
 ghost use Rattle.footprint.specs.Uses.{both_asked, SplitsUse, UseStaysOver, UseStaysPlain, HasAllIns, IsWithoutFact, TakesFact, AreCopiesUnder};
 ghost use Rattle.footprint.specs.View.{asked_view, fact_case_view, fact_cases_view, leaves_view};
@@ -77,6 +78,7 @@ pub(crate) fn ask_use(
     ensures names { IfOk result (λ x. UseStaysOver (store_view store.now) (split_by asked_view x)) }
     ensures plain { IfOk result (λ x. UseStaysPlain (store_view store.now) (pred_use_view used.now) (split_by asked_view x)) }
     ensures ins_number { IfOk result (λ x. HasAllIns (pred_use_view used.now) (option_map (good_view asked_view) x.found)) }
+    ensures origin { IfOk result (λ x. AskedComesFrom (store_view store.now) (pred_use_view used.now) (split_by asked_view x)) }
 {
     plain_expressions_ask_nothing();
     let ins = evaluate_all(alloc, store, &used.ins)?;

@@ -10,8 +10,10 @@ ghost use Rattle.sym_states.specs.Meaning.{Serves, IsOverTable};
 ghost use Rattle.sym_states.specs.View.{state_view};
 ghost use Rattle.footprint.specs.Assertions.{cases_at, IsMatchable};
 ghost use Rattle.footprint.specs.Cases.{AreOverTable, StopsIn};
+ghost use Rattle.footprint.specs.Coming.{TryComesFrom, RetryComesFrom, NextTryComesFrom, TriesComeFrom};
 ghost use Rattle.footprint.specs.Consuming.{MayMatch, CasesMayMatch, MatchesWhole, MatchesNone};
 ghost use Rattle.footprint.specs.Leaves.{AreLeaves, IsAnswer};
+ghost use Rattle.footprint.specs.Origins.{AnswerComesFrom, IsOneOf, origin_of};
 ghost use Rattle.footprint.specs.Plainly.{IsPlainMemory, PostsStayPlain, ConsumesPlainly};
 ghost use Rattle.footprint.specs.Spreading.{Gathers};
 ghost use Rattle.footprint.specs.View.{match_view, matches_view, stops_view, leaves_view, matching_view};
@@ -102,9 +104,11 @@ fn try_post<M: ListedMemory, D: Decider>(
     requires conds { AreOverTable (state_view state.now).vars (atoms_view conds.now) }
     requires may { MayMatch M.Local.memory (assertion_view post.now) }
     requires cases { CasesMayMatch M.Local.memory (map pred_def_view preds.now) }
-    ensures { IfOk result (λ r. WholeTried M.stands M.terms M.kept (IsPlainMemory M.Local.memory M.keeps_plain M.terms)
+    ensures says { IfOk result (λ r. WholeTried M.stands M.terms M.kept (IsPlainMemory M.Local.memory M.keeps_plain M.terms)
         (cases_at (map pred_def_view preds.now) 1) scope.now (assertion_view post.now)
         (state_view state.now) (store_view start.now) (atoms_view conds.now) (leaves_view r)) }
+    ensures origin { IfOk result (λ r. TryComesFrom M.terms (map pred_def_view preds.now) scope.now (assertion_view post.now) (state_view state.now)
+        (store_view start.now) (atoms_view conds.now) (leaves_view r)) }
 {
     let state = renewed(alloc, state, conds)?;
     let store = start.copy(alloc)?;
@@ -135,9 +139,12 @@ fn try_stops<M: ListedMemory, D: Decider>(
     requires each { Each (StopsIn (state_view state.now).vars) (stops_view stopped.now) }
     requires may { MayMatch M.Local.memory (assertion_view post.now) }
     requires cases { CasesMayMatch M.Local.memory (map pred_def_view preds.now) }
-    ensures { IfOk result (λ r. Gathers (TriedAt M.stands M.terms M.kept (IsPlainMemory M.Local.memory M.keeps_plain M.terms)
+    ensures says { IfOk result (λ r. Gathers (TriedAt M.stands M.terms M.kept (IsPlainMemory M.Local.memory M.keeps_plain M.terms)
         (cases_at (map pred_def_view preds.now) 1) scope.now (assertion_view post.now)
         (state_view state.now) (store_view start.now)) (stops_view stopped.now) (leaves_view r)) }
+    ensures origin { IfOk result (λ r. Gathers (RetryComesFrom M.terms (map pred_def_view preds.now) scope.now (assertion_view post.now) (state_view state.now)
+        (store_view start.now)) (stops_view stopped.now)
+        (leaves_view r)) }
 {
     let mut leaves = Leaves::new(alloc);
     for stop in stopped.as_slice() {
@@ -171,9 +178,11 @@ fn next_post<M: ListedMemory, D: Decider>(
     requires each { Each (StopsIn (state_view state.now).vars) (leaves_view leaves).stopped }
     requires may { MayMatch M.Local.memory (assertion_view post.now) }
     requires cases { CasesMayMatch M.Local.memory (map pred_def_view preds.now) }
-    ensures { IfOk result (λ r. NextWhole M.stands M.terms M.kept (IsPlainMemory M.Local.memory M.keeps_plain M.terms)
+    ensures says { IfOk result (λ r. NextWhole M.stands M.terms M.kept (IsPlainMemory M.Local.memory M.keeps_plain M.terms)
         (cases_at (map pred_def_view preds.now) 1) scope.now (assertion_view post.now)
         (state_view state.now) (store_view start.now) (leaves_view leaves) (leaves_view r)) }
+    ensures origin { IfOk result (λ r. NextTryComesFrom M.terms (map pred_def_view preds.now) scope.now (assertion_view post.now) (state_view state.now)
+        (store_view start.now) (leaves_view leaves) (leaves_view r)) }
 {
     let Leaves {
         matched,
@@ -202,11 +211,13 @@ fn try_posts<M: ListedMemory, D: Decider>(
     requires over { IsMatchable M.terms (record { state = state_view state.now; store = store_view start.now }) }
     requires may { Each (MayMatch M.Local.memory) (map assertion_view posts.now) }
     requires cases { CasesMayMatch M.Local.memory (map pred_def_view preds.now) }
-    ensures { IfOk result (λ r. AreLeaves M.stands M.terms M.kept (state_view state.now)
+    ensures says { IfOk result (λ r. AreLeaves M.stands M.terms M.kept (state_view state.now)
         (Serves M.stands M.terms (state_view state.now) (store_view start.now))
         (SomeGives (cases_at (map pred_def_view preds.now) 1) scope.now (map assertion_view posts.now))
         (SomeStops (cases_at (map pred_def_view preds.now) 1) scope.now (map assertion_view posts.now)) (leaves_view r)
         × PostsStayPlain (IsPlainMemory M.Local.memory M.keeps_plain M.terms) (map assertion_view posts.now) (state_view state.now) (store_view start.now) (leaves_view r)) }
+    ensures origin { IfOk result (λ r. TriesComeFrom M.terms (map pred_def_view preds.now) scope.now (map assertion_view posts.now) (state_view state.now)
+        (store_view start.now) (leaves_view r)) }
 {
     let mut leaves = Leaves::of_stops(alloc, one_stop(alloc, 0, state)?);
     for post in posts.as_slice() {
@@ -233,6 +244,9 @@ pub fn consume_whole<M: ListedMemory, D: Decider>(
         (MatchesWhole (prog_view prog.now).preds scope.now (map assertion_view posts.now))
         (MatchesNone (prog_view prog.now).preds scope.now (map assertion_view posts.now)) (matching_view r)) }
     ensures plain { IfOk result (λ r. ConsumesPlainly (IsPlainMemory M.Local.memory M.keeps_plain M.terms) (map assertion_view posts.now) (state_view state) (store_view store) (matching_view r)) }
+    ensures origin { IfOk result (λ r. AnswerComesFrom M.terms
+        (origin_of M.terms (prog_view prog.now).preds scope.now (map assertion_view posts.now) (store_view store) (state_view state))
+        (IsOneOf scope.now (map assertion_view posts.now)) (state_view state).conds (matching_view r)) }
 {
     let vars = copy_table(alloc, &state.vars)?;
     let leaves = try_posts(alloc, &state, &store, prog.preds(), scope, posts, decider)?;

@@ -1,6 +1,5 @@
 -- A second visit is exact: the checked runs come to the faults that are told.
-use Rattle.std.proofs.Common.{◌≡◌, ◌⊎◌, ⊎_elim, inl, inr, ℕ, List, [], ◌∷◌, ◌++◌, ◌&&◌, true, false, Option, Some, None, IsSome, IsTrue, refl, sym, ap, subst, ◌∙◌, true≢false}
-use Rattle.std.specs.List.{list_any}
+use Rattle.std.proofs.Common.{◌≡◌, ⊎_elim, inl, inr, ℕ, List, [], ◌∷◌, ◌++◌, ◌&&◌, true, Option, Some, None, IsSome, IsTrue, refl, sym, ap, subst, ◌∙◌, true≢false}
 use Rattle.gil_values.specs.declared.places.Place.{Place}
 use Rattle.gil_values.specs.Pure.{PureValue}
 use Rattle.gil_syntax.specs.declared.assertions.Param.{Param}
@@ -9,17 +8,15 @@ use Rattle.mem_model.specs.declared.keys.MemoryName.{MemoryName}
 use Rattle.mem_model.specs.Actions.{Actions}
 use Rattle.mem_model.specs.Heaps.{Heap}
 use Rattle.assert_logic.specs.Matching.{Match}
-use Rattle.checked_runs.specs.Checked.{Checked, Entry, Passed, has_fault, invariant, IsAsBefore, unlisted_in, passed_at, current_passed, invariant_match, Visits}
+use Rattle.checked_runs.specs.Checked.{Checked, Entry, Passed, has_fault, invariant, passed_at, current_passed, invariant_match, Visits}
 use Rattle.pure_terms.specs.declared.variables.Sort.{Sort}
-use Rattle.pure_terms.specs.Meaning.{truth, all_true, value, Satisfies, IsUnsatisfiable, IsProper}
+use Rattle.pure_terms.specs.Meaning.{all_true, value, Satisfies, IsUnsatisfiable}
 use Rattle.pure_terms.specs.Pure.{PureTerm, PureAtom, opening}
 use Rattle.sym_paths.specs.Asking.{IsSolution}
 use Rattle.sym_model.specs.Alternatives.{Alternatives, Hold}
-use Rattle.sym_evaluation.specs.Meaning.{StandsFor, IsStoreOver}
+use Rattle.sym_evaluation.specs.Meaning.{IsStoreOver}
 use Rattle.sym_evaluation.specs.Pure.{PureStore}
 use Rattle.sym_model.specs.Laws.{IsMeaning}
-use Rattle.sym_model.specs.Lists.{Each, OneOf}
-use Rattle.sym_model.specs.Meaning.{has_open, is_open}
 use Rattle.sym_model.specs.Terms.{StateTerms}
 use Rattle.sym_paths.proofs.Moving.{running_stands}
 use Rattle.sym_paths.specs.Frames.{running_store}
@@ -31,11 +28,10 @@ use Rattle.sym_states.specs.Pure.{PureState}
 use Rattle.sym_unfolding.proofs.SearchLaws.{joined_true, true_parts}
 use Rattle.footprint.proofs.Parts.{longer_both}
 use Rattle.checked_paths.specs.declared.nexts.FaultKind.{FaultKind}
-use Rattle.checked_paths.specs.Choosing.{LeadsAlong}
 use Rattle.checked_paths.specs.Exactness.{IsExactNext}
-use Rattle.checked_paths.specs.Meaning.{IsPassed, IsPassedOver, StandsForChecked, MayGoOn}
+use Rattle.checked_paths.specs.Meaning.{IsPassedOver, StandsForChecked, MayGoOn}
 use Rattle.checked_paths.specs.Pure.{PureEntry, PurePassed, PureChecking, PureNext}
-use Rattle.checked_rows.specs.Doubts.{PureDoubt, always, under, beyond, IsRightDoubt, IsToldThere}
+use Rattle.checked_rows.specs.Doubts.{PureDoubt, always, under, beyond, IsRightDoubt}
 use Rattle.checked_rows.specs.Names.{logicals_there, AreNames}
 use Rattle.checked_rows.proofs.ExactLaws.{right_next}
 use Rattle.invariant_rows.specs.Differing.{PureDifference, TellsIfClear, TellsDifference}

@@ -1,18 +1,14 @@
 -- Alternatives tell where what is left isn't as it was before.
-use Rattle.std.proofs.Common.{◌≡◌, ◌⊎◌, ⊎_elim, inl, inr, ℕ, zero, suc, ◌+◌, ◌-◌, ◌<◌, ◌≤◌, List, [], ◌∷◌, ◌++◌, drop, take, map, get_or, slice_get, length, Bool, true, false, cond, Option, Some, None, is_some, IsSome, IsTrue, refl, sym, ap, subst, ◌∙◌, true≢false, arith}
+use Rattle.std.proofs.Common.{◌≡◌, ⊎_elim, inl, inr, ℕ, zero, suc, ◌+◌, ◌-◌, ◌<◌, ◌≤◌, List, [], ◌∷◌, ◌++◌, drop, take, map, get_or, slice_get, length, Bool, true, false, cond, Option, Some, None, is_some, IsSome, IsTrue, refl, sym, ap, subst, ◌∙◌, true≢false, arith}
 use Rattle.std.specs.Str.{bytes_eq}
 use Rattle.std.proofs.lemmas.List.{take_more, map-append}
 use Rattle.std.proofs.lemmas.Slice.Eq.{bytes_eq-Decides}
-use Rattle.std.specs.FinMap.{empty, get, get-empty, remove, len, len-empty, len-remove, contains_key, empty_of_len}
-use Rattle.gil_values.specs.Equality.{same_elements}
+use Rattle.std.specs.FinMap.{get, get-empty, remove, len, len-empty, len-remove, contains_key, empty_of_len}
 use Rattle.gil_values.specs.EqualityLaws.{same_elements-Decides}
-use Rattle.gil_values.specs.Pure.{PureValue, integer, boolean, text, symbol}
+use Rattle.gil_values.specs.Pure.{PureValue, integer, text, symbol}
 use Rattle.gil_syntax.specs.Evaluation.{Store, value_of}
-use Rattle.gil_syntax.specs.Pure.{PureParts}
 use Rattle.mem_model.specs.declared.cores.Core.{Core}
 use Rattle.mem_model.specs.declared.keys.Key.{Key}
-use Rattle.mem_model.specs.declared.keys.MemoryName.{MemoryName}
-use Rattle.mem_model.specs.Actions.{Actions}
 use Rattle.mem_model.specs.CoreNames.{core_of}
 use Rattle.mem_model.specs.Cores.{entry_of, entry_named, core_entry}
 use Rattle.mem_model.specs.Heaps.{Heap, Holds}
@@ -20,13 +16,13 @@ use Rattle.mem_model.specs.Keys.{key_cmp}
 use Rattle.mem_model.specs.KeyOrder.{key_cmp-total}
 use Rattle.gil_machine.proofs.Standings.{drop-found}
 use Rattle.assert_logic.proofs.LoopLemmas.{none_left}
-use Rattle.assert_logic.specs.LogicStates.{Fact, LogicState}
-use Rattle.checked_runs.specs.Checked.{Checked, Entry, Passed, AreSame as AreSameValues, IsAsBefore, unlisted_in}
+use Rattle.assert_logic.specs.LogicStates.{Fact}
+use Rattle.checked_runs.specs.Checked.{AreSame as AreSameValues, unlisted_in}
 use Rattle.pure_terms.specs.declared.variables.Sort.{Sort}
 use Rattle.pure_terms.specs.Meaning.{value, values, both, all_true, IsProper, IsOver}
 use Rattle.pure_terms.specs.Pure.{PureTerm, from_list}
-use Rattle.sym_model.specs.Alternatives.{Alternatives, Hold}
-use Rattle.sym_evaluation.specs.Meaning.{AreSame, HaveValues, StandsFor, IsStoreOver}
+use Rattle.sym_model.specs.Alternatives.{Alternatives}
+use Rattle.sym_evaluation.specs.Meaning.{AreSame, HaveValues}
 use Rattle.sym_evaluation.specs.declared.store.Binding.{Binding}
 use Rattle.sym_evaluation.specs.Pure.{PureBinding, PureStore, term_at}
 use Rattle.sym_evaluation.specs.View.{binding_view, bindings_view}
@@ -34,7 +30,6 @@ use Rattle.sym_matching.specs.Matching.{TestsElements, ElementsStayOver}
 use Rattle.sym_matching.specs.Meaning.{AreConditions}
 use Rattle.sym_matching.specs.Pure.{PureTest}
 use Rattle.sym_model.proofs.ListLaws.{same_some, not_none, each_append, each_left, each_right, each_to, one_left, one_right, one_parts}
-use Rattle.sym_model.specs.Cores.{zero_term}
 use Rattle.sym_model.specs.Listing.{IsUse, AreUnion}
 use Rattle.sym_model.specs.Lists.{Each, OneOf, IsAmong}
 use Rattle.sym_model.specs.declared.uses.CoreUse.{CoreUse}
@@ -45,9 +40,8 @@ use Rattle.sym_states.specs.Meaning.{IsFact, AreFacts}
 use Rattle.sym_states.specs.declared.states.PredChunk.{PredChunk}
 use Rattle.sym_states.specs.Pure.{PureFact}
 use Rattle.sym_states.specs.View.{fact_view, facts_view}
-use Rattle.checked_paths.specs.Meaning.{AreFactsOver, IsPassed, IsPassedOver}
 use Rattle.checked_paths.specs.Pure.{PurePassed}
-use Rattle.invariant_rows.specs.Differing.{PureDifference, Tells, TellsIfClear, TellsTerms, TellsFact, TellsFacts, TellsName, TellsNames, TellsStores, AreUsesOver, IsOverIfAny, TellsHeaps, TellsNext, HoldsOne, HaveSameKey, IsTermOfKey, TellsDifference}
+use Rattle.invariant_rows.specs.Differing.{PureDifference, Tells, TellsIfClear, TellsTerms, TellsFact, TellsFacts, TellsName, TellsNames, TellsStores, AreUsesOver, TellsHeaps, TellsNext, HoldsOne, HaveSameKey, IsTermOfKey, TellsDifference}
 use Rattle.invariant_rows.proofs.RemainderLaws.{same_with, one_entry}
 
 -- ---- alternatives

@@ -1,5 +1,5 @@
 -- A first visit is exact: checked runs follow the paths that go on, and what isn't decided is shown.
-use Rattle.std.proofs.Common.{◌≡◌, ◌⊎◌, inl, inr, ℕ, suc, ◌+◌, ◌≤◌, List, [], ◌∷◌, ◌++◌, length, Bool, true, false, not, ◌&&◌, ◌||◌, Option, Some, None, is_some, IsSome, IsTrue, refl, sym, ap, subst, ◌∙◌, true≢false, append_assoc, append-nil, arith}
+use Rattle.std.proofs.Common.{◌≡◌, ◌⊎◌, inl, inr, ℕ, suc, ◌+◌, ◌≤◌, List, [], ◌∷◌, ◌++◌, length, Bool, true, false, ◌&&◌, Option, Some, None, is_some, IsTrue, refl, sym, ap, subst, ◌∙◌, true≢false, append_assoc, append-nil, arith}
 use Rattle.std.specs.Str.{bytes_eq}
 use Rattle.std.proofs.lemmas.List.{append_cancel_left, length-append}
 use Rattle.gil_values.specs.declared.places.Place.{Place}
@@ -20,8 +20,7 @@ use Rattle.checked_runs.proofs.Stores.{first_value, second_value}
 use Rattle.checked_runs.specs.Checked.{Checked, Outcome, goes_on_to, Entry, Passed, AreSame as AreSameValues, IsAbove, moved, variables_in, logicals_in, names_at, logic_state, with_logic, has_all, unlisted_in, passed_at, current_passed, invariant_match, at_invariant, PassesFirst, Visits}
 use Rattle.pure_terms.specs.declared.deciders.Reason.{Reason}
 use Rattle.pure_terms.specs.declared.variables.Sort.{Sort}
-use Rattle.pure_terms.specs.Meaning.{all_true, IsProper, IsOver, Satisfies}
-use Rattle.pure_terms.specs.Pure.{term_of}
+use Rattle.pure_terms.specs.Meaning.{all_true, IsProper, Satisfies}
 use Rattle.sym_paths.specs.Asking.{IsOutside}
 use Rattle.sym_evaluation.specs.Meaning.{StandsFor}
 use Rattle.sym_evaluation.specs.Pure.{PureStore, term_at}
@@ -32,9 +31,8 @@ use Rattle.sym_model.specs.Lists.{Each}
 use Rattle.sym_model.specs.Meaning.{has_open}
 use Rattle.sym_model.specs.Terms.{StateTerms}
 use Rattle.sym_states.proofs.Names.{or_left, or_right, same_name}
-use Rattle.sym_states.specs.Naming.{AddsNames, HaveSorts}
+use Rattle.sym_states.specs.Naming.{AddsNames}
 use Rattle.sym_paths.proofs.Growing.{all_true-more}
-use Rattle.sym_paths.proofs.Moving.{running_stands}
 use Rattle.sym_paths.proofs.Recording.{past_is, fresh_append}
 use Rattle.sym_paths.specs.Frames.{running_store}
 use Rattle.sym_paths.specs.Meaning.{command_of_path}

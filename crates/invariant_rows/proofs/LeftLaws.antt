@@ -1,21 +1,19 @@
 -- What a match leaves, the former visit, and the faults of the row.
-use Rattle.std.proofs.Common.{◌≡◌, ℕ, List, [], ◌∷◌, ◌++◌, map, Bool, true, false, ◌&&◌, cond, Option, Some, None, IsTrue, refl, sym, ap, subst, ◌∙◌, append-nil}
+use Rattle.std.proofs.Common.{◌≡◌, ℕ, List, [], ◌∷◌, ◌++◌, Bool, true, false, ◌&&◌, cond, Option, Some, None, refl, sym, ap, subst, ◌∙◌}
 use Rattle.std.specs.Prelude.{nat_eq}
-use Rattle.gil_values.specs.declared.places.Place.{Place}
 use Rattle.gil_values.specs.Pure.{PureValue}
 use Rattle.gil_syntax.specs.declared.assertions.Param.{Param}
 use Rattle.gil_syntax.specs.Pure.{PureParts, PureItem, PureNumberedCommand, PureSpec, loop_invariant}
 use Rattle.mem_model.specs.declared.keys.MemoryName.{MemoryName}
 use Rattle.mem_model.specs.Actions.{Actions}
 use Rattle.mem_model.specs.Heaps.{Heap}
-use Rattle.assert_logic.specs.Matching.{Match, Matching, matched, stops, match_assertion}
+use Rattle.assert_logic.specs.Matching.{Matching, stops, match_assertion}
 use Rattle.checked_runs.specs.Checked.{Checked, Entry, Passed, has_fault, invariant, logicals_in, names_at, logic_state, has_all, known_fit, match_of, passed_at, current_passed, invariant_match, Visits}
 use Rattle.pure_terms.specs.declared.variables.Sort.{Sort}
-use Rattle.pure_terms.specs.Meaning.{all_true}
 use Rattle.sym_evaluation.specs.Pure.{PureStore}
 use Rattle.sym_model.specs.Lists.{Each}
 use Rattle.sym_model.specs.Terms.{StateTerms}
-use Rattle.sym_model.proofs.ListLaws.{each_map, each_to}
+use Rattle.sym_model.proofs.ListLaws.{each_to}
 use Rattle.sym_paths.proofs.Moving.{running_stands}
 use Rattle.sym_paths.specs.Frames.{running_store}
 use Rattle.sym_paths.specs.Meaning.{command_of_path}

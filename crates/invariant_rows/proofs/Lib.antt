@@ -1,5 +1,7 @@
 pub mod AddedLaws
 pub mod AgainLaws
+pub mod AnewLaws
+pub mod AskedLaws
 pub mod DifferenceLaws
 pub mod EnterLaws
 pub mod FirstLaws

@@ -1,3 +1,4 @@
+pub mod Asked
 pub mod Differing
 pub mod Entering
 pub mod Fitting

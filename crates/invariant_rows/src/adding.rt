@@ -2,10 +2,13 @@
 ghost use Rattle.std.specs.Prelude.{◌≡◌, ◌+◌, ◌<◌, ◌^◌, IfOk};
 ghost use Rattle.checked_paths.specs.Meaning.{EachWith, IsCheckedOver};
 ghost use Rattle.checked_paths.specs.View.{checking_view, entry_view, next_view, nexts_view};
+ghost use Rattle.checked_rows.specs.Asked.{HasConds};
+ghost use Rattle.checked_rows.specs.Asking.{AddsTo};
 ghost use Rattle.checked_rows.specs.Doubts.{IsDoubtNext, beyond};
 ghost use Rattle.checked_rows.specs.States.{with_state};
 ghost use Rattle.footprint.specs.Consuming.{MayMatch};
 ghost use Rattle.gil_syntax.specs.View.{assertion_view};
+ghost use Rattle.invariant_rows.specs.Asked.{AsksAddingThere};
 ghost use Rattle.invariant_rows.specs.Entering.{AreAdded, IsAdditionAnswered};
 ghost use Rattle.sym_engine.specs.Lawful.{MayAdvance};
 ghost use Rattle.sym_model.specs.Lists.{Each};
@@ -53,7 +56,8 @@ fn state_next<M: ListedMemory, D: Decider>(
     requires steps { checking.now.path.steps + 1 < 2 ^ 32 }
     requires next { MayAdvance (frames_view checking.now.path.stack) }
     requires over { IsOverTable M.terms (state_view state) }
-    ensures { IfOk result (λ n. IsAdditionAnswered M.stands M.terms here.now (checking_view checking.now) (state_view state) (next_view n)) }
+    ensures answered { IfOk result (λ n. IsAdditionAnswered M.stands M.terms here.now (checking_view checking.now) (state_view state) (next_view n)) }
+    ensures same { IfOk result (λ n. HasConds (state_view state).conds (next_view n)) }
 {
     match ask(alloc, decider, &state.vars, state.conds.atoms())? {
         Satisfiability::Satisfiable(_) => go_on_in(alloc, here, checking, state),
@@ -73,7 +77,8 @@ fn each_state<M: ListedMemory, D: Decider>(
     requires steps { checking.now.path.steps + 1 < 2 ^ 32 }
     requires next { MayAdvance (frames_view checking.now.path.stack) }
     requires over { Each (IsOverTable M.terms) (states_view states) }
-    ensures { IfOk result (λ ns. EachWith (IsAdditionAnswered M.stands M.terms here.now (checking_view checking.now)) (states_view states) (nexts_view ns)) }
+    ensures answered { IfOk result (λ ns. EachWith (IsAdditionAnswered M.stands M.terms here.now (checking_view checking.now)) (states_view states) (nexts_view ns)) }
+    ensures same { IfOk result (λ ns. EachWith (λ r. HasConds r.conds) (states_view states) (nexts_view ns)) }
 {
     let mut nexts = Sequence::new(alloc);
     for state in states.into_vec() {
@@ -97,8 +102,10 @@ pub(crate) fn add_there<M: ListedMemory, D: Decider>(
     requires steps { checking.now.path.steps + 1 < 2 ^ 32 }
     requires next { MayAdvance (frames_view checking.now.path.stack) }
     requires may { MayMatch M.Local.memory (assertion_view items.now) }
-    ensures { IfOk result (λ ns. AreAdded M.Local.memory M.stands M.terms M.kept (entry_view spec.now entered.now) scope.now
+    ensures adds { IfOk result (λ ns. AreAdded M.Local.memory M.stands M.terms M.kept (entry_view spec.now entered.now) scope.now
         (assertion_view items.now) here.now (checking_view checking.now) (nexts_view ns)) }
+    ensures asked { IfOk result (λ ns. Each (AddsTo (AsksAddingThere (entry_view spec.now entered.now) (checking_view checking.now)
+        (assertion_view items.now)) (checking_view checking.now).path.conds) (nexts_view ns)) }
 {
     let _spec = spec;
     let names = names_in(alloc, &checking.path.stack, &entered.variables)?;

@@ -2,6 +2,8 @@
 ghost use Rattle.std.specs.Prelude.{◌++◌, ◌∷◌, [], IfNone, IfOk, IfSome, List};
 ghost use Rattle.checked_paths.specs.Meaning.{IsPassedOver};
 ghost use Rattle.checked_paths.specs.View.{checking_view, next_view, passed_view};
+ghost use Rattle.checked_rows.specs.Asked.{DoubtAdds};
+ghost use Rattle.checked_rows.specs.Asking.{AddsTo, AsksAsBefore};
 ghost use Rattle.checked_rows.specs.View.{doubt_view};
 ghost use Rattle.gil_values.specs.Pure.{PureValue};
 ghost use Rattle.invariant_rows.specs.Visiting.{DoubtsBefore, IsUndecidedThere, IsVisitedAgain, OfBefore};
@@ -37,6 +39,7 @@ fn doubt_of_form<M: ListedMemory, D: Decider>(
     ensures none { IfOk result
         (λ o. IfNone o (IsUnsatisfiable (state_view state.now).vars ((state_view state.now).conds ++ opening (term_view term) ∷ []))) }
     ensures doubt { IfOk result (λ o. IfSome o (λ d. IsUndecidedThere (state_view state.now).conds (doubt_view d))) }
+    ensures asked { IfOk result (λ o. IfSome o (λ d. DoubtAdds AsksAsBefore (state_view state.now).conds (doubt_view d))) }
 {
     let mut conds = copy_conditions(alloc, state.conds.atoms())?;
     conds.push(Atom::Open(term))?;
@@ -62,6 +65,7 @@ fn doubt_of_before<M: ListedMemory, D: Decider>(
         (λ o. IfNone o ((v : List PureValue) → OfBefore M.stands (store_view unlisted.now) (passed_view former.now) (state_view state.now) (λ P. P) v)) }
     ensures doubt { IfOk result
         (λ o. IfSome o (λ d. DoubtsBefore M.stands (store_view unlisted.now) (passed_view former.now) (state_view state.now) (doubt_view d))) }
+    ensures asked { IfOk result (λ o. IfSome o (λ d. DoubtAdds AsksAsBefore (state_view state.now).conds (doubt_view d))) }
 {
     if is_as_before(alloc, &state.memory, &state.preds, unlisted, former)? {
         return Ok(None);
@@ -101,8 +105,9 @@ pub(crate) fn again<M: ListedMemory, D: Decider>(
     requires over { IsOverTable M.terms (state_view state.now) }
     requires unlisted { IsStoreOver (state_view state.now).vars (store_view unlisted.now) }
     requires former { IsPassedOver M.terms (state_view state.now).vars (passed_view former.now) }
-    ensures { IfOk result (λ n. IsVisitedAgain M.stands (store_view unlisted.now) (passed_view former.now) (state_view state.now) here.now
+    ensures answer { IfOk result (λ n. IsVisitedAgain M.stands (store_view unlisted.now) (passed_view former.now) (state_view state.now) here.now
         (checking_view checking.now) (next_view n)) }
+    ensures asked { IfOk result (λ n. AddsTo AsksAsBefore (state_view state.now).conds (next_view n)) }
 {
     match doubt_of_before(alloc, unlisted, former, state, decider)? {
         Some(doubt) => doubted_next(alloc, FaultKind::Invariant, here, &checking.path, doubt),

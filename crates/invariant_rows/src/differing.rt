@@ -2,6 +2,7 @@
 ghost use Rattle.std.specs.Prelude.{◌≡◌, ◌∷◌, [], IfOk, IsTrue};
 ghost use Rattle.checked_paths.specs.View.{passed_view};
 ghost use Rattle.pure_terms.specs.View.{term_view, terms_view};
+ghost use Rattle.invariant_rows.specs.Asked.{AreComparisons};
 ghost use Rattle.invariant_rows.specs.Differing.{HaveSameKey, HoldsOne, IsTermOfKey, TellsDifference, TellsFact, TellsFacts, TellsHeaps, TellsName, TellsNames, TellsNext, TellsStores, TellsTerms};
 ghost use Rattle.invariant_rows.specs.View.{difference_view};
 ghost use Rattle.sym_model.specs.Alternatives.{alternatives_view};
@@ -30,7 +31,8 @@ pub struct Difference {
 
 /// Where the terms have other values.
 fn values_differ(alloc: Global, left: &Terms, right: &Terms) -> Result<Alternatives, AllocError>
-    ensures { IfOk result (λ x. TellsTerms (terms_view left.now) (terms_view right.now) (alternatives_view x)) }
+    ensures tells { IfOk result (λ x. TellsTerms (terms_view left.now) (terms_view right.now) (alternatives_view x)) }
+    ensures asked { IfOk result (λ x. AreComparisons (alternatives_view x)) }
 {
     let test = elements_equal(alloc, left, right)?;
     let Test { when: _, otherwise } = test;
@@ -42,7 +44,8 @@ fn fact_differs(
     left: &PredChunk,
     right: &PredChunk,
 ) -> Result<Alternatives, AllocError>
-    ensures { IfOk result (λ x. TellsFact (fact_view left.now) (fact_view right.now) (alternatives_view x)) }
+    ensures tells { IfOk result (λ x. TellsFact (fact_view left.now) (fact_view right.now) (alternatives_view x)) }
+    ensures asked { IfOk result (λ x. AreComparisons (alternatives_view x)) }
 {
     if left.pred == right.pred {
         let ins = values_differ(alloc, &left.ins, &right.ins)?;
@@ -58,7 +61,8 @@ fn facts_differ(
     left: &[PredChunk],
     right: &[PredChunk],
 ) -> Result<Alternatives, AllocError>
-    ensures { IfOk result (λ x. TellsFacts (facts_view left.now) (facts_view right.now) (alternatives_view x)) }
+    ensures tells { IfOk result (λ x. TellsFacts (facts_view left.now) (facts_view right.now) (alternatives_view x)) }
+    ensures asked { IfOk result (λ x. AreComparisons (alternatives_view x)) }
 {
     if left.len() != right.len() {
         return always(alloc);
@@ -73,7 +77,8 @@ fn facts_differ(
 
 /// Where two terms have other values.
 fn value_differs(alloc: Global, left: &Term, right: &Term) -> Result<Alternatives, AllocError>
-    ensures { IfOk result (λ x. TellsTerms (term_view left.now ∷ []) (term_view right.now ∷ []) (alternatives_view x)) }
+    ensures tells { IfOk result (λ x. TellsTerms (term_view left.now ∷ []) (term_view right.now ∷ []) (alternatives_view x)) }
+    ensures asked { IfOk result (λ x. AreComparisons (alternatives_view x)) }
 {
     let mut first = Terms::new(alloc);
     first.push(left.copy(alloc)?)?;
@@ -89,7 +94,8 @@ fn name_differs(
     right: &SymStore,
     name: &Text,
 ) -> Result<Alternatives, AllocError>
-    ensures { IfOk result (λ x. TellsName (store_view left.now) (store_view right.now) name.now (alternatives_view x)) }
+    ensures tells { IfOk result (λ x. TellsName (store_view left.now) (store_view right.now) name.now (alternatives_view x)) }
+    ensures asked { IfOk result (λ x. AreComparisons (alternatives_view x)) }
 {
     match left.get(name) {
         Some(first) => match right.get(name) {
@@ -110,8 +116,9 @@ fn names_differ(
     left: &SymStore,
     right: &SymStore,
 ) -> Result<Alternatives, AllocError>
-    ensures { IfOk result
+    ensures tells { IfOk result
         (λ x. TellsNames (store_view left.now) (store_view right.now) (bindings_view names.now) (alternatives_view x)) }
+    ensures asked { IfOk result (λ x. AreComparisons (alternatives_view x)) }
 {
     let mut found = never(alloc);
     for binding in names {
@@ -127,7 +134,8 @@ fn stores_differ(
     left: &SymStore,
     right: &SymStore,
 ) -> Result<Alternatives, AllocError>
-    ensures { IfOk result (λ x. TellsStores (store_view left.now) (store_view right.now) (alternatives_view x)) }
+    ensures tells { IfOk result (λ x. TellsStores (store_view left.now) (store_view right.now) (alternatives_view x)) }
+    ensures asked { IfOk result (λ x. AreComparisons (alternatives_view x)) }
 {
     let now = names_differ(alloc, left.bindings(), left, right)?;
     let before = names_differ(alloc, right.bindings(), left, right)?;
@@ -168,7 +176,9 @@ fn with_use(
     left: &CoreUse,
     right: &CoreUse,
 ) -> Result<Difference, AllocError>
-    ensures { IfOk result (λ d. TellsNext (use_view left.now) (use_view right.now) (difference_view later) (difference_view d)) }
+    ensures tells { IfOk result (λ d. TellsNext (use_view left.now) (use_view right.now) (difference_view later) (difference_view d)) }
+    ensures asked { IfOk result
+        (λ d. AreComparisons (difference_view later).alternatives → AreComparisons (difference_view d).alternatives) }
 {
     if is_same_use(left, right) {
         return Ok(later);
@@ -198,7 +208,8 @@ fn heaps_differ(
     left: &[CoreUse],
     right: &[CoreUse],
 ) -> Result<Difference, AllocError>
-    ensures { IfOk result (λ d. TellsHeaps (uses_view left.now) (uses_view right.now) (difference_view d)) }
+    ensures tells { IfOk result (λ d. TellsHeaps (uses_view left.now) (uses_view right.now) (difference_view d)) }
+    ensures asked { IfOk result (λ d. AreComparisons (difference_view d).alternatives) }
 {
     if left.len() != right.len() {
         return Ok(Difference {
@@ -224,8 +235,9 @@ pub fn compare<M: ListedMemory>(
     unlisted: &SymStore,
     former: &Passed<M>,
 ) -> Result<Difference, AllocError>
-    ensures { IfOk result (λ d. TellsDifference M.stands M.terms memory.now (facts_view facts.now) (store_view unlisted.now)
+    ensures tells { IfOk result (λ d. TellsDifference M.stands M.terms memory.now (facts_view facts.now) (store_view unlisted.now)
         (passed_view former.now) (difference_view d)) }
+    ensures asked { IfOk result (λ d. AreComparisons (difference_view d).alternatives) }
 {
     let listed = memory.listing(alloc)?;
     let before = former.memory.listing(alloc)?;

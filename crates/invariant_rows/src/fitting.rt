@@ -1,6 +1,8 @@
 //! Whether names that have terms surely have values of the sorts that are declared for them.
 ghost use Rattle.std.specs.Prelude.{IfNone, IfOk, IfSome};
+ghost use Rattle.checked_rows.specs.Asked.{DoubtAdds};
 ghost use Rattle.checked_rows.specs.View.{doubt_view};
+ghost use Rattle.invariant_rows.specs.Asked.{AsksNames};
 ghost use Rattle.invariant_rows.specs.Fitting.{AllFit, DoubtsOne, DoubtsSorts, NeverMet, SurelyFits};
 ghost use Rattle.pure_terms.specs.Meaning.{IsOver};
 ghost use Rattle.pure_terms.specs.Pure.{term_of};
@@ -55,6 +57,7 @@ fn doubt_of_name<D: Decider>(
     requires names { IsStoreOver vars.now (store_view names.now) }
     ensures none { IfOk result (λ o. IfNone o (SurelyFits scope.now vars.now (atoms_view conds.now) (store_view names.now) name.now)) }
     ensures doubt { IfOk result (λ o. IfSome o (λ d. DoubtsSorts scope.now vars.now (atoms_view conds.now) (store_view names.now) (doubt_view d))) }
+    ensures asked { IfOk result (λ o. IfSome o (λ d. DoubtAdds (AsksNames scope.now (store_view names.now)) (atoms_view conds.now) (doubt_view d))) }
 {
     match names.get(name) {
         Some(term) => {
@@ -78,6 +81,7 @@ pub(crate) fn doubt_of_sorts<D: Decider>(
     requires names { IsStoreOver vars.now (store_view names.now) }
     ensures none { IfOk result (λ o. IfNone o (AllFit scope.now vars.now (atoms_view conds.now) (store_view names.now) scope.now)) }
     ensures doubt { IfOk result (λ o. IfSome o (λ d. DoubtsSorts scope.now vars.now (atoms_view conds.now) (store_view names.now) (doubt_view d))) }
+    ensures asked { IfOk result (λ o. IfSome o (λ d. DoubtAdds (AsksNames scope.now (store_view names.now)) (atoms_view conds.now) (doubt_view d))) }
 {
     for param in scope.as_slice() {
         let name = &param.name;

@@ -1,8 +1,10 @@
 //! `invariant`: the assertion is matched, and the loop is gone through once from any values of the listed variables.
 ghost use Rattle.std.specs.Prelude.{◌≡◌, ◌+◌, ◌++◌, ◌<◌, ◌^◌, ◌∷◌, [], map, true, IfOk};
 ghost use Rattle.std.specs.Option.{option_map};
+ghost use Rattle.checked_paths.specs.Exactness.{AddsOnly, HaveMoreOf};
 ghost use Rattle.checked_paths.specs.Meaning.{IsCheckedOver};
 ghost use Rattle.checked_paths.specs.View.{checking_view, entry_view, nexts_view, passed_view};
+ghost use Rattle.checked_rows.specs.Asking.{AddsTo, AsksOnlyOwn};
 ghost use Rattle.checked_rows.specs.Matching.{IsOfPath};
 ghost use Rattle.checked_rows.specs.Names.{logicals_there};
 ghost use Rattle.checked_rows.specs.Rows.{AreRowOf, IsExactRowOf};
@@ -11,6 +13,7 @@ ghost use Rattle.footprint.specs.View.{match_view, matches_view};
 ghost use Rattle.gil_syntax.specs.Program.{prog_view};
 ghost use Rattle.gil_syntax.specs.Pure.{loop_invariant};
 ghost use Rattle.gil_syntax.specs.View.{assertion_view, spec_view};
+ghost use Rattle.invariant_rows.specs.Asked.{AsksAddingAnew, AsksVisitThere};
 ghost use Rattle.invariant_rows.specs.Entering.{AreEntered, running_next};
 ghost use Rattle.invariant_rows.specs.Fitting.{SortsFit};
 ghost use Rattle.invariant_rows.specs.Listed.{AreUnlisted, have_terms as all_have_terms};
@@ -77,8 +80,10 @@ fn first<M: ListedMemory, D: Decider>(
     requires of_path { IsOfPath M.terms (checking_view checking.now) (state_view state) }
     requires unlisted { AreUnlisted listed.now (running_store (frames_view checking.now.path.stack)) (store_view unlisted.now) }
     requires may { MayMatch M.Local.memory (assertion_view items.now) }
-    ensures { IfOk result (λ ns. AreEntered M.Local.memory M.stands M.terms M.kept (entry_view spec.now entered.now) listed.now scope.now
+    ensures enters { IfOk result (λ ns. AreEntered M.Local.memory M.stands M.terms M.kept (entry_view spec.now entered.now) listed.now scope.now
         (assertion_view items.now) (store_view unlisted.now) here.now (checking_view checking.now) (state_view state) (nexts_view ns)) }
+    ensures asked { IfOk result (λ ns. Each (AddsTo (AsksAddingAnew (entry_view spec.now entered.now) (checking_view checking.now)
+        (assertion_view items.now)) (state_view state).conds) (nexts_view ns)) }
 {
     match in_loop(alloc, checking, unlisted, listed, scope, state)? {
         Some(inside) => add_there(alloc, spec, entered, &inside, here, scope, items, decider),
@@ -108,6 +113,8 @@ fn visit<M: ListedMemory, D: Decider>(
     requires next { MayAdvance (frames_view checking.now.path.stack) }
     requires left { IsLeft (prog_view prog.now) M.Local.memory M.Local.actions M.stands M.terms (entry_view spec.now entered.now)
         (checking_view checking.now) listed.now declared.now (assertion_view items.now) (option_map (λ q. passed_view q.now) former) (state_view state) }
+    requires own { HaveMoreOf (AsksVisitThere (entry_view spec.now entered.now) (checking_view checking.now) (prog_view prog.now) scope.now
+        (assertion_view items.now)) (checking_view checking.now).path.conds (state_view state).conds }
     requires known { IsKnown (prog_view prog.now) M.Local.memory M.Local.actions M.stands M.terms (entry_view spec.now entered.now)
         (checking_view checking.now) listed.now declared.now (assertion_view items.now) (option_map (λ q. passed_view q.now) former) }
     requires unlisted { AreUnlisted listed.now (running_store (frames_view checking.now.path.stack)) (store_view unlisted.now) }
@@ -121,6 +128,8 @@ fn visit<M: ListedMemory, D: Decider>(
     ensures exact { IfOk result (λ ns. AreExactVisits (prog_view prog.now) M.Local.memory M.Local.actions M.stands M.terms (entry_view spec.now entered.now)
         (checking_view checking.now) listed.now declared.now (assertion_view items.now) (option_map (λ q. passed_view q.now) former.entry) here.now
         (nexts_view ns)) }
+    ensures asked { IfOk result (λ ns. Each (AddsOnly (AsksVisitThere (entry_view spec.now entered.now) (checking_view checking.now)
+        (prog_view prog.now) scope.now (assertion_view items.now)) (checking_view checking.now)) (nexts_view ns)) }
 {
     let _prog = prog;
     match former {
@@ -176,6 +185,8 @@ fn visit_each<M: ListedMemory, D: Decider>(
     requires next { MayAdvance (frames_view checking.now.path.stack) }
     requires left { Each (λ k. IsLeft (prog_view prog.now) M.Local.memory M.Local.actions M.stands M.terms (entry_view spec.now entered.now)
         (checking_view checking.now) listed.now declared.now (assertion_view items.now) (option_map (λ q. passed_view q.now) former) k.state) (matches_view matches) }
+    requires own { Each (λ k. HaveMoreOf (AsksVisitThere (entry_view spec.now entered.now) (checking_view checking.now) (prog_view prog.now)
+        scope.now (assertion_view items.now)) (checking_view checking.now).path.conds k.state.conds) (matches_view matches) }
     requires known { IsKnown (prog_view prog.now) M.Local.memory M.Local.actions M.stands M.terms (entry_view spec.now entered.now)
         (checking_view checking.now) listed.now declared.now (assertion_view items.now) (option_map (λ q. passed_view q.now) former) }
     requires unlisted { AreUnlisted listed.now (running_store (frames_view checking.now.path.stack)) (store_view unlisted.now) }
@@ -189,6 +200,8 @@ fn visit_each<M: ListedMemory, D: Decider>(
     ensures exact { IfOk result (λ ns. AreExactVisits (prog_view prog.now) M.Local.memory M.Local.actions M.stands M.terms (entry_view spec.now entered.now)
         (checking_view checking.now) listed.now declared.now (assertion_view items.now) (option_map (λ q. passed_view q.now) former.entry) here.now
         (nexts_view ns)) }
+    ensures asked { IfOk result (λ ns. Each (AddsOnly (AsksVisitThere (entry_view spec.now entered.now) (checking_view checking.now)
+        (prog_view prog.now) scope.now (assertion_view items.now)) (checking_view checking.now)) (nexts_view ns)) }
 {
     let mut nexts = Sequence::new(alloc);
     for found in matches.into_vec() {
@@ -232,6 +245,8 @@ fn matched_row<M: ListedMemory, D: Decider>(
     ensures exact { IfOk result (λ ns. IsExactRowOf (prog_view prog.now) M.Local.memory M.Local.actions M.stands M.terms
         (entry_view spec.now entered.now) (checking_view checking.now) (loop_invariant listed.now declared.now (assertion_view items.now)) here.now
         (nexts_view ns)) }
+    ensures asked { IfOk result (λ ns. Each (AddsOnly (AsksVisitThere (entry_view spec.now entered.now) (checking_view checking.now)
+        (prog_view prog.now) scope.now (assertion_view items.now)) (checking_view checking.now)) (nexts_view ns)) }
 {
     match match_there(
         alloc, prog, spec, entered, checking, here, scope, items, decider,
@@ -285,6 +300,9 @@ fn listed_row<M: ListedMemory, D: Decider>(
     ensures exact { IfOk result (λ ns. IsExactRowOf (prog_view prog.now) M.Local.memory M.Local.actions M.stands M.terms
         (entry_view spec.now entered.now) (checking_view checking.now) (loop_invariant listed.now declared.now (assertion_view items.now)) here.now
         (nexts_view ns)) }
+    ensures asked { IfOk result (λ ns. Each (AddsOnly (AsksVisitThere (entry_view spec.now entered.now) (checking_view checking.now)
+        (prog_view prog.now) (logicals_there (frames_view checking.now.path.stack) (spec_view spec.now).logicals ++ declared.now)
+        (assertion_view items.now)) (checking_view checking.now)) (nexts_view ns)) }
 {
     let scope = scope_there(alloc, &checking.path.stack, &spec.logicals, declared)?;
     let names = names_in(alloc, &checking.path.stack, &entered.variables)?;
@@ -323,6 +341,8 @@ pub fn invariant_row<M: ListedMemory, D: Decider>(
     ensures exact { IfOk result (λ ns. IsExactRowOf (prog_view prog.now) M.Local.memory M.Local.actions M.stands M.terms
         (entry_view spec.now entered.now) (checking_view checking) (loop_invariant listed.now declared.now (assertion_view items.now)) here.now
         (nexts_view ns)) }
+    ensures asked { IfOk result (λ ns. AsksOnlyOwn (prog_view prog.now) (entry_view spec.now entered.now) (checking_view checking)
+        (loop_invariant listed.now declared.now (assertion_view items.now)) (nexts_view ns)) }
 {
     match running(&checking.path.stack) {
         Some(frame) => {

@@ -3,14 +3,17 @@ use Rattle.std.proofs.Common.{◌≡◌, ℕ, zero, suc, ◌+◌, List, [], ◌�
 use Rattle.std.proofs.lemmas.List.{append_cancel_left}
 use Rattle.gil_values.specs.Pure.{PureValue}
 use Rattle.gil_syntax.specs.Pure.{PureParts}
+use Rattle.gil_syntax.specs.Valid.{param_names}
 use Rattle.gil_machine.specs.Choices.{with_choice}
 use Rattle.mem_model.specs.declared.keys.MemoryName.{MemoryName}
 use Rattle.mem_model.specs.Actions.{Actions}
 use Rattle.mem_model.specs.Heaps.{Heap}
-use Rattle.checked_runs.specs.Checked.{Checked, Entry}
+use Rattle.checked_runs.specs.Checked.{Checked, Entry, names_at}
+use Rattle.checked_runs.specs.Specifications.{entry_store}
 use Rattle.pure_terms.specs.declared.variables.Sort.{Sort}
 use Rattle.pure_terms.specs.Meaning.{IsOver, Satisfies}
 use Rattle.pure_terms.specs.Pure.{PureAtom}
+use Rattle.sym_evaluation.specs.Meaning.{StandsFor, IsStoreOver}
 use Rattle.sym_model.specs.Laws.{IsMeaning}
 use Rattle.sym_model.specs.Lists.{Each}
 use Rattle.sym_model.specs.Terms.{StateTerms}
@@ -27,8 +30,11 @@ use Rattle.checked_paths.specs.Pure.{PureEntry, PureChecking}
 use Rattle.checked_paths.proofs.Above.{stands_above}
 use Rattle.checked_paths.specs.Trails.{IsTrail, IsTrailStep}
 use Rattle.checked_paths.proofs.TrailSteps.{Parts, parts_of, meets_before, trail_vars}
+use Rattle.checked_rows.specs.Asking.{MayAsk, MayAskAt}
+use Rattle.checked_rows.proofs.EndLaws.{entry_stands, entry_names_over}
+use Rattle.checked_rows.proofs.NameLaws.{names_stand, names_each}
 use Rattle.spec_causes.specs.Asking.{AsksThere, RunsAsking}
-use Rattle.spec_causes.specs.Reaching.{MayAskAt, AddsAsked, IsAskingTrail}
+use Rattle.spec_causes.specs.Reaching.{AddsAsked, IsAskingTrail}
 
 module _ {S : Type 0} (memory : MemoryName) (m : Actions) (stands : S → List PureValue → Heap → Type 0) (terms : S → StateTerms) (meaning : IsMeaning memory stands terms) (p : PureParts) (e : PureEntry) where
   abbrev AskingTrail : PureChecking S → ℕ → PureChecking S → Type 0
@@ -39,20 +45,29 @@ module _ {S : Type 0} (memory : MemoryName) (m : Actions) (stands : S → List P
   plain_trail start (suc n) x (before, (trail, step, asks)) = (before, (plain_trail start n before trail, step))
 
   -- the command at which a state stands may ask what that of its path may, under longer valuations too
-  pub asks_there : (x : PureChecking S) → MayGoOn p terms e x → (v more : List PureValue) (entry : Entry) (c : Checked) → StandsForChecked stands e x v entry c → (a : PureAtom) → MayAskAt p x a → AsksThere p (v ++ more) c a
-  asks_there x may v more entry c standing a (n, (at, may_ask)) = record {
-    command = n;
-    there = sym (stands_at p v x.path.stack c.machine standing.path.frames) ∙ at;
-    names = running_store x.path.stack;
-    stand = store_longer x.path.vars v more standing.path.proper.one_each (running_store x.path.stack) c.machine.current.store (running_each (IsOver x.path.vars) x.path.stack may.over.path.stores)
-        (running_stands v x.path.stack c.machine.current c.machine.callers standing.path.frames);
-    may_ask = may_ask;
-  }
+  pub asks_there : (x : PureChecking S) → MayGoOn p terms e x → (v more : List PureValue) (entry : Entry) (c : Checked) → StandsForChecked stands e x v entry c → (a : PureAtom) → MayAskAt p e x a → AsksThere p entry (v ++ more) c a
+  asks_there x may v more entry c standing a (n, (at, (names, (are, may_ask)))) =
+      let over : IsStoreOver x.path.vars (running_store x.path.stack) = running_each (IsOver x.path.vars) x.path.stack may.over.path.stores in
+      record {
+        command = n;
+        there = sym (stands_at p v x.path.stack c.machine standing.path.frames) ∙ at;
+        names = names;
+        running = subst (λ bs. StandsFor (v ++ more) bs c.machine.current.store) (sym are.running)
+            (store_longer x.path.vars v more standing.path.proper.one_each (running_store x.path.stack) c.machine.current.store over
+            (running_stands v x.path.stack c.machine.current c.machine.callers standing.path.frames));
+        logic = store_longer x.path.vars v more standing.path.proper.one_each names.logic (names_at entry c)
+            (names_each (IsOver x.path.vars) x.path.stack e.variables names.logic over may.over.entry.variables are.logic)
+            (names_stand v x.path.stack c.machine.current c.machine.callers e.variables names.logic entry standing.path.frames standing.entered.variables are.logic);
+        at_entry = store_longer x.path.vars v more standing.path.proper.one_each names.entry (entry_store entry.spec entry.args entry.variables)
+            (entry_names_over (IsOver x.path.vars) (param_names e.spec.params) e.args e.variables names.entry may.over.entry.args may.over.entry.variables are.entry)
+            (entry_stands v e entry names.entry standing.entered are.entry);
+        may_ask = subst (λ spec. MayAsk p spec names n.command a) (sym standing.entered.spec) may_ask;
+      }
 
-  pub each_asks : (x : PureChecking S) → MayGoOn p terms e x → (v values w : List PureValue) → w ≡ v ++ values → (entry : Entry) (c : Checked) → StandsForChecked stands e x v entry c → (atoms : List PureAtom) → Each (MayAskAt p x) atoms
-      → Each (AsksThere p w c) atoms
+  pub each_asks : (x : PureChecking S) → MayGoOn p terms e x → (v values w : List PureValue) → w ≡ v ++ values → (entry : Entry) (c : Checked) → StandsForChecked stands e x v entry c → (atoms : List PureAtom) → Each (MayAskAt p e x) atoms
+      → Each (AsksThere p entry w c) atoms
   each_asks x may v values w is entry c standing atoms all =
-      subst (λ u. Each (AsksThere p u c) atoms) (sym is) (each_to (MayAskAt p x) (AsksThere p (v ++ values) c) atoms (asks_there x may v values entry c standing) all)
+      subst (λ u. Each (AsksThere p entry u c) atoms) (sym is) (each_to (MayAskAt p e x) (AsksThere p entry (v ++ values) c) atoms (asks_there x may v values entry c standing) all)
 
   module _ (entry : Entry) (start : PureChecking S) (v0 : List PureValue) (c0 : Checked) (standing : StandsForChecked stands e start v0 entry c0) where
     -- A run makes the steps and the choices of the path, and its commands may ask the conditions that the path has more than its start. Its
@@ -92,7 +107,7 @@ module _ {S : Type 0} (memory : MemoryName) (m : Actions) (stands : S → List P
         }
 
     -- one step more
-    reached_next : (n : ℕ) (before x : PureChecking S) (w : List PureValue) (step : IsTrailStep p memory m stands terms e before x) → AddsAsked p before x.path.conds
+    reached_next : (n : ℕ) (before x : PureChecking S) (w : List PureValue) (step : IsTrailStep p memory m stands terms e before x) → AddsAsked p e before x.path.conds
         → (continued : IsContinued c0.machine.counter start.path.vars x.path.vars v0 w) (parts : Parts c0.machine.counter start.path.vars before.path.vars x.path.vars v0 w)
         → Satisfies x.path.vars w x.path.conds → IsFollowedAsking n before parts.part parts.first.new_vars → IsFollowedAsking (suc n) x w continued.new_vars
     reached_next n before x w step (more, (conds, asks)) continued parts meets reached =

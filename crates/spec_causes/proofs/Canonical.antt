@@ -1,17 +1,16 @@
 -- A valuation whose symbols are numbered is canonical: fresh variables have the counter and the numbers after it in turn, and the symbols of
 -- every other variable are below the counter of its turn.
-use Rattle.std.proofs.Common.{◌≡◌, ◌⊎◌, ⊎_elim, inl, inr, ℕ, zero, suc, ◌<◌, ◌≤◌, List, [], ◌∷◌, ◌++◌, length, slice_get, IsTrue, Some, true, false, refl, sym, ap, subst, ◌∙◌, arith, true≢false}
+use Rattle.std.proofs.Common.{◌≡◌, ◌⊎◌, ⊎_elim, inl, inr, ℕ, zero, suc, ◌<◌, List, [], ◌∷◌, ◌++◌, length, slice_get, IsTrue, Some, refl, sym, ap, subst, ◌∙◌, arith, true≢false}
 use Rattle.std.specs.List.{Contains}
 use Rattle.std.proofs.lemmas.List.Elements.{Contains-append_left, Contains-append_right, Contains-append_cases}
 use Rattle.gil_values.specs.Pure.{PureValue, integer, boolean, text, symbol, kind, procedure, list}
-use Rattle.gil_values.specs.Symbols.{symbols, symbols_of_all, OccursIn, OccursAmong, AreBelow}
+use Rattle.gil_values.specs.Symbols.{symbols, symbols_of_all, OccursAmong, AreBelow}
 use Rattle.gil_values.proofs.OperatorSymbols.{none_contained}
 use Rattle.pure_terms.specs.declared.variables.Sort.{Sort}
 use Rattle.pure_terms.specs.Kinds.{has_sort}
 use Rattle.pure_terms.specs.Meaning.{IsProper}
 use Rattle.sym_witness.specs.Numbering.{fresh_symbol, fresh_symbols, numbers_from}
-use Rattle.sym_paths.specs.Steps.{counter_after}
-use Rattle.checked_paths.specs.Exactness.{IsNewValue, AreNewValues}
+use Rattle.checked_paths.specs.Exactness.{AreNewValues}
 
 cons_cases : (y : ℕ) (ys : List ℕ) (n : ℕ) → Contains (y ∷ ys) n → (y ≡ n) ⊎ Contains ys n
 cons_cases y ys n (zero, within, is) = inl is

@@ -1,5 +1,6 @@
 pub mod Asked
 pub mod Canonical
+pub mod Existing
 pub mod Prefixes
 pub mod Reached
 pub mod Starts

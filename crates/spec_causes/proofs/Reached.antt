@@ -48,7 +48,7 @@ module _ {S : Type 0} (memory : MemoryName) (m : Actions) (stands : S → List P
   start_reached x real come may_be = record { start = x; real = real; come = come; may_be_met = may_be; trail = subst (λ n. IsAskingTrail p memory m stands terms e x n x) (sym real.no_steps) refl }
 
   module _ (x : PureChecking S) (reached : Reached x) (may : MayGoOn p terms e x) where
-    pub next_reached : (y : PureChecking S) → IsFollowed p memory m stands e x y → AddsAsked p x y.path.conds → y.path.steps ≡ x.path.steps + 1 → Reached y
+    pub next_reached : (y : PureChecking S) → IsFollowed p memory m stands e x y → AddsAsked p e x y.path.conds → y.path.steps ≡ x.path.steps + 1 → Reached y
     next_reached y followed asks steps =
         let one_more : suc x.path.steps ≡ y.path.steps = omega (arith, steps) in
         record {
@@ -187,7 +187,7 @@ module _ {S : Type 0} (memory : MemoryName) (m : Actions) (stands : S → List P
     added = conds_before.0
 
     module _ (most : ℕ) (early : x.path.steps ≤ most) (shown : PureShown) (vars : List Sort) (conds : List PureAtom) (more_vars : HaveMore x.path.vars vars) (more_conds : HaveMore x.path.conds conds) (table : HaveMore vars shown.vars)
-        (longer : HaveMore conds shown.conds) (met : CanBeMet x vars conds) (place : IsPlaceOf p x.path.stack shown.place) (asks : AddsAsked p x shown.conds)
+        (longer : HaveMore conds shown.conds) (met : CanBeMet x vars conds) (place : IsPlaceOf p x.path.stack shown.place) (asks : AddsAsked p e x shown.conds)
         (chooses : (v w : List PureValue) (entry : Entry) (c : Checked) → IsUnder stands e x vars conds v w entry c → (chosen : Option ℕ) × AreChoices x shown.choices chosen) where
       way_reachable : IsReachable p memory m e vars conds
       way_reachable = record {
@@ -251,7 +251,7 @@ module _ {S : Type 0} (memory : MemoryName) (m : Actions) (stands : S → List P
       surely_may : (Is : List PureValue → Outcome → Type 0) (shown : PureShown) → IsSurely p memory m stands e x Is shown → MayBeMet shown.vars shown.conds
       surely_may Is shown surely = more_met x.path.vars shown.vars x.path.conds shown.conds surely.at.longer surely.met may_meet
 
-      surely_way : (Is : List PureValue → Outcome → Type 0) (shown : PureShown) → IsSurely p memory m stands e x Is shown → AddsAsked p x shown.conds → IsOnTheWay p memory m e most shown
+      surely_way : (Is : List PureValue → Outcome → Type 0) (shown : PureShown) → IsSurely p memory m stands e x Is shown → AddsAsked p e x shown.conds → IsOnTheWay p memory m e most shown
       surely_way Is shown surely asks =
           way_found most within_most shown shown.vars shown.conds surely.at.table surely.at.longer (same_list shown.vars) (same_list shown.conds) surely.met surely.at.place asks
           (λ v w entry c under. let leads = surely.exact v w entry c under in (leads.chosen, leads.choices))
@@ -259,7 +259,7 @@ module _ {S : Type 0} (memory : MemoryName) (m : Actions) (stands : S → List P
       never_bound : (shown : PureShown) → IsSurely p memory m stands e x (λ w out. ⊥) shown → ComesToBound p memory m e most shown
       never_bound shown surely counter w above = let (entry, (first, (under, into))) = surely_runs (λ w out. ⊥) shown surely counter w above in absurd into.is
 
-      open_found : (reason : Reason) (shown : PureShown) → IsUndecided x p reason shown → AddsAsked p x shown.conds → IsOpen p memory m e most reason shown
+      open_found : (reason : Reason) (shown : PureShown) → IsUndecided x p reason shown → AddsAsked p e x shown.conds → IsOpen p memory m e most reason shown
       open_found reason shown is asks = record {
         outside = is.outside;
         first = is.first;
@@ -267,7 +267,7 @@ module _ {S : Type 0} (memory : MemoryName) (m : Actions) (stands : S → List P
       }
 
       -- a right cause of the path is one of the specification
-      pub cause_found : (cause : PureCause) → IsRightCause p memory m stands e x cause → AddsAsked p x (shown_in cause).conds → IsFoundCause p memory m e most cause
+      pub cause_found : (cause : PureCause) → IsRightCause p memory m stands e x cause → AddsAsked p e x (shown_in cause).conds → IsFoundCause p memory m e most cause
       cause_found (failure t shown) right asks = record { runs = surely_found _ shown right; may_be_met = surely_may _ shown right; way = surely_way _ shown right asks; known = right.at.known }
       cause_found (fault kind shown) right asks = record { runs = surely_found _ shown right; may_be_met = surely_may _ shown right; way = surely_way _ shown right asks; known = right.at.known }
       cause_found (bound shown) right asks = record { runs = never_bound shown right; may_be_met = surely_may _ shown right; way = surely_way _ shown right asks; known = right.at.known }

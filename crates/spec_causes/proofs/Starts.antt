@@ -1,34 +1,31 @@
 -- Starts of a specification are real.
-use Rattle.std.proofs.Common.{◌≡◌, ◌⊎◌, ⊎_elim, inl, inr, ℕ, zero, suc, ◌+◌, ◌<◌, ◌≤◌, List, [], ◌∷◌, IsTrue, false, Some, refl, sym, ap, subst, ◌∙◌, arith}
+use Rattle.std.proofs.Common.{◌≡◌, ◌⊎◌, ⊎_elim, inl, inr, ℕ, zero, suc, ◌+◌, ◌<◌, List, [], ◌∷◌, IsTrue, false, Some, refl, sym, ap, subst, arith}
 use Rattle.std.specs.List.{Contains}
 use Rattle.std.proofs.lemmas.List.Elements.{Contains-append_left, Contains-append_cases}
-use Rattle.gil_values.specs.Pure.{PureValue, symbol}
+use Rattle.gil_values.specs.Pure.{PureValue}
 use Rattle.gil_values.specs.Symbols.{symbols, symbols_of_all, OccursIn, OccursAmong, AreBelow}
 use Rattle.gil_values.proofs.OperatorSymbols.{none_contained}
 use Rattle.gil_syntax.specs.Programs.{find_proc}
 use Rattle.gil_syntax.specs.Pure.{PureProc, PureSpec, PureParts}
 use Rattle.gil_machine.specs.Run.{start}
-use Rattle.gil_machine.specs.State.{State}
 use Rattle.gil_machine.proofs.Placed.{found_name}
 use Rattle.mem_model.specs.declared.keys.MemoryName.{MemoryName}
 use Rattle.mem_model.specs.Actions.{Actions}
 use Rattle.mem_model.specs.Heaps.{Heap}
 use Rattle.checked_runs.specs.Checked.{Checked, Entry}
 use Rattle.pure_terms.specs.declared.variables.Sort.{Sort}
-use Rattle.pure_terms.specs.Meaning.{all_true, IsProper, Satisfies}
+use Rattle.pure_terms.specs.Meaning.{all_true, IsProper}
 use Rattle.sym_model.specs.Laws.{IsMeaning}
 use Rattle.sym_model.specs.Meaning.{has_open}
 use Rattle.sym_model.specs.Terms.{StateTerms}
 use Rattle.sym_paths.specs.Beginning.{BeginningsStand}
 use Rattle.sym_paths.specs.Meaning.{Stands}
 use Rattle.sym_paths.specs.Steps.{counter_after, counter_past, fresh_count}
-use Rattle.sym_paths.proofs.Beginning.{beginnings_stand}
 use Rattle.sym_paths.proofs.Recording.{past_is}
 use Rattle.sym_beginning.specs.Beginning.{PureStart, PureBeginnings, IsBeginning}
 use Rattle.sym_beginning.specs.Beginning as beginning
 use Rattle.checked_paths.specs.Exactness.{IsNewValue, AreNewValues}
 use Rattle.checked_paths.specs.Meaning.{StandsForChecked, MayGoOn}
-use Rattle.checked_paths.specs.Pure.{PureEntry, PureChecking}
 use Rattle.checked_paths.proofs.Above.{stands_above, store_below}
 use Rattle.spec_causes.specs.Causes.{MeetsAbove}
 use Rattle.spec_causes.specs.Reaching.{IsStartUnder, IsRealStart, entry_at, checked_start}

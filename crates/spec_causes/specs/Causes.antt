@@ -82,7 +82,7 @@ module _ (p : PureParts) (memory : MemoryName) (m : Actions) (e : PureEntry) whe
     pub chosen : Option ℕ
     pub choices_are : choices ≡ earlier ++ with_choice chosen []
     pub more : List PureAtom
-    pub asks : Each (AsksThere p w state) more
+    pub asks : Each (AsksThere p entry w state) more
     pub asked_are : asked ≡ asked_before ++ more
 
   -- ---- what each kind of cause says

@@ -1,7 +1,7 @@
 -- Paths that checked runs of a specification reach from its starts.
 use Rattle.std.specs.Prelude.{◌≡◌, ℕ, zero, suc, List, [], ◌∷◌, Some}
 use Rattle.gil_values.specs.Pure.{PureValue}
-use Rattle.gil_syntax.specs.Pure.{PureNumberedCommand, PureParts, PureSpec}
+use Rattle.gil_syntax.specs.Pure.{PureParts, PureSpec}
 use Rattle.mem_model.specs.declared.keys.MemoryName.{MemoryName}
 use Rattle.mem_model.specs.Actions.{Actions}
 use Rattle.mem_model.specs.Heaps.{Heap}
@@ -12,15 +12,13 @@ use Rattle.sym_model.specs.Lists.{Each}
 use Rattle.sym_model.specs.Terms.{StateTerms}
 use Rattle.sym_beginning.specs.Beginning.{PureStart, PureBeginnings}
 use Rattle.sym_beginning.specs.Origins.{ComeOf}
-use Rattle.sym_paths.specs.Frames.{running_store}
-use Rattle.sym_paths.specs.Meaning.{command_of_path}
 use Rattle.sym_paths.specs.Steps.{counter_past}
 use Rattle.checked_paths.specs.Causes.{PureShown, PureCause, failure, fault, bound, undecided, shown_in}
 use Rattle.checked_paths.specs.Exactness.{HaveMoreOf}
 use Rattle.checked_paths.specs.Meaning.{StandsForChecked, IsEntryOver}
 use Rattle.checked_paths.specs.Pure.{PureEntry, PureChecking}
 use Rattle.checked_paths.specs.Trails.{IsTrailStep}
-use Rattle.spec_causes.specs.Asking.{MayAsk}
+use Rattle.checked_rows.specs.Asking.{MayAskAt}
 use Rattle.spec_causes.specs.Causes.{MeetsAbove, MayBeMet, IsOnTheWay, HasRuns}
 
 -- ---- starts
@@ -35,14 +33,9 @@ checked_start s = record { path = s.path; facts = s.facts; passed = [] ∷ [] }
 
 -- ---- what is reached
 
--- the command at which the path stands may ask the condition
-abbrev pub MayAskAt : {S : Type 0} → PureParts → PureChecking S → PureAtom → Type 0
-MayAskAt p x a =
-    (n : PureNumberedCommand) × ((command_of_path p x.path ≡ Some n) × MayAsk (running_store x.path.stack) n.command a)
-
 -- these conditions are the path's, and then only such that the command there may ask
-abbrev pub AddsAsked : {S : Type 0} → PureParts → PureChecking S → List PureAtom → Type 0
-AddsAsked p x conds = HaveMoreOf (MayAskAt p x) x.path.conds conds
+abbrev pub AddsAsked : {S : Type 0} → PureParts → PureEntry → PureChecking S → List PureAtom → Type 0
+AddsAsked p e x conds = HaveMoreOf (MayAskAt p e x) x.path.conds conds
 
 -- a valuation that is shown meets the conditions that are shown
 abbrev pub IsKnown : PureShown → Type 0
@@ -71,7 +64,7 @@ module _ {S : Type 0} (p : PureParts) (memory : MemoryName) (m : Actions) (stand
   IsAskingTrail start zero x = x ≡ start
   IsAskingTrail start (suc n) x =
       (before : PureChecking S) × (IsAskingTrail start n before × IsTrailStep p memory m stands terms e before x
-      × AddsAsked p before x.path.conds)
+      × AddsAsked p e before x.path.conds)
 
   -- The path comes by as many steps as it has made of a real start, whose conditions come of adding the precondition and may be met.
   pub record IsReached (x : PureChecking S) : Type 0 where

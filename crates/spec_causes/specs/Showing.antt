@@ -7,9 +7,9 @@ use Rattle.pure_terms.specs.Fragment.{InFragment}
 use Rattle.pure_terms.specs.Meaning.{IsUnsatisfiable, Satisfies}
 use Rattle.pure_terms.specs.Pure.{PureAtom}
 use Rattle.sym_paths.specs.Steps.{IsFirstOutside}
-use Rattle.checked_paths.specs.Causes.{PureShown, PureCause, failure, fault, bound, undecided, shown_in}
+use Rattle.checked_paths.specs.Causes.{PureShown, PureCause, failure, fault, bound, undecided}
 use Rattle.checked_paths.specs.Exactness.{AreNewValues}
-use Rattle.spec_causes.specs.Causes.{MeetsAbove, ShowsMeeting}
+use Rattle.spec_causes.specs.Causes.{MeetsAbove}
 
 -- The valuation w is canonical above some counter, and meets what v meets.
 pub record IsCanonicalLike (vars : List Sort) (v w : List PureValue) : Type 0 where

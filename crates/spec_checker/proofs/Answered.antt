@@ -1,5 +1,6 @@
 -- The answers to what was found out of a program's specifications.
-use Rattle.std.proofs.Common.{◌≡◌, ℕ, zero, suc, List, [], ◌∷◌, map, length, slice_get, true, Some, IsTrue, refl, sym, ap, subst, ◌∙◌, true≢false, arith}
+use Rattle.std.proofs.Common.{◌≡◌, ℕ, zero, suc, List, [], ◌∷◌, map, length, slice_get, Bool, true, false, ◌||◌, Some, IsTrue, bytes_eq, refl, sym, ap, subst, ◌∙◌, true≢false, arith}
+use Rattle.std.proofs.lemmas.Slice.Eq.{bytes_eq-Decides}
 use Rattle.gil_syntax.specs.Programs.{find_spec}
 use Rattle.gil_syntax.specs.Pure.{PureSpec, PureParts}
 use Rattle.gil_syntax.specs.Valid.{IsValid, is_among}
@@ -14,11 +15,13 @@ use Rattle.spec_answers.specs.declared.answers.SpecAnswer.{SpecAnswer}
 use Rattle.spec_answers.specs.declared.answers.Verdict.{Verdict}
 use Rattle.spec_answers.specs.Holding.{FindingHolds, Fits, AreFindings, AreTrue, AnswersAreRight}
 use Rattle.spec_causes.specs.declared.meeting.Met.{Met}
-use Rattle.spec_checker.specs.Answers.{Shows, IsVacuous, AnswerEach, IsCauseIfUnproved, AreCauses, HasNoFaultUnlessUnproved, AreFaultless}
+use Rattle.spec_checker.specs.Answers.{Shows, IsVacuous, AnswerEach, IsCauseIfUnproved, AreCauses, HasNoFaultUnlessUnproved, AreFaultless, NoneIsCutUnlessUnproved, AreEnded, IsUsedIfDependent, AreUsed}
 use Rattle.spec_checker.specs.Deciding.{IsOwn, IsSureIfUnproved}
+use Rattle.spec_exploration.specs.Calls.{IsUsedByRuns}
 use Rattle.spec_exploration.specs.Plain.{IsPlainSpec}
-use Rattle.spec_checker.specs.Examining.{ShowsProof, IsVacuousFinding, IsCauseIfCaused, IsSureIfCaused, IsExamined, AreExamined, UsesNone}
+use Rattle.spec_checker.specs.Examining.{ShowsProof, IsVacuousFinding, IsCauseIfCaused, IsSureIfCaused, IsExamined, AreExamined, UsesNone, NoneIsCutUnlessCaused, NamesUsedByRuns}
 use Rattle.spec_checker.proofs.Found.{found_at}
+use Rattle.sym_model.specs.Lists.{Each}
 
 at_place : {A B : Type 0} (xs : List A) (ys : List B) (k : ℕ) (y : B) → length xs ≡ length ys → slice_get ys k ≡ Some y → (x : A) × (slice_get xs k ≡ Some x)
 at_place [] [] k y many is = cc
@@ -58,6 +61,33 @@ faultless_by p memory m answers s (Finding.Clean xs) (Verdict.Unproved c) fits h
 faultless_by p memory m answers s (Finding.Clean xs) (Verdict.DependsOn g) fits holds = holds.0
 faultless_by p memory m answers s (Finding.Vacuous proof) v fits holds = subst (λ (w : Verdict Met). HasNoFaultUnlessUnproved p memory m s w) (sym fits) holds.0
 faultless_by p memory m answers s (Finding.Caused c) v fits holds = subst (λ (w : Verdict Met). HasNoFaultUnlessUnproved p memory m s w) (sym fits) tt
+
+ended_by : (p : PureParts) (memory : MemoryName) (m : Actions) (most : ℕ) (answers : List (SpecAnswer Met)) (s : PureSpec) (f : Finding Met) (v : Verdict Met) → Fits answers f v
+    → NoneIsCutUnlessCaused p memory m most s f → NoneIsCutUnlessUnproved p memory m most s v
+ended_by p memory m most answers s (Finding.Clean xs) Verdict.Verified fits ended = ended
+ended_by p memory m most answers s (Finding.Clean xs) (Verdict.Vacuous proof) fits ended = absurd fits
+ended_by p memory m most answers s (Finding.Clean xs) (Verdict.Unproved c) fits ended = tt
+ended_by p memory m most answers s (Finding.Clean xs) (Verdict.DependsOn g) fits ended = ended
+ended_by p memory m most answers s (Finding.Vacuous proof) v fits ended = subst (λ (w : Verdict Met). NoneIsCutUnlessUnproved p memory m most s w) (sym fits) ended
+ended_by p memory m most answers s (Finding.Caused c) v fits ended = subst (λ (w : Verdict Met). NoneIsCutUnlessUnproved p memory m most s w) (sym fits) tt
+
+-- what holds of each name holds of one that is among them
+each_name : (P : List ℕ → Type 0) (xs : List (List ℕ)) (g : List ℕ) → Each P xs → IsTrue (is_among xs g) → P g
+each_name P [] g each among = absurd (true≢false (sym among))
+each_name P (x ∷ xs) g each among = by (bytes_eq g x) refl among (λ later. each_name P xs g each.1 later)
+  where
+    by : (b : Bool) → bytes_eq g x ≡ b → (b || is_among xs g) ≡ true → (IsTrue (is_among xs g) → P g) → P g
+    by true same is rest = subst P (sym ((bytes_eq-Decides g x).0 same)) each.0
+    by false other is rest = rest is
+
+used_by : (p : PureParts) (memory : MemoryName) (m : Actions) (most : ℕ) (answers : List (SpecAnswer Met)) (s : PureSpec) (f : Finding Met) (v : Verdict Met) → Fits answers f v
+    → NamesUsedByRuns p memory m most s f → IsUsedIfDependent p memory m most s v
+used_by p memory m most answers s (Finding.Clean xs) Verdict.Verified fits used = tt
+used_by p memory m most answers s (Finding.Clean xs) (Verdict.Vacuous proof) fits used = tt
+used_by p memory m most answers s (Finding.Clean xs) (Verdict.Unproved c) fits used = tt
+used_by p memory m most answers s (Finding.Clean xs) (Verdict.DependsOn g) fits used = each_name (IsUsedByRuns p memory m s most) xs g used fits.0
+used_by p memory m most answers s (Finding.Vacuous proof) v fits used = subst (λ (w : Verdict Met). IsUsedIfDependent p memory m most s w) (sym fits) tt
+used_by p memory m most answers s (Finding.Caused c) v fits used = subst (λ (w : Verdict Met). IsUsedIfDependent p memory m most s w) (sym fits) tt
 
 cause_by : (p : PureParts) (memory : MemoryName) (m : Actions) (most : ℕ) (answers : List (SpecAnswer Met)) (s : PureSpec) (f : Finding Met) (v : Verdict Met) → Fits answers f v
     → IsCauseIfCaused p memory m most s f → IsCauseIfUnproved p memory m most s v
@@ -114,6 +144,20 @@ module _ (p : PureParts) (memory : MemoryName) (m : Actions) (keeps : Type 0) (m
     each_faultless = λ k s a at_s at_a.
         let (x, at_x) = at_place xs p.specs k s examined.as_many at_s in
         faultless_by p memory m answers s x.finding a.verdict (right.each_answers k x a at_x at_a).fits (examined.each_examined k s x at_s at_x).found.holds;
+  }
+
+  pub answered_ended : AreEnded p memory m most answers
+  answered_ended = record {
+    each_ended = λ k s a at_s at_a.
+        let (x, at_x) = at_place xs p.specs k s examined.as_many at_s in
+        ended_by p memory m most answers s x.finding a.verdict (right.each_answers k x a at_x at_a).fits (examined.each_examined k s x at_s at_x).found.ended;
+  }
+
+  pub answered_used : AreUsed p memory m most answers
+  answered_used = record {
+    each_used = λ k s a at_s at_a.
+        let (x, at_x) = at_place xs p.specs k s examined.as_many at_s in
+        used_by p memory m most answers s x.finding a.verdict (right.each_answers k x a at_x at_a).fits (examined.each_examined k s x at_s at_x).found.used;
   }
 
   -- a contained specification depends on none

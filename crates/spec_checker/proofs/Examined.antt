@@ -1,12 +1,14 @@
 -- What is found out of specifications, one after another.
 use Rattle.std.proofs.Common.{◌≡◌, ◌⊎◌, inl, inr, ⊎_elim, ℕ, zero, suc, ◌+◌, ◌≤◌, List, [], ◌∷◌, ◌++◌, length, slice_get, Option, Some, None, IfNone, IfSome, refl, sym, ap, subst, ◌∙◌, arith, length-append}
+use Rattle.gil_values.specs.Pure.{PureValue}
+use Rattle.gil_syntax.specs.Evaluation.{Store}
 use Rattle.gil_syntax.specs.Pure.{PureSpec, PureParts}
 use Rattle.gil_syntax.specs.Valid.{is_among}
 use Rattle.mem_model.specs.declared.keys.MemoryName.{MemoryName}
 use Rattle.mem_model.specs.Actions.{Actions}
 use Rattle.checked_paths.specs.Causes.{cause_view}
 use Rattle.checked_paths.specs.Plainly.{IsSureCause}
-use Rattle.checked_runs.specs.Checked.{HasNoFault, UsesOnly}
+use Rattle.checked_runs.specs.Checked.{Checked, HasNoFault, IsReachedIn, UsesOnly}
 use Rattle.plain_specs.specs.Contained.{IsContained}
 use Rattle.solver_proof.specs.declared.proofs.Proof.{Proof}
 use Rattle.solver_proof.specs.Closing.{Closes}
@@ -16,10 +18,13 @@ use Rattle.spec_answers.specs.declared.answers.Examined.{Examined}
 use Rattle.spec_answers.specs.declared.answers.Finding.{Finding}
 use Rattle.spec_causes.specs.Causes.{IsCauseOf, entry_for}
 use Rattle.spec_causes.specs.declared.meeting.Met.{Met}
+use Rattle.spec_exploration.specs.Calls.{IsUsedByRuns}
+use Rattle.spec_exploration.specs.Ending.{NoneIsCut}
 use Rattle.spec_exploration.specs.Plain.{IsPlainSpec}
 use Rattle.spec_checker.specs.Examining.{finding_by, IsRefutable, IsFound, IsExamined, AreExamined}
 use Rattle.spec_vacuity.specs.Translation.{precondition_table, precondition_atoms}
 use Rattle.spec_vacuity.specs.Vacuity.{HasNoStart, VacuousSpecificationsHaveNoRun}
+use Rattle.sym_model.specs.Lists.{Each}
 
 same_some : {A : Type 0} {x y : A} → Some x ≡ Some y → x ≡ y
 same_some is = cc
@@ -29,18 +34,27 @@ not_refutable : (s : PureSpec) → RefutesRightly (precondition_table s) (precon
 not_refutable s (inl outside) refutable = outside refutable.inside
 not_refutable s (inr (v, satisfies)) refutable = refutable.unsatisfiable v satisfies
 
+-- where no run begins, none is under way
+none_begun : (p : PureParts) (memory : MemoryName) (m : Actions) (s : PureSpec) → HasNoStart s → (args : List PureValue) (variables : Store) (n : ℕ) (c : Checked)
+    → ¬ IsReachedIn p memory m (record { spec = s; args = args; variables = variables }) n c
+none_begun p memory m s none args variables zero c is = none p memory m args variables c is
+none_begun p memory m s none args variables (suc n) c (before, (there, leads)) = none_begun p memory m s none args variables n before there
+
 module _ (p : PureParts) (memory : MemoryName) (m : Actions) (keeps : Type 0) (most : ℕ) (s : PureSpec) where
   pub vacuous_found : VacuousSpecificationsHaveNoRun → (proof : Proof) → HasNoStart s → Closes (precondition_table s) (precondition_atoms s) (proof_view proof)
       → IsFound p memory m keeps most s (Finding.Vacuous proof)
-  vacuous_found law proof none closes = let run = law s none p memory m in record { holds = (run.0, run.1 (is_among [])); shows = closes; refuted = λ refutable. tt; cause = tt; contained = λ inside. tt; plain = λ keeps plain. tt }
+  vacuous_found law proof none closes = let run = law s none p memory m in record { holds = (run.0, run.1 (is_among [])); shows = closes; refuted = λ refutable. tt; cause = tt; ended = λ args variables c. none_begun p memory m s none args variables most c; used = tt; contained = λ inside. tt; plain = λ keeps plain. tt }
 
   pub explored_found : RefutesRightly (precondition_table s) (precondition_atoms s) None → (cause : Option Met) (uses : List (List ℕ)) (finding : Finding Met) → finding ≡ finding_by cause uses
       → IfNone cause (HasNoFault p memory m s × UsesOnly p memory m (is_among uses) s) → IfSome cause (λ met. IsCauseOf p memory m s most (entry_for s met.entered) (cause_view met.cause))
+      → IfNone cause (NoneIsCut p memory m most s) → Each (IsUsedByRuns p memory m s most) uses
       → (IsContained p s → uses ≡ []) → (keeps → IsPlainSpec p s → IfSome cause (λ met. IsSureCause (cause_view met.cause))) → IsFound p memory m keeps most s finding
-  explored_found rightly (Some met) uses finding is none right no_uses sure =
-      subst (λ (f : Finding Met). IsFound p memory m keeps most s f) (sym is) (record { holds = tt; shows = tt; refuted = λ refutable. absurd (not_refutable s rightly refutable); cause = right; contained = λ inside. tt; plain = sure })
-  explored_found rightly None uses finding is holds none no_uses sure =
-      subst (λ (f : Finding Met). IsFound p memory m keeps most s f) (sym is) (record { holds = holds; shows = tt; refuted = λ refutable. absurd (not_refutable s rightly refutable); cause = tt; contained = no_uses; plain = λ keeps plain. tt })
+  explored_found rightly (Some met) uses finding is none right ended used no_uses sure =
+      subst (λ (f : Finding Met). IsFound p memory m keeps most s f) (sym is)
+      (record { holds = tt; shows = tt; refuted = λ refutable. absurd (not_refutable s rightly refutable); cause = right; ended = tt; used = tt; contained = λ inside. tt; plain = sure })
+  explored_found rightly None uses finding is holds none ended used no_uses sure =
+      subst (λ (f : Finding Met). IsFound p memory m keeps most s f) (sym is)
+      (record { holds = holds; shows = tt; refuted = λ refutable. absurd (not_refutable s rightly refutable); cause = tt; ended = ended; used = used; contained = no_uses; plain = λ keeps plain. tt })
 
 -- the last of a list, or one before it
 last_or_before : {A : Type 0} (xs : List A) (x : A) (k : ℕ) (y : A) → slice_get (xs ++ x ∷ []) k ≡ Some y

@@ -12,6 +12,8 @@ use Rattle.spec_answers.specs.declared.answers.Verdict.{Verdict}
 use Rattle.spec_answers.specs.Holding.{LeadsToCause}
 use Rattle.spec_causes.specs.Causes.{IsCauseOf, entry_for}
 use Rattle.spec_causes.specs.declared.meeting.Met.{Met}
+pub use Rattle.spec_exploration.specs.Calls.{IsUsedByRuns}
+pub use Rattle.spec_exploration.specs.Ending.{NoneIsCut}
 use Rattle.spec_checker.specs.Examining.{IsRefutable}
 use Rattle.spec_vacuity.specs.Translation.{precondition_table, precondition_atoms}
 
@@ -55,3 +57,24 @@ HasNoFaultUnlessUnproved p memory m s _ = HasNoFault p memory m s
 pub record AreFaultless (p : PureParts) (memory : MemoryName) (m : Actions) (answers : List (SpecAnswer Met)) : Type 0 where
   pub each_faultless : (k : ℕ) (s : PureSpec) (a : SpecAnswer Met) → slice_get p.specs k ≡ Some s → slice_get answers k ≡ Some a
       → HasNoFaultUnlessUnproved p memory m s a.verdict
+
+-- Unless a cause of its own is answered, no checked run of the specification is under way after as many steps as the bound.
+abbrev pub NoneIsCutUnlessUnproved : PureParts → MemoryName → Actions → ℕ → PureSpec → Verdict Met → Type 0
+NoneIsCutUnlessUnproved p memory m most s (Verdict.Unproved met) = ⊤
+NoneIsCutUnlessUnproved p memory m most s _ = NoneIsCut p memory m most s
+
+-- the same of each specification of the program, place by place
+pub record AreEnded (p : PureParts) (memory : MemoryName) (m : Actions) (most : ℕ) (answers : List (SpecAnswer Met)) : Type 0 where
+  pub each_ended : (k : ℕ) (s : PureSpec) (a : SpecAnswer Met) → slice_get p.specs k ≡ Some s → slice_get answers k ≡ Some a
+      → NoneIsCutUnlessUnproved p memory m most s a.verdict
+
+-- The specification that another one depends on is one by which a checked run of that one calls, with fewer steps before than the bound; or
+-- the conditions of adding its precondition aren't in the fragment, and such a run calls so wherever they are met, and others behind them.
+abbrev pub IsUsedIfDependent : PureParts → MemoryName → Actions → ℕ → PureSpec → Verdict Met → Type 0
+IsUsedIfDependent p memory m most s (Verdict.DependsOn g) = IsUsedByRuns p memory m s most g
+IsUsedIfDependent p memory m most s _ = ⊤
+
+-- the same of each specification of the program, place by place
+pub record AreUsed (p : PureParts) (memory : MemoryName) (m : Actions) (most : ℕ) (answers : List (SpecAnswer Met)) : Type 0 where
+  pub each_used : (k : ℕ) (s : PureSpec) (a : SpecAnswer Met) → slice_get p.specs k ≡ Some s → slice_get answers k ≡ Some a
+      → IsUsedIfDependent p memory m most s a.verdict

@@ -15,9 +15,12 @@ use Rattle.spec_answers.specs.declared.answers.Finding.{Finding}
 use Rattle.spec_answers.specs.Holding.{FindingHolds}
 use Rattle.spec_causes.specs.Causes.{IsCauseOf, entry_for}
 use Rattle.spec_causes.specs.declared.meeting.Met.{Met}
+use Rattle.spec_exploration.specs.Calls.{IsUsedByRuns}
 use Rattle.spec_exploration.specs.declared.exploration.Explored.{Explored}
+use Rattle.spec_exploration.specs.Ending.{NoneIsCut}
 use Rattle.spec_exploration.specs.Plain.{IsPlainSpec}
 use Rattle.spec_vacuity.specs.Translation.{precondition_table, precondition_atoms}
+use Rattle.sym_model.specs.Lists.{Each}
 
 abbrev pub finding_by : Option Met → List (List ℕ) → Finding Met
 finding_by (Some met) uses = Finding.Caused met
@@ -56,6 +59,16 @@ abbrev pub IsCauseIfCaused : PureParts → MemoryName → Actions → ℕ → Pu
 IsCauseIfCaused p memory m most s (Finding.Caused met) = IsCauseOf p memory m s most (entry_for s met.entered) (cause_view met.cause)
 IsCauseIfCaused p memory m most s _ = ⊤
 
+-- where no cause was found, no run is cut
+abbrev pub NoneIsCutUnlessCaused : PureParts → MemoryName → Actions → ℕ → PureSpec → Finding Met → Type 0
+NoneIsCutUnlessCaused p memory m most s (Finding.Caused met) = ⊤
+NoneIsCutUnlessCaused p memory m most s _ = NoneIsCut p memory m most s
+
+-- and runs use each specification that is named
+abbrev pub NamesUsedByRuns : PureParts → MemoryName → Actions → ℕ → PureSpec → Finding Met → Type 0
+NamesUsedByRuns p memory m most s (Finding.Clean uses) = Each (IsUsedByRuns p memory m s most) uses
+NamesUsedByRuns p memory m most s _ = ⊤
+
 -- of a memory that may keep the law of plain memories
 module _ (p : PureParts) (memory : MemoryName) (m : Actions) (keeps : Type 0) (most : ℕ) where
   pub record IsFound (s : PureSpec) (finding : Finding Met) : Type 0 where
@@ -63,6 +76,8 @@ module _ (p : PureParts) (memory : MemoryName) (m : Actions) (keeps : Type 0) (m
     pub shows : ShowsProof s finding
     pub refuted : IsRefutable s → IsVacuousFinding finding
     pub cause : IsCauseIfCaused p memory m most s finding
+    pub ended : NoneIsCutUnlessCaused p memory m most s finding
+    pub used : NamesUsedByRuns p memory m most s finding
     pub contained : IsContained p s → UsesNone finding
     pub plain : keeps → IsPlainSpec p s → IsSureIfCaused finding
 

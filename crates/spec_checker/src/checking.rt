@@ -3,7 +3,7 @@ ghost use Rattle.std.specs.Prelude.{◌≤◌, IfOk};
 ghost use Rattle.assert_logic.specs.Modes.{HasModes};
 ghost use Rattle.gil_syntax.specs.Program.{prog_view};
 ghost use Rattle.spec_answers.specs.Holding.{AreTrue};
-ghost use Rattle.spec_checker.specs.Answers.{AnswerEach, AreCauses, AreFaultless};
+ghost use Rattle.spec_checker.specs.Answers.{AnswerEach, AreCauses, AreEnded, AreFaultless, AreUsed};
 ghost use Rattle.spec_checker.specs.Deciding.{AreDecided, AreSettled};
 
 use crate::examining::examine_all;
@@ -31,6 +31,10 @@ pub fn check<M: ListedMemory, D: Refuter>(
     ensures hold { IfOk result (AreTrue (prog_view prog.now) M.Local.memory M.Local.actions) }
     // Each that has no cause of its own has no checked run with a fault, also where it depends on another.
     ensures faultless { IfOk result (AreFaultless (prog_view prog.now) M.Local.memory M.Local.actions) }
+    // Nor has it one that is under way after as many steps as the bound.
+    ensures ended { IfOk result (AreEnded (prog_view prog.now) M.Local.memory M.Local.actions bound) }
+    // One that depends on another one has a checked run within the bound that calls by that one, as far as its precondition is decided.
+    ensures used { IfOk result (AreUsed (prog_view prog.now) M.Local.memory M.Local.actions bound) }
     ensures causes { IfOk result (AreCauses (prog_view prog.now) M.Local.memory M.Local.actions bound) }
 
     // A contained specification depends on no other one, and where its runs do as it tells, no fault of it is shown.

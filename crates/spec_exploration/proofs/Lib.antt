@@ -1,6 +1,8 @@
 pub mod Inside
 pub mod Asking
 pub mod Beginnings
+pub mod Calls
+pub mod Ending
 pub mod Meeting
 pub mod Placing
 pub mod Reaching

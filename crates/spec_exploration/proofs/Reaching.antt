@@ -15,9 +15,13 @@ use Rattle.checked_paths.specs.declared.nexts.Cause.{Cause}
 use Rattle.checked_paths.specs.Exactness.{IsExactNext, AreExact, AddsOnly}
 use Rattle.checked_paths.specs.Meaning.{MayGoOn}
 use Rattle.checked_paths.specs.Pure.{PureEntry, PureChecking, PureNext, further, over, caused}
-use Rattle.spec_causes.specs.Reaching.{MayAskAt, IsFoundCause}
+use Rattle.checked_rows.specs.Asking.{MayAskAt}
+use Rattle.call_rows.specs.Uses.{AreUsedThere}
+use Rattle.spec_causes.specs.Reaching.{IsFoundCause}
 use Rattle.spec_causes.proofs.Reached.{next_reached, cause_found, cut_found}
+use Rattle.spec_exploration.specs.Calls.{IsUsedByRuns}
 use Rattle.spec_exploration.specs.Exploring.{PureExploration, furthers, AreTaken, IsCutAt, IsReachedWithin, IsReachedNext, AreReached}
+use Rattle.spec_exploration.proofs.Calls.{names_used_by_runs}
 use Rattle.spec_exploration.proofs.Taking.{each_zip, further_each, last_apart}
 
 if_some : {A : Type 0} (o : Option A) (P : A → Type 0) → ((x : A) → o ≡ Some x → P x) → IfSome o P
@@ -37,6 +41,9 @@ module _ {S : Type 0} (p : PureParts) (memory : MemoryName) (m : Actions) (stand
   abbrev All : PureExploration S → Type 0
   All = AreReached p memory m stands terms e most
 
+  abbrev Used : List ℕ → Type 0
+  Used = IsUsedByRuns p memory m e.spec most
+
   abbrev Found : Cause → Type 0
   Found c = IsFoundCause p memory m e most (cause_view c)
 
@@ -48,20 +55,21 @@ module _ {S : Type 0} (p : PureParts) (memory : MemoryName) (m : Actions) (stand
     left = subst (Each Within) (sym taken.left) (each_append Within before.left (furthers ns) reached.left (further_each Within ReachedNext (λ y is. is) ns each));
     cause = if_some after.cause Found (λ c is.
         ⊎_elim (λ (old : before.cause ≡ Some c). some_holds before.cause Found c old reached.cause) (λ one. found_among ns c each one) (taken.cause c is));
+    uses = subst (Each Used) (sym taken.uses) reached.uses;
   }
 
   pub starts_reached : (first : PureExploration S) (starts : List (PureNext S)) → Each ReachedNext starts → AreTaken (record { left = []; cause = None; uses = [] }) starts first → All first
-  starts_reached first starts each taken = taken_reached (record { left = []; cause = None; uses = [] }) first starts (record { left = tt; cause = tt }) each taken
+  starts_reached first starts each taken = taken_reached (record { left = []; cause = None; uses = [] }) first starts (record { left = tt; cause = tt; uses = tt }) each taken
 
   pub all_but_last : (old : PureExploration S) (rest : List (PureChecking S)) (x : PureChecking S) → old.left ≡ rest ++ x ∷ [] → All old → All (record old { left = rest }) × Within x
   all_but_last old rest x is reached =
       let both = last_apart Within old.left rest x is reached.left in
-      (record { left = both.0; cause = reached.cause }, both.1)
+      (record { left = both.0; cause = reached.cause; uses = reached.uses }, both.1)
 
   module _ (meaning : IsMeaning memory stands terms) (x : PureChecking S) (within : Within x) (may : MayGoOn p terms e x) where
     -- an answer is exact, and adds only conditions that the command may ask
     abbrev IsExactAsking : PureNext S → Type 0
-    IsExactAsking n = IsExactNext p memory m stands e x n × AddsOnly (MayAskAt p x) x n
+    IsExactAsking n = IsExactNext p memory m stands e x n × AddsOnly (MayAskAt p e x) x n
 
     next_within : x.path.steps < most → (n : PureNext S) → FollowsOn p terms e x n → IsExactAsking n → ReachedNext n
     next_within early (further y) follows (followed, asks) =
@@ -71,11 +79,16 @@ module _ {S : Type 0} (p : PureParts) (memory : MemoryName) (m : Actions) (stand
     next_within early (caused cause) follows (right, asks) = cause_found memory m stands terms meaning p e x within.reached may most early (cause_view cause) right asks
 
     pub step_reached : (before after : PureExploration S) (names : List (List ℕ)) (ns : List (PureNext S)) → x.path.steps < most → AreNexts p memory m stands terms e x names ns → AreExact p memory m stands e x ns
-        → Each (AddsOnly (MayAskAt p x) x) ns → AreTaken (record before { uses = before.uses ++ names }) ns after → All before → All after
-    step_reached before after names ns early laws exact asked taken reached =
-        taken_reached (record before { uses = before.uses ++ names }) after ns (record { left = reached.left; cause = reached.cause })
+        → Each (AddsOnly (MayAskAt p e x) x) ns → AreUsedThere p m stands e x names → AreTaken (record before { uses = before.uses ++ names }) ns after → All before → All after
+    step_reached before after names ns early laws exact asked used taken reached =
+        taken_reached (record before { uses = before.uses ++ names }) after ns
+        (record {
+          left = reached.left;
+          cause = reached.cause;
+          uses = each_append Used before.uses names reached.uses (names_used_by_runs p memory m stands terms e most meaning x within.reached may early names used);
+        })
         (each_zip (FollowsOn p terms e x) IsExactAsking ReachedNext ns (next_within early) laws.follow
-        (each_zip (IsExactNext p memory m stands e x) (AddsOnly (MayAskAt p x) x) IsExactAsking ns (λ n is adds. (is, adds)) exact asked)) taken
+        (each_zip (IsExactNext p memory m stands e x) (AddsOnly (MayAskAt p e x) x) IsExactAsking ns (λ n is adds. (is, adds)) exact asked)) taken
 
     cut_is_found : (c : Cause) → most ≤ x.path.steps → IsCutAt p x.path (cause_view c) → Found c
     cut_is_found c late (here, (place, is)) =

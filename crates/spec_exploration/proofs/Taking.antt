@@ -23,7 +23,9 @@ use Rattle.checked_paths.specs.Meaning.{MayGoOn}
 use Rattle.checked_paths.specs.Pure.{PureEntry, PureChecking, PureNext, further, over, caused}
 use Rattle.checked_paths.proofs.Above.{stands_above}
 use Rattle.checked_paths.proofs.Accounting.{accounted_runs}
+use Rattle.spec_exploration.specs.Ending.{NoneIsCut}
 use Rattle.spec_exploration.specs.Exploring.{PureExploration, furthers, IsNamed, AreTaken, ArePlaced, StartPlaced, IsSettled, IsSettledBy, SettlesStarts}
+use Rattle.spec_exploration.proofs.Ending.{accounted_runs_end}
 
 pub some_is_not_none : {A : Type 0} (o : Option A) → IsSome o → o ≡ None → ⊥
 some_is_not_none o some none = true≢false (sym some ∙ ap is_some none)
@@ -197,6 +199,12 @@ module _ {S : Type 0} (p : PureParts) (memory : MemoryName) (m : Actions) (stand
         → HasNoFault p memory m e.spec × UsesOnly p memory m (is_among last.uses) e.spec
     settled_runs meaning cover last none no_cause settles =
         accounted_runs memory m stands (stands_above memory stands terms meaning) p e (is_among last.uses) bound starts cover
+        (settles (is_among last.uses) (record { no_cause = no_cause; names_chosen = λ x is. is; accounted = subst (Each (WithinBound (is_among last.uses))) (sym none) tt }))
+
+    pub settled_ends : IsMeaning memory stands terms → CoversStarts p memory m stands e starts → (last : PureExploration S) → last.left ≡ [] → last.cause ≡ None → SettlesStarts p memory m stands e bound starts last
+        → NoneIsCut p memory m bound e.spec
+    settled_ends meaning cover last none no_cause settles =
+        accounted_runs_end p memory m stands (stands_above memory stands terms meaning) e (is_among last.uses) bound starts cover
         (settles (is_among last.uses) (record { no_cause = no_cause; names_chosen = λ x is. is; accounted = subst (Each (WithinBound (is_among last.uses))) (sym none) tt }))
 
 -- ---- the last path

@@ -21,6 +21,7 @@ use Rattle.checked_paths.specs.View.{checking_view}
 use Rattle.spec_causes.specs.declared.meeting.Met.{Met}
 use Rattle.spec_causes.specs.Reaching.{IsReached, IsFoundCause}
 use Rattle.spec_causes.specs.Showing.{IsShownAs}
+use Rattle.spec_exploration.specs.Calls.{IsUsedByRuns}
 use Rattle.spec_exploration.specs.declared.exploration.Exploration.{Exploration}
 
 -- the paths that are left, the next one last; the cause that was found, if there is one; and the names of the specifications used
@@ -101,7 +102,8 @@ module _ {S : Type 0} (p : PureParts) (memory : MemoryName) (m : Actions) (stand
   IsReachedNext over = ⊤
   IsReachedNext (caused cause) = IsFoundCause p memory m e most (cause_view cause)
 
-  -- runs reach each path that is left, and the cause that was found is one with its runs
+  -- runs reach each path that is left, the cause that was found is one with its runs, and runs use each specification that is named
   pub record AreReached (x : PureExploration S) : Type 0 where
     pub left : Each IsReachedWithin x.left
     pub cause : IfSome x.cause (λ c. IsFoundCause p memory m e most (cause_view c))
+    pub uses : Each (IsUsedByRuns p memory m e.spec most) x.uses

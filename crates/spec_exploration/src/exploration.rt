@@ -14,6 +14,8 @@ ghost use Rattle.gil_syntax.specs.View.{spec_view};
 ghost use Rattle.plain_specs.specs.Contained.{IsContained};
 ghost use Rattle.spec_causes.specs.Causes.{IsCauseOf, entry_for};
 ghost use Rattle.spec_causes.specs.Reaching.{IsFoundCause, IsKnown};
+ghost use Rattle.spec_exploration.specs.Calls.{IsUsedByRuns};
+ghost use Rattle.spec_exploration.specs.Ending.{NoneIsCut};
 ghost use Rattle.spec_exploration.specs.Exploring.{ArePlaced, AreReached, AreTaken, IsCutAt, IsMetOf, IsNamed, IsReachedNext, IsReachedWithin, IsSettledBy, StartPlaced, exploration_view};
 ghost use Rattle.spec_exploration.specs.Inside.{IsInside, IsNextInside, StaysInside};
 ghost use Rattle.spec_exploration.specs.Plain.{HasPlainTerms, IsPlainAt, IsPlainNext, IsPlainSpec, StaysPlain};
@@ -259,6 +261,10 @@ fn explore_from<M: ListedMemory, D: Decider>(
         (entry_view spec.now entered.now) bound) (nexts_view starts) }
     ensures verified { IfOk result (λ found. IfNone found.cause (HasNoFault (prog_view prog.now) M.Local.memory M.Local.actions (spec_view spec.now)
         × UsesOnly (prog_view prog.now) M.Local.memory M.Local.actions (is_among found.uses) (spec_view spec.now))) }
+    ensures ended { IfOk result (λ found. IfNone found.cause (NoneIsCut (prog_view prog.now) M.Local.memory M.Local.actions bound
+        (spec_view spec.now))) }
+    ensures used { IfOk result (λ found. Each (IsUsedByRuns (prog_view prog.now) M.Local.memory M.Local.actions (spec_view spec.now) bound)
+        found.uses) }
     ensures inside { IsContained (prog_view prog.now) (spec_view spec.now)
         → Each (IsNextInside (prog_view prog.now) (spec_view spec.now)) (nexts_view starts) → IfOk result (λ found. found.uses ≡ []) }
     ensures causes { IfOk result (λ found. IfSome found.cause (λ cause. IsFoundCause (prog_view prog.now) M.Local.memory M.Local.actions
@@ -331,6 +337,12 @@ pub fn explore_specification<M: ListedMemory, D: Decider>(
     ensures verified { IfOk result (λ explored. IfNone explored.cause (HasNoFault (prog_view prog.now) M.Local.memory M.Local.actions
         (spec_view spec.now)
         × UsesOnly (prog_view prog.now) M.Local.memory M.Local.actions (is_among explored.uses) (spec_view spec.now))) }
+    // Nor is any of them cut: where there is no cause, each has ended before it makes as many steps as the bound.
+    ensures ended { IfOk result (λ explored. IfNone explored.cause (NoneIsCut (prog_view prog.now) M.Local.memory M.Local.actions bound
+        (spec_view spec.now))) }
+    // And a named specification is one that they use.
+    ensures used { IfOk result (λ explored. Each (IsUsedByRuns (prog_view prog.now) M.Local.memory M.Local.actions (spec_view spec.now) bound)
+        explored.uses) }
     ensures causes { IfOk result (λ explored. IfSome explored.cause (λ met. IsCauseOf (prog_view prog.now) M.Local.memory M.Local.actions
         (spec_view spec.now) bound (entry_for (spec_view spec.now) met.entered) (cause_view met.cause))) }
     ensures contained { IsContained (prog_view prog.now) (spec_view spec.now) → IfOk result (λ explored. explored.uses ≡ []) }

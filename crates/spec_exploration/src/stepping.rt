@@ -2,11 +2,13 @@
 ghost use Rattle.std.specs.Prelude.{◌≡◌, ◌<◌, [], Some, IfOk, IsTrue, false};
 ghost use Rattle.assert_logic.specs.Modes.{HasModes};
 ghost use Rattle.call_rows.specs.Calling.{IsCall};
+ghost use Rattle.call_rows.specs.Uses.{AreUsedThere};
 ghost use Rattle.checked_paths.specs.Covering.{AreNexts};
 ghost use Rattle.checked_paths.specs.Exactness.{AreExact, AddsOnly};
 ghost use Rattle.checked_paths.specs.Following.{OfGoing, is_of_machine as is_machine_command};
 ghost use Rattle.checked_paths.specs.Meaning.{MayGoOn};
 ghost use Rattle.checked_paths.specs.View.{checking_view, entry_view, nexts_view};
+ghost use Rattle.checked_rows.specs.Asking.{AsksOnlyOwn, MayAskAt};
 ghost use Rattle.checked_rows.specs.Ending.{IsLeaving};
 ghost use Rattle.checked_rows.specs.Plainly.{EndsPlainly};
 ghost use Rattle.checked_rows.specs.Rows.{AreRowOf, IsExactRowOf};
@@ -17,7 +19,6 @@ ghost use Rattle.gil_syntax.specs.View.{command_view, numbered_command_view, spe
 ghost use Rattle.plain_specs.specs.Contained.{IsContained};
 ghost use Rattle.spec_exploration.specs.Inside.{IsInside, IsNextInside};
 ghost use Rattle.spec_exploration.specs.Plain.{HasPlainTerms, IsPlainAt, IsPlainNext, IsPlainSpec, StepsPlainly};
-ghost use Rattle.spec_causes.specs.Reaching.{MayAskAt};
 ghost use Rattle.sym_engine.specs.Lawful.{MayAdvance};
 ghost use Rattle.sym_model.specs.Lists.{Each};
 ghost use Rattle.sym_paths.specs.Meaning.{command_of_path};
@@ -103,6 +104,8 @@ fn leave<M: ListedMemory, D: Decider>(
         M.stands M.terms (entry_view spec.now entered.now) (checking_view checking) command [] (nexts_view ns)) }
     ensures exact { IfOk result (λ ns. (command : PureCommand) → IsLeaving command → IsExactRowOf (prog_view prog.now) M.Local.memory
         M.Local.actions M.stands M.terms (entry_view spec.now entered.now) (checking_view checking) command here.now (nexts_view ns)) }
+    ensures asked { IfOk result (λ ns. (command : PureCommand) → IsLeaving command → AsksOnlyOwn (prog_view prog.now)
+        (entry_view spec.now entered.now) (checking_view checking) command (nexts_view ns)) }
     ensures plain { M.keeps_plain → IfOk result (λ ns. EndsPlainly (prog_view prog.now) M.plain (entry_view spec.now entered.now)
         (path_view checking.path) (nexts_view ns)) }
 {
@@ -138,8 +141,8 @@ fn step_at<M: ListedMemory, D: Decider>(
         (entry_view spec.now entered.now) (checking_view checking) [] (nexts_view ns)) }
     ensures exact { IfOk result (λ ns. AreExact (prog_view prog.now) M.Local.memory M.Local.actions M.stands
         (entry_view spec.now entered.now) (checking_view checking) (nexts_view ns)) }
-    ensures asked { IfOk result (λ ns. Each (AddsOnly (MayAskAt (prog_view prog.now) (checking_view checking)) (checking_view checking))
-        (nexts_view ns)) }
+    ensures asked { IfOk result (λ ns. Each (AddsOnly (MayAskAt (prog_view prog.now) (entry_view spec.now entered.now) (checking_view checking))
+        (checking_view checking)) (nexts_view ns)) }
     ensures plain { M.keeps_plain → IsPlainSpec (prog_view prog.now) (spec_view spec.now) → HasPlainTerms (entry_view spec.now entered.now)
         → IsInside (prog_view prog.now) (spec_view spec.now) (path_view checking.path)
         → IfOk result (λ ns. StepsPlainly M.plain (spec_view spec.now) (path_view checking.path) (nexts_view ns)) }
@@ -201,8 +204,10 @@ fn step_call<M: ListedMemory, D: Decider>(
         (entry_view spec.now entered.now) (checking_view checking) s.uses (nexts_view s.nexts)) }
     ensures exact { IfOk result (λ s. AreExact (prog_view prog.now) M.Local.memory M.Local.actions M.stands
         (entry_view spec.now entered.now) (checking_view checking) (nexts_view s.nexts)) }
-    ensures asked { IfOk result (λ s. Each (AddsOnly (MayAskAt (prog_view prog.now) (checking_view checking)) (checking_view checking))
-        (nexts_view s.nexts)) }
+    ensures asked { IfOk result (λ s. Each (AddsOnly (MayAskAt (prog_view prog.now) (entry_view spec.now entered.now) (checking_view checking))
+        (checking_view checking)) (nexts_view s.nexts)) }
+    ensures used { IfOk result (λ s. AreUsedThere (prog_view prog.now) M.Local.actions M.stands (entry_view spec.now entered.now)
+        (checking_view checking) s.uses) }
     ensures plain { M.keeps_plain → IsPlainSpec (prog_view prog.now) (spec_view spec.now)
         → IsInside (prog_view prog.now) (spec_view spec.now) (path_view checking.path)
         → IfOk result (λ s. StepsPlainly M.plain (spec_view spec.now) (path_view checking.path) (nexts_view s.nexts)) }
@@ -232,8 +237,10 @@ pub(crate) fn check_step<M: ListedMemory, D: Decider>(
         (entry_view spec.now entered.now) (checking_view checking) s.uses (nexts_view s.nexts)) }
     ensures exact { IfOk result (λ s. AreExact (prog_view prog.now) M.Local.memory M.Local.actions M.stands
         (entry_view spec.now entered.now) (checking_view checking) (nexts_view s.nexts)) }
-    ensures asked { IfOk result (λ s. Each (AddsOnly (MayAskAt (prog_view prog.now) (checking_view checking)) (checking_view checking))
-        (nexts_view s.nexts)) }
+    ensures asked { IfOk result (λ s. Each (AddsOnly (MayAskAt (prog_view prog.now) (entry_view spec.now entered.now) (checking_view checking))
+        (checking_view checking)) (nexts_view s.nexts)) }
+    ensures used { IfOk result (λ s. AreUsedThere (prog_view prog.now) M.Local.actions M.stands (entry_view spec.now entered.now)
+        (checking_view checking) s.uses) }
     ensures plain { M.keeps_plain → IsPlainSpec (prog_view prog.now) (spec_view spec.now) → HasPlainTerms (entry_view spec.now entered.now)
         → IsInside (prog_view prog.now) (spec_view spec.now) (path_view checking.path)
         → IsPlainAt M.plain (spec_view spec.now) (path_view checking.path)

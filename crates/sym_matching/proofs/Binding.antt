@@ -1,29 +1,28 @@
 -- What comes of giving a name a term.
-use Rattle.std.proofs.Common.{◌≡◌, ℕ, List, [], ◌∷◌, Bool, true, false, ◌&&◌, if◌then◌else◌, Option, Some, None, IsTrue, refl, sym, ap, subst, ◌∙◌}
-use Rattle.std.specs.Option.{option_map}
+use Rattle.std.proofs.Common.{◌≡◌, ℕ, List, Bool, true, false, ◌&&◌, if◌then◌else◌, Option, Some, None, refl, sym, subst, ◌∙◌}
 use Rattle.std.specs.Str.{bytes_eq}
-use Rattle.gil_values.specs.Equality.{same_value}
 use Rattle.gil_values.specs.Pure.{PureValue}
 use Rattle.gil_syntax.specs.declared.assertions.Param.{Param}
 use Rattle.gil_syntax.specs.Evaluation.{Store, bind, value_of}
 use Rattle.gil_syntax.specs.Valid.{is_among, param_names}
-use Rattle.assert_logic.specs.Matching.{given, agrees_with}
+use Rattle.assert_logic.specs.Matching.{agrees_with}
 use Rattle.assert_logic.specs.Sorts.{fits_sorts}
 use Rattle.pure_terms.specs.declared.variables.Sort.{Sort}
 use Rattle.pure_terms.specs.Meaning.{value, IsProper, IsOver}
 use Rattle.pure_terms.specs.Pure.{PureTerm}
 use Rattle.sym_model.specs.Alternatives.{always}
-use Rattle.sym_model.specs.ConditionLaws.{HaveBoth}
-use Rattle.sym_evaluation.specs.Meaning.{AreSame, HasValue, StandsFor, IsStoreOver, Serves}
+use Rattle.sym_evaluation.specs.Meaning.{AreSame, StandsFor, IsStoreOver}
 use Rattle.sym_evaluation.specs.Plainly.{IsPlain, IsPlainStore}
 use Rattle.sym_evaluation.specs.Pure.{PureStore, term_at}
 use Rattle.sym_model.proofs.ListLaws.{same_some}
-use Rattle.sym_matching.specs.Meaning.{SaysTest, IsTestOver, SaysSplit, IsSplitOver}
-use Rattle.sym_matching.specs.Parts.{IsTestOf, AreStores, ByTerm, GivesTerm, BindsTerm, bound_where}
-use Rattle.sym_matching.specs.Pure.{PureTest, PureSplit}
-use Rattle.sym_matching.specs.Splitting.{passed, also, equal_test, out_test, nothing, where_met}
+use Rattle.sym_matching.specs.Meaning.{SaysTest, IsTestOver, SaysSplit}
+use Rattle.sym_matching.specs.Origins.{TestComesFrom, AsksSorts, AddsOnlyTo}
+use Rattle.sym_matching.specs.Parts.{IsTestOf, ByTerm, IsThis, GivesTerm, BindsTerm, bound_where}
+use Rattle.sym_matching.specs.Pure.{PureTest}
+use Rattle.sym_matching.specs.Splitting.{also, out_test, nothing, where_met}
 use Rattle.sym_matching.proofs.Conditions.{also_says, also_over, passed_says, passed_over}
 use Rattle.sym_matching.proofs.Deciding.{plain_guard, never_decided, met_decided}
+use Rattle.sym_matching.proofs.OriginLaws.{never_from, gives_from, bound_term_from}
 use Rattle.sym_matching.proofs.SplitLaws.{never_says, met_says, never_over, met_over}
 use Rattle.sym_matching.proofs.TestLaws.{equal_says, equal_over}
 
@@ -63,10 +62,12 @@ module _ (scope : List Param) (x : List ℕ) (t : PureTerm) (bs : PureStore) whe
       over = λ vars store over. never_over vars (IsStoreOver vars);
     };
     plain = λ b store plain. never_decided (IsPlainStore b) b;
+    from = never_from (AsksSorts scope x t) (AddsOnlyTo (IsThis x t) bs);
   }
 
-  pub gives_term : (cs : PureStore) (test : PureTest) → is_among (param_names scope) x ≡ true → IsTestOf (fits_sorts scope x) t test → IsGiven x t bs cs → GivesTerm scope x t bs (where_met test cs)
-  gives_term cs test declared tests is = record {
+  pub gives_term : (cs : PureStore) (test : PureTest) → is_among (param_names scope) x ≡ true → IsTestOf (fits_sorts scope x) t test → TestComesFrom (AsksSorts scope x t) test → IsGiven x t bs cs
+      → GivesTerm scope x t bs (where_met test cs)
+  gives_term cs test declared tests from is = record {
     gives = record {
       says = λ vars v s w serves over has.
           subst (λ b. SaysSplit v (StandsFor v) (where_met test cs) (if b && fits_sorts scope x w then Some (bind x w s) else None)) (sym declared)
@@ -74,6 +75,7 @@ module _ (scope : List Param) (x : List ℕ) (t : PureTerm) (bs : PureStore) whe
       over = λ vars store over. met_over vars (IsStoreOver vars) test cs (tests.over vars over) (given_over x t bs cs is vars over store);
     };
     plain = λ b store plain. met_decided (IsPlainStore b) b test cs (tests.decided b (plain_guard b t plain)) (given_plain x t bs cs is b plain store);
+    from = gives_from scope x t bs cs test from is;
   }
 
 -- ---- a parameter that may have a term
@@ -90,9 +92,9 @@ pub out_over : (vars : List Sort) (k : Option PureTerm) (t : PureTerm) → ((r :
 out_over vars None t known over = passed_over vars
 out_over vars (Some r) t known over = equal_over vars r t (known r refl) over
 
-pub binds_term : (sorts : List Param) (x : List ℕ) (t : PureTerm) (bs cs : PureStore) (fits test : PureTest) → IsTestOf (fits_sorts sorts x) t fits → test ≡ also fits (out_test (term_at bs x) t) → IsGiven x t bs cs
-    → BindsTerm sorts x t bs (where_met test cs)
-binds_term sorts x t bs cs fits test tests is_test is = record {
+binds_value : (sorts : List Param) (x : List ℕ) (t : PureTerm) (bs cs : PureStore) (fits test : PureTest) → IsTestOf (fits_sorts sorts x) t fits → test ≡ also fits (out_test (term_at bs x) t) → IsGiven x t bs cs
+    → ByTerm t (bound_where sorts x) bs (where_met test cs)
+binds_value sorts x t bs cs fits test tests is_test is = record {
   says = λ vars v s w serves over has.
       met_says v (StandsFor v) test (fits_sorts sorts x w && agrees_with (value_of s x) w) cs (bind x w s)
       (subst (λ c. SaysTest v c (fits_sorts sorts x w && agrees_with (value_of s x) w)) (sym is_test)
@@ -103,3 +105,7 @@ binds_term sorts x t bs cs fits test tests is_test is = record {
       met_over vars (IsStoreOver vars) test cs (subst (IsTestOver vars) (sym is_test) (also_over vars fits (out_test (term_at bs x) t) (tests.over vars over) (out_over vars (term_at bs x) t (store x) over)))
       (given_over x t bs cs is vars over store);
 }
+
+pub binds_term : (sorts : List Param) (x : List ℕ) (t : PureTerm) (bs cs : PureStore) (fits test : PureTest) → IsTestOf (fits_sorts sorts x) t fits → TestComesFrom (AsksSorts sorts x t) fits
+    → test ≡ also fits (out_test (term_at bs x) t) → IsGiven x t bs cs → BindsTerm sorts x t bs (where_met test cs)
+binds_term sorts x t bs cs fits test tests from is_test is = (binds_value sorts x t bs cs fits test tests is_test is, bound_term_from sorts x t bs cs fits test from is_test is)

@@ -1,5 +1,5 @@
 -- What the cases of an expression say, as a split.
-use Rattle.std.proofs.Common.{◌≡◌, ◌⊎◌, ⊎_elim, inl, inr, ℕ, ◌+◌, pos, neg_ℤ, List, [], ◌∷◌, map, false, Option, Some, None, Result, Ok, Err, IsTrue, refl, sym, ap, subst, ◌∙◌, true≢false}
+use Rattle.std.proofs.Common.{◌≡◌, inl, inr, ℕ, ◌+◌, pos, neg_ℤ, List, [], ◌∷◌, map, false, Option, Some, None, Result, Ok, Err, IsTrue, refl, sym, ◌∙◌, true≢false}
 use Rattle.std.specs.List.{list_all}
 use Rattle.std.specs.Result.{result_ok}
 use Rattle.gil_values.specs.Operators.{Fault}
@@ -11,22 +11,23 @@ use Rattle.gil_syntax.specs.WellMade.{is_spellable}
 use Rattle.pure_terms.specs.declared.variables.Sort.{Sort}
 use Rattle.pure_terms.specs.Meaning.{all_true, IsOver}
 use Rattle.pure_terms.specs.Pure.{PureTerm, PureAtom, term_of}
-use Rattle.sym_model.specs.Alternatives.{Alternatives, Hold}
-use Rattle.sym_evaluation.specs.Meaning.{IsTaken, IsClosed, IsGood, SayOutcome, HasValue, AreCasesOf, IsStoreOver}
+use Rattle.sym_model.specs.Alternatives.{Hold}
+use Rattle.sym_evaluation.specs.Meaning.{IsTaken, IsClosed, IsGood, SayOutcome, HasValue, AreCasesOf}
 use Rattle.sym_evaluation.specs.Plainly.{IsPlain, IsPlainGuard, text_bound}
 use Rattle.sym_evaluation.specs.Pure.{PureStore, PureFaultCase, PureGoodCase, PureCases}
-use Rattle.sym_evaluation.specs.Questions.{IsAsked, OnConditions, OnResult, EachCondition, ComesFrom, NameNoOthers}
+use Rattle.sym_evaluation.specs.Questions.{IsAsked, OnConditions, OnResult, ComesFrom, NameNoOthers}
 use Rattle.sym_evaluation.proofs.AskedAtoms.{asked_closed}
 use Rattle.sym_model.specs.Laws.{IsDecidedWithin}
-use Rattle.sym_model.specs.Lists.{Each, OneOf}
+use Rattle.sym_model.specs.Lists.{Each}
 use Rattle.sym_model.specs.Meaning.{is_open}
-use Rattle.sym_model.proofs.ListLaws.{not_none, each_map, each_to, one_map, one_mapped, one_with}
+use Rattle.sym_model.proofs.ListLaws.{each_to, one_map, one_mapped, one_with}
 use Rattle.sym_paths.specs.PlainLaws.{PlainExpressionsAskNothing}
 use Rattle.sym_paths.specs.Plain.{AsksNothing}
-use Rattle.sym_matching.specs.Meaning.{IsReached, Gives, SaysSplit, IsCondition, AreConditions, IsFoundOver, IsSplitOver}
+use Rattle.sym_matching.specs.Meaning.{IsReached, Gives, SaysSplit, AreConditions, IsFoundOver}
 use Rattle.sym_matching.specs.Parts.{AreValues}
 use Rattle.sym_matching.specs.Plainly.{AreDecided, IsFoundDecided, IsSplitDecided}
 use Rattle.sym_matching.specs.Pure.{PureSplit}
+use Rattle.sym_matching.proofs.OriginLaws.{evaluated_from}
 
 abbrev pub conds_of : PureFaultCase → List PureAtom
 conds_of c = c.conds
@@ -115,4 +116,5 @@ values_from laws bs e cases spelled says from names = record {
     found = good_over bs e vars cases.good named.0.1 from.0.1 named.1;
     none = faults_over bs e vars cases.faults named.0.0 from.0.0;
   };
+  from = evaluated_from bs e cases from;
 }

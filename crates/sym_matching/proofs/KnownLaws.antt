@@ -1,12 +1,11 @@
 -- The outs that are known, one after another, and the terms of names.
-use Rattle.std.proofs.Common.{◌≡◌, ⊎_elim, inl, inr, ℕ, ◌+◌, List, [], ◌∷◌, ◌++◌, Bool, true, false, ◌&&◌, if◌then◌else◌, Option, Some, None, is_some, Ok, Err, IsTrue, refl, sym, ap, subst, ◌∙◌}
+use Rattle.std.proofs.Common.{◌≡◌, ⊎_elim, inl, inr, ℕ, ◌+◌, List, [], ◌∷◌, ◌++◌, Bool, true, false, ◌&&◌, if◌then◌else◌, Option, Some, None, is_some, refl, sym, ap, subst, ◌∙◌}
 use Rattle.std.specs.Prelude.{⊤}
 use Rattle.std.specs.List.{list_all}
 use Rattle.std.specs.Option.{option_map, option_and_then}
 use Rattle.std.specs.Result.{result_ok}
 use Rattle.std.proofs.lemmas.Bool.{and_parts}
 use Rattle.std.proofs.lemmas.List.Folds.{list_all-append}
-use Rattle.gil_values.specs.Operators.{Outcome}
 use Rattle.gil_values.specs.Pure.{PureValue}
 use Rattle.gil_syntax.specs.Evaluation.{Store, value_of, evaluate}
 use Rattle.gil_syntax.specs.Pure.{PureExpr}
@@ -14,23 +13,23 @@ use Rattle.gil_syntax.specs.Subexpressions.{names_of}
 use Rattle.assert_logic.specs.Matching.{is_known, known_outs, values_of}
 use Rattle.assert_logic.specs.Names.{knows_all}
 use Rattle.pure_terms.specs.declared.variables.Sort.{Sort}
-use Rattle.pure_terms.specs.Meaning.{both, value, values, IsOver}
-use Rattle.pure_terms.specs.Pure.{PureTerm, from_list}
-use Rattle.sym_model.specs.Alternatives.{Hold}
-use Rattle.sym_evaluation.specs.Meaning.{AreSame, HasValue, HaveValues, StandsFor, Serves, IsStoreOver}
+use Rattle.pure_terms.specs.Meaning.{both, values, IsOver}
+use Rattle.pure_terms.specs.Pure.{PureTerm}
+use Rattle.sym_evaluation.specs.Meaning.{AreSame, HasValue, StandsFor, Serves, IsStoreOver}
 use Rattle.sym_evaluation.specs.Plainly.{IsPlain, text_bound, has_text_numbers}
 use Rattle.sym_evaluation.specs.Pure.{PureStore, term_at, PureGoodCase}
-use Rattle.sym_model.specs.Lists.{Each}
-use Rattle.sym_model.proofs.ListLaws.{each_append, same_some}
+use Rattle.sym_model.proofs.ListLaws.{each_append}
 use Rattle.sym_states.proofs.Values.{values_append}
-use Rattle.sym_matching.specs.Meaning.{IsReached, Gives, SaysSplit, IsCondition, AreConditions, IsFoundOver, IsSplitOver, AreOuts, IsOutOver, AreOutsOver, AreTermsOfAll, AreEachOverIfAny}
+use Rattle.sym_matching.specs.Meaning.{IsReached, Gives, SaysSplit, IsFoundOver, IsSplitOver, AreOuts, IsOutOver, AreOutsOver, AreTermsOfAll, AreEachOverIfAny}
 use Rattle.sym_paths.specs.Plain.{is_plain_argument}
+use Rattle.sym_matching.specs.Origins.{AreKnownOuts, OutsComeFrom, terms_at}
 use Rattle.sym_matching.specs.Parts.{AreValues, one_out, AddsOut, Continues}
 use Rattle.sym_matching.specs.Plainly.{IsFoundDecided, OutsStayDecided}
 use Rattle.sym_matching.specs.Pure.{PureSplit, PureOuts}
 use Rattle.sym_matching.specs.Splitting.{sure, has_term, known_with, with_known, terms_with}
 use Rattle.sym_matching.proofs.Deciding.{continues_decided, sure_decided}
 use Rattle.sym_matching.proofs.Lists.{outs_more, known_more, names_more}
+use Rattle.sym_matching.proofs.OriginLaws.{sure_from, known_out_from, unknown_out_from, known_outs_from, terms_at_more}
 use Rattle.sym_matching.proofs.SplitLaws.{continues_says, continues_over, sure_says, sure_over}
 use Rattle.sym_matching.proofs.ValueLaws.{known_same}
 
@@ -82,6 +81,7 @@ module _ (bs : PureStore) (e : PureExpr) (outs : PureOuts) where
         (sym knows ∙ known_alike v bs s serves.stands e) (known_says v outs os same values (result_ok (evaluate e s)) (are.says vars v s serves));
     over = λ vars store over. record { found = known_over_by vars outs over values.found (are.over vars store).found; none = (are.over vars store).none };
     decided = λ vars b from plain numbers. let is = are.argument vars b from plain numbers in record { found = known_decided_by (b + text_bound) outs values.found is.found; none = is.none };
+    from = known_out_from bs e outs values are.from;
   }
 
   pub adds_unknown : knows_all (has_term bs) e ≡ false → AddsOut bs e outs (sure (outs ++ None ∷ []))
@@ -91,6 +91,7 @@ module _ (bs : PureStore) (e : PureExpr) (outs : PureOuts) where
         (sym unknown ∙ known_alike v bs s serves.stands e) (sure_says v (AreOuts v) (outs ++ None ∷ []) (os ++ None ∷ []) (outs_more v outs None os None same tt));
     over = λ vars store over. sure_over vars (AreOutsOver vars) (outs ++ None ∷ []) (each_append (IsOutOver vars) outs (None ∷ []) over (tt, tt));
     decided = λ vars b from plain numbers. sure_decided (λ more. ⊤) (b + text_bound) (outs ++ None ∷ []) tt;
+    from = unknown_out_from bs e outs;
   }
 
 -- the outs that are known, as a split
@@ -98,6 +99,7 @@ pub record AreKnown (bs : PureStore) (es : List PureExpr) (split : PureSplit Pur
   pub says : (vars : List Sort) (v : List PureValue) (s : Store) → Serves vars v bs s → SaysSplit v (AreOuts v) split (result_ok (known_outs s es))
   pub over : (vars : List Sort) → IsStoreOver vars bs → IsSplitOver (AreOutsOver vars) vars split
   pub plain : OutsStayDecided bs es split
+  pub from : OutsComeFrom bs es split
 
 module _ (bs : PureStore) where
   pub known_begin : AreKnown bs [] (sure [])
@@ -105,6 +107,7 @@ module _ (bs : PureStore) where
     says = λ vars v s serves. sure_says v (AreOuts v) [] [] tt;
     over = λ vars store. sure_over vars (AreOutsOver vars) [] tt;
     plain = λ vars b from arguments numbers. sure_decided (λ more. ⊤) (b + text_bound) [] tt;
+    from = sure_from (λ a. ⊥) (AreKnownOuts bs []) [] tt;
   }
 
   last_of_all : (f : PureExpr → Bool) (es : List PureExpr) (e : PureExpr) → list_all f (es ++ e ∷ []) ≡ true → (list_all f es ≡ true) × (f e ≡ true)
@@ -122,6 +125,7 @@ module _ (bs : PureStore) where
         let (number, number_e) = last_of_all has_text_numbers es e numbers in
         continues_decided (λ outs. ⊤) (λ outs. ⊤) (b + text_bound) (AddsOut bs e) split whole (are.plain vars b from argument number) is
         (λ g next there cont holds. cont.decided vars b from argument_e number_e);
+    from = known_outs_from bs e es (AddsOut bs e) (λ outs next cont. cont.from) split whole are.from is;
   }
 
 -- ---- the terms of names
@@ -129,6 +133,7 @@ module _ (bs : PureStore) where
 pub record AreTerms (bs : PureStore) (xs : List (List ℕ)) (o : Option (List PureTerm)) : Type 0 where
   pub says : (v : List PureValue) (s : Store) → StandsFor v bs s → AreTermsOfAll v o (values_of s xs)
   pub over : (vars : List Sort) → IsStoreOver vars bs → AreEachOverIfAny vars o
+  pub exact : o ≡ terms_at bs xs
 
 module _ (v : List PureValue) where
   terms_more : (o : Option (List PureTerm)) (p : Option (List PureValue)) (t : Option PureTerm) (w : Option PureValue) → AreTermsOfAll v o p → AreSame v t w
@@ -148,10 +153,11 @@ terms_over vars (Some ts) (Some t) over known = each_append (IsOver vars) ts (t 
 
 module _ (bs : PureStore) where
   pub terms_begin : AreTerms bs [] (Some [])
-  terms_begin = record { says = λ v s stands. refl; over = λ vars store. tt }
+  terms_begin = record { says = λ v s stands. refl; over = λ vars store. tt; exact = refl }
 
   pub terms_step : (xs : List (List ℕ)) (x : List ℕ) (o : Option (List PureTerm)) → AreTerms bs xs o → AreTerms bs (xs ++ x ∷ []) (terms_with o (term_at bs x))
   terms_step xs x o are = record {
     says = λ v s stands. subst (AreTermsOfAll v (terms_with o (term_at bs x))) (sym (names_more s xs x)) (terms_more v o (values_of s xs) (term_at bs x) (value_of s x) (are.says v s stands) (stands x));
     over = λ vars store. terms_over vars o (term_at bs x) (are.over vars store) (store x);
+    exact = ap (λ p. terms_with p (term_at bs x)) are.exact ∙ terms_at_more bs xs x;
   }

@@ -5,6 +5,7 @@ pub mod Deciding
 pub mod Evaluated
 pub mod KnownLaws
 pub mod Lists
+pub mod OriginLaws
 pub mod Reading
 pub mod SplitLaws
 pub mod StoreLaws

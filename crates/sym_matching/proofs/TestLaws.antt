@@ -1,24 +1,18 @@
 -- What tests of terms say, and what they name.
-use Rattle.std.proofs.Common.{◌≡◌, ◌⊎◌, ⊎_elim, inl, inr, ℕ, List, [], ◌∷◌, ◌++◌, Bool, true, false, not, ◌&&◌, ◌||◌, if◌then◌else◌, Option, Some, None, IsTrue, slice_get, refl, sym, ap, subst, ◌∙◌, true≢false}
-use Rattle.std.specs.List.{list_all}
-use Rattle.std.specs.Str.{bytes_eq}
+use Rattle.std.proofs.Common.{◌≡◌, ◌⊎◌, ⊎_elim, inl, inr, List, [], ◌∷◌, ◌++◌, Bool, true, false, if◌then◌else◌, Option, Some, None, IsTrue, slice_get, refl, sym, ap, subst, ◌∙◌, true≢false}
 use Rattle.gil_values.specs.declared.kinds.Kind.{Kind}
-use Rattle.gil_values.specs.declared.operators.UnOp.{UnOp}
-use Rattle.gil_values.specs.declared.operators.BinOp.{BinOp}
 use Rattle.gil_values.specs.Equality.{same_value, same_kind}
 use Rattle.gil_values.specs.EqualityLaws.{same_value-Decides, same_value-refl}
 use Rattle.gil_values.specs.Pure.{PureValue, integer, boolean, text, symbol, kind, procedure, list, kind_of}
-use Rattle.gil_syntax.specs.declared.assertions.Param.{Param}
 use Rattle.gil_syntax.specs.declared.assertions.SpecSort.{SpecSort}
-use Rattle.assert_logic.specs.Sorts.{has_sort, fits_sorts}
-use Rattle.pure_terms.specs.declared.literals.Literal.{Literal}
+use Rattle.assert_logic.specs.Sorts.{has_sort}
 use Rattle.pure_terms.specs.declared.variables.Sort.{Sort}
 use Rattle.pure_terms.specs.Kinds.{known_kind}
 use Rattle.pure_terms.specs.Meaning.{value, all_true, IsProper, IsOver}
-use Rattle.pure_terms.specs.Pure.{PureTerm, literal, unary_of, binary_of, PureAtom, positive, negative, opening, term_of, variables}
+use Rattle.pure_terms.specs.Pure.{PureTerm, PureAtom, positive, negative, opening, term_of, variables}
 use Rattle.pure_terms.proofs.KindLaws.{same_kinds}
 use Rattle.sym_model.specs.declared.comparing.Comparison.{Comparison}
-use Rattle.sym_model.specs.Alternatives.{Alternatives, Hold, always, never, given, equal, by_comparison, same, other, kind_is, by_kind, of_kind, not_of_kind}
+use Rattle.sym_model.specs.Alternatives.{Hold, always, never, given, equal, by_comparison, other, kind_is, by_kind}
 use Rattle.sym_model.specs.Comparing.{compared}
 use Rattle.sym_model.specs.ConditionLaws.{HaveBoth}
 use Rattle.sym_model.proofs.Telling.{same_tells, other_tells, of_kind_tells, not_of_kind_tells}
@@ -27,17 +21,16 @@ use Rattle.sym_evaluation.specs.Checks.{is_of_kind}
 use Rattle.sym_evaluation.specs.Meaning.{AreSidesOf, IsSideWhere, is_true, is_false, is_no_boolean}
 use Rattle.sym_evaluation.specs.Plainly.{AreDecided}
 use Rattle.sym_evaluation.specs.Pure.{PureSides}
-use Rattle.sym_evaluation.specs.Questions.{IsAbout, IsCompared, OnSide, SaysPart, AsksBoolean, IsGuardCondition, SidesComeFrom, boolean_parts}
+use Rattle.sym_evaluation.specs.Questions.{IsAbout, OnSide, SaysPart, AsksBoolean, IsGuardCondition, SidesComeFrom, boolean_parts}
 use Rattle.sym_evaluation.proofs.AskedAtoms.{joined, no_variables, boolean_closed}
 use Rattle.sym_model.specs.Lists.{Each, OneOf}
 use Rattle.sym_model.specs.Meaning.{is_open}
-use Rattle.sym_model.proofs.ListLaws.{each_append, each_to, one_left, one_right, one_parts, one_with}
+use Rattle.sym_model.proofs.ListLaws.{each_append, each_to, one_left, one_right, one_parts}
 use Rattle.sym_matching.specs.Meaning.{AreMet, SaysTest, IsCondition, AreConditions, AreConditionsIfAny, IsTestOver}
-use Rattle.sym_matching.specs.Matching.{TestsSorts, TermStaysOver}
 use Rattle.sym_matching.specs.Parts.{IsTestOf}
 use Rattle.sym_matching.specs.Pure.{PureTest}
-use Rattle.sym_matching.specs.Splitting.{last_of, passed, also, equal_test, kind_test, sort_test, out_test, side_alternatives}
-use Rattle.sym_matching.proofs.Conditions.{also_says, also_over, passed_says, passed_over}
+use Rattle.sym_matching.specs.Splitting.{last_of, equal_test, kind_test, sort_test, side_alternatives}
+use Rattle.sym_matching.proofs.Conditions.{passed_says, passed_over}
 use Rattle.sym_matching.proofs.Deciding.{guard_decided}
 
 -- ---- alternatives of which there is one at most

@@ -1,6 +1,5 @@
 -- Tests one after another: the sorts of a name, the elements of two lists, and the outs that are known.
-use Rattle.std.proofs.Common.{◌≡◌, ℕ, List, [], ◌∷◌, ◌++◌, ◌≤◌, length, take, Bool, true, false, not, ◌&&◌, ◌||◌, if◌then◌else◌, Option, Some, None, refl, sym, ap, subst, ◌∙◌}
-use Rattle.std.specs.List.{list_all}
+use Rattle.std.proofs.Common.{◌≡◌, ℕ, List, [], ◌∷◌, ◌++◌, ◌≤◌, length, take, Bool, true, false, not, ◌&&◌, ◌||◌, if◌then◌else◌, Option, Some, refl, sym, ap, subst, ◌∙◌}
 use Rattle.std.specs.Str.{bytes_eq}
 use Rattle.std.proofs.lemmas.List.{take_all}
 use Rattle.std.proofs.lemmas.List.Folds.{list_all-append}
@@ -10,13 +9,13 @@ use Rattle.gil_syntax.specs.declared.assertions.Param.{Param}
 use Rattle.assert_logic.specs.Matching.{agrees_with, all_agree}
 use Rattle.assert_logic.specs.Sorts.{has_sort, fits_sorts}
 use Rattle.pure_terms.specs.declared.variables.Sort.{Sort}
-use Rattle.pure_terms.specs.Meaning.{value, IsProper, IsOver}
+use Rattle.pure_terms.specs.Meaning.{IsOver}
 use Rattle.pure_terms.specs.Pure.{PureTerm}
 use Rattle.sym_evaluation.specs.Meaning.{HaveValues}
-use Rattle.sym_evaluation.specs.Questions.{AreEachOver}
 use Rattle.sym_model.proofs.ListLaws.{same_some}
 use Rattle.sym_matching.specs.Matching.{TestsElements, TestsOuts, ElementsStayOver, AgreementStaysOver}
-use Rattle.sym_matching.specs.Meaning.{SaysTest, IsTestOver, AreOuts, IsOutOver, AreOutsOver}
+use Rattle.sym_matching.specs.Meaning.{SaysTest, IsTestOver, AreOuts, IsOutOver}
+use Rattle.sym_matching.specs.Origins.{TestComesFrom, AsksElements, AsksOuts}
 use Rattle.sym_matching.specs.Parts.{IsTestOf}
 use Rattle.sym_matching.specs.Plainly.{IsTestDecided}
 use Rattle.sym_matching.specs.Pure.{PureTest, PureOuts}
@@ -25,6 +24,7 @@ use Rattle.sym_matching.proofs.Binding.{out_says, out_over}
 use Rattle.sym_matching.proofs.Conditions.{also_says, also_over, passed_says, passed_over, failed_says, failed_over}
 use Rattle.sym_matching.proofs.Deciding.{also_decided, passed_decided, sort_decided}
 use Rattle.sym_matching.proofs.Lists.{each_last, values_last, values_count, outs_last, outs_count, elements_more, elements_differ, agreement_more, agreement_differs}
+use Rattle.sym_matching.proofs.OriginLaws.{passed_from, failed_from, elements_from, outs_from}
 use Rattle.sym_matching.proofs.TestLaws.{equal_says, equal_over, sort_says, sort_over}
 
 -- ---- the sorts of a name
@@ -78,12 +78,14 @@ module _ (x : List ℕ) (t : PureTerm) where
 pub record AreElements (ss ts : List PureTerm) (test : PureTest) : Type 0 where
   pub says : TestsElements ss ts test
   pub over : ElementsStayOver ss ts test
+  pub from : TestComesFrom (AsksElements ss ts) test
 
 pub elements_begin : AreElements [] [] passed
 elements_begin = record {
   says = λ vars v us ws proper first second has_us has_ws.
       subst (λ xs. SaysTest v passed (same_elements xs ws)) (same_some has_us) (subst (λ xs. SaysTest v passed (same_elements [] xs)) (same_some has_ws) (passed_says v));
   over = λ vars first second. passed_over vars;
+  from = passed_from (AsksElements [] []);
 }
 
 pub elements_step : (ss ts : List PureTerm) (s t : PureTerm) (test whole : PureTest) → length ss ≡ length ts → AreElements ss ts test → whole ≡ also test (equal_test s t) → AreElements (ss ++ s ∷ []) (ts ++ t ∷ []) whole
@@ -102,6 +104,7 @@ elements_step ss ts s t test whole same tests is = record {
       let over_ss = each_last (IsOver vars) ss s first in
       let over_ts = each_last (IsOver vars) ts t second in
       subst (IsTestOver vars) (sym is) (also_over vars test (equal_test s t) (tests.over vars over_ss.0 over_ts.0) (equal_over vars s t over_ss.1 over_ts.1));
+  from = elements_from ss ts s t test whole same tests.from is;
 }
 
 pub elements_unlike : (ss ts : List PureTerm) → ¬ (length ss ≡ length ts) → AreElements ss ts failed
@@ -109,6 +112,7 @@ elements_unlike ss ts differ = record {
   says = λ vars v us ws proper first second has_us has_ws.
       subst (λ c. SaysTest v failed c) (sym (elements_differ us ws (λ same. differ (sym (values_count v ss us has_us) ∙ same ∙ values_count v ts ws has_ws)))) (failed_says v);
   over = λ vars first second. failed_over vars;
+  from = failed_from (AsksElements ss ts);
 }
 
 -- ---- outs
@@ -116,6 +120,7 @@ elements_unlike ss ts differ = record {
 pub record DoOutsAgree (ks : PureOuts) (ts : List PureTerm) (test : PureTest) : Type 0 where
   pub says : TestsOuts ks ts test
   pub over : AgreementStaysOver ks ts test
+  pub from : TestComesFrom (AsksOuts ks ts) test
 
 agree_nothing : (v : List PureValue) (os : List (Option PureValue)) (ws : List PureValue) → AreOuts v [] os → HaveValues v [] ws → SaysTest v passed (all_agree os ws)
 agree_nothing v [] ws are has = subst (λ xs. SaysTest v passed (all_agree [] xs)) (same_some has) (passed_says v)
@@ -125,6 +130,7 @@ pub agreement_begin : DoOutsAgree [] [] passed
 agreement_begin = record {
   says = λ vars v os ws proper first second are has. agree_nothing v os ws are has;
   over = λ vars first second. passed_over vars;
+  from = passed_from (AsksOuts [] []);
 }
 
 known_term : (vars : List Sort) (k : Option PureTerm) → IsOutOver vars k → (r : PureTerm) → k ≡ Some r → IsOver vars r
@@ -147,6 +153,7 @@ agreement_step ks ts k t test whole same tests is = record {
       let over_ks = each_last (IsOutOver vars) ks k first in
       let over_ts = each_last (IsOver vars) ts t second in
       subst (IsTestOver vars) (sym is) (also_over vars test (out_test k t) (tests.over vars over_ks.0 over_ts.0) (out_over vars k t (known_term vars k over_ks.1) over_ts.1));
+  from = outs_from ks ts k t test whole same tests.from is;
 }
 
 pub agreement_unlike : (ks : PureOuts) (ts : List PureTerm) → ¬ (length ks ≡ length ts) → DoOutsAgree ks ts failed
@@ -154,6 +161,7 @@ agreement_unlike ks ts differ = record {
   says = λ vars v os ws proper first second are has.
       subst (λ c. SaysTest v failed c) (sym (agreement_differs os ws (λ same. differ (sym (outs_count v ks os are) ∙ same ∙ values_count v ts ws has)))) (failed_says v);
   over = λ vars first second. failed_over vars;
+  from = failed_from (AsksOuts ks ts);
 }
 
 -- ---- all elements

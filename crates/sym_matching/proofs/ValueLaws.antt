@@ -1,6 +1,6 @@
 -- What comes of matching an expression with a term, and of a pure item.
-use Rattle.std.proofs.Common.{◌≡◌, ℕ, ◌+◌, List, [], ◌∷◌, Bool, true, false, if◌then◌else◌, Option, Some, None, is_some, Ok, Err, refl, sym, ap, subst, ◌∙◌, true≢false}
-use Rattle.std.specs.Option.{option_map, option_and_then}
+use Rattle.std.proofs.Common.{◌≡◌, ℕ, ◌+◌, List, true, false, if◌then◌else◌, Option, Some, None, is_some, Ok, Err, refl, sym, ap, subst, ◌∙◌, true≢false}
+use Rattle.std.specs.Option.{option_and_then}
 use Rattle.std.specs.Result.{result_ok}
 use Rattle.gil_values.specs.declared.operators.BinOp.{BinOp}
 use Rattle.gil_values.specs.Equality.{same_value}
@@ -9,20 +9,23 @@ use Rattle.gil_values.specs.Pure.{PureValue, boolean}
 use Rattle.gil_syntax.specs.declared.assertions.Param.{Param}
 use Rattle.gil_syntax.specs.Evaluation.{Store, value_of, evaluate}
 use Rattle.gil_syntax.specs.Pure.{PureExpr, literal, name, logical, list_of, unary_of, binary_of}
-use Rattle.assert_logic.specs.Matching.{given, unless_known, unknown_name, where_same, match_known_or, match_value, given_outcome, match_equation, match_pure}
+use Rattle.assert_logic.specs.Matching.{given, unless_known, unknown_name, where_same, match_known_or, given_outcome, match_equation, match_pure}
 use Rattle.pure_terms.specs.declared.variables.Sort.{Sort}
 use Rattle.pure_terms.specs.Meaning.{IsOver}
 use Rattle.pure_terms.specs.Pure.{PureTerm}
-use Rattle.sym_evaluation.specs.Meaning.{AreSame, HasValue, StandsFor, Serves, IsStoreOver}
+use Rattle.sym_evaluation.specs.Meaning.{AreSame, HasValue, StandsFor, IsStoreOver}
 use Rattle.sym_evaluation.specs.Plainly.{IsPlain, IsPlainStore, IsPlainGuard, text_bound, is_equal}
 use Rattle.sym_evaluation.specs.Pure.{PureStore, term_at, PureGoodCase}
+use Rattle.sym_evaluation.specs.Questions.{IsGuardCondition}
 use Rattle.sym_matching.specs.Meaning.{SaysSplit, IsFoundOver, IsSplitOver}
-use Rattle.sym_matching.specs.Parts.{IsTestOf, AreValues, AreStores, Alone, ByTerm, GivesTerm, DefinesPlainly, MatchesTerm, Continues}
+use Rattle.sym_matching.specs.Origins.{TestComesFrom}
+use Rattle.sym_matching.specs.Parts.{IsTestOf, AreValues, Alone, ByTerm, GivesTerm, DefinesPlainly, MatchesTerm, KnownComesFrom, DefinitionComesFrom, TruthComesFrom, Continues}
 use Rattle.sym_matching.specs.Plainly.{IsSplitDecided, PureStaysPlain, TermStaysPlain}
 use Rattle.sym_matching.specs.Pure.{PureTest, PureSplit}
 use Rattle.sym_matching.specs.Splitting.{equal_test, where_met, unless_term, name_without}
 use Rattle.sym_states.proofs.Plainness.{plain_up}
 use Rattle.sym_matching.proofs.Deciding.{equal_decided, continues_decided, met_decided, split_up, store_up, wider, numbers_of}
+use Rattle.sym_matching.proofs.OriginLaws.{known_from, definition_from, truth_from, name_from}
 use Rattle.sym_matching.proofs.SplitLaws.{continues_says, continues_over, met_says, met_over}
 use Rattle.sym_matching.proofs.TestLaws.{equal_says, equal_over}
 
@@ -63,30 +66,31 @@ module _ (bs : PureStore) (e : PureExpr) (values : PureSplit PureTerm) (are : Ar
       (λ g next there cont term. subst (IsSplitDecided (IsPlainStore b) (b + text_bound)) (sym cont)
       (met_decided (IsPlainStore b) (b + text_bound) (equal_test g.result t) bs (equal_decided (b + text_bound) g.result t term (plain_up b (b + text_bound) (wider b) t plain)) over.plain))
 
-  pub both_known : (t : PureTerm) (whole : PureSplit PureStore) → Continues (SameAs t) values.found values.none whole → ByTerm t (λ w s. where_same (evaluate e s) w s) bs whole × TermStaysPlain e t bs whole
-  both_known t whole is = (matches_known t whole is, matches_known_plainly t whole is)
+  pub all_known : (t : PureTerm) (whole : PureSplit PureStore) → Continues (SameAs t) values.found values.none whole
+      → ByTerm t (λ w s. where_same (evaluate e s) w s) bs whole × TermStaysPlain e t bs whole × KnownComesFrom e t bs whole
+  all_known t whole is = (matches_known t whole is, matches_known_plainly t whole is, known_from bs e values are.from t whole is)
 
   abbrev pub WhereTrue : PureTerm → PureSplit PureStore → Type 0
-  WhereTrue r next = (test : PureTest) × (IsTestOf (λ w. same_value w (boolean true)) r test × (next ≡ where_met test bs))
+  WhereTrue r next = (test : PureTest) × (IsTestOf (λ w. same_value w (boolean true)) r test × TestComesFrom (IsGuardCondition r) test × (next ≡ where_met test bs))
 
   pub assumes : (whole : PureSplit PureStore) → Continues WhereTrue values.found values.none whole → Alone (λ s. where_same (evaluate e s) (boolean true) s) bs whole
   assumes whole is = record {
     says = λ vars v s serves.
         subst (SaysSplit v (StandsFor v) whole) (sym (same_then (evaluate e s) (boolean true) s))
         (continues_says v (HasValue v) (StandsFor v) WhereTrue (result_ok (evaluate e s)) (λ a. if same_value a (boolean true) then Some s else None) values whole (are.says vars v s serves) is
-        (λ g next a there cont has_a. let (test, (tests, is_next)) = cont in
+        (λ g next a there cont has_a. let (test, (tests, from, is_next)) = cont in
         subst (λ (n : PureSplit PureStore). SaysSplit v (StandsFor v) n (if same_value a (boolean true) then Some s else None)) (sym is_next)
         (met_says v (StandsFor v) test (same_value a (boolean true)) bs s (tests.says vars v a serves.proper (term_over vars g there serves.over) has_a) serves.stands)));
     over = λ vars store.
         continues_over vars (IsOver vars) (IsStoreOver vars) WhereTrue values whole (are.over vars store) is
-        (λ g next there cont over_r. let (test, (tests, is_next)) = cont in
+        (λ g next there cont over_r. let (test, (tests, from, is_next)) = cont in
         subst (IsSplitOver (IsStoreOver vars) vars) (sym is_next) (met_over vars (IsStoreOver vars) test bs (tests.over vars over_r) store));
   }
 
   pub assumes_plainly : (whole : PureSplit PureStore) → Continues WhereTrue values.found values.none whole → PureStaysPlain e bs whole
   assumes_plainly whole is vars b over item =
       continues_decided (IsPlainGuard (b + text_bound)) (IsPlainStore (b + text_bound)) (b + text_bound) WhereTrue values whole (are.form vars b over item.form (numbers_of e item)) is
-      (λ g next there (test, (tests, is_next)) guard. subst (IsSplitDecided (IsPlainStore (b + text_bound)) (b + text_bound)) (sym is_next)
+      (λ g next there (test, (tests, from, is_next)) guard. subst (IsSplitDecided (IsPlainStore (b + text_bound)) (b + text_bound)) (sym is_next)
       (met_decided (IsPlainStore (b + text_bound)) (b + text_bound) test bs (tests.decided (b + text_bound) guard) (store_up b (b + text_bound) (wider b) bs over.plain)))
 
   abbrev pub Given : List Param → List ℕ → PureTerm → PureSplit PureStore → Type 0
@@ -107,12 +111,13 @@ module _ (bs : PureStore) (e : PureExpr) (values : PureSplit PureTerm) (are : Ar
       continues_decided (IsPlain (b + text_bound)) (IsPlainStore (b + text_bound)) (b + text_bound) (Given scope x) values whole (are.argument vars b over plain numbers) is
       (λ g next there cont term. cont.plain (b + text_bound) (store_up b (b + text_bound) (wider b) bs over.plain) term)
 
-  pub both_assumed : (whole : PureSplit PureStore) → Continues WhereTrue values.found values.none whole → Alone (λ s. where_same (evaluate e s) (boolean true) s) bs whole × PureStaysPlain e bs whole
-  both_assumed whole is = (assumes whole is, assumes_plainly whole is)
+  pub all_assumed : (whole : PureSplit PureStore) → Continues WhereTrue values.found values.none whole
+      → Alone (λ s. where_same (evaluate e s) (boolean true) s) bs whole × PureStaysPlain e bs whole × TruthComesFrom e bs whole
+  all_assumed whole is = (assumes whole is, assumes_plainly whole is, truth_from bs e values are.from WhereTrue (λ r next (test, (tests, from, is_next)). (test, (from, is_next))) whole is)
 
-  pub both_defined : (scope : List Param) (x : List ℕ) (whole : PureSplit PureStore) → Continues (Given scope x) values.found values.none whole
-      → Alone (λ s. given_outcome scope x (evaluate e s) s) bs whole × DefinesPlainly e bs whole
-  both_defined scope x whole is = (defines scope x whole is, defines_plainly scope x whole is)
+  pub all_defined : (scope : List Param) (x : List ℕ) (whole : PureSplit PureStore) → Continues (Given scope x) values.found values.none whole
+      → Alone (λ s. given_outcome scope x (evaluate e s) s) bs whole × DefinesPlainly e bs whole × DefinitionComesFrom scope x e bs whole
+  all_defined scope x whole is = (defines scope x whole is, defines_plainly scope x whole is, definition_from bs e values are.from scope x whole is)
 
 -- ---- unknown names
 
@@ -146,16 +151,19 @@ module _ (scope : List Param) (bs : PureStore) (split : PureSplit PureStore) whe
       over = gives.gives.over;
     },
     λ vars b over plain argument numbers. split_up (IsPlainStore b) b (b + text_bound) (wider b) split (gives.plain b over.plain plain),
+    name_from scope bs split e t x named gives.from,
   )
 
-  pub matches_other : (e : PureExpr) (t : PureTerm) → name_without bs e ≡ None → ByTerm t (λ w s. where_same (evaluate e s) w s) bs split × TermStaysPlain e t bs split → MatchesTerm scope e t bs split
-  matches_other e t none (same, plain) = (
+  pub matches_other : (e : PureExpr) (t : PureTerm) → name_without bs e ≡ None → ByTerm t (λ w s. where_same (evaluate e s) w s) bs split × TermStaysPlain e t bs split × KnownComesFrom e t bs split
+      → MatchesTerm scope e t bs split
+  matches_other e t none (same, plain, from) = (
     record {
       says = λ vars v s w serves over has.
           subst (λ (o : Option (List ℕ)). SaysSplit v (StandsFor v) split (match_known_or o scope e w s)) (sym none ∙ unknown_same v bs s serves.stands e) (same.says vars v s w serves over has);
       over = same.over;
     },
     plain,
+    from scope,
   )
 
   -- ---- pure items

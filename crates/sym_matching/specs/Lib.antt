@@ -1,5 +1,6 @@
 pub mod Matching
 pub mod Meaning
+pub mod Origins
 pub mod Parts
 pub mod Plainly
 pub mod Pure

@@ -4,7 +4,7 @@ use Rattle.gil_values.specs.Pure.{PureValue}
 use Rattle.pure_terms.specs.declared.variables.Sort.{Sort}
 use Rattle.pure_terms.specs.Meaning.{all_true, IsOver}
 use Rattle.pure_terms.specs.Pure.{PureTerm, PureAtom, term_of}
-use Rattle.sym_model.specs.Alternatives.{Alternatives, Hold}
+use Rattle.sym_model.specs.Alternatives.{Hold}
 use Rattle.sym_evaluation.specs.Meaning.{AreSame, HaveValues}
 use Rattle.sym_evaluation.specs.Pure.{PureGoodCase}
 use Rattle.sym_model.specs.Lists.{Each}

@@ -8,6 +8,7 @@ ghost use Rattle.pure_terms.specs.View.{terms_view, term_view};
 ghost use Rattle.sym_evaluation.specs.Pure.{term_at};
 ghost use Rattle.sym_evaluation.specs.View.{store_view};
 ghost use Rattle.sym_matching.specs.Matching.{SplitsCase, AreTermsAt, CaseStaysOver, TermsStayOver};
+ghost use Rattle.sym_matching.specs.Origins.{CaseComesFrom, terms_at};
 ghost use Rattle.sym_matching.specs.Parts.{BindsTerm, BindsParam, BindsParams, Continues};
 ghost use Rattle.sym_matching.specs.Splitting.{out_test, terms_with};
 ghost use Rattle.sym_matching.specs.View.{stores_view, outs_view, test_view};
@@ -158,6 +159,8 @@ pub fn case_store(
     ensures says { IfOk result
         (λ x. SplitsCase (pred_def_view pred.now) (terms_view ins.now) (outs_view outs.now) (stores_view x)) }
     ensures names { IfOk result (λ x. CaseStaysOver (terms_view ins.now) (outs_view outs.now) (stores_view x)) }
+    ensures origin { IfOk result
+        (λ x. CaseComesFrom (pred_def_view pred.now) (terms_view ins.now) (outs_view outs.now) (stores_view x)) }
 {
     let scope = scope_of(alloc, pred)?;
     let known = all_known(alloc, ins)?;
@@ -216,6 +219,7 @@ pub fn terms_of(
     ensures says { IfOk result
         (λ o. AreTermsAt (store_view store.now) (param_names params.now) (option_map terms_view o)) }
     ensures names { IfOk result (λ o. TermsStayOver (store_view store.now) (option_map terms_view o)) }
+    ensures origin { IfOk result (λ o. option_map terms_view o ≡ terms_at (store_view store.now) (param_names params.now)) }
 {
     let mut terms = Some(Terms::new(alloc));
     for param in params.as_slice() {

@@ -11,7 +11,8 @@ ghost use Rattle.gil_values.specs.Pure.{boolean};
 ghost use Rattle.sym_evaluation.specs.Plainly.{is_equal};
 ghost use Rattle.sym_evaluation.specs.View.{store_view};
 ghost use Rattle.sym_matching.specs.Matching.{SplitsPure, StoresStayOver};
-ghost use Rattle.sym_matching.specs.Parts.{Alone, DefinesPlainly};
+ghost use Rattle.sym_matching.specs.Origins.{PureComesFrom};
+ghost use Rattle.sym_matching.specs.Parts.{Alone, DefinesPlainly, DefinitionComesFrom, TruthComesFrom};
 ghost use Rattle.sym_matching.specs.Plainly.{PureStaysPlain};
 ghost use Rattle.sym_matching.specs.View.{stores_view};
 
@@ -34,7 +35,8 @@ fn define(
     requires { IsTrue (list_all is_spellable (literals_of (expr_view expression.now))) }
     ensures { IfOk result
         (λ x. Alone (λ s. given_outcome scope.now name.now (evaluate (expr_view expression.now) s) s) (store_view store.now) (stores_view x)
-        × DefinesPlainly (expr_view expression.now) (store_view store.now) (stores_view x)) }
+        × DefinesPlainly (expr_view expression.now) (store_view store.now) (stores_view x)
+        × DefinitionComesFrom scope.now name.now (expr_view expression.now) (store_view store.now) (stores_view x)) }
 {
     let Split { found, none } = value_of(alloc, store, expression)?;
     match found {
@@ -51,7 +53,8 @@ fn assume(alloc: Global, expression: &Expr, store: &SymStore) -> Result<StoreSpl
     requires { IsTrue (list_all is_spellable (literals_of (expr_view expression.now))) }
     ensures { IfOk result
         (λ x. Alone (λ s. where_same (evaluate (expr_view expression.now) s) (boolean true) s) (store_view store.now) (stores_view x)
-        × PureStaysPlain (expr_view expression.now) (store_view store.now) (stores_view x)) }
+        × PureStaysPlain (expr_view expression.now) (store_view store.now) (stores_view x)
+        × TruthComesFrom (expr_view expression.now) (store_view store.now) (stores_view x)) }
 {
     let Split { found, none } = value_of(alloc, store, expression)?;
     match found {
@@ -76,7 +79,8 @@ fn match_equation(
     requires spelled { IsTrue (list_all is_spellable (literals_of (expr_view expression.now))) }
     requires equation { expr_view expression.now ≡ binary_of BinOp.Equal (expr_view left.now) (expr_view right.now) }
     ensures { IfOk result (λ x. Alone (match_item scope.now (expr_view expression.now)) (store_view store.now) (stores_view x)
-        × PureStaysPlain (expr_view expression.now) (store_view store.now) (stores_view x)) }
+        × PureStaysPlain (expr_view expression.now) (store_view store.now) (stores_view x)
+        × PureComesFrom scope.now (expr_view expression.now) (store_view store.now) (stores_view x)) }
 {
     match unknown_name(store, left) {
         Some(name) => define(alloc, scope, name, right, store),
@@ -107,7 +111,8 @@ fn match_operands(
     requires spelled { IsTrue (list_all is_spellable (literals_of (expr_view expression.now))) }
     requires operands { expr_view expression.now ≡ binary_of op (expr_view left.now) (expr_view right.now) }
     ensures { IfOk result (λ x. Alone (match_item scope.now (expr_view expression.now)) (store_view store.now) (stores_view x)
-        × PureStaysPlain (expr_view expression.now) (store_view store.now) (stores_view x)) }
+        × PureStaysPlain (expr_view expression.now) (store_view store.now) (stores_view x)
+        × PureComesFrom scope.now (expr_view expression.now) (store_view store.now) (stores_view x)) }
 {
     if is_equality(op) {
         return match_equation(alloc, scope, expression, left, right, store);
@@ -124,7 +129,8 @@ fn match_by_form(
 ) -> Result<StoreSplit, AllocError>
     requires { IsTrue (list_all is_spellable (literals_of (expr_view expression.now))) }
     ensures { IfOk result (λ x. Alone (match_item scope.now (expr_view expression.now)) (store_view store.now) (stores_view x)
-        × PureStaysPlain (expr_view expression.now) (store_view store.now) (stores_view x)) }
+        × PureStaysPlain (expr_view expression.now) (store_view store.now) (stores_view x)
+        × PureComesFrom scope.now (expr_view expression.now) (store_view store.now) (stores_view x)) }
 {
     match expression {
         Expr::Op2(op, left, right) => {
@@ -148,6 +154,7 @@ pub fn match_pure(
     ensures says { IfOk result (λ x. SplitsPure scope.now (expr_view expression.now) (store_view store.now) (stores_view x)) }
     ensures names { IfOk result (λ x. StoresStayOver (store_view store.now) [] (stores_view x)) }
     ensures plain { IfOk result (λ x. PureStaysPlain (expr_view expression.now) (store_view store.now) (stores_view x)) }
+    ensures origin { IfOk result (λ x. PureComesFrom scope.now (expr_view expression.now) (store_view store.now) (stores_view x)) }
 {
     match_by_form(alloc, scope, expression, store)
 }

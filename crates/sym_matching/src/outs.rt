@@ -7,6 +7,7 @@ ghost use Rattle.gil_syntax.specs.WellMade.{is_spellable};
 ghost use Rattle.pure_terms.specs.View.{term_view};
 ghost use Rattle.sym_evaluation.specs.View.{store_view};
 ghost use Rattle.sym_matching.specs.Matching.{SplitsOuts, OutsStayOver};
+ghost use Rattle.sym_matching.specs.Origins.{OutsComeFrom};
 ghost use Rattle.sym_matching.specs.Parts.{AddsOut, Continues};
 ghost use Rattle.sym_matching.specs.Plainly.{OutsStayDecided};
 ghost use Rattle.sym_matching.specs.Splitting.{with_known};
@@ -96,6 +97,7 @@ pub fn known_outs(alloc: Global, store: &SymStore, outs: &Exprs) -> Result<Known
     ensures says { IfOk result (λ x. SplitsOuts (store_view store.now) (exprs_view outs.now) (known_view x)) }
     ensures names { IfOk result (λ x. OutsStayOver (store_view store.now) (known_view x)) }
     ensures plain { IfOk result (λ x. OutsStayDecided (store_view store.now) (exprs_view outs.now) (known_view x)) }
+    ensures origin { IfOk result (λ x. OutsComeFrom (store_view store.now) (exprs_view outs.now) (known_view x)) }
 {
     let mut split = Split {
         found: Some(GoodCase {

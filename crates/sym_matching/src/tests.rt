@@ -5,7 +5,9 @@ ghost use Rattle.gil_values.specs.Equality.{same_value};
 ghost use Rattle.gil_values.specs.Pure.{boolean};
 ghost use Rattle.pure_terms.specs.View.{term_view, terms_view, atoms_view};
 ghost use Rattle.sym_model.specs.Alternatives.{alternatives_view};
+ghost use Rattle.sym_evaluation.specs.Questions.{IsGuardCondition};
 ghost use Rattle.sym_matching.specs.Matching.{TestsSorts, TestsElements, TestsOuts, TermStaysOver, ElementsStayOver, AgreementStaysOver};
+ghost use Rattle.sym_matching.specs.Origins.{TestComesFrom, AsksSorts, AsksElements, AsksOuts};
 ghost use Rattle.sym_matching.specs.Parts.{IsTestOf};
 ghost use Rattle.sym_matching.specs.Plainly.{TermStaysDecided};
 ghost use Rattle.sym_matching.specs.Splitting.{equal_test, kind_test, sort_test, with_sort, out_test, side_alternatives};
@@ -65,7 +67,8 @@ fn push_side(alternatives: Alternatives, side: Option<Atoms>) -> Result<Alternat
 
 /// Whether a term's value is the boolean true.
 pub(crate) fn ask_true(alloc: Global, term: &Term) -> Result<Test, AllocError>
-    ensures { IfOk result (λ x. IsTestOf (λ w. same_value w (boolean true)) (term_view term.now) (test_view x)) }
+    ensures { IfOk result (λ x. IsTestOf (λ w. same_value w (boolean true)) (term_view term.now) (test_view x)
+        × TestComesFrom (IsGuardCondition (term_view term.now)) (test_view x)) }
 {
     let Sides {
         when_true,
@@ -108,6 +111,7 @@ pub fn fits_sorts(
     ensures says { IfOk result (λ x. TestsSorts scope.now name.now (term_view term.now) (test_view x)) }
     ensures names { IfOk result (λ x. TermStaysOver (term_view term.now) (test_view x)) }
     ensures plain { IfOk result (λ x. TermStaysDecided (term_view term.now) (test_view x)) }
+    ensures origin { IfOk result (λ x. TestComesFrom (AsksSorts scope.now name.now (term_view term.now)) (test_view x)) }
 {
     let mut test = passed(alloc);
     for param in scope.as_slice() {
@@ -120,6 +124,7 @@ pub fn fits_sorts(
 pub fn elements_equal(alloc: Global, left: &Terms, right: &Terms) -> Result<Test, AllocError>
     ensures says { IfOk result (λ x. TestsElements (terms_view left.now) (terms_view right.now) (test_view x)) }
     ensures names { IfOk result (λ x. ElementsStayOver (terms_view left.now) (terms_view right.now) (test_view x)) }
+    ensures origin { IfOk result (λ x. TestComesFrom (AsksElements (terms_view left.now) (terms_view right.now)) (test_view x)) }
 {
     if left.len() != right.len() {
         return failed(alloc);
@@ -147,6 +152,7 @@ fn ask_out(alloc: Global, known: &Option<Term>, term: &Term) -> Result<Test, All
 pub fn outs_agree(alloc: Global, known: &KnownOuts, outs: &Terms) -> Result<Test, AllocError>
     ensures says { IfOk result (λ x. TestsOuts (outs_view known.now) (terms_view outs.now) (test_view x)) }
     ensures names { IfOk result (λ x. AgreementStaysOver (outs_view known.now) (terms_view outs.now) (test_view x)) }
+    ensures origin { IfOk result (λ x. TestComesFrom (AsksOuts (outs_view known.now) (terms_view outs.now)) (test_view x)) }
 {
     if known.len() != outs.len() {
         return failed(alloc);

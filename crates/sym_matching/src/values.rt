@@ -12,7 +12,8 @@ ghost use Rattle.pure_terms.specs.View.{term_view, terms_view, atoms_view};
 ghost use Rattle.sym_model.specs.Alternatives.{alternatives_view};
 ghost use Rattle.sym_evaluation.specs.View.{store_view, faults_view};
 ghost use Rattle.sym_matching.specs.Matching.{SplitsValues, StoresStayOver};
-ghost use Rattle.sym_matching.specs.Parts.{AreValues, ByTerm, GivesTerm, MatchesTerm, Continues};
+ghost use Rattle.sym_matching.specs.Origins.{ValuesComeFrom};
+ghost use Rattle.sym_matching.specs.Parts.{AreValues, ByTerm, GivesTerm, KnownComesFrom, MatchesTerm, Continues};
 ghost use Rattle.sym_matching.specs.Plainly.{TermStaysPlain, TermsStayPlain};
 ghost use Rattle.sym_matching.specs.Splitting.{unless_term, name_without};
 ghost use Rattle.sym_matching.specs.View.{stores_view, split_by};
@@ -117,7 +118,8 @@ fn match_known(
     requires { IsTrue (list_all is_spellable (literals_of (expr_view expression.now))) }
     ensures { IfOk result
         (λ x. ByTerm (term_view term.now) (λ w s. where_same (evaluate (expr_view expression.now) s) w s) (store_view store.now) (stores_view x)
-        × TermStaysPlain (expr_view expression.now) (term_view term.now) (store_view store.now) (stores_view x)) }
+        × TermStaysPlain (expr_view expression.now) (term_view term.now) (store_view store.now) (stores_view x)
+        × KnownComesFrom (expr_view expression.now) (term_view term.now) (store_view store.now) (stores_view x)) }
 {
     let Split { found, none } = value_of(alloc, store, expression)?;
     match found {
@@ -186,6 +188,8 @@ pub fn match_terms(
     ensures names { IfOk result (λ x. StoresStayOver (store_view store.now) (terms_view terms.now) (stores_view x)) }
     ensures plain { IfOk result
         (λ x. TermsStayPlain (exprs_view expressions.now) (terms_view terms.now) (store_view store.now) (stores_view x)) }
+    ensures origin { IfOk result
+        (λ x. ValuesComeFrom scope.now (exprs_view expressions.now) (terms_view terms.now) (store_view store.now) (stores_view x)) }
 {
     if expressions.len() != terms.len() {
         return no_store(alloc);

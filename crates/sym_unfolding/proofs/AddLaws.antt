@@ -36,8 +36,9 @@ use Rattle.sym_states.specs.Laws.{ComeFromItems}
 use Rattle.sym_states.specs.Meaning.{Stands, Serves, IsOverTable, AreFacts}
 use Rattle.sym_states.specs.Producing.{IsProduced, is_begun, is_added, IsStopped, added_conds}
 use Rattle.sym_states.specs.Pure.{PureFact, PureState}
-use Rattle.sym_unfolding.specs.Adding.{AddsOver, MayBeAdded, IsAddedAs, IsBefore, AddsExactly, AddsItems, AddsCases, numbered}
+use Rattle.sym_unfolding.specs.Adding.{AddsOver, MayBeAdded, IsAddedAs, IsBefore, AddsExactly, AddsItems, AddsCases, IsCaseAddedFrom, numbered}
 use Rattle.sym_unfolding.specs.Further.{IsFurther}
+use Rattle.sym_unfolding.specs.Origins.{IsAddedFrom}
 use Rattle.sym_unfolding.specs.Unfolding.{PureUnfoldedCase, IsMetAfter}
 use Rattle.sym_unfolding.proofs.SearchLaws.{joined_true, true_parts}
 
@@ -363,11 +364,12 @@ module _ {S : Type 0} (memory : MemoryName) (stands : S → List PureValue → H
     cover = λ v u t left next number items may at adding. not_none at;
     exact = λ v values left before. tt;
     follow = λ over stores conds. tt;
+    origin = tt;
   }
 
   pub case_more : (cases : List (List PureItem)) (items : List PureItem) (rs : List (PureUnfoldedCase S)) (ss : List (PureState S)) (number : ℕ) → number ≡ length cases → AddsCases memory stands terms kept ps bs more cases s rs → AddsItems memory stands terms kept ps bs more items s ss
-      → AddsCases memory stands terms kept ps bs more (cases ++ items ∷ []) s (rs ++ numbered number ss)
-  case_more cases items rs ss number at so_far adds = record {
+      → Each (IsAddedFrom terms bs more items s) ss → AddsCases memory stands terms kept ps bs more (cases ++ items ∷ []) s (rs ++ numbered number ss)
+  case_more cases items rs ss number at so_far adds come = record {
     cover = λ v u t left next k body may there adding.
         let Right : PureUnfoldedCase S → Type 0 = λ (r : PureUnfoldedCase S). (r.number ≡ k) × IsAddedAs memory stands terms kept ps bs more s v body t next r.state in
         ⊎_elim
@@ -393,6 +395,13 @@ module _ {S : Type 0} (memory : MemoryName) (stands : S → List PureValue → H
     follow = λ over stores conds.
         each_append (λ (r : PureUnfoldedCase S). IsFurther terms kept s r.state) rs (numbered number ss) (so_far.follow over stores conds)
         (each_map (λ (r : PureUnfoldedCase S). IsFurther terms kept s r.state) (λ r. record { number = number; state = r }) ss (adds.follow over stores conds));
+    origin =
+        each_append (IsCaseAddedFrom terms bs more (cases ++ items ∷ []) s) rs (numbered number ss)
+        (each_to (IsCaseAddedFrom terms bs more cases s) (IsCaseAddedFrom terms bs more (cases ++ items ∷ []) s) rs
+        (λ r is. let (body, (there, from)) = is in (body, (slice_get-append cases (items ∷ []) r.number (slice_get_within cases r.number body there) ∙ there, from))) so_far.origin)
+        (each_map (IsCaseAddedFrom terms bs more (cases ++ items ∷ []) s) (λ r. record { number = number; state = r }) ss
+        (each_to (IsAddedFrom terms bs more items s) (λ r. IsCaseAddedFrom terms bs more (cases ++ items ∷ []) s (record { number = number; state = r })) ss
+        (λ r from. (items, (ap (slice_get (cases ++ items ∷ [])) at ∙ at_last cases items, from))) come));
   }
 
 -- the elements beside the one at a place

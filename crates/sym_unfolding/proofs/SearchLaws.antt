@@ -15,6 +15,7 @@ use Rattle.sym_model.specs.Alternatives.{Alternatives, Hold, both, always}
 use Rattle.sym_model.proofs.Combined.{both_from, both_parts}
 use Rattle.sym_matching.specs.Matching.{TestsElements, TestsOuts, ElementsStayOver, AgreementStaysOver}
 use Rattle.sym_matching.specs.Meaning.{AreMet, SaysTest, IsCondition, AreConditions, AreConditionsIfAny, IsTestOver}
+use Rattle.sym_matching.specs.Origins.{TestComesFrom, AsksElements, AsksOuts}
 use Rattle.sym_matching.specs.Pure.{PureTest, PureOuts}
 use Rattle.sym_model.specs.Lists.{Each, OneOf}
 use Rattle.sym_model.specs.Terms.{AreEachOver}
@@ -22,6 +23,7 @@ use Rattle.sym_model.proofs.ListLaws.{same_some, not_none, each_append, each_lef
 use Rattle.sym_states.specs.Meaning.{AreFacts, IsFact}
 use Rattle.sym_states.specs.Pure.{PureFact}
 use Rattle.sym_unfolding.specs.Searching.{PureFound, PureSearch, joined_conditions, both_tests, TestsFact, found_if, looked_at, SaysFirst, IsSearchOver, LooksAt, Searches}
+use Rattle.sym_unfolding.proofs.SearchOrigins.{both_come, searches_past, searches_closer}
 
 abbrev AllTrue : List PureValue → List PureAtom → Type 0
 AllTrue v conds = IsTrue (all_true v conds)
@@ -68,14 +70,15 @@ both_over vars s t first second = record {
   otherwise = each_append (AreConditions vars) s.otherwise t.otherwise first.otherwise second.otherwise;
 }
 
-pub tests_fact : (ins : List PureTerm) (outs : PureOuts) (c : PureFact) (s t : PureTest) → TestsElements c.ins ins s → ElementsStayOver c.ins ins s → TestsOuts outs c.outs t → AgreementStaysOver outs c.outs t → TestsFact ins outs c (both_tests s t)
-tests_fact ins outs c s t says_ins names_ins says_outs names_outs = record {
+pub tests_fact : (ins : List PureTerm) (outs : PureOuts) (c : PureFact) (s t : PureTest) → TestsElements c.ins ins s → ElementsStayOver c.ins ins s → TestComesFrom (AsksElements c.ins ins) s → TestsOuts outs c.outs t → AgreementStaysOver outs c.outs t → TestComesFrom (AsksOuts outs c.outs) t → TestsFact ins outs c (both_tests s t)
+tests_fact ins outs c s t says_ins names_ins from_ins says_outs names_outs from_outs = record {
   says = λ vars v f ws os proper ins_over outs_over over is have are.
       both_say v s t (same_elements f.ins ws) (all_agree os f.outs)
       (says_ins vars v f.ins ws proper (each_left (IsOver vars) c.ins c.outs over) ins_over is.ins have)
       (says_outs vars v os f.outs proper outs_over (each_right (IsOver vars) c.ins c.outs over) are is.outs);
   names = λ vars ins_over outs_over over.
       both_over vars s t (names_ins vars (each_left (IsOver vars) c.ins c.outs over) ins_over) (names_outs vars outs_over (each_right (IsOver vars) c.ins c.outs over));
+  origin = both_come ins outs c s t from_ins from_outs;
 }
 
 -- ---- the first fact among one more
@@ -188,6 +191,7 @@ looks_past x ins outs place c s other = record {
   says = λ vars v f fs ws os proper ins_over outs_over over is have are at says.
       says_other v (fits_fact x ws os) fs f s (ap (λ b. b && same_elements f.ins ws && all_agree os f.outs) (ap (λ y. bytes_eq y x) (sym is.pred) ∙ other)) says;
   names = λ vars ins_over outs_over over before. before;
+  origin = λ facts at come. searches_past x ins outs facts c s come;
 }
 
 pub looks_closer : (x : List ℕ) (ins : List PureTerm) (outs : PureOuts) (place : ℕ) (c : PureFact) (test : PureTest) (s : PureSearch) → bytes_eq c.pred x ≡ true → TestsFact ins outs c test → LooksAt x ins outs place c s (looked_at test place s)
@@ -196,12 +200,14 @@ looks_closer x ins outs place c test s same tests = record {
       let fit : (same_elements f.ins ws && all_agree os f.outs) ≡ fits_fact x ws os f = sym (ap (λ b. b && same_elements f.ins ws && all_agree os f.outs) (ap (λ y. bytes_eq y x) (sym is.pred) ∙ same)) in
       says_looked v (fits_fact x ws os) fs f test place s at (subst (SaysTest v test) fit (tests.says vars v f ws os proper ins_over outs_over over is have are)) says;
   names = λ vars ins_over outs_over over before. looked_over vars test place s (tests.names vars ins_over outs_over over) before;
+  origin = λ facts at come. searches_closer x ins outs facts c test place s same tests.origin at come;
 }
 
 pub nothing_searched : (x : List ℕ) (ins : List PureTerm) (outs : PureOuts) → Searches x ins outs [] (record { found = []; none = always })
 nothing_searched x ins outs = record {
   says = λ vars v fs ws os proper ins_over outs_over over facts have are. none_there v x ws os fs facts;
   names = λ vars ins_over outs_over over. record { found = tt; none = (tt, tt) };
+  origin = record { found = tt; none = (tt, tt); places = tt };
 }
   where
     none_there : (v : List PureValue) (y : List ℕ) (ws : List PureValue) (os : List (Option PureValue)) (fs : List Fact) → AreFacts v [] fs → SaysFirst v (record { found = []; none = always }) (first_fact (fits_fact y ws os) fs)
@@ -224,4 +230,5 @@ searched_more x ins outs cs c s t place at so_far looks = record {
       (so_far.says vars v gs ws os proper ins_over outs_over (each_left (λ d. AreEachOver vars (d.ins ++ d.outs)) cs (c ∷ []) over) first have are));
   names = λ vars ins_over outs_over over.
       looks.names vars ins_over outs_over (each_right (λ d. AreEachOver vars (d.ins ++ d.outs)) cs (c ∷ []) over).0 (so_far.names vars ins_over outs_over (each_left (λ d. AreEachOver vars (d.ins ++ d.outs)) cs (c ∷ []) over));
+  origin = looks.origin cs at so_far.origin;
 }

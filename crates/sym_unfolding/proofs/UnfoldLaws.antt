@@ -1,9 +1,8 @@
 -- Unfolding the fact that was found, and what a decider tells of there being none.
-use Rattle.std.proofs.Common.{◌≡◌, ⊎_elim, inl, inr, ℕ, zero, suc, ◌+◌, ◌<◌, List, [], ◌∷◌, ◌++◌, map, take, drop, length, slice_get, Bool, true, false, ◌&&◌, ◌||◌, cond, Option, Some, None, IsSome, IsTrue, refl, sym, ap, subst, ◌∙◌, append_assoc, true≢false, arith}
+use Rattle.std.proofs.Common.{◌≡◌, ⊎_elim, inl, inr, ℕ, zero, suc, ◌+◌, ◌<◌, List, [], ◌∷◌, ◌++◌, map, take, drop, length, slice_get, Bool, true, false, ◌&&◌, cond, Option, Some, None, IsSome, IsTrue, refl, sym, ap, subst, ◌∙◌, append_assoc, true≢false, arith}
 use Rattle.std.specs.Option.{option_map, option_and_then, option_or}
 use Rattle.std.specs.Str.{bytes_eq}
 use Rattle.std.proofs.lemmas.Bool.{and_parts}
-use Rattle.std.proofs.lemmas.List.Folds.{list_any-append}
 use Rattle.std.proofs.lemmas.Option.{slice_get_within}
 use Rattle.gil_values.specs.Pure.{PureValue}
 use Rattle.gil_values.specs.Equality.{same_value, same_elements}
@@ -31,7 +30,7 @@ use Rattle.sym_matching.specs.Matching.{SplitsCase, CaseStaysOver}
 use Rattle.sym_matching.specs.Meaning.{IsReached, Gives, IsFoundOver, AreOuts, AreOutsOver, IsCondition, AreConditions}
 use Rattle.sym_matching.specs.Pure.{PureSplit}
 use Rattle.sym_model.specs.Lists.{Each, OneOf}
-use Rattle.sym_model.specs.Meaning.{is_open, has_open}
+use Rattle.sym_model.specs.Meaning.{has_open}
 use Rattle.sym_model.specs.Terms.{StateTerms, all_of, AreEachOver}
 use Rattle.sym_model.proofs.Asking.{both_parts}
 use Rattle.sym_model.proofs.ListLaws.{same_some, not_none, each_append, each_left, each_right, each_to, each_at, one_at, one_left, one_right, one_parts}
@@ -41,7 +40,7 @@ use Rattle.sym_states.proofs.Conditions.{none_open}
 use Rattle.sym_states.specs.Producing.{added_conds}
 use Rattle.sym_states.specs.Pure.{PureFact, PureState}
 use Rattle.sym_unfolding.specs.Adding.{IsAddedAs, IsBefore, AddsExactly, AddsCases}
-use Rattle.sym_unfolding.specs.Answering.{PureTold, met, unknown, ToldOf, ToldOfAll, FindsFirst, UnfoldsAt, UnfoldsEach, answer_told}
+use Rattle.sym_unfolding.specs.Answering.{PureTold, met, unknown, ToldOf, ToldOfAll, FindsFirst, IsUnfoldedAt, UnfoldsAt, UnfoldsEach, answer_told}
 use Rattle.sym_unfolding.specs.Further.{IsFurther}
 use Rattle.sym_unfolding.specs.Searching.{PureFound, PureSearch, SaysFirst, IsSearchOver, Searches}
 use Rattle.sym_unfolding.specs.Taking.{TakesOut}
@@ -92,7 +91,7 @@ each_cut P [] (suc i) all = tt
 each_cut P (x ∷ xs) zero all = all.1
 each_cut P (x ∷ xs) (suc i) all = (all.0, each_cut P xs i all.1)
 
-each_taken : {A : Type 0} (P : A → Type 0) (xs : List A) (i : ℕ) → Each P xs → Each P (take i xs ++ drop (i + 1) xs)
+pub each_taken : {A : Type 0} (P : A → Type 0) (xs : List A) (i : ℕ) → Each P xs → Each P (take i xs ++ drop (i + 1) xs)
 each_taken P xs i all = subst (λ n. Each P (take i xs ++ drop n xs)) (sym (one_more i)) (each_cut P xs i all)
 
 -- ---- the store with which a case begins
@@ -194,6 +193,7 @@ module _ {S : Type 0} (memory : MemoryName) (stands : S → List PureValue → H
         not_none (sym none ∙ ap (slice_get s.facts) (sym place) ∙ there);
     exact = λ over conds v values l ws us has first. tt;
     follow = λ over conds. tt;
+    origin = tt;
   }
 
   module _ (found : PureFound) (c : PureFact) (at : slice_get s.facts found.place ≡ Some c) (left : PureState S) (takes : TakesOut stands terms kept found s left) where
@@ -268,10 +268,11 @@ module _ {S : Type 0} (memory : MemoryName) (stands : S → List PureValue → H
           ⊎_elim (λ reached. absurd (subst (IsReached v) none reached)) (λ hold. not_none (sym (says.none hold) ∙ begun)) says.cover;
       exact = λ over conds v values l ws us has first. tt;
       follow = λ over conds. tt;
+      origin = tt;
     }
 
     module _ (split : PureSplit PureStore) (good : PureGoodCase PureStore) (there : split.found ≡ Some good) (splits : SplitsCase d c.ins (map Some c.outs) split) (names : CaseStaysOver c.ins (map Some c.outs) split)
-        (rs : List (PureUnfoldedCase S)) (adds : AddsCases memory stands terms kept (scope_of d) good.result good.conds d.cases left rs) where
+        (rs : List (PureUnfoldedCase S)) (adds : AddsCases memory stands terms kept (scope_of d) good.result good.conds d.cases left rs) (come : Each (IsUnfoldedAt terms d s found) rs) where
       good_over : IsOverTable terms s → AreConditions s.vars good.conds × IsStoreOver s.vars good.result
       good_over over =
           let args = arguments_over over in
@@ -399,6 +400,7 @@ module _ {S : Type 0} (memory : MemoryName) (stands : S → List PureValue → H
             (stands_for v number t next added.items added.case);
         exact = exact_there;
         follow = λ over conds. each_to (λ r. IsFurther terms kept left r.state) (λ r. IsFurther terms kept s r.state) rs (λ r is. further_of r.state is) (follow_all over conds);
+        origin = come;
       }
         where
           one_of_each : {A : Type 0} (P Q R : A → Type 0) (xs : List A) → Each P xs → OneOf Q xs → ((x : A) → P x → Q x → R x) → OneOf R xs
@@ -413,6 +415,7 @@ module _ {S : Type 0} (memory : MemoryName) (stands : S → List PureValue → H
     cover = λ over conds v l ws us g number t next has one first added. absurd one;
     exact = λ over conds v values l ws us has firsts. tt;
     follow = λ over conds. tt;
+    origin = tt;
   }
 
   pub each_more : (fs : List PureFound) (f : PureFound) (rs ss : List (PureUnfoldedCase S)) → UnfoldsEach memory stands terms kept d ins outs s fs rs → UnfoldsAt memory stands terms kept d ins outs s f ss → UnfoldsEach memory stands terms kept d ins outs s (fs ++ f ∷ []) (rs ++ ss)
@@ -431,6 +434,10 @@ module _ {S : Type 0} (memory : MemoryName) (stands : S → List PureValue → H
         (adds.exact over (each_right (λ x. Each (λ a. IsOver s.vars (term_of a)) x.conds) fs (f ∷ []) conds).0 v values l ws us has (each_right First fs (f ∷ []) firsts).0);
     follow = λ over conds.
         each_append (λ r. IsFurther terms kept s r.state) rs ss (so_far.follow over (each_left (λ x. Each (λ a. IsOver s.vars (term_of a)) x.conds) fs (f ∷ []) conds)) (adds.follow over (each_right (λ x. Each (λ a. IsOver s.vars (term_of a)) x.conds) fs (f ∷ []) conds).0);
+    origin =
+        each_append (λ r. OneOf (λ x. IsUnfoldedAt terms d s x r) (fs ++ f ∷ [])) rs ss
+        (each_to (λ r. OneOf (λ x. IsUnfoldedAt terms d s x r) fs) (λ r. OneOf (λ x. IsUnfoldedAt terms d s x r) (fs ++ f ∷ [])) rs (λ r one. one_left (λ x. IsUnfoldedAt terms d s x r) fs (f ∷ []) one) so_far.origin)
+        (each_to (IsUnfoldedAt terms d s f) (λ r. OneOf (λ x. IsUnfoldedAt terms d s x r) (fs ++ f ∷ [])) ss (λ r is. one_right (λ x. IsUnfoldedAt terms d s x r) fs (f ∷ []) (inl is)) adds.origin);
   }
 
   -- ---- all

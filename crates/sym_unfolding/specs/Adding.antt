@@ -24,10 +24,17 @@ use Rattle.sym_states.specs.Producing.{added_conds}
 use Rattle.sym_states.specs.Pure.{PureState}
 use Rattle.sym_unfolding.specs.Taking.{IsSameMemory}
 use Rattle.sym_unfolding.specs.Further.{IsFurther}
+use Rattle.sym_unfolding.specs.Origins.{IsAddedFrom}
 use Rattle.sym_unfolding.specs.Unfolding.{PureUnfoldedCase, IsMetAfter}
 
 abbrev pub numbered : {S : Type 0} → ℕ → List (PureState S) → List (PureUnfoldedCase S)
 numbered number states = map (λ s. record { number = number; state = s }) states
+
+-- one of the cases, by its number, was added to the state
+abbrev pub IsCaseAddedFrom : {S : Type 0} → (S → StateTerms) → PureStore → List PureAtom → List (List PureItem) → PureState S
+    → PureUnfoldedCase S → Type 0
+IsCaseAddedFrom terms bs conds cases s r =
+    (items : List PureItem) × ((slice_get cases r.number ≡ Some items) × IsAddedFrom terms bs conds items s r.state)
 
 module _ {S : Type 0} (memory : MemoryName) (stands : S → List PureValue → Heap → Type 0) (terms : S → StateTerms)
     (kept : S → Type 0) where
@@ -110,3 +117,4 @@ module _ {S : Type 0} (memory : MemoryName) (stands : S → List PureValue → H
           × AddsExactly v left items (v ++ values) r.state)) rs
       pub follow : IsOverTable terms s → IsStoreOver s.vars bs → Each (λ a. IsOver s.vars (term_of a)) more
           → Each (λ r. IsFurther terms kept s r.state) rs
+      pub origin : Each (IsCaseAddedFrom terms bs more cases s) rs

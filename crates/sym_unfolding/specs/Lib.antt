@@ -1,6 +1,7 @@
 pub mod Adding
 pub mod Answering
 pub mod Further
+pub mod Origins
 pub mod Searching
 pub mod Taking
 pub mod Unfolding

@@ -8,6 +8,7 @@ ghost use Rattle.sym_states.specs.NamingView.{named_view};
 ghost use Rattle.sym_states.specs.Producing.{MayAdd};
 ghost use Rattle.sym_states.specs.View.{state_view, states_view};
 ghost use Rattle.sym_unfolding.specs.Adding.{AddsItems, AddsOver, AddsCases, numbered};
+ghost use Rattle.sym_unfolding.specs.Origins.{IsAddedFrom};
 ghost use Rattle.sym_unfolding.specs.View.{case_view, cases_view};
 
 use crate::taking::{copy_state, require};
@@ -97,8 +98,10 @@ pub fn add_items<M: ListedMemory>(
     items: &Assertion,
 ) -> Result<SymStates<M>, AllocError>
     requires { Each (MayAdd M.Local.memory) (assertion_view items.now) }
-    ensures { IfOk result (λ rs. AddsItems M.Local.memory M.stands M.terms M.kept scope.now (store_view store.now) (atoms_view conds.now)
+    ensures says { IfOk result (λ rs. AddsItems M.Local.memory M.stands M.terms M.kept scope.now (store_view store.now) (atoms_view conds.now)
         (assertion_view items.now) (state_view state.now) (states_view rs)) }
+    ensures origin { IfOk result (λ rs. Each (IsAddedFrom M.terms (store_view store.now) (atoms_view conds.now) (assertion_view items.now)
+        (state_view state.now)) (states_view rs)) }
 {
     let names = names_in(alloc, items)?;
     let vars = copy_table(alloc, &state.vars)?;

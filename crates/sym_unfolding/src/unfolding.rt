@@ -13,6 +13,7 @@ ghost use Rattle.sym_states.specs.Meaning.{IsOverTable};
 ghost use Rattle.sym_states.specs.Producing.{MayAdd};
 ghost use Rattle.sym_states.specs.View.{state_view};
 ghost use Rattle.sym_unfolding.specs.Answering.{ToldOf, ToldOfAll, UnfoldsAt, UnfoldsEach, answer_told};
+ghost use Rattle.sym_unfolding.specs.Origins.{UnfoldingComesFrom};
 ghost use Rattle.sym_unfolding.specs.Unfolding.{IsUnfolded};
 ghost use Rattle.sym_unfolding.specs.View.{cases_view, found_view, told_view, unfolding_view};
 
@@ -193,8 +194,10 @@ pub fn unfold<M: ListedMemory, D: Decider>(
     requires outs { length (terms_view outs.now) ≡ length (pred_def_view pred.now).outs }
     requires terms_over { AreEachOver state.vars (terms_view ins.now ++ terms_view outs.now) }
     requires addable { Each (Each (MayAdd M.Local.memory)) (pred_def_view pred.now).cases }
-    ensures { IfOk result (λ u. IsUnfolded M.Local.memory M.stands M.terms M.kept (pred_def_view pred.now) (terms_view ins.now)
+    ensures says { IfOk result (λ u. IsUnfolded M.Local.memory M.stands M.terms M.kept (pred_def_view pred.now) (terms_view ins.now)
         (terms_view outs.now) (state_view state) (unfolding_view u)) }
+    ensures origin { IfOk result (λ u. UnfoldingComesFrom M.terms (pred_def_view pred.now) (terms_view ins.now) (terms_view outs.now)
+        (state_view state) (unfolding_view u)) }
 {
     let search = search_first(alloc, &state.preds, &pred.name, ins, outs)?;
     let told = ask_all(alloc, &state.vars, &state.conds, &search.none, decider)?;

@@ -14,6 +14,10 @@ use Rattle.checked_rows.specs.Doubts.{IsToldThere}
 use Rattle.checked_rows.specs.View.{doubt_view}
 use Rattle.call_rows.specs.Arguments.{FitsParam, IsDoubtOver, IsUnfit}
 use Rattle.call_rows.proofs.ArgumentLaws.{none_to, some_to, fits_param, unfit_param, no_argument}
+use Rattle.sym_matching.specs.Origins.{AsksSorts}
+use Rattle.checked_rows.specs.Asked.{DoubtAdds}
+use Rattle.call_rows.specs.Asked.{AsksParams}
+use Rattle.call_rows.proofs.AskedLaws.{one_told_adds}
 use Rattle.call_rows.proofs.arguments.argument_doubt.Goals as goal
 
 pub alternatives_doubt-requires-clause-alternatives :
@@ -59,3 +63,21 @@ returns-in-None-clause-doubt g c =
     let q = c.args.param.now in
     let at : term_at bs q.name ≡ None = sym c.get.ensures ∙ ap (option_map (λ u. term_view u.now)) c.in-None.is in
     no_argument c.args.vars.now (atoms_view c.args.conds.now) bs c.args.scope.now q at
+
+pub returns-in_ok-test-in-Some-clause-asked :
+    goal.returns-in_ok-test-in-Some-clause-asked
+returns-in_ok-test-in-Some-clause-asked g c =
+    let vars = c.args.vars.now in
+    let conds = atoms_view c.args.conds.now in
+    let bs = store_view c.args.store.now in
+    let scope = c.args.scope.now in
+    let q = c.args.param.now in
+    let test = test_view c.in_ok-test-in-Some.test in
+    let t = term_view c.in-Some.term.now in
+    let Own = AsksParams scope bs in
+    let at : term_at bs q.name ≡ Some t = sym c.get.ensures ∙ ap (option_map (λ u. term_view u.now)) c.in-Some.is in
+    let all : Each (Each Own) test.otherwise =
+    each_to (Each (AsksSorts scope q.name t)) (Each Own) test.otherwise (λ conds each. each_to (AsksSorts scope q.name t) Own conds (λ a asks. (q.name, (t, (at, asks)))) each) c.in_ok-test-in-Some.ensures.origin.otherwise in
+    ok_to c.alternatives_doubt.result (λ o. IfSome o (λ d. OneOf (λ more. IsToldThere vars conds more (doubt_view d)) test.otherwise)) (λ o. IfSome o (λ d. DoubtAdds Own conds (doubt_view d)))
+    (λ o told. some_to o (λ d. OneOf (λ more. IsToldThere vars conds more (doubt_view d)) test.otherwise) (λ d. DoubtAdds Own conds (doubt_view d)) (λ d one. one_told_adds Own vars conds test.otherwise (doubt_view d) all one) told)
+    c.alternatives_doubt.ensures.doubt

@@ -7,6 +7,8 @@ use Rattle.sym_model.proofs.ListLaws.{each_append, one_at}
 use Rattle.sym_model.specs.Lists.{OneOf}
 use Rattle.checked_rows.specs.View.{doubt_view}
 use Rattle.call_rows.specs.Arguments.{FitsParam, FitParams, IsDoubtOver, IsUnfit}
+use Rattle.checked_rows.specs.Asked.{DoubtAdds}
+use Rattle.call_rows.specs.Asked.{AsksParams}
 use Rattle.call_rows.proofs.arguments.arguments_doubt.Goals as goal
 
 pub returns-in-Some-clause-doubt : goal.returns-in-Some-clause-doubt
@@ -36,3 +38,7 @@ loop-param-preserved g c =
     subst (FitParams vars conds bs scope) (sym grown)
     (each_append (FitsParam vars conds bs scope) (take i xs) (q ∷ []) c.loop-param.invariant
     (subst (λ o. IfNone o (FitsParam vars conds bs scope q)) c.in_default.is c.in_ok-doubt.ensures.fit, tt))
+
+pub returns-in-Some-clause-asked : goal.returns-in-Some-clause-asked
+returns-in-Some-clause-asked g c =
+    subst (λ o. IfSome o (λ k. DoubtAdds (AsksParams c.args.params.now (store_view c.args.store.now)) (atoms_view c.args.conds.now) (doubt_view k))) c.in-Some.is c.in_ok-doubt.ensures.asked

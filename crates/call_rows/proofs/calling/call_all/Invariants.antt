@@ -5,6 +5,8 @@ use Rattle.sym_paths.specs.View.{paths_view}
 use Rattle.sym_states.specs.View.{facts_view}
 use Rattle.checked_paths.specs.View.{entry_view, nexts_view, passed_by_view}
 use Rattle.call_rows.specs.Calling.{EachIsCalled}
+use Rattle.call_rows.specs.Asked.{AddsToNext}
+use Rattle.call_rows.specs.Gathering.{GathersNexts}
 use Rattle.call_rows.proofs.calling.call_all.Given as goal
 
 abbrev pub invariant-loop-path : goal.invariant-loop-path
@@ -14,4 +16,5 @@ invariant-loop-path g l = record {
   answered :
       EachIsCalled (prog_view l.prog) g.M.Local.LocalMemory.memory g.M.SymMemory.stands g.M.SymMemory.terms g.M.SymMemory.kept (entry_view l.spec l.entered) l.here (facts_view l.preds) (passed_by_view l.passed) (paths_view l.yielded)
       (nexts_view l.nexts);
+  asked : GathersNexts (AddsToNext (prog_view l.prog) (entry_view l.spec l.entered)) (paths_view l.yielded) (nexts_view l.nexts);
 }

@@ -1,4 +1,4 @@
-use Rattle.std.proofs.Common.{length, map, sym, ap, ◌∙◌}
+use Rattle.std.proofs.Common.{length, map, sym, ap, subst, ◌∙◌}
 use Rattle.std.specs.Option.{option_map}
 use Rattle.gil_syntax.specs.Program.{prog_view}
 use Rattle.gil_syntax.specs.Pure.{PureProc}
@@ -14,6 +14,9 @@ use Rattle.checked_paths.proofs.Exact.{if_ok_both as both_ok}
 use Rattle.checked_rows.specs.Ending.{Finishes, FinishesExactly}
 use Rattle.call_rows.specs.Leaving.{EndsEntry}
 use Rattle.call_rows.proofs.LeavingLaws.{ends_over}
+use Rattle.sym_states.proofs.Values.{ok_to}
+use Rattle.checked_rows.specs.Asking.{AddsTo, AsksEntryEnd}
+use Rattle.checked_rows.proofs.StateLaws.{state_conds}
 use Rattle.call_rows.proofs.leaving.uncaught_next.Goals as goal
 
 pub unreachable-requires : goal.unreachable-requires
@@ -53,8 +56,8 @@ finish-requires-clause-cases g c =
     let p = prog_view c.args.prog.now in
     (programs_are_addable p g.M.Local.LocalMemory.memory c.args.prog.now.well_made c.args.prog.now.valid c.requires.modes).preds
 
-pub returns : goal.returns
-returns g c =
+pub returns-clause-answer : goal.returns-clause-answer
+returns-clause-answer g c =
     let p = prog_view c.args.prog.now in
     let stands = g.M.SymMemory.stands in
     let e = entry_view c.args.spec.now c.args.entered.now in
@@ -65,3 +68,13 @@ returns g c =
     both_ok (λ n. Finishes p stands e posts t q (next_view n)) (λ n. FinishesExactly p stands e posts t c.args.here.now path q (next_view n))
     (λ n. EndsEntry p stands g.M.SymMemory.terms e c.args.here.now (facts_view c.args.preds.now) t path (next_view n)) c.finish.result
     (λ n done exactly. (q, (c.in_ok-state.ensures, done, exactly))) c.finish.ensures.next c.finish.ensures.exact
+
+pub returns-clause-asked : goal.returns-clause-asked
+returns-clause-asked g c =
+    let p = prog_view c.args.prog.now in
+    let e = entry_view c.args.spec.now c.args.entered.now in
+    let q = state_view c.in_ok-state.state in
+    let Own = AsksEntryEnd p e (spec_view c.args.spec.now).errors in
+    let path = path_view c.args.path.now in
+    ok_to c.finish.result (λ n. AddsTo Own q.conds (next_view n)) (λ n. AddsTo Own path.conds (next_view n))
+    (λ n adds. subst (λ cs. AddsTo Own cs (next_view n)) (state_conds g.M.SymMemory.stands g.M.SymMemory.terms path (facts_view c.args.preds.now) q c.in_ok-state.ensures) adds) c.finish.ensures.asked

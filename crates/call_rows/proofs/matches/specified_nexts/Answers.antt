@@ -1,4 +1,4 @@
-use Rattle.std.proofs.Common.{inl, IfSome, sym, subst}
+use Rattle.std.proofs.Common.{inl, inr, IfSome, sym, subst}
 use Rattle.gil_syntax.specs.Program.{prog_view}
 use Rattle.gil_syntax.specs.View.{spec_view}
 use Rattle.pure_terms.specs.View.{atoms_view}
@@ -14,6 +14,12 @@ use Rattle.checked_rows.specs.Doubts.{IsDoubtAlone}
 use Rattle.checked_rows.specs.View.{doubt_view}
 use Rattle.call_rows.specs.Arguments.{IsUnfitDoubt}
 use Rattle.call_rows.specs.Matches.{AnswersCall}
+use Rattle.sym_model.specs.Lists.{Each}
+use Rattle.sym_model.proofs.ListLaws.{each_to}
+use Rattle.checked_rows.specs.Asked.{DoubtAdds}
+use Rattle.checked_rows.specs.Asking.{AddsTo}
+use Rattle.call_rows.specs.Asked.{AsksFitting, AsksParams, AsksSpecified}
+use Rattle.call_rows.proofs.AskedLaws.{adds_to, doubt_alone_adds, doubt_to}
 use Rattle.call_rows.proofs.matches.specified_nexts.Goals as goal
 
 pub arguments_doubt-requires-clause-store : goal.arguments_doubt-requires-clause-store
@@ -21,8 +27,8 @@ arguments_doubt-requires-clause-store g c =
     let y = checking_view c.args.checking.now in
     subst (IsStoreOver y.path.vars) (sym c.in_ok-store.ensures) (running_each (IsOver y.path.vars) y.path.stack c.requires.over.path.stores)
 
-pub returns-in-Some : goal.returns-in-Some
-returns-in-Some g c =
+pub returns-in-Some-clause-answers : goal.returns-in-Some-clause-answers
+returns-in-Some-clause-answers g c =
     let y = checking_view c.args.checking.now in
     let used = spec_view c.args.used.now in
     let d = doubt_view c.in-Some.doubt in
@@ -32,3 +38,26 @@ returns-in-Some g c =
     ok_to c.doubted.result (λ ns. IsDoubtAlone FaultKind.CallPrecondition c.args.here.now y.path d (nexts_view ns))
     (λ ns. AnswersCall (prog_view c.args.prog.now) g.M.Local.LocalMemory.memory g.M.SymMemory.stands g.M.SymMemory.terms g.M.SymMemory.kept (entry_view c.args.spec.now c.args.entered.now) used y c.args.here.now (nexts_view ns))
     (λ ns alone. inl (d, (there, alone))) c.doubted.ensures.shows
+
+pub returns-in-Some-clause-asked : goal.returns-in-Some-clause-asked
+returns-in-Some-clause-asked g c =
+    let y = checking_view c.args.checking.now in
+    let used = spec_view c.args.used.now in
+    let bs = running_store y.path.stack in
+    let d = doubt_view c.in-Some.doubt in
+    let Own = AsksSpecified (prog_view c.args.prog.now) (entry_view c.args.spec.now c.args.entered.now) used bs in
+    let told = subst (λ o. IfSome o (λ k. DoubtAdds (AsksParams used.params (store_view c.in_ok-store.store)) (atoms_view c.atoms-conds.result.now) (doubt_view k))) c.in-Some.is c.in_ok-doubt.ensures.asked in
+    let there : DoubtAdds (AsksParams used.params bs) y.path.conds d = subst (λ cs. DoubtAdds (AsksParams used.params bs) cs d) c.atoms-conds.ensures
+    (subst (λ cs. DoubtAdds (AsksParams used.params cs) (atoms_view c.atoms-conds.result.now) d) c.in_ok-store.ensures told) in
+    ok_to c.doubted.result (λ ns. IsDoubtAlone FaultKind.CallPrecondition c.args.here.now y.path d (nexts_view ns)) (λ ns. Each (AddsTo Own y.path.conds) (nexts_view ns))
+    (λ ns alone. doubt_alone_adds Own FaultKind.CallPrecondition c.args.here.now y.path d (nexts_view ns) alone (doubt_to (AsksParams used.params bs) Own (λ a asks. inl asks) y.path.conds d there)) c.doubted.ensures.shows
+
+pub returns-clause-asked : goal.returns-clause-asked
+returns-clause-asked g c =
+    let p = prog_view c.args.prog.now in
+    let e = entry_view c.args.spec.now c.args.entered.now in
+    let y = checking_view c.args.checking.now in
+    let used = spec_view c.args.used.now in
+    let bs = running_store y.path.stack in
+    ok_to c.fitting_nexts.result (λ ns. Each (AddsTo (AsksFitting p e used bs) y.path.conds) (nexts_view ns)) (λ ns. Each (AddsTo (AsksSpecified p e used bs) y.path.conds) (nexts_view ns))
+    (λ ns adds. each_to (AddsTo (AsksFitting p e used bs) y.path.conds) (AddsTo (AsksSpecified p e used bs) y.path.conds) (nexts_view ns) (λ k one. adds_to (AsksFitting p e used bs) (AsksSpecified p e used bs) (λ a asks. inr asks) y.path.conds k one) adds) c.fitting_nexts.ensures.asked

@@ -10,6 +10,7 @@ use Rattle.checked_paths.proofs.Lists.{with_last}
 use Rattle.checked_paths.specs.View.{entry_view, next_view, nexts_view, passed_by_view}
 use Rattle.checked_rows.specs.Ending.{EachIsEnded, EachIsExactlyEnded, IsEnded, IsExactlyEnded, MayEnd}
 use Rattle.checked_rows.specs.Plainly.{EachEndsSurely, EndsSurely}
+use Rattle.checked_rows.specs.Asked.{EachEndAsks, EndAsks}
 use Rattle.checked_rows.proofs.ending.end_all.Goals as goal
 
 pub loop-path-init : goal.loop-path-init
@@ -20,6 +21,7 @@ loop-path-init g c = record {
   exactly = subst (EachIsExactlyEnded (prog_view c.args.prog.now) g.M.SymMemory.stands g.M.SymMemory.terms (entry_view c.args.spec.now c.args.entered.now) (state_view c.args.state.now) (facts_view c.args.preds.now) (passed_by_view c.args.passed.now) c.args.here.now [])
       (sym (ap nexts_view c.new-nexts.ensures)) tt;
   surely = subst (EachEndsSurely g.M.SymMemory.plain (IsPlainMemory g.M.Local.LocalMemory.memory g.M.SymMemory.keeps_plain g.M.SymMemory.terms) (state_view c.args.state.now) (entry_view c.args.spec.now c.args.entered.now) []) (sym (ap nexts_view c.new-nexts.ensures)) tt;
+  asked = subst (EachEndAsks (prog_view c.args.prog.now) (entry_view c.args.spec.now c.args.entered.now) []) (sym (ap nexts_view c.new-nexts.ensures)) tt;
 }
 
 pub end_one-requires-clause-end : goal.end_one-requires-clause-end
@@ -53,6 +55,9 @@ loop-path-preserved g c =
       surely = subst (λ ps. EachEndsSurely g.M.SymMemory.plain (IsPlainMemory g.M.Local.LocalMemory.memory g.M.SymMemory.keeps_plain g.M.SymMemory.terms) (state_view c.args.state.now) e ps (nexts_view c.push.new.self)) (sym seen)
           (subst (EachEndsSurely g.M.SymMemory.plain (IsPlainMemory g.M.Local.LocalMemory.memory g.M.SymMemory.keeps_plain g.M.SymMemory.terms) (state_view c.args.state.now) e (paths_view c.loop-path.yielded ++ path_view c.in-Some.path ∷ [])) (sym pushed)
           (with_last (EndsSurely g.M.SymMemory.plain (IsPlainMemory g.M.Local.LocalMemory.memory g.M.SymMemory.keeps_plain g.M.SymMemory.terms) (state_view c.args.state.now) e) (paths_view c.loop-path.yielded) (path_view c.in-Some.path) (nexts_view c.loop-path.nexts) (next_view n) c.loop-path.invariant.surely c.in_ok-end_one.ensures.plain));
+      asked = subst (λ ps. EachEndAsks p e ps (nexts_view c.push.new.self)) (sym seen)
+          (subst (EachEndAsks p e (paths_view c.loop-path.yielded ++ path_view c.in-Some.path ∷ [])) (sym pushed)
+          (with_last (EndAsks p e) (paths_view c.loop-path.yielded) (path_view c.in-Some.path) (nexts_view c.loop-path.nexts) (next_view n) c.loop-path.invariant.asked c.in_ok-end_one.ensures.asked));
     }
 
 pub returns-clause-next : goal.returns-clause-next
@@ -72,3 +77,9 @@ returns-clause-plain g c =
     let none : into_iter_items c.loop-path.path-iterator ≡ [] = nil_from_length (into_iter_items c.loop-path.path-iterator) (sym c.loop-path.invariant.counted ∙ c.in-None.ensures.steps.0) in
     subst (λ ps. EachEndsSurely g.M.SymMemory.plain (IsPlainMemory g.M.Local.LocalMemory.memory g.M.SymMemory.keeps_plain g.M.SymMemory.terms) (state_view c.args.state.now) (entry_view c.args.spec.now c.args.entered.now) (paths_view ps) (nexts_view c.loop-path.nexts))
     (sym (c.loop-path.invariant.rest ∙ ap (λ xs. c.loop-path.yielded ++ xs) none ∙ append-nil c.loop-path.yielded)) c.loop-path.invariant.surely
+
+pub returns-clause-asked : goal.returns-clause-asked
+returns-clause-asked g c =
+    let none : into_iter_items c.loop-path.path-iterator ≡ [] = nil_from_length (into_iter_items c.loop-path.path-iterator) (sym c.loop-path.invariant.counted ∙ c.in-None.ensures.steps.0) in
+    subst (λ ps. EachEndAsks (prog_view c.args.prog.now) (entry_view c.args.spec.now c.args.entered.now) (paths_view ps) (nexts_view c.loop-path.nexts))
+    (sym (c.loop-path.invariant.rest ∙ ap (λ xs. c.loop-path.yielded ++ xs) none ∙ append-nil c.loop-path.yielded)) c.loop-path.invariant.asked

@@ -20,6 +20,9 @@ use Rattle.checked_rows.proofs.EndExactLaws.{end_exact}
 use Rattle.checked_rows.proofs.EndRowLaws.{may_end, end_covers}
 use Rattle.checked_rows.proofs.EndGoing.{ends_go}
 use Rattle.checked_rows.proofs.Plainness.{memory_of_path, ends_plainly}
+use Rattle.checked_rows.specs.Asked.{EachEndAsks}
+use Rattle.checked_rows.specs.Asking.{AsksOnlyOwn}
+use Rattle.checked_rows.proofs.AskedRowLaws.{end_asks}
 use Rattle.checked_rows.proofs.ending.end_row.Goals as goal
 
 pub end_all-requires-clause-end : goal.end_all-requires-clause-end
@@ -108,3 +111,17 @@ returns-clause-plain g c keeps =
     ok_to c.end_all.result (λ ns. EachEndsSurely plain (IsPlainMemory g.M.Local.LocalMemory.memory g.M.SymMemory.keeps_plain g.M.SymMemory.terms) s e nexts (nexts_view ns)) (λ ns. EndsPlainly p plain e path (nexts_view ns))
     (λ ns are. ends_plainly p plain (IsPlainMemory g.M.Local.LocalMemory.memory g.M.SymMemory.keeps_plain g.M.SymMemory.terms) s terms e path c.requires.may.steps nexts growth within
     (memory_of_path memory holds g.M.SymMemory.stands terms plain g.met.M.SymMemory.plain_is_said keeps path (checking_view c.args.checking).facts s c.in_ok-state.ensures) (nexts_view ns) are) c.end_all.ensures.plain
+
+pub returns-clause-asked : goal.returns-clause-asked
+returns-clause-asked g c =
+    let stands = g.M.SymMemory.stands in
+    let terms = g.M.SymMemory.terms in
+    let asked = g.M.SymMemory.asked in
+    let m = g.M.Local.LocalMemory.actions in
+    let p = prog_view c.args.prog.now in
+    let e = entry_view c.args.spec.now c.args.entered.now in
+    let x = checking_view c.args.checking in
+    let nexts = paths_view c.in_ok-paths.paths in
+    let laws = subst (λ q. AreNextPaths p m stands terms (IsOwnAt stands terms asked m p q) (IsAskedByMemoryAt stands terms asked m p q) q nexts) (ap path_view c.into_parts-path.ensures.path) c.in_ok-paths.ensures.next in
+    ok_to c.end_all.result (λ ns. EachEndAsks p e nexts (nexts_view ns)) (λ ns. (command : PureCommand) → IsLeaving command → AsksOnlyOwn p e x command (nexts_view ns))
+    (λ ns are. end_asks p e x stands terms asked m nexts (nexts_view ns) laws.own_conditions laws.origin are) c.end_all.ensures.asked

@@ -30,6 +30,11 @@ use Rattle.checked_rows.specs.Plainly.{FinishesPlainly}
 use Rattle.checked_rows.specs.View.{doubt_view}
 use Rattle.checked_rows.proofs.EndLaws.{entry_names_over, result_doubt, finished, stopped}
 use Rattle.checked_rows.proofs.Plainness.{under_sure, result_sure}
+use Rattle.footprint.specs.Origins.{IsOwnToMatching, AnswerComesFrom, IsOneOf, origin_of}
+use Rattle.checked_paths.specs.Exactness.{HaveMoreOf}
+use Rattle.checked_rows.specs.Asking.{AsksEntryEnd, AddsTo}
+use Rattle.checked_rows.proofs.AskedLaws.{more_to, same_adds, under_same, beyond_same}
+use Rattle.checked_rows.proofs.AskedRowLaws.{result_next, post_asks}
 use Rattle.checked_rows.proofs.ending.finish.Goals as goal
 
 pub other_result-requires-clause-conds : goal.other_result-requires-clause-conds
@@ -200,3 +205,65 @@ returns-clause-plain g c =
       few = may.few;
     }) in
     absurd (subst (λ r. IsDecidedMatching (matching_view r)) c.in-Unknown.is never)) c.doubted_next-in-Unknown.ensures.shows
+
+pub returns-in-Some-clause-asked : goal.returns-in-Some-clause-asked
+returns-in-Some-clause-asked g c =
+    let p = prog_view c.args.prog.now in
+    let e = entry_view c.args.spec.now c.args.entered.now in
+    let s = state_view c.args.state in
+    let before = store_view c.in_ok-names.names in
+    let t = term_view c.args.term.now in
+    let posts = map assertion_view c.args.posts.now in
+    let here = c.args.here.now in
+    let path = path_view c.args.path.now in
+    let d = doubt_view c.in-Some.doubt in
+    let of_entry : AreEntryNames (param_names e.spec.params) e.args e.variables before = subst (λ ps. AreEntryNames ps e.args e.variables before) c.requires.params c.in_ok-names.ensures in
+    let told = subst (λ o. IfSome o (λ k. DoubtsAResult s.vars (atoms_view c.atoms-conds.result.now) t (term_at before result_name) (doubt_view k))) c.in-Some.is c.in_ok-doubt.ensures.doubt in
+    let doubts : DoubtsAResult s.vars s.conds t (term_at before result_name) d = subst (λ cs. DoubtsAResult s.vars cs t (term_at before result_name) d) c.atoms-conds.ensures told in
+    ok_to c.doubted_next.result (λ n. IsDoubtNext FaultKind.Post here path d (next_view n)) (λ n. AddsTo (AsksEntryEnd p e posts) s.conds (next_view n))
+    (λ n shows. result_next p e posts t before of_entry FaultKind.Post here path s.vars s.conds d doubts (next_view n) shows) c.doubted_next.ensures.shows
+
+pub returns-in-Unmatched-clause-asked : goal.returns-in-Unmatched-clause-asked
+returns-in-Unmatched-clause-asked g c =
+    let terms = g.M.SymMemory.terms in
+    let p = prog_view c.args.prog.now in
+    let e = entry_view c.args.spec.now c.args.entered.now in
+    let s = state_view c.args.state in
+    let before = store_view c.in_ok-names.names in
+    let bs = store_view c.in_ok-names-2.names in
+    let t = term_view c.args.term.now in
+    let posts = map assertion_view c.args.posts.now in
+    let here = c.args.here.now in
+    let path = path_view c.args.path.now in
+    let scope = e.spec.params ++ e.spec.logicals in
+    let conds = atoms_view c.in-Unmatched.conds in
+    let u = values_view c.in-Unmatched.valuation in
+    let of_entry : AreEntryNames (param_names e.spec.params) e.args e.variables before = subst (λ ps. AreEntryNames ps e.args e.variables before) c.requires.params c.in_ok-names.ensures in
+    let origin = subst (λ ps. AnswerComesFrom terms (origin_of terms p.preds ps posts bs s) (IsOneOf ps posts) s.conds (matching_view c.in_ok-consume_whole.field-0)) c.in_ok-scope.ensures c.in_ok-consume_whole.ensures.origin in
+    let own : HaveMoreOf (IsOwnToMatching (origin_of terms p.preds scope posts bs s)) s.conds conds = subst (λ r. AnswerComesFrom terms (origin_of terms p.preds scope posts bs s) (IsOneOf scope posts) s.conds (matching_view r)) c.in-Unmatched.is origin in
+    ok_to c.doubted_next-in-Unmatched.result (λ n. IsDoubtNext FaultKind.Post here path (under conds u) (next_view n)) (λ n. AddsTo (AsksEntryEnd p e posts) s.conds (next_view n))
+    (λ n shows. same_adds (AsksEntryEnd p e posts) s.conds conds (next_view n)
+    (more_to (IsOwnToMatching (origin_of terms p.preds scope posts bs s)) (AsksEntryEnd p e posts) s.conds conds (post_asks p e posts t before of_entry bs c.in_ok-names-2.ensures s (terms s.memory)) own)
+    (under_same FaultKind.Post here path conds u (next_view n) shows)) c.doubted_next-in-Unmatched.ensures.shows
+
+pub returns-clause-asked : goal.returns-clause-asked
+returns-clause-asked g c =
+    let terms = g.M.SymMemory.terms in
+    let p = prog_view c.args.prog.now in
+    let e = entry_view c.args.spec.now c.args.entered.now in
+    let s = state_view c.args.state in
+    let before = store_view c.in_ok-names.names in
+    let bs = store_view c.in_ok-names-2.names in
+    let t = term_view c.args.term.now in
+    let posts = map assertion_view c.args.posts.now in
+    let here = c.args.here.now in
+    let path = path_view c.args.path.now in
+    let scope = e.spec.params ++ e.spec.logicals in
+    let conds = atoms_view c.in-Unknown.conds in
+    let of_entry : AreEntryNames (param_names e.spec.params) e.args e.variables before = subst (λ ps. AreEntryNames ps e.args e.variables before) c.requires.params c.in_ok-names.ensures in
+    let origin = subst (λ ps. AnswerComesFrom terms (origin_of terms p.preds ps posts bs s) (IsOneOf ps posts) s.conds (matching_view c.in_ok-consume_whole.field-0)) c.in_ok-scope.ensures c.in_ok-consume_whole.ensures.origin in
+    let own : HaveMoreOf (IsOwnToMatching (origin_of terms p.preds scope posts bs s)) s.conds conds = subst (λ r. AnswerComesFrom terms (origin_of terms p.preds scope posts bs s) (IsOneOf scope posts) s.conds (matching_view r)) c.in-Unknown.is origin in
+    ok_to c.doubted_next-in-Unknown.result (λ n. IsDoubtNext FaultKind.Post here path (beyond conds c.in-Unknown.reason) (next_view n)) (λ n. AddsTo (AsksEntryEnd p e posts) s.conds (next_view n))
+    (λ n shows. same_adds (AsksEntryEnd p e posts) s.conds conds (next_view n)
+    (more_to (IsOwnToMatching (origin_of terms p.preds scope posts bs s)) (AsksEntryEnd p e posts) s.conds conds (post_asks p e posts t before of_entry bs c.in_ok-names-2.ensures s (terms s.memory)) own)
+    (beyond_same FaultKind.Post here path conds c.in-Unknown.reason (next_view n) shows)) c.doubted_next-in-Unknown.ensures.shows

@@ -1,4 +1,4 @@
-use Rattle.std.proofs.Common.{map, sym, subst}
+use Rattle.std.proofs.Common.{map, sym, subst, ◌≡◌, ap}
 use Rattle.gil_syntax.specs.Program.{prog_view}
 use Rattle.gil_syntax.specs.View.{assertion_view}
 use Rattle.pure_terms.specs.Meaning.{IsOver}
@@ -13,6 +13,8 @@ use Rattle.checked_rows.specs.Ending.{Finishes, FinishesExactly, at_end}
 use Rattle.checked_rows.specs.Plainly.{FinishesPlainly}
 use Rattle.checked_rows.proofs.EndRowLaws.{there_over, there_vars, finishes_there, exactly_there}
 use Rattle.checked_rows.proofs.Plainness.{finishes_plainly_there}
+use Rattle.sym_states.specs.Pure.{PureState}
+use Rattle.checked_rows.specs.Asking.{AsksEntryEnd, AddsTo}
 use Rattle.checked_rows.proofs.ending.finish_there.Goals as goal
 
 pub finish-requires-clause-over : goal.finish-requires-clause-over
@@ -58,3 +60,14 @@ returns-clause-plain g c =
     let s = at_end (state_view c.args.state.now) (path_view c.args.path.now) in
     ok_to c.finish.result (λ n. FinishesPlainly (IsPlainMemory g.M.Local.LocalMemory.memory g.M.SymMemory.keeps_plain g.M.SymMemory.terms) e posts t (state_view c.in_ok-there.there) (next_view n)) (λ n. FinishesPlainly (IsPlainMemory g.M.Local.LocalMemory.memory g.M.SymMemory.keeps_plain g.M.SymMemory.terms) e posts t s (next_view n))
     (λ n plainly. finishes_plainly_there g.M.Local.LocalMemory.memory g.M.SymMemory.keeps_plain g.M.SymMemory.stands g.M.SymMemory.terms s (state_view c.in_ok-there.there) c.in_ok-there.ensures e posts t (next_view n) plainly) c.finish.ensures.plain
+
+pub returns-clause-asked : goal.returns-clause-asked
+returns-clause-asked g c =
+    let p = prog_view c.args.prog.now in
+    let e = entry_view c.args.spec.now c.args.entered.now in
+    let posts = map assertion_view c.args.posts.now in
+    let next = path_view c.args.path.now in
+    let there = state_view c.in_ok-there.there in
+    let same : there.conds ≡ next.conds = ap (λ (q : PureState g.row.M.Denot). q.conds) c.in_ok-there.ensures.is in
+    ok_to c.finish.result (λ n. AddsTo (AsksEntryEnd p e posts) there.conds (next_view n)) (λ n. AddsTo (AsksEntryEnd p e posts) next.conds (next_view n))
+    (λ n adds. subst (λ cs. AddsTo (AsksEntryEnd p e posts) cs (next_view n)) same adds) c.finish.ensures.asked

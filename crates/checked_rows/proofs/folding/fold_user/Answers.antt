@@ -17,6 +17,12 @@ use Rattle.checked_rows.specs.Rows.{AreRowOf, IsExactRowOf}
 use Rattle.checked_rows.specs.View.{doubt_view, reading_view}
 use Rattle.checked_rows.proofs.FoldLaws.{read_vars, never_covers, serves_first, fold_covers, fold_exact, unread_exact}
 use Rattle.checked_rows.proofs.MatchLaws.{names_over, over_there}
+use Rattle.sym_model.specs.Lists.{Each}
+use Rattle.sym_states.specs.Producing.{IsAskedAmong}
+use Rattle.checked_rows.specs.Asked.{AddsIn, DoubtAdds, ReadingAsks, AsksAfterIns}
+use Rattle.checked_rows.specs.Asking.{AsksFolding, AsksOnlyOwn}
+use Rattle.checked_rows.proofs.AskedRowLaws.{nothing_asks, use_asks, unread_asks, fold_may}
+use Rattle.checked_rows.proofs.StateLaws.{state_conds}
 use Rattle.checked_rows.proofs.folding.fold_user.Goals as goal
 
 pub read_all-requires-clause-over : goal.read_all-requires-clause-over
@@ -34,7 +40,7 @@ fold_outs-requires-clause-store_over g c =
     let s = state_view c.in_ok-state.state in
     let bs = store_view c.in_ok-names.names in
     let es = exprs_view c.args.used.now.ins in
-    let read = subst (λ r. Reads stands terms s bs es (reading_view r)) c.in-Values.is c.in_ok-state-2.ensures in
+    let read = subst (λ r. Reads stands terms s bs es (reading_view r)) c.in-Values.is c.in_ok-state-2.ensures.reads in
     subst (λ vars. IsStoreOver vars bs) (sym (read_vars stands terms s (state_view c.in-Values.state) bs es (terms_view c.in-Values.ins) read))
     (names_over stands terms g.M.SymMemory.kept (entry_view c.args.spec.now c.args.entered.now) (checking_view c.args.checking) s bs c.requires.over c.in_ok-state.ensures c.in_ok-names.ensures)
 
@@ -53,9 +59,9 @@ returns-in-Values-clause-next g c =
     let u = pred_use_view c.args.used.now in
     let r = state_view c.in-Values.state in
     let ins = terms_view c.in-Values.ins in
-    let read = subst (λ k. Reads stands terms s bs u.ins (reading_view k)) c.in-Values.is c.in_ok-state-2.ensures in
+    let read = subst (λ k. Reads stands terms s bs u.ins (reading_view k)) c.in-Values.is c.in_ok-state-2.ensures.reads in
     ok_to c.fold_outs.result (λ ns. FoldsOuts stands terms kept c.args.here.now p.preds x bs u r ins (nexts_view ns)) (λ ns. AreRowOf p memory m stands terms e x (fold_use u) [] (nexts_view ns))
-    (λ ns folds. fold_covers p memory m stands terms g.met.M.SymMemory.meaning kept e x u c.requires.user s bs c.in_ok-state.ensures c.in_ok-names.ensures c.args.prog.now.valid r ins read c.args.here.now (nexts_view ns) folds) c.fold_outs.ensures
+    (λ ns folds. fold_covers p memory m stands terms g.met.M.SymMemory.meaning kept e x u c.requires.user s bs c.in_ok-state.ensures c.in_ok-names.ensures c.args.prog.now.valid r ins read c.args.here.now (nexts_view ns) folds) c.fold_outs.ensures.folds
 
 pub returns-in-Never-clause-next : goal.returns-in-Never-clause-next
 returns-in-Never-clause-next g c =
@@ -70,7 +76,7 @@ returns-in-Never-clause-next g c =
     let s = state_view c.in_ok-state.state in
     let bs = store_view c.in_ok-names.names in
     let u = pred_use_view c.args.used.now in
-    let never = subst (λ k. Reads stands terms s bs u.ins (reading_view k)) c.in-Never.is c.in_ok-state-2.ensures in
+    let never = subst (λ k. Reads stands terms s bs u.ins (reading_view k)) c.in-Never.is c.in_ok-state-2.ensures.reads in
     ok_to c.nothing.result (λ ns. nexts_view ns ≡ []) (λ ns. AreRowOf p memory m stands terms e x (fold_use u) [] (nexts_view ns))
     (λ ns none. subst (AreRowOf p memory m stands terms e x (fold_use u) []) (sym none) (never_covers p memory m stands terms g.met.M.SymMemory.meaning kept e x u c.requires.user s bs c.in_ok-state.ensures c.in_ok-names.ensures s
     (serves_first p memory m stands terms g.met.M.SymMemory.meaning kept e x u c.requires.user s bs c.in_ok-state.ensures c.in_ok-names.ensures) never)) c.nothing.ensures
@@ -91,9 +97,9 @@ returns-in-Values-clause-exact g c =
     let here = c.args.here.now in
     let r = state_view c.in-Values.state in
     let ins = terms_view c.in-Values.ins in
-    let read = subst (λ k. Reads stands terms s bs u.ins (reading_view k)) c.in-Values.is c.in_ok-state-2.ensures in
+    let read = subst (λ k. Reads stands terms s bs u.ins (reading_view k)) c.in-Values.is c.in_ok-state-2.ensures.reads in
     ok_to c.fold_outs.result (λ ns. FoldsOuts stands terms kept here p.preds x bs u r ins (nexts_view ns)) (λ ns. IsExactRowOf p memory m stands terms e x (fold_use u) here (nexts_view ns))
-    (λ ns folds n may at this place. fold_exact p memory m stands terms g.met.M.SymMemory.meaning kept e x u c.requires.user s bs c.in_ok-state.ensures c.in_ok-names.ensures c.args.prog.now.valid r ins read n may at this here place (nexts_view ns) folds) c.fold_outs.ensures
+    (λ ns folds n may at this place. fold_exact p memory m stands terms g.met.M.SymMemory.meaning kept e x u c.requires.user s bs c.in_ok-state.ensures c.in_ok-names.ensures c.args.prog.now.valid r ins read n may at this here place (nexts_view ns) folds) c.fold_outs.ensures.folds
 
 pub returns-in-Never-clause-exact : goal.returns-in-Never-clause-exact
 returns-in-Never-clause-exact g c =
@@ -127,6 +133,46 @@ returns-clause-exact g c =
     let u = pred_use_view c.args.used.now in
     let here = c.args.here.now in
     let d = doubt_view c.in-Doubted.doubt in
-    let read : IsDoubtIn s (AreUnread stands terms s bs u.ins) d = subst (λ k. Reads stands terms s bs u.ins (reading_view k)) c.in-Doubted.is c.in_ok-state-2.ensures in
+    let read : IsDoubtIn s (AreUnread stands terms s bs u.ins) d = subst (λ k. Reads stands terms s bs u.ins (reading_view k)) c.in-Doubted.is c.in_ok-state-2.ensures.reads in
     ok_to c.doubted.result (λ ns. IsDoubtAlone FaultKind.FoldBody here x.path d (nexts_view ns)) (λ ns. IsExactRowOf p memory m stands terms e x (fold_use u) here (nexts_view ns))
     (λ ns alone n may at this place. unread_exact p memory m stands terms g.met.M.SymMemory.meaning kept e x u c.requires.user s bs c.in_ok-state.ensures c.in_ok-names.ensures n may at this here place (nexts_view ns) (d, (read, alone))) c.doubted.ensures.shows
+
+pub returns-in-Values-clause-asked : goal.returns-in-Values-clause-asked
+returns-in-Values-clause-asked g c =
+    let stands = g.M.SymMemory.stands in
+    let terms = g.M.SymMemory.terms in
+    let p = prog_view c.args.prog.now in
+    let e = entry_view c.args.spec.now c.args.entered.now in
+    let x = checking_view c.args.checking in
+    let s = state_view c.in_ok-state.state in
+    let bs = store_view c.in_ok-names.names in
+    let u = pred_use_view c.args.used.now in
+    let r = state_view c.in-Values.state in
+    let ins = terms_view c.in-Values.ins in
+    let asks = subst (λ k. ReadingAsks s.conds bs u.ins (reading_view k)) c.in-Values.is c.in_ok-state-2.ensures.asked in
+    ok_to c.fold_outs.result (λ ns. Each (AddsIn (AsksAfterIns (AsksFolding p.preds) bs u ins) x r) (nexts_view ns)) (λ ns. AsksOnlyOwn p e x (fold_use u) (nexts_view ns))
+    (λ ns each. use_asks p e x u (AsksFolding p.preds) (fold_use u) (fold_may p e.spec u) s (state_conds stands terms x.path x.facts s c.in_ok-state.ensures) bs c.in_ok-names.ensures r ins asks.0 asks.1 (nexts_view ns) each) c.fold_outs.ensures.asked
+
+pub returns-in-Never-clause-asked : goal.returns-in-Never-clause-asked
+returns-in-Never-clause-asked g c =
+    let p = prog_view c.args.prog.now in
+    let e = entry_view c.args.spec.now c.args.entered.now in
+    let x = checking_view c.args.checking in
+    let u = pred_use_view c.args.used.now in
+    ok_to c.nothing.result (λ ns. nexts_view ns ≡ []) (λ ns. AsksOnlyOwn p e x (fold_use u) (nexts_view ns))
+    (λ ns none. nothing_asks p e x (fold_use u) (nexts_view ns) none) c.nothing.ensures
+
+pub returns-clause-asked : goal.returns-clause-asked
+returns-clause-asked g c =
+    let stands = g.M.SymMemory.stands in
+    let terms = g.M.SymMemory.terms in
+    let p = prog_view c.args.prog.now in
+    let e = entry_view c.args.spec.now c.args.entered.now in
+    let x = checking_view c.args.checking in
+    let s = state_view c.in_ok-state.state in
+    let bs = store_view c.in_ok-names.names in
+    let u = pred_use_view c.args.used.now in
+    let d = doubt_view c.in-Doubted.doubt in
+    let asks : DoubtAdds (IsAskedAmong bs u.ins) s.conds d = subst (λ k. ReadingAsks s.conds bs u.ins (reading_view k)) c.in-Doubted.is c.in_ok-state-2.ensures.asked in
+    ok_to c.doubted.result (λ ns. IsDoubtAlone FaultKind.FoldBody c.args.here.now x.path d (nexts_view ns)) (λ ns. AsksOnlyOwn p e x (fold_use u) (nexts_view ns))
+    (λ ns alone. unread_asks p e x u (AsksFolding p.preds) (fold_use u) (fold_may p e.spec u) s (state_conds stands terms x.path x.facts s c.in_ok-state.ensures) bs c.in_ok-names.ensures FaultKind.FoldBody c.args.here.now d asks (nexts_view ns) alone) c.doubted.ensures.shows

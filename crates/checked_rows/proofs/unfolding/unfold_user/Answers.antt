@@ -10,6 +10,8 @@ use Rattle.checked_rows.specs.Doubts.{always, IsDoubtAlone}
 use Rattle.checked_rows.specs.Rows.{IsExactRowOf}
 use Rattle.checked_rows.proofs.ExactLaws.{right_alone}
 use Rattle.checked_rows.proofs.UnfoldExactLaws.{unknown_is_fault}
+use Rattle.checked_rows.specs.Asking.{AsksOnlyOwn}
+use Rattle.checked_rows.proofs.AskedRowLaws.{always_asks}
 use Rattle.checked_rows.proofs.unfolding.unfold_user.Goals as goal
 
 pub unfold_own-requires-clause-addable : goal.unfold_own-requires-clause-addable
@@ -31,3 +33,13 @@ returns-in-None-clause-exact g c =
     let none : find_pred (prog_view c.args.prog.now).preds c.args.used.now.pred ≡ None = search rules in
     ok_to c.doubted.result (λ ns. IsDoubtAlone FaultKind.FoldBody here x.path always (nexts_view ns)) (λ ns. IsExactRowOf p memory m stands terms e x (unfold_use u) here (nexts_view ns))
     (λ ns alone n may at this place. right_alone p memory m stands e x FaultKind.FoldBody here place always (unknown_is_fault p memory m stands e x u n at this none) (nexts_view ns) alone) c.doubted.ensures.shows
+
+pub returns-in-None-clause-asked : goal.returns-in-None-clause-asked
+returns-in-None-clause-asked g c =
+    let p = prog_view c.args.prog.now in
+    let e = entry_view c.args.spec.now c.args.entered.now in
+    let x = checking_view c.args.checking in
+    let u = pred_use_view c.args.used.now in
+    let here = c.args.here.now in
+    ok_to c.doubted.result (λ ns. IsDoubtAlone FaultKind.FoldBody here x.path always (nexts_view ns)) (λ ns. AsksOnlyOwn p e x (unfold_use u) (nexts_view ns))
+    (λ ns alone. always_asks p e x (unfold_use u) FaultKind.FoldBody here (nexts_view ns) alone) c.doubted.ensures.shows

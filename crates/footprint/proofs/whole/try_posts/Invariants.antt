@@ -4,6 +4,7 @@ use Rattle.sym_evaluation.specs.View.{store_view}
 use Rattle.sym_states.specs.Meaning.{Serves}
 use Rattle.sym_states.specs.View.{state_view}
 use Rattle.footprint.specs.Assertions.{cases_at}
+use Rattle.footprint.specs.Coming.{TriesComeFrom}
 use Rattle.footprint.specs.Leaves.{AreLeaves}
 use Rattle.footprint.specs.Plainly.{IsPlainMemory, PostsStayPlain}
 use Rattle.footprint.specs.View.{leaves_view}
@@ -16,3 +17,4 @@ invariant-loop-post g l =
     (SomeGives (cases_at (map pred_def_view l.preds) 1) l.scope (map assertion_view (take l.post-index l.post-items)))
     (SomeStops (cases_at (map pred_def_view l.preds) 1) l.scope (map assertion_view (take l.post-index l.post-items))) (leaves_view l.leaves)
     × PostsStayPlain (IsPlainMemory g.M.Local.LocalMemory.memory g.M.SymMemory.keeps_plain g.M.SymMemory.terms) (map assertion_view (take l.post-index l.post-items)) (state_view l.state) (store_view l.start) (leaves_view l.leaves)
+    × TriesComeFrom g.M.SymMemory.terms (map pred_def_view l.preds) l.scope (map assertion_view (take l.post-index l.post-items)) (state_view l.state) (store_view l.start) (leaves_view l.leaves)

@@ -8,30 +8,35 @@ use Rattle.sym_paths.specs.AskingView.{satisfiability_view}
 use Rattle.sym_states.proofs.Values.{ok_to}
 use Rattle.sym_states.specs.View.{state_view}
 use Rattle.checked_paths.specs.View.{checking_view, next_view}
+use Rattle.checked_paths.specs.declared.nexts.FaultKind.{FaultKind}
+use Rattle.checked_rows.specs.Asked.{HasConds}
+use Rattle.checked_rows.specs.Doubts.{beyond, IsDoubtNext}
+use Rattle.checked_rows.specs.States.{with_state}
 use Rattle.invariant_rows.specs.Entering.{IsAdditionAnswered}
+use Rattle.invariant_rows.proofs.AskedLaws.{undecided_has}
 use Rattle.invariant_rows.proofs.adding.state_next.Goals as goal
 
 pub ask-requires : goal.ask-requires
 ask-requires g c = subst (AreOver c.args.state.vars) (sym c.atoms.ensures) (each_over_all c.args.state.vars (state_view c.args.state).conds c.requires.over.conds)
 
-pub returns-in-Satisfiable : goal.returns-in-Satisfiable
-returns-in-Satisfiable g c =
+pub returns-in-Satisfiable-clause-answered : goal.returns-in-Satisfiable-clause-answered
+returns-in-Satisfiable-clause-answered g c =
     let s = state_view c.args.state in
     let v = values_view c.in-Satisfiable.field-0 in
     let told = subst (λ r. IsRightly c.args.state.vars (atoms_view c.atoms.result.now) (satisfiability_view r)) c.in-Satisfiable.is c.in_ok-ask.ensures in
     let met : IsSolution s.vars s.conds v = subst (λ cs. IsSolution s.vars cs v) c.atoms.ensures told in
     ok_to c.go_on_in.result _ (λ n. IsAdditionAnswered g.M.SymMemory.stands g.M.SymMemory.terms c.args.here.now (checking_view c.args.checking.now) s (next_view n))
-    (λ n goes. inl (met.no_form, ((v, met.meets), goes))) c.go_on_in.ensures
+    (λ n goes. inl (met.no_form, ((v, met.meets), goes))) c.go_on_in.ensures.goes
 
-pub returns-in-Unsatisfiable : goal.returns-in-Unsatisfiable
-returns-in-Unsatisfiable g c =
+pub returns-in-Unsatisfiable-clause-answered : goal.returns-in-Unsatisfiable-clause-answered
+returns-in-Unsatisfiable-clause-answered g c =
     let s = state_view c.args.state in
     let told = subst (λ r. IsRightly c.args.state.vars (atoms_view c.atoms.result.now) (satisfiability_view r)) c.in-Unsatisfiable.is c.in_ok-ask.ensures in
     let unsat : IsUnsatisfiable s.vars s.conds = subst (IsUnsatisfiable c.args.state.vars) c.atoms.ensures told in
     inr (inl (refl, unsat))
 
-pub returns-in-Undecided : goal.returns-in-Undecided
-returns-in-Undecided g c =
+pub returns-in-Undecided-clause-answered : goal.returns-in-Undecided-clause-answered
+returns-in-Undecided-clause-answered g c =
     let here = c.args.here.now in
     let x = checking_view c.args.checking.now in
     let s = state_view c.args.state in
@@ -39,3 +44,14 @@ returns-in-Undecided g c =
     let outside : IsOutside s.conds c.in-Undecided.reason = subst (λ cs. IsOutside cs c.in-Undecided.reason) c.atoms.ensures told in
     ok_to c.undecided_in.result _ (λ n. IsAdditionAnswered g.M.SymMemory.stands g.M.SymMemory.terms here x s (next_view n))
     (λ n shown. inr (inr (c.in-Undecided.reason, (outside, shown)))) c.undecided_in.ensures
+
+pub returns-in-Satisfiable-clause-same : goal.returns-in-Satisfiable-clause-same
+returns-in-Satisfiable-clause-same g c = c.go_on_in.ensures.same
+
+pub returns-in-Undecided-clause-same : goal.returns-in-Undecided-clause-same
+returns-in-Undecided-clause-same g c =
+    let here = c.args.here.now in
+    let s = state_view c.args.state in
+    let path = with_state (checking_view c.args.checking.now).path s in
+    ok_to c.undecided_in.result (λ n. IsDoubtNext FaultKind.Invariant here path (beyond s.conds c.in-Undecided.reason) (next_view n)) (λ n. HasConds s.conds (next_view n))
+    (λ n shown. undecided_has FaultKind.Invariant here path s.conds c.in-Undecided.reason (next_view n) shown) c.undecided_in.ensures

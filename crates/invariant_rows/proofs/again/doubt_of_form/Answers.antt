@@ -1,4 +1,4 @@
-use Rattle.std.proofs.Common.{◌≡◌, ◌++◌, [], ◌∷◌, sym, ap, subst, ◌∙◌}
+use Rattle.std.proofs.Common.{◌≡◌, inr, ◌++◌, [], ◌∷◌, refl, sym, ap, subst, ◌∙◌}
 use Rattle.std.proofs.lemmas.List.{map-append}
 use Rattle.pure_terms.specs.declared.atoms.Atom.{Atom}
 use Rattle.pure_terms.specs.Meaning.{AreOver, IsOver, IsUnsatisfiable}
@@ -36,3 +36,11 @@ returns-in-Undecided-clause-doubt g c =
     ap atoms_view c.in_ok-push.ensures.ok ∙ (map-append atom_view c.in_ok-conds.conds (Atom.Open c.args.term ∷ []) ∙ ap (λ cs. cs ++ opening t ∷ []) (c.in_ok-conds.ensures ∙ c.atoms.ensures)) in
     let told = subst (λ r. IsRightly s.vars (atoms_view c.push.new.self) (satisfiability_view r)) c.in-Undecided.is c.in_ok-ask.ensures in
     ((opening t ∷ [], are), told)
+
+pub returns-in-Undecided-clause-asked : goal.returns-in-Undecided-clause-asked
+returns-in-Undecided-clause-asked g c =
+    let s = state_view c.args.state.now in
+    let t = term_view c.args.term in
+    let are : atoms_view c.push.new.self ≡ s.conds ++ opening t ∷ [] =
+    ap atoms_view c.in_ok-push.ensures.ok ∙ (map-append atom_view c.in_ok-conds.conds (Atom.Open c.args.term ∷ []) ∙ ap (λ cs. cs ++ opening t ∷ []) (c.in_ok-conds.ensures ∙ c.atoms.ensures)) in
+    (opening t ∷ [], (are, (inr (t, refl), tt)))

@@ -1,4 +1,4 @@
-use Rattle.std.proofs.Common.{IfNone, IfSome, subst}
+use Rattle.std.proofs.Common.{IfNone, IfOk, IfSome, subst}
 use Rattle.pure_terms.specs.Meaning.{IsOver}
 use Rattle.pure_terms.specs.View.{atoms_view}
 use Rattle.sym_evaluation.specs.View.{store_view}
@@ -9,7 +9,12 @@ use Rattle.gil_syntax.specs.View.{assertion_view}
 use Rattle.sym_states.proofs.Values.{ok_to}
 use Rattle.checked_paths.specs.declared.nexts.FaultKind.{FaultKind}
 use Rattle.checked_paths.specs.View.{checking_view, entry_view, nexts_view}
+use Rattle.sym_model.specs.Lists.{Each}
+use Rattle.checked_paths.specs.Exactness.{AddsOnly}
+use Rattle.checked_rows.specs.Asked.{DoubtAdds}
 use Rattle.checked_rows.specs.Doubts.{IsDoubtAlone}
+use Rattle.invariant_rows.specs.Asked.{AsksNames, AsksVisitThere}
+use Rattle.invariant_rows.proofs.AskedLaws.{alone_adds, doubt_to, names_visit}
 use Rattle.checked_rows.specs.Rows.{IsExactRowOf}
 use Rattle.checked_rows.specs.View.{doubt_view}
 use Rattle.checked_rows.proofs.ExactLaws.{right_alone}
@@ -56,3 +61,28 @@ returns-in-Some-clause-exact g c =
     (λ ns alone n may at this place. right_alone p memory m stands e x FaultKind.Invariant here place doubt
     (unfit_is_fault p memory m stands terms e x xs ps items scope c.in_ok-scope.ensures n at this names c.in_ok-names.ensures doubt doubts) (nexts_view ns) alone)
     c.doubted.ensures.shows
+
+pub returns-in-Some-clause-asked : goal.returns-in-Some-clause-asked
+returns-in-Some-clause-asked g c =
+    let p = prog_view c.args.prog.now in
+    let e = entry_view c.args.spec.now c.args.entered.now in
+    let x = checking_view c.args.checking.now in
+    let items = assertion_view c.args.items.now in
+    let here = c.args.here.now in
+    let scope = c.in_ok-scope.scope in
+    let names = store_view c.in_ok-names.names in
+    let doubt = doubt_view c.in-Some.doubt in
+    let told = subst (λ o. IfSome o (λ d. DoubtAdds (AsksNames scope names) (atoms_view c.atoms-conds.result.now) (doubt_view d))) c.in-Some.is c.in_ok-doubt.ensures.asked in
+    let adds : DoubtAdds (AsksNames scope names) x.path.conds doubt = subst (λ cs. DoubtAdds (AsksNames scope names) cs doubt) c.atoms-conds.ensures told in
+    let own = AsksVisitThere e x p scope items in
+    ok_to c.doubted.result (λ ns. IsDoubtAlone FaultKind.Invariant here x.path doubt (nexts_view ns)) _
+    (λ ns alone. subst (λ qs. Each (AddsOnly (AsksVisitThere e x p qs items) x) (nexts_view ns)) c.in_ok-scope.ensures
+    (alone_adds own FaultKind.Invariant here x doubt (nexts_view ns) (doubt_to (AsksNames scope names) own x.path.conds doubt (names_visit e x p scope items names c.in_ok-names.ensures) adds) alone)) c.doubted.ensures.shows
+
+pub returns-clause-asked : goal.returns-clause-asked
+returns-clause-asked g c =
+    let p = prog_view c.args.prog.now in
+    let e = entry_view c.args.spec.now c.args.entered.now in
+    let x = checking_view c.args.checking.now in
+    let items = assertion_view c.args.items.now in
+    subst (λ qs. IfOk c.matched_row.result (λ ns. Each (AddsOnly (AsksVisitThere e x p qs items) x) (nexts_view ns))) c.in_ok-scope.ensures c.matched_row.ensures.asked

@@ -1,4 +1,4 @@
-use Rattle.std.proofs.Common.{sym, ap, subst}
+use Rattle.std.proofs.Common.{subst}
 use Rattle.gil_values.specs.View.{values_view}
 use Rattle.pure_terms.specs.View.{atoms_view}
 use Rattle.sym_paths.specs.Asking.{IsRightly}

@@ -1,4 +1,4 @@
-use Rattle.std.proofs.Common.{ap, subst}
+use Rattle.std.proofs.Common.{subst}
 use Rattle.checked_paths.specs.Causes.{cause_view, shown_in}
 use Rattle.spec_causes.specs.Reaching.{IsKnown}
 use Rattle.spec_causes.proofs.showing.show.Goals as goal

@@ -1,4 +1,4 @@
-use Rattle.std.proofs.Common.{sym, ap}
+use Rattle.std.proofs.Common.{ap}
 use Rattle.std.specs.Option.{option_map}
 use Rattle.gil_values.specs.View.{values_view}
 use Rattle.pure_terms.specs.View.{atoms_view}

@@ -24,4 +24,5 @@ returns-in_ok-explored-in-None g c =
     let rightly =
     subst (λ (o : Option Proof). RefutesRightly (precondition_table s) (precondition_atoms s) (option_map proof_view o)) c.in-None.is c.in_ok-proof.ensures.refutes in
     explored_found (prog_view c.args.prog.now) g.M.Local.LocalMemory.memory g.M.Local.LocalMemory.actions g.M.SymMemory.keeps_plain c.args.bound s rightly
-    c.in_ok-explored-in-None.explored.cause c.in_ok-explored-in-None.explored.uses c.finding_of.result c.finding_of.ensures c.in_ok-explored-in-None.ensures.verified c.in_ok-explored-in-None.ensures.causes c.in_ok-explored-in-None.ensures.contained c.in_ok-explored-in-None.ensures.plain
+    c.in_ok-explored-in-None.explored.cause c.in_ok-explored-in-None.explored.uses c.finding_of.result c.finding_of.ensures c.in_ok-explored-in-None.ensures.verified c.in_ok-explored-in-None.ensures.causes
+    c.in_ok-explored-in-None.ensures.ended c.in_ok-explored-in-None.ensures.used c.in_ok-explored-in-None.ensures.contained c.in_ok-explored-in-None.ensures.plain

@@ -74,7 +74,7 @@ returns-clause-all_reached g c =
     let early : x.path.steps < c.args.bound = omega (arith, c.if-checking-bound.false) in
     IfOk-weaker c.take.result _ _
     (λ after taken. step_reached (prog_view c.args.prog.now) L.memory L.actions M.stands M.terms (entry_view c.args.spec.now c.args.entered.now) c.args.bound g.met.M.SymMemory.meaning x c.requires.reached c.requires.may
-    (exploration_view c.args.exploration) (exploration_view after) c.in_ok-stepped.stepped.uses ns early c.in_ok-stepped.ensures.next c.in_ok-stepped.ensures.exact c.in_ok-stepped.ensures.asked
+    (exploration_view c.args.exploration) (exploration_view after) c.in_ok-stepped.stepped.uses ns early c.in_ok-stepped.ensures.next c.in_ok-stepped.ensures.exact c.in_ok-stepped.ensures.asked c.in_ok-stepped.ensures.used
     (subst (λ a. AreTaken a ns (exploration_view after)) c.in_ok-exploration.ensures taken) c.requires.all_reached)
     c.take.ensures
 

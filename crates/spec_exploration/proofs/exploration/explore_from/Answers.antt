@@ -8,7 +8,7 @@ use Rattle.spec_exploration.specs.Exploring.{AreTaken, exploration_view}
 use Rattle.spec_exploration.proofs.Inside.{taken_inside, apart_inside}
 use Rattle.spec_exploration.proofs.Plainness.{apart_plain, taken_plain}
 use Rattle.spec_exploration.proofs.Reaching.{starts_reached, all_but_last}
-use Rattle.spec_exploration.proofs.Taking.{starts_settle, starts_placed, settle_later, settled_runs, last_apart, if_none}
+use Rattle.spec_exploration.proofs.Taking.{starts_settle, starts_placed, settle_later, settled_ends, settled_runs, last_apart, if_none}
 use Rattle.spec_exploration.proofs.exploration.explore_from.Goals as goal
 
 pub loop-turn-init : goal.loop-turn-init
@@ -39,6 +39,19 @@ returns-in_default-clause-verified g c =
     if_none c.loop-turn.exploration.found.cause _
     (λ no_cause. settled_runs (prog_view c.args.prog.now) L.memory L.actions M.stands M.terms e c.args.bound (nexts_view c.args.starts) g.met.M.SymMemory.meaning c.requires.cover
     (exploration_view c.loop-turn.exploration) (ap (map checking_view) none) no_cause c.loop-turn.invariant.settles)
+
+pub returns-in_default-clause-ended : goal.returns-in_default-clause-ended
+returns-in_default-clause-ended g c =
+    let M = g.M.SymMemory in
+    let L = g.M.Local.LocalMemory in
+    let e = entry_view c.args.spec.now c.args.entered.now in
+    let none : c.loop-turn.exploration.left.items ≡ [] = search rules in
+    if_none c.loop-turn.exploration.found.cause _
+    (λ no_cause. settled_ends (prog_view c.args.prog.now) L.memory L.actions M.stands M.terms e c.args.bound (nexts_view c.args.starts) g.met.M.SymMemory.meaning c.requires.cover
+    (exploration_view c.loop-turn.exploration) (ap (map checking_view) none) no_cause c.loop-turn.invariant.settles)
+
+pub returns-in_default-clause-used : goal.returns-in_default-clause-used
+returns-in_default-clause-used g c = c.loop-turn.invariant.reached.uses
 
 pub returns-in_default-clause-causes : goal.returns-in_default-clause-causes
 returns-in_default-clause-causes g c = c.loop-turn.invariant.reached.cause

@@ -75,6 +75,8 @@ returns g c =
     let entered : Entered = record { args = c.in_ok-args.field-0.args; variables = c.in_ok-args.field-0.variables } in
     record {
       verified = met_none c.in_ok-cause.field-0.cause entered c.in_ok-cause-2.cause _ c.in_ok-cause-2.ensures c.in_ok-cause.ensures.verified;
+      ended = met_none c.in_ok-cause.field-0.cause entered c.in_ok-cause-2.cause _ c.in_ok-cause-2.ensures c.in_ok-cause.ensures.ended;
+      used = c.in_ok-cause.ensures.used;
       causes = met_right p L.memory L.actions c.args.bound s entered c.in_ok-cause.field-0.cause c.in_ok-cause-2.cause c.in_ok-cause-2.ensures c.in_ok-cause.ensures.causes;
       contained = λ contained.
           c.in_ok-cause.ensures.inside contained

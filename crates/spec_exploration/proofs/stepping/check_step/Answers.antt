@@ -1,7 +1,9 @@
+use Rattle.std.proofs.Common.{sym, subst}
 use Rattle.gil_syntax.specs.Program.{prog_view}
 use Rattle.gil_syntax.specs.View.{spec_view}
 use Rattle.checked_paths.proofs.Exact.{if_ok_both}
 use Rattle.checked_paths.specs.View.{checking_view, entry_view, nexts_view}
+use Rattle.call_rows.specs.Uses.{AreUsedThere}
 use Rattle.spec_exploration.proofs.Inside.{command_there, nexts_inside}
 use Rattle.spec_exploration.proofs.Plainness.{nexts_plain}
 use Rattle.spec_exploration.proofs.stepping.check_step.Goals as goal
@@ -38,3 +40,7 @@ pub returns-clause-plain : goal.returns-clause-plain
 returns-clause-plain g c keeps plain terms inside from =
     nexts_plain (prog_view c.args.prog.now) (spec_view c.args.spec.now) plain g.M.SymMemory.plain g.M.SymMemory.terms (entry_view c.args.spec.now c.args.entered.now) (checking_view c.args.checking) (nexts_view c.in_ok-nexts.nexts)
     c.in_ok-nexts.ensures.next.follow (c.in_ok-nexts.ensures.plain keeps plain terms inside from)
+
+pub returns-clause-used : goal.returns-clause-used
+returns-clause-used g c =
+    subst (AreUsedThere (prog_view c.args.prog.now) g.M.Local.LocalMemory.actions g.M.SymMemory.stands (entry_view c.args.spec.now c.args.entered.now) (checking_view c.args.checking)) (sym c.new-uses.ensures) tt

@@ -9,7 +9,7 @@ use Rattle.sym_paths.specs.View.{frames_view, path_view}
 use Rattle.checked_paths.specs.View.{entry_view, checking_view, nexts_view}
 use Rattle.spec_exploration.proofs.Inside.{told}
 use Rattle.spec_exploration.proofs.Plainness.{end_plain, row_plain}
-use Rattle.spec_exploration.proofs.Asking.{MayAskAll, leaving_asks, all_asked, own_asked}
+use Rattle.spec_exploration.proofs.Asking.{own_asked}
 use Rattle.spec_exploration.proofs.Steps.{addable_there, ins_spelled, outs_spelled, of_some_kind, machine_stays}
 use Rattle.spec_exploration.proofs.stepping.step_at.Goals as goal
 
@@ -144,59 +144,29 @@ returns-in-LoopInvariant-clause-exact g c =
 
 pub returns-then-is_leaving-clause-asked : goal.returns-then-is_leaving-clause-asked
 returns-then-is_leaving-clause-asked g c =
-    let L = g.M.Local.LocalMemory in
-    let p = prog_view c.args.prog.now in
-    let n = numbered_command_view c.args.numbered.now in
-    let leaves = c.is_leaving.ensures.is c.if-is_leaving.true in
-    IfOk-weaker c.leave.result _ _
-    (λ ns row. all_asked p (checking_view c.args.checking) L.memory L.actions g.M.SymMemory.stands (entry_view c.args.spec.now c.args.entered.now) n c.requires.at (leaving_asks n.command leaves) (nexts_view ns)
-    (row n.command leaves n c.requires.may c.requires.at refl (c.in_ok-here.ensures p c.requires.at))) c.leave.ensures.exact
+    IfOk-weaker c.leave.result _ _ (λ ns asked. asked (numbered_command_view c.args.numbered.now).command (c.is_leaving.ensures.is c.if-is_leaving.true) (numbered_command_view c.args.numbered.now) c.requires.at refl) c.leave.ensures.asked
 
 pub returns-then-is_of_machine-clause-asked : goal.returns-then-is_of_machine-clause-asked
 returns-then-is_of_machine-clause-asked g c =
     let M = g.M.SymMemory in
     IfOk-weaker c.step_machine.result _ _
-    (λ ns own. own_asked (prog_view c.args.prog.now) (checking_view c.args.checking) M.stands M.terms M.asked g.M.Local.LocalMemory.actions g.met.M.SymMemory.asked_are_given (nexts_view ns) own) c.step_machine.ensures.own
+    (λ ns own. own_asked (prog_view c.args.prog.now) (entry_view c.args.spec.now c.args.entered.now) (checking_view c.args.checking) M.stands M.terms M.asked g.M.Local.LocalMemory.actions g.met.M.SymMemory.asked_are_given (nexts_view ns) own) c.step_machine.ensures.own
 
 pub returns-in-AssertThat-clause-asked : goal.returns-in-AssertThat-clause-asked
 returns-in-AssertThat-clause-asked g c =
-    let L = g.M.Local.LocalMemory in
-    let p = prog_view c.args.prog.now in
-    let n = numbered_command_view c.args.numbered.now in
-    let same = ap command_view c.in-AssertThat.is in
-    IfOk-weaker c.assert_row.result _ _
-    (λ ns row. all_asked p (checking_view c.args.checking) L.memory L.actions g.M.SymMemory.stands (entry_view c.args.spec.now c.args.entered.now) n c.requires.at (subst MayAskAll (sym same) (λ bs a. tt)) (nexts_view ns)
-    (row n c.requires.may c.requires.at same (c.in_ok-here.ensures p c.requires.at))) c.assert_row.ensures.exact
+    IfOk-weaker c.assert_row.result _ _ (λ ns asked. asked (numbered_command_view c.args.numbered.now) c.requires.at (ap command_view c.in-AssertThat.is)) c.assert_row.ensures.asked
 
 pub returns-in-Fold-clause-asked : goal.returns-in-Fold-clause-asked
 returns-in-Fold-clause-asked g c =
-    let L = g.M.Local.LocalMemory in
-    let p = prog_view c.args.prog.now in
-    let n = numbered_command_view c.args.numbered.now in
-    let same = ap command_view c.in-Fold.is in
-    IfOk-weaker c.fold_row.result _ _
-    (λ ns row. all_asked p (checking_view c.args.checking) L.memory L.actions g.M.SymMemory.stands (entry_view c.args.spec.now c.args.entered.now) n c.requires.at (subst MayAskAll (sym same) (λ bs a. tt)) (nexts_view ns)
-    (row n c.requires.may c.requires.at same (c.in_ok-here.ensures p c.requires.at))) c.fold_row.ensures.exact
+    IfOk-weaker c.fold_row.result _ _ (λ ns asked. asked (numbered_command_view c.args.numbered.now) c.requires.at (ap command_view c.in-Fold.is)) c.fold_row.ensures.asked
 
 pub returns-in-Unfold-clause-asked : goal.returns-in-Unfold-clause-asked
 returns-in-Unfold-clause-asked g c =
-    let L = g.M.Local.LocalMemory in
-    let p = prog_view c.args.prog.now in
-    let n = numbered_command_view c.args.numbered.now in
-    let same = ap command_view c.in-Unfold.is in
-    IfOk-weaker c.unfold_row.result _ _
-    (λ ns row. all_asked p (checking_view c.args.checking) L.memory L.actions g.M.SymMemory.stands (entry_view c.args.spec.now c.args.entered.now) n c.requires.at (subst MayAskAll (sym same) (λ bs a. tt)) (nexts_view ns)
-    (row n c.requires.may c.requires.at same (c.in_ok-here.ensures p c.requires.at))) c.unfold_row.ensures.exact
+    IfOk-weaker c.unfold_row.result _ _ (λ ns asked. asked (numbered_command_view c.args.numbered.now) c.requires.at (ap command_view c.in-Unfold.is)) c.unfold_row.ensures.asked
 
 pub returns-in-LoopInvariant-clause-asked : goal.returns-in-LoopInvariant-clause-asked
 returns-in-LoopInvariant-clause-asked g c =
-    let L = g.M.Local.LocalMemory in
-    let p = prog_view c.args.prog.now in
-    let n = numbered_command_view c.args.numbered.now in
-    let same = ap command_view c.in-LoopInvariant.is in
-    IfOk-weaker c.invariant_row.result _ _
-    (λ ns row. all_asked p (checking_view c.args.checking) L.memory L.actions g.M.SymMemory.stands (entry_view c.args.spec.now c.args.entered.now) n c.requires.at (subst MayAskAll (sym same) (λ bs a. tt)) (nexts_view ns)
-    (row n c.requires.may c.requires.at same (c.in_ok-here.ensures p c.requires.at))) c.invariant_row.ensures.exact
+    IfOk-weaker c.invariant_row.result _ _ (λ ns asked. asked (numbered_command_view c.args.numbered.now) c.requires.at (ap command_view c.in-LoopInvariant.is)) c.invariant_row.ensures.asked
 
 pub unreachable-requires : goal.unreachable-requires
 unreachable-requires g c =

@@ -4,9 +4,8 @@ use Rattle.gil_syntax.specs.Program.{prog_view}
 use Rattle.gil_syntax.specs.View.{numbered_command_view, spec_view}
 use Rattle.sym_paths.specs.View.{path_view}
 use Rattle.spec_exploration.proofs.Inside.{call_unspecified}
-use Rattle.checked_paths.specs.View.{checking_view, entry_view, nexts_view}
+use Rattle.checked_paths.specs.View.{nexts_view}
 use Rattle.spec_exploration.proofs.Plainness.{row_plain}
-use Rattle.spec_exploration.proofs.Asking.{call_asks, all_asked}
 use Rattle.spec_exploration.proofs.stepping.step_call.Goals as goal
 
 pub call_row-requires-clause-at : goal.call_row-requires-clause-at
@@ -29,12 +28,7 @@ returns-clause-unspecified g c contained inside =
 
 pub returns-clause-asked : goal.returns-clause-asked
 returns-clause-asked g c =
-    let L = g.M.Local.LocalMemory in
-    let p = prog_view c.args.prog.now in
-    let n = numbered_command_view c.args.numbered.now in
-    IfOk-weaker c.call_row.result _ _
-    (λ s row. all_asked p (checking_view c.args.checking) L.memory L.actions g.M.SymMemory.stands (entry_view c.args.spec.now c.args.entered.now) n c.requires.at (call_asks n.command c.requires.call) (nexts_view s.nexts)
-    (row n.command c.requires.call n c.requires.may c.requires.at refl (c.in_ok-here.ensures p c.requires.at))) c.call_row.ensures.exact
+    IfOk-weaker c.call_row.result _ _ (λ s asked. asked (numbered_command_view c.args.numbered.now).command c.requires.call (numbered_command_view c.args.numbered.now) c.requires.at refl) c.call_row.ensures.asked
 
 pub returns-clause-plain : goal.returns-clause-plain
 returns-clause-plain g c keeps plain inside =

@@ -1,4 +1,3 @@
-use Rattle.std.proofs.Common.{sym}
 use Rattle.sym_evaluation.specs.View.{store_view}
 use Rattle.sym_states.proofs.Values.{ok_to}
 use Rattle.sym_matching.specs.Parts.{BindsParams, Continues}

@@ -1,4 +1,4 @@
-use Rattle.std.proofs.Common.{◌≡◌, Option, Some, sym, ap, subst, ◌∙◌}
+use Rattle.std.proofs.Common.{Option, sym, ap, subst}
 use Rattle.std.specs.Option.{option_map}
 use Rattle.pure_terms.specs.Pure.{PureTerm}
 use Rattle.pure_terms.specs.View.{term_view}

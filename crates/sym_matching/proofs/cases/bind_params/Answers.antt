@@ -6,7 +6,7 @@ use Rattle.sym_evaluation.specs.View.{store_view}
 use Rattle.sym_states.proofs.Values.{ok_to}
 use Rattle.sym_matching.specs.Parts.{BindsParams}
 use Rattle.sym_matching.specs.View.{stores_view, outs_view}
-use Rattle.sym_matching.proofs.Reading.{seen_length, seen_next, taken_one, below_other, taken_lengths}
+use Rattle.sym_matching.proofs.Reading.{seen_next, taken_one, below_other, taken_lengths}
 use Rattle.sym_matching.proofs.StoreLaws.{params_step, params_differ}
 use Rattle.sym_matching.proofs.cases.bind_params.Goals as goal
 

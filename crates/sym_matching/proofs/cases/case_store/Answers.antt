@@ -1,4 +1,4 @@
-use Rattle.std.proofs.Common.{◌≡◌, map, Some, [], List, sym, ap, subst, ◌∙◌}
+use Rattle.std.proofs.Common.{◌≡◌, map, Some, [], List, subst}
 use Rattle.gil_syntax.specs.declared.assertions.Param.{Param}
 use Rattle.gil_syntax.specs.Pure.{PurePredDef}
 use Rattle.gil_syntax.specs.View.{pred_def_view}
@@ -9,10 +9,11 @@ use Rattle.sym_evaluation.specs.Pure.{PureStore}
 use Rattle.sym_evaluation.specs.View.{store_view}
 use Rattle.sym_states.proofs.Values.{ok_to}
 use Rattle.sym_matching.specs.Matching.{SplitsCase, CaseStaysOver}
+use Rattle.sym_matching.specs.Origins.{CaseComesFrom}
 use Rattle.sym_matching.specs.Parts.{BindsParams, Continues}
 use Rattle.sym_matching.specs.Pure.{PureSplit, PureOuts}
 use Rattle.sym_matching.specs.View.{stores_view, outs_view}
-use Rattle.sym_matching.proofs.CaseLaws.{case_says, case_over}
+use Rattle.sym_matching.proofs.CaseLaws.{case_says, case_over, case_from}
 use Rattle.sym_matching.proofs.cases.case_store.Goals as goal
 
 -- the ins are bound first
@@ -45,5 +46,16 @@ returns-clause-names c =
     let first = stores_view c.in_ok-first.first in
     ok_to c.bind_behind.result _ (λ x. CaseStaysOver ts ks (stores_view x))
     (λ x is. case_over d ts ks first (stores_view x)
+    (first_binds d ts c.in_ok-scope.scope (outs_view c.in_ok-known.known) (store_view c.new.result) first c.in_ok-scope.ensures c.in_ok-known.ensures c.new.ensures c.in_ok-first.ensures)
+    (then_binds d ks c.in_ok-scope.scope first (stores_view x) c.in_ok-scope.ensures is)) c.bind_behind.ensures
+
+pub returns-clause-origin : goal.returns-clause-origin
+returns-clause-origin c =
+    let d = pred_def_view c.args.pred.now in
+    let ts = terms_view c.args.ins.now in
+    let ks = outs_view c.args.outs.now in
+    let first = stores_view c.in_ok-first.first in
+    ok_to c.bind_behind.result _ (λ x. CaseComesFrom d ts ks (stores_view x))
+    (λ x is. case_from d ts ks first (stores_view x)
     (first_binds d ts c.in_ok-scope.scope (outs_view c.in_ok-known.known) (store_view c.new.result) first c.in_ok-scope.ensures c.in_ok-known.ensures c.new.ensures c.in_ok-first.ensures)
     (then_binds d ks c.in_ok-scope.scope first (stores_view x) c.in_ok-scope.ensures is)) c.bind_behind.ensures

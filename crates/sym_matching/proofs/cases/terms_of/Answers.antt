@@ -1,4 +1,4 @@
-use Rattle.std.proofs.Common.{◌≡◌, ◌++◌, [], ◌∷◌, Option, List, take, sym, ap, subst, ◌∙◌}
+use Rattle.std.proofs.Common.{◌++◌, [], ◌∷◌, Option, List, take, sym, subst}
 use Rattle.std.specs.Option.{option_map}
 use Rattle.gil_syntax.specs.Valid.{param_names}
 use Rattle.pure_terms.specs.Pure.{PureTerm}

@@ -1,4 +1,4 @@
-use Rattle.std.proofs.Common.{◌≡◌, ◌+◌, ◌++◌, ◌≤◌, [], ◌∷◌, Some, take, length, slice_get, sym, ap, subst, ◌∙◌}
+use Rattle.std.proofs.Common.{◌≤◌, take, length, sym, subst}
 use Rattle.std.proofs.lemmas.List.{take_all}
 use Rattle.gil_syntax.specs.View.{expr_view, exprs_view}
 use Rattle.sym_evaluation.specs.View.{store_view}
@@ -31,3 +31,13 @@ returns-clause-plain c =
     let past : length es ≤ i = subst (λ n. n ≤ i) (seen_length expr_view c.as_slice-out-items.result.now es c.as_slice-out-items.ensures) c.loop-out-test.false in
     let whole : AreKnown bs es split = subst (λ xs. AreKnown bs xs split) (take_all i es past) c.loop-out.invariant in
     whole.plain
+
+pub returns-clause-origin : goal.returns-clause-origin
+returns-clause-origin c =
+    let i = c.loop-out.out-index in
+    let bs = store_view c.args.store.now in
+    let es = exprs_view c.args.outs.now in
+    let split = known_view c.loop-out.split in
+    let past : length es ≤ i = subst (λ n. n ≤ i) (seen_length expr_view c.as_slice-out-items.result.now es c.as_slice-out-items.ensures) c.loop-out-test.false in
+    let whole : AreKnown bs es split = subst (λ xs. AreKnown bs xs split) (take_all i es past) c.loop-out.invariant in
+    whole.from

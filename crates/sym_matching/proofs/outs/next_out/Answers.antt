@@ -1,4 +1,4 @@
-use Rattle.std.proofs.Common.{◌≡◌, ◌++◌, [], ◌∷◌, Some, None, sym, ap, subst, ◌∙◌}
+use Rattle.std.proofs.Common.{[], ◌∷◌, Some, None, sym, ap, subst, ◌∙◌}
 use Rattle.std.proofs.lemmas.List.{map-append}
 use Rattle.gil_syntax.specs.View.{expr_view}
 use Rattle.pure_terms.specs.View.{term_view, atoms_view}
@@ -7,7 +7,6 @@ use Rattle.sym_model.specs.Alternatives.{Alternatives}
 use Rattle.sym_evaluation.specs.View.{store_view}
 use Rattle.sym_states.proofs.Values.{ok_to}
 use Rattle.sym_matching.specs.Parts.{AddsOut}
-use Rattle.sym_matching.specs.Pure.{PureOuts}
 use Rattle.sym_matching.specs.View.{split_by, outs_view, known_view}
 use Rattle.sym_matching.proofs.KnownLaws.{adds_known, adds_unknown}
 use Rattle.sym_matching.proofs.outs.next_out.Goals as goal

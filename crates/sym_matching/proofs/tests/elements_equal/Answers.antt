@@ -1,6 +1,7 @@
 use Rattle.std.proofs.Common.{◌≡◌, ◌+◌, ◌++◌, [], ◌∷◌, ◌≤◌, take, length, sym, ap, subst, ◌∙◌}
 use Rattle.pure_terms.specs.View.{term_view, terms_view}
 use Rattle.sym_matching.specs.Matching.{TestsElements}
+use Rattle.sym_matching.specs.Origins.{TestComesFrom, AsksElements}
 use Rattle.sym_matching.specs.Splitting.{also}
 use Rattle.sym_matching.specs.View.{test_view}
 use Rattle.sym_states.proofs.Values.{ok_to}
@@ -14,6 +15,13 @@ returns-then-len-clause-says c =
     let ts = terms_view c.args.right.now in
     ok_to c.failed.result _ (λ x. TestsElements ss ts (test_view x))
     (λ x is. subst (λ t. TestsElements ss ts t) (sym is) (elements_unlike ss ts (λ same. c.if-len.true (c.len.ensures ∙ same ∙ sym c.len-2.ensures))).says) c.failed.ensures
+
+pub returns-then-len-clause-origin : goal.returns-then-len-clause-origin
+returns-then-len-clause-origin c =
+    let ss = terms_view c.args.left.now in
+    let ts = terms_view c.args.right.now in
+    ok_to c.failed.result _ (λ x. TestComesFrom (AsksElements ss ts) (test_view x))
+    (λ x is. subst (TestComesFrom (AsksElements ss ts)) (sym is) (elements_unlike ss ts (λ same. c.if-len.true (c.len.ensures ∙ same ∙ sym c.len-2.ensures))).from) c.failed.ensures
 
 pub loop-index-preserved : goal.loop-index-preserved
 loop-index-preserved c =
@@ -39,3 +47,12 @@ returns-clause-names c =
     let same : length ss ≡ length ts = sym c.len.ensures ∙ c.if-len.false ∙ c.len-2.ensures in
     let past : length ss ≤ i = subst (λ n. n ≤ i) (seen_length term_view c.as_slice-term-items.result.now ss c.as_slice-term-items.ensures) c.loop-index-test.false in
     (elements_whole ss ts i (test_view c.loop-index.test) past (subst (λ n. n ≤ i) same past) c.loop-index.invariant).over
+
+pub returns-clause-origin : goal.returns-clause-origin
+returns-clause-origin c =
+    let i = c.loop-index.index in
+    let ss = terms_view c.args.left.now in
+    let ts = terms_view c.args.right.now in
+    let same : length ss ≡ length ts = sym c.len.ensures ∙ c.if-len.false ∙ c.len-2.ensures in
+    let past : length ss ≤ i = subst (λ n. n ≤ i) (seen_length term_view c.as_slice-term-items.result.now ss c.as_slice-term-items.ensures) c.loop-index-test.false in
+    (elements_whole ss ts i (test_view c.loop-index.test) past (subst (λ n. n ≤ i) same past) c.loop-index.invariant).from

@@ -3,6 +3,7 @@ use Rattle.std.specs.Option.{option_map}
 use Rattle.std.proofs.lemmas.List.{length-map}
 use Rattle.pure_terms.specs.View.{term_view, terms_view}
 use Rattle.sym_matching.specs.Matching.{TestsOuts}
+use Rattle.sym_matching.specs.Origins.{TestComesFrom, AsksOuts}
 use Rattle.sym_matching.specs.Splitting.{also}
 use Rattle.sym_matching.specs.View.{test_view, outs_view}
 use Rattle.sym_states.proofs.Values.{ok_to}
@@ -16,6 +17,13 @@ returns-then-len-clause-says c =
     let ts = terms_view c.args.outs.now in
     ok_to c.failed.result _ (λ x. TestsOuts ks ts (test_view x))
     (λ x is. subst (λ t. TestsOuts ks ts t) (sym is) (agreement_unlike ks ts (λ same. c.if-len.true (c.len.ensures ∙ sym (length-map c.args.known.now (option_map term_view)) ∙ same ∙ sym c.len-2.ensures))).says) c.failed.ensures
+
+pub returns-then-len-clause-origin : goal.returns-then-len-clause-origin
+returns-then-len-clause-origin c =
+    let ks = outs_view c.args.known.now in
+    let ts = terms_view c.args.outs.now in
+    ok_to c.failed.result _ (λ x. TestComesFrom (AsksOuts ks ts) (test_view x))
+    (λ x is. subst (TestComesFrom (AsksOuts ks ts)) (sym is) (agreement_unlike ks ts (λ same. c.if-len.true (c.len.ensures ∙ sym (length-map c.args.known.now (option_map term_view)) ∙ same ∙ sym c.len-2.ensures))).from) c.failed.ensures
 
 pub loop-index-preserved : goal.loop-index-preserved
 loop-index-preserved c =
@@ -41,3 +49,12 @@ returns-clause-names c =
     let same : length ks ≡ length ts = (length-map c.args.known.now (option_map term_view) ∙ sym c.len.ensures) ∙ c.if-len.false ∙ c.len-2.ensures in
     let past : length ks ≤ i = subst (λ n. n ≤ i) (seen_length (option_map term_view) c.as_slice-known-items.result.now ks (ap outs_view c.as_slice-known-items.ensures)) c.loop-index-test.false in
     (agreement_whole ks ts i (test_view c.loop-index.test) past (subst (λ n. n ≤ i) same past) c.loop-index.invariant).over
+
+pub returns-clause-origin : goal.returns-clause-origin
+returns-clause-origin c =
+    let i = c.loop-index.index in
+    let ks = outs_view c.args.known.now in
+    let ts = terms_view c.args.outs.now in
+    let same : length ks ≡ length ts = (length-map c.args.known.now (option_map term_view) ∙ sym c.len.ensures) ∙ c.if-len.false ∙ c.len-2.ensures in
+    let past : length ks ≤ i = subst (λ n. n ≤ i) (seen_length (option_map term_view) c.as_slice-known-items.result.now ks (ap outs_view c.as_slice-known-items.ensures)) c.loop-index-test.false in
+    (agreement_whole ks ts i (test_view c.loop-index.test) past (subst (λ n. n ≤ i) same past) c.loop-index.invariant).from

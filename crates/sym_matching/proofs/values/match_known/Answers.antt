@@ -7,12 +7,12 @@ use Rattle.sym_evaluation.specs.declared.store.SymStore.{SymStore}
 use Rattle.sym_evaluation.specs.View.{store_view}
 use Rattle.sym_states.proofs.Values.{ok_to}
 use Rattle.sym_matching.specs.declared.splits.Split.{Split}
-use Rattle.sym_matching.specs.Parts.{ByTerm}
+use Rattle.sym_matching.specs.Parts.{ByTerm, KnownComesFrom}
 use Rattle.sym_matching.specs.Plainly.{TermStaysPlain}
 use Rattle.sym_matching.specs.Splitting.{where_met}
 use Rattle.sym_matching.specs.View.{split_by, stores_view}
 use Rattle.sym_matching.proofs.SplitLaws.{found_continues, none_continues}
-use Rattle.sym_matching.proofs.ValueLaws.{SameAs, both_known}
+use Rattle.sym_matching.proofs.ValueLaws.{SameAs, all_known}
 use Rattle.sym_matching.proofs.values.match_known.Goals as goal
 
 pub returns-in_ok-copy-in-Some : goal.returns-in_ok-copy-in-Some
@@ -22,8 +22,8 @@ returns-in_ok-copy-in-Some c =
     let t = term_view c.args.term.now in
     let values = split_by term_view c.in_ok-found.field-0 in
     let Same = SameAs bs e values c.in_ok-found.ensures t in
-    ok_to c.behind.result _ (λ x. ByTerm t (λ w s. where_same (evaluate e s) w s) bs (stores_view x) × TermStaysPlain e t bs (stores_view x))
-    (λ x is. both_known bs e values c.in_ok-found.ensures t (stores_view x)
+    ok_to c.behind.result _ (λ x. ByTerm t (λ w s. where_same (evaluate e s) w s) bs (stores_view x) × TermStaysPlain e t bs (stores_view x) × KnownComesFrom e t bs (stores_view x))
+    (λ x is. all_known bs e values c.in_ok-found.ensures t (stores_view x)
     (found_continues term_view store_view Same c.in_ok-found.field-0 c.in-Some.field-0 c.where_met-next.result x c.in-Some.is
     (c.where_met-next.ensures ∙ (λ i. where_met (c.in_ok-test-in-Some.ensures i) (c.in_ok-copy-in-Some.ensures i))) is)) c.behind.ensures
 
@@ -35,4 +35,4 @@ returns-in-None c =
     let values = split_by term_view c.in_ok-found.field-0 in
     let Same = SameAs bs e values c.in_ok-found.ensures t in
     let whole : Split SymStore = record { found = None; none = c.in_ok-found.field-0.none } in
-    both_known bs e values c.in_ok-found.ensures t (stores_view whole) (none_continues term_view store_view Same c.in_ok-found.field-0 whole c.in-None.is refl)
+    all_known bs e values c.in_ok-found.ensures t (stores_view whole) (none_continues term_view store_view Same c.in_ok-found.field-0 whole c.in-None.is refl)

@@ -6,6 +6,7 @@ use Rattle.sym_evaluation.specs.View.{store_view}
 use Rattle.sym_evaluation.proofs.Sizes.{element_spellable}
 use Rattle.sym_states.proofs.Values.{ok_to}
 use Rattle.sym_matching.specs.Matching.{SplitsValues, StoresStayOver}
+use Rattle.sym_matching.specs.Origins.{ValuesComeFrom}
 use Rattle.sym_matching.specs.Plainly.{TermsStayPlain}
 use Rattle.sym_matching.specs.Splitting.{sure}
 use Rattle.sym_matching.specs.View.{stores_view}
@@ -36,6 +37,14 @@ returns-then-len-clause-plain c =
     let ts = terms_view c.args.terms.now in
     ok_to c.no_store.result _ (λ x. TermsStayPlain es ts bs (stores_view x))
     (λ x is. subst (TermsStayPlain es ts bs) (sym is) (terms_differ c.args.scope.now bs es ts (λ same. c.if-len.true (c.len.ensures ∙ same ∙ sym c.len-2.ensures))).plain) c.no_store.ensures
+
+pub returns-then-len-clause-origin : goal.returns-then-len-clause-origin
+returns-then-len-clause-origin c =
+    let bs = store_view c.args.store.now in
+    let es = exprs_view c.args.expressions.now in
+    let ts = terms_view c.args.terms.now in
+    ok_to c.no_store.result _ (λ x. ValuesComeFrom c.args.scope.now es ts bs (stores_view x))
+    (λ x is. subst (ValuesComeFrom c.args.scope.now es ts bs) (sym is) (terms_differ c.args.scope.now bs es ts (λ same. c.if-len.true (c.len.ensures ∙ same ∙ sym c.len-2.ensures))).from) c.no_store.ensures
 
 pub loop-index-init : goal.loop-index-init
 loop-index-init c =
@@ -108,3 +117,17 @@ returns-clause-plain c =
     = subst (λ xs. MatchesTerms scope xs ts bs (stores_view c.loop-index.split)) (take_all i es past)
     (subst (λ ys. MatchesTerms scope (take i es) ys bs (stores_view c.loop-index.split)) (take_all i ts (subst (λ n. n ≤ i) same past)) c.loop-index.invariant) in
     whole.plain
+
+pub returns-clause-origin : goal.returns-clause-origin
+returns-clause-origin c =
+    let i = c.loop-index.index in
+    let scope = c.args.scope.now in
+    let bs = store_view c.args.store.now in
+    let es = exprs_view c.args.expressions.now in
+    let ts = terms_view c.args.terms.now in
+    let same : length es ≡ length ts = sym c.len.ensures ∙ c.if-len.false ∙ c.len-2.ensures in
+    let past : length es ≤ i = subst (λ n. n ≤ i) (seen_length expr_view c.as_slice-expression-items.result.now es c.as_slice-expression-items.ensures) c.loop-index-test.false in
+    let whole : MatchesTerms scope es ts bs (stores_view c.loop-index.split)
+    = subst (λ xs. MatchesTerms scope xs ts bs (stores_view c.loop-index.split)) (take_all i es past)
+    (subst (λ ys. MatchesTerms scope (take i es) ys bs (stores_view c.loop-index.split)) (take_all i ts (subst (λ n. n ≤ i) same past)) c.loop-index.invariant) in
+    whole.from

@@ -1,9 +1,7 @@
-use Rattle.std.proofs.Common.{◌≡◌, sym, ap, subst, ◌∙◌}
+use Rattle.std.proofs.Common.{sym, subst}
 use Rattle.gil_syntax.specs.View.{expr_view}
-use Rattle.pure_terms.specs.View.{term_view}
-use Rattle.std.specs.Option.{option_map}
 use Rattle.sym_model.specs.Alternatives.{Alternatives}
-use Rattle.sym_evaluation.specs.View.{good_view, store_view, cases_view}
+use Rattle.sym_evaluation.specs.View.{store_view, cases_view}
 use Rattle.sym_matching.specs.Parts.{AreValues}
 use Rattle.sym_matching.proofs.Evaluated.{values_from}
 use Rattle.sym_matching.proofs.values.value_of.Goals as goal

@@ -30,4 +30,4 @@ loop-number-preserved g c =
     subst (λ bodies. AddsCases g.M.Local.LocalMemory.memory g.M.SymMemory.stands g.M.SymMemory.terms g.M.SymMemory.kept c.args.scope.now bs more bodies s (cases_view c.in_ok-cases.cases)) (sym (map_more assertion_view xs i body c.loop-number-test.true c.index-bodies-number.is))
     (subst (AddsCases g.M.Local.LocalMemory.memory g.M.SymMemory.stands g.M.SymMemory.terms g.M.SymMemory.kept c.args.scope.now bs more (map assertion_view (take i xs) ++ assertion_view body ∷ []) s)
     (sym (c.in_ok-cases.ensures ∙ ap (λ rs. cases_view c.loop-number.cases ++ rs) c.in_ok-more.ensures))
-    (case_more g.M.Local.LocalMemory.memory g.M.SymMemory.stands g.M.SymMemory.terms g.M.SymMemory.kept c.args.scope.now bs more s (map assertion_view (take i xs)) (assertion_view body) (cases_view c.loop-number.cases) states i (length_taken assertion_view xs i c.loop-number-test.true) c.loop-number.invariant c.in_ok-states.ensures))
+    (case_more g.M.Local.LocalMemory.memory g.M.SymMemory.stands g.M.SymMemory.terms g.M.SymMemory.kept c.args.scope.now bs more s (map assertion_view (take i xs)) (assertion_view body) (cases_view c.loop-number.cases) states i (length_taken assertion_view xs i c.loop-number-test.true) c.loop-number.invariant c.in_ok-states.ensures.says c.in_ok-states.ensures.origin))

@@ -13,4 +13,4 @@ returns c =
     let outs = outs_view c.args.outs.now in
     let fact = fact_view c.args.fact.now in
     ok_to c.both_met.result _ (λ t. TestsFact ins outs fact (test_view t))
-    (λ t is. subst (TestsFact ins outs fact) (sym is) (tests_fact ins outs fact (test_view c.in_ok-same_ins.same_ins) (test_view c.in_ok-same_outs.same_outs) c.in_ok-same_ins.ensures.says c.in_ok-same_ins.ensures.names c.in_ok-same_outs.ensures.says c.in_ok-same_outs.ensures.names)) c.both_met.ensures
+    (λ t is. subst (TestsFact ins outs fact) (sym is) (tests_fact ins outs fact (test_view c.in_ok-same_ins.same_ins) (test_view c.in_ok-same_outs.same_outs) c.in_ok-same_ins.ensures.says c.in_ok-same_ins.ensures.names c.in_ok-same_ins.ensures.origin c.in_ok-same_outs.ensures.says c.in_ok-same_outs.ensures.names c.in_ok-same_outs.ensures.origin)) c.both_met.ensures
